@@ -1,0 +1,11 @@
+pub mod Key
+pub mod State
+pub mod Changes
+pub mod Run
+pub mod Step
+pub mod Whole
+pub mod Runs
+pub mod Solo
+pub mod Legal
+pub mod Suspended
+pub mod Sound

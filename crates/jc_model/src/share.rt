@@ -1,0 +1,226 @@
+//! An equal second value: shared bytes get a further owner, lists are made anew.
+ghost use Rattle.std.specs.Prelude.{◌≡◌, IfOk};
+
+use crate::OutOfMemory;
+use crate::call::{Action, Answer, By, Call, Kind, Notice, ProcessorFault, Reply, Verdict};
+use crate::event::{CacheId, End, Entry};
+use crate::key::Key;
+use crate::list::Sequence;
+use crate::transcript::Transcript;
+use crate::value::Value;
+
+pub trait Share: Sized {
+    /// An equal second value.
+    fn share(&self) -> Result<Self, OutOfMemory>
+        ensures { IfOk result (λ s. s ≡ self.now) };
+}
+
+impl Share for bool {
+    fn share(&self) -> Result<bool, OutOfMemory> {
+        Ok(*self)
+    }
+}
+
+impl Share for Key {
+    fn share(&self) -> Result<Key, OutOfMemory> {
+        Ok(*self)
+    }
+}
+
+impl Share for CacheId {
+    fn share(&self) -> Result<CacheId, OutOfMemory> {
+        Ok(*self)
+    }
+}
+
+impl Share for Value {
+    fn share(&self) -> Result<Value, OutOfMemory> {
+        Value::share(self)
+    }
+}
+
+impl<T: Share> Share for Option<T> {
+    fn share(&self) -> Result<Option<T>, OutOfMemory> {
+        match self {
+            Some(x) => Ok(Some(x.share()?)),
+            None => Ok(None),
+        }
+    }
+}
+
+impl<A: Share, B: Share> Share for Result<A, B> {
+    fn share(&self) -> Result<Result<A, B>, OutOfMemory> {
+        match self {
+            Ok(x) => Ok(Ok(x.share()?)),
+            Err(e) => Ok(Err(e.share()?)),
+        }
+    }
+}
+
+impl<T: Share + Drop> Share for Sequence<T> {
+    fn share(&self) -> Result<Sequence<T>, OutOfMemory> {
+        let mut items = self.empty();
+        for x in self.items() {
+            items.push(x.share()?)?;
+        }
+        Ok(Sequence::new(items))
+    }
+}
+
+impl Share for ProcessorFault {
+    fn share(&self) -> Result<ProcessorFault, OutOfMemory> {
+        Ok(ProcessorFault {})
+    }
+}
+
+impl Share for By {
+    fn share(&self) -> Result<By, OutOfMemory> {
+        Ok(match self {
+            By::Loader => By::Loader,
+            By::Writer => By::Writer,
+            By::Processor => By::Processor,
+        })
+    }
+}
+
+impl Share for Kind {
+    fn share(&self) -> Result<Kind, OutOfMemory> {
+        Ok(match self {
+            Kind::Created => Kind::Created,
+            Kind::Updated => Kind::Updated,
+            Kind::Removed => Kind::Removed,
+            Kind::Expired => Kind::Expired,
+        })
+    }
+}
+
+impl Share for Reply {
+    fn share(&self) -> Result<Reply, OutOfMemory> {
+        match self {
+            Reply::Done => Ok(Reply::Done),
+            Reply::Truth(b) => Ok(Reply::Truth(*b)),
+            Reply::Found(v) => Ok(Reply::Found(v.share()?)),
+            Reply::Counted(counts) => Ok(Reply::Counted(*counts)),
+            Reply::Fault { by, done } => Ok(Reply::Fault {
+                by: by.share()?,
+                done: *done,
+            }),
+        }
+    }
+}
+
+impl Share for Notice {
+    fn share(&self) -> Result<Notice, OutOfMemory> {
+        let value = self.value.share()?;
+        let before = self.before.share()?;
+        Ok(Notice {
+            kind: self.kind.share()?,
+            key: self.key,
+            value,
+            before,
+        })
+    }
+}
+
+impl Share for Action {
+    fn share(&self) -> Result<Action, OutOfMemory> {
+        match self {
+            Action::Keep => Ok(Action::Keep),
+            Action::Set(v) => Ok(Action::Set(v.share()?)),
+            Action::Remove => Ok(Action::Remove),
+        }
+    }
+}
+
+impl Share for Verdict {
+    fn share(&self) -> Result<Verdict, OutOfMemory> {
+        let action = self.action.share()?;
+        let answer = self.answer.share()?;
+        Ok(Verdict { action, answer })
+    }
+}
+
+impl Share for Answer {
+    fn share(&self) -> Result<Answer, OutOfMemory> {
+        match self {
+            Answer::Loaded(v) => Ok(Answer::Loaded(v.share()?)),
+            Answer::LoadFailed => Ok(Answer::LoadFailed),
+            Answer::Written => Ok(Answer::Written),
+            Answer::WriteFailed => Ok(Answer::WriteFailed),
+            Answer::Processed(verdict) => Ok(Answer::Processed(verdict.share()?)),
+            Answer::Told => Ok(Answer::Told),
+        }
+    }
+}
+
+impl Share for Call {
+    fn share(&self) -> Result<Call, OutOfMemory> {
+        match self {
+            Call::Get(key) => Ok(Call::Get(*key)),
+            Call::Contains(key) => Ok(Call::Contains(*key)),
+            Call::Put(key, value) => Ok(Call::Put(*key, value.share()?)),
+            Call::GetAndPut(key, value) => Ok(Call::GetAndPut(*key, value.share()?)),
+            Call::PutIfAbsent(key, value) => Ok(Call::PutIfAbsent(*key, value.share()?)),
+            Call::Replace(key, value) => Ok(Call::Replace(*key, value.share()?)),
+            Call::ReplaceIf {
+                key,
+                expected,
+                value,
+            } => {
+                let expected = expected.share()?;
+                let value = value.share()?;
+                Ok(Call::ReplaceIf {
+                    key: *key,
+                    expected,
+                    value,
+                })
+            }
+            Call::GetAndReplace(key, value) => Ok(Call::GetAndReplace(*key, value.share()?)),
+            Call::Remove(key) => Ok(Call::Remove(*key)),
+            Call::RemoveIf { key, expected } => Ok(Call::RemoveIf {
+                key: *key,
+                expected: expected.share()?,
+            }),
+            Call::GetAndRemove(key) => Ok(Call::GetAndRemove(*key)),
+            Call::Invoke {
+                key,
+                processor,
+                argument,
+            } => Ok(Call::Invoke {
+                key: *key,
+                processor: *processor,
+                argument: argument.share()?,
+            }),
+            Call::Stats => Ok(Call::Stats),
+            Call::ClearStats => Ok(Call::ClearStats),
+        }
+    }
+}
+
+impl Share for End {
+    fn share(&self) -> Result<End, OutOfMemory> {
+        match self {
+            End::Waiting => Ok(End::Waiting),
+            End::Replied(reply) => Ok(End::Replied(reply.share()?)),
+            End::GivenUp => Ok(End::GivenUp),
+        }
+    }
+}
+
+impl Share for Entry {
+    fn share(&self) -> Result<Entry, OutOfMemory> {
+        let call = self.call.share()?;
+        let answers = self.answers.share()?;
+        let told = self.told.share()?;
+        let end = self.end.share()?;
+        Ok(Entry {
+            session: self.session,
+            id: self.id,
+            at: self.at,
+            call,
+            answers,
+            told,
+            end,
+        })
+    }
+}

@@ -1,0 +1,24 @@
+-- What the table of rows holds.
+use Rattle.std.specs.Prelude.{ℕ, List, Option, Some, None}
+use Rattle.std.specs.declared.cmp.Ordering.{Ordering}
+use Rattle.std.specs.Ordering.{nat_cmp, ordering_then}
+use Rattle.std.specs.Cmp.Lexicographic.{slice_cmp}
+use Rattle.std.specs.FinMap as map
+use Rattle.jc_model.specs.declared.config.Expiry.{Expiry}
+
+-- a place is a cache and the bytes of a key: in order of the cache, and then of the key
+abbrev pub place_cmp : ℕ × List ℕ → ℕ × List ℕ → Ordering
+place_cmp x y = ordering_then (nat_cmp x.0 y.0) (slice_cmp nat_cmp x.1 y.1)
+
+-- from a place to a row number and an expiry
+abbrev pub RowMap : Type 0
+RowMap = map.FinMap place_cmp (ℕ × Expiry)
+
+-- the map, where the row found at a place has another expiry
+abbrev pub with_expiry_at : RowMap → ℕ × List ℕ → Expiry → Option (ℕ × Expiry) → RowMap
+with_expiry_at m place expiry None = m
+with_expiry_at m place expiry (Some row) = map.insert m place (row.0, expiry)
+
+-- a row keeps its number and has another expiry
+abbrev pub with_expiry : RowMap → ℕ × List ℕ → Expiry → RowMap
+with_expiry m place expiry = with_expiry_at m place expiry (map.get m place)
