@@ -1,5 +1,5 @@
 -- What the map of std finds at a place is what the table has there.
-use Rattle.std.proofs.Common.{◌≡◌, ℕ, ◌-◌, ◌+◌, arith, Bool, MutBor, true, false, eqb, ◌&&◌, cond, length, replicate, take, List, [], ◌∷◌, ◌++◌, Option, Some, None, is_some, IsSome, refl, sym, ap, ap₂, ◌∙◌, ◌⊎◌, inl, inr}
+use Rattle.std.proofs.Common.{◌≡◌, ℕ, ◌-◌, ◌+◌, arith, Bool, MutBor, true, false, eqb, ◌&&◌, cond, length, replicate, take, List, [], ◌∷◌, ◌++◌, Option, Some, None, is_some, refl, sym, ap, ap₂, ◌∙◌, inl, inr}
 use Rattle.std.proofs.lemmas.Bool.{eqb-true, eq-eqb, false_from_ne_true}
 use Rattle.std.proofs.lemmas.Slice.Eq.{bytes_eq-Decides}
 use Rattle.std.proofs.lemmas.Map.Made.{is_some-lookup}
@@ -12,11 +12,10 @@ use Rattle.std.specs.Result.{OnOk, IsOk}
 use Rattle.std.specs.Prelude.{Result, Ok, Err}
 use Rattle.std.specs.Option.{option_copied_mut}
 use Rattle.std.specs.FinMap as map
-use Rattle.std.specs.HashMap as hash
 use Rattle.jc_model.specs.declared.config.Expiry.{Expiry}
 use Rattle.jc_model.specs.contracts.event.CacheIdPartialEq.TheImpl as id_eq
 use Rattle.jc_model.specs.contracts.key.KeyPartialEq.TheImpl as key_eq
-use Rattle.jc_rows.specs.Rows.{place_cmp, RowMap, with_expiry}
+use Rattle.jc_rows.specs.Rows.{place_cmp, with_expiry}
 use Rattle.jc_rows.proofs.Places.{places_total, place_tells}
 use Rattle.jc_rows.proofs.Laws.{with_expiry_is, with_expiry_absent, same_rows, get-put_same, get-put_other, get-removed_same, get-removed_other}
 

@@ -1,5 +1,5 @@
 //! The table of rows: a finite map from a cache and a key to a row number and an expiry.
-ghost use Rattle.std.specs.Prelude.{◌≡◌, ℕ, ◌+◌, ◌<◌, ◌≤◌, None, IsSome, OnOk, option_map};
+ghost use Rattle.std.specs.Prelude.{◌≡◌, ℕ, ◌+◌, ◌<◌, ◌≤◌, None, IsSome, IsOk, OnOk, option_map};
 ghost use Rattle.std.specs.FinMap as map;
 ghost use Rattle.jc_rows.specs.Rows.{RowMap, with_expiry};
 
@@ -8,7 +8,8 @@ use jc_model::config::Expiry;
 use jc_model::event::CacheId;
 use jc_model::key::Key;
 
-/// One table for the rows of all caches. Two caches may have rows with the same key, and two rows of two caches may have the same number.
+/// One table for the rows of all caches. Two caches may have rows with the same key, and rows of two caches may have
+/// the same number.
 pub trait Rows: Drop {
     /// What it holds.
     ghost contents: { Self → RowMap };
@@ -24,6 +25,7 @@ pub trait Rows: Drop {
     fn make_room(&mut self, n: usize) -> Result<(), OutOfMemory>
         ensures same { contents self.new ≡ contents self.old }
         ensures ok { OnOk result (n ≤ map.len (contents self.new) + spare self.new) }
+        ensures succeeds { n ≤ map.len (contents self.old) + spare self.old → IsOk result }
         ensures kept { spare self.old ≤ spare self.new };
 
     /// The number of a key's row, or `None` where the cache has no row of this key.

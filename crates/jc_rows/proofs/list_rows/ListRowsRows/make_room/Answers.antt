@@ -11,3 +11,6 @@ returns-clause-same c = rw (← c.self.view_is) (same_found c.self.inside.rows.e
 
 pub returns-clause-ok : goal.returns-clause-ok
 returns-clause-ok c = on_ok_weaker c.reserve.result (λ room. omega (arith, len_found c.reserve.new.self.entries c.reserve.ensures.unique, c.reserve.ensures.entries.1, c.len-held.ensures.len)) c.reserve.ensures.ok
+
+pub returns-clause-succeeds : goal.returns-clause-succeeds
+returns-clause-succeeds c = rw (← c.self.view_is) (λ h. c.reserve.ensures.succeeds (omega (arith, h, len_found c.self.inside.rows.entries c.len-held.ensures.unique, c.len-held.ensures.len)))
