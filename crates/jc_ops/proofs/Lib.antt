@@ -1,0 +1,16 @@
+mod Counts
+mod Vacancies
+mod Shelves
+mod Cells
+mod Hand
+pub mod Ties
+pub mod Found
+pub mod Progress
+pub mod Room
+mod ClockLaw
+pub mod KeptLaws
+pub mod Asked
+pub mod Starts
+pub mod Plans
+pub mod Ended
+pub mod Made

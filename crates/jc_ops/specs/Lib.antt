@@ -1,0 +1,14 @@
+pub mod Noted
+pub mod Shelf
+pub mod Slots
+pub mod Tied
+pub mod Kept
+pub mod Clock
+pub mod Lines
+pub mod Endings
+pub mod Supply
+pub mod Stepped
+pub mod Waits
+pub mod Awaiting
+pub mod KeyCalls
+pub mod Moved

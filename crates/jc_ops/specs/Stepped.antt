@@ -1,0 +1,34 @@
+-- How one key's step stands to its run.
+use Rattle.std.specs.Prelude.{◌≡◌, ℕ, List, []}
+use Rattle.jc_model.specs.declared.call.Answer.{Answer}
+use Rattle.jc_model.specs.declared.call.KeyCall.{KeyCall}
+use Rattle.jc_model.specs.declared.call.Notice.{Notice}
+use Rattle.jc_model.specs.declared.call.Request.{Request}
+use Rattle.jc_model.specs.declared.config.CacheConfig.{CacheConfig}
+use Rattle.jc_model.specs.Changes.{Progress}
+use Rattle.jc_model.specs.Run.{Run, ended, waiting}
+use Rattle.jc_model.specs.Suspended.{KeyWait, key_run}
+use Rattle.jc_ops.specs.Kept.{Kept, progress_of}
+use Rattle.jc_ops.specs.declared.step.Next.{Next}
+use Rattle.jc_ops.specs.declared.step.Next.TheVariants.{Ended, Waiting}
+
+-- a step that waits for its first answer
+abbrev pub waits_first : ℕ → KeyCall → KeyWait
+waits_first now call = record { now = now; call = call; given = [] }
+
+-- the run waits with this request, and the step that waits has it as its own
+pub record StepWaits (c : CacheConfig) (p : Progress) (request : Request) (w : KeyWait) (run : Run) : Type 0 where
+  pub resumed : Answer → Run
+  pub run_is : run ≡ waiting request p resumed
+  pub meaning : key_run c p w ≡ run
+
+-- the step waits over this progress
+pub record IsWaiting (c : CacheConfig) (p : Progress) (w : KeyWait) : Type 0 where
+  pub request : Request
+  pub resumed : Answer → Run
+  pub run_is : key_run c p w ≡ waiting request p resumed
+
+-- the step does as its run, and the cache stands as the run says
+abbrev pub StepsTo : CacheConfig → Run → Next → Kept → List Notice → Type 0
+StepsTo c run (Ended reply) k told = run ≡ ended (progress_of k told) reply
+StepsTo c run (Waiting request w) k told = StepWaits c (progress_of k told) request w run

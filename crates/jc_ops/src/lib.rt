@@ -1,0 +1,12 @@
+//! The operations of one cache.
+#![tactic(auto)]
+
+pub mod call;
+pub mod clock;
+pub mod notices;
+pub mod shelf;
+pub mod slots;
+pub mod state;
+pub mod step;
+pub mod supply;
+pub mod waits;
