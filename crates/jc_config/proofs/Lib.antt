@@ -1,0 +1,4 @@
+pub mod Documents
+pub mod Duplicates
+pub mod Limits
+pub mod Loops

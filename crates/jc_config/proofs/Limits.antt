@@ -1,0 +1,90 @@
+-- What is read keeps to the limits of settings.
+use Rattle.std.proofs.Common.{◌≡◌, ℕ, ◌+◌, Bool, true, false, List, [], ◌∷◌, length, map, Option, Some, None, option_map, Result, Ok, Err, refl, ap, subst, nat_le, add-one}
+use Rattle.std.specs.Prelude.{if◌then◌else◌, option_and_then}
+use Rattle.std.specs.Option.{ok_or}
+use Rattle.std.specs.List.{list_all}
+use Rattle.std.proofs.lemmas.List.{length-map}
+use Rattle.toml.specs.Data.{Data, Items, no_items, item, get, as_array}
+use Rattle.jc_config.specs.Faults.{◌>>=◌, name_of}
+use Rattle.jc_config.specs.Kinds.{loader_of, writer_of, processor_of, wants_value_of}
+use Rattle.jc_config.specs.Limits.{few_processors, within_limits}
+use Rattle.jc_config.specs.Members.{number, name_text, text_kind, kinds_of, count_of, few_kinds, processor_list, needed, found_or, optional, policy_of, no_other_entry}
+use Rattle.jc_config.specs.Config.{cache_of, caches_of, provided, check_totals}
+use Rattle.jc_config.specs.declared.fault.Member.TheVariants as members
+use Rattle.jc_config.specs.declared.fault.ConfigFault.{ConfigFault}
+use Rattle.jc_config.specs.declared.kinds.CacheSettings.{CacheSettings}
+use Rattle.jc_config.specs.declared.kinds.ProcessorKind.{ProcessorKind}
+
+bind_ok : {A B : Type 0} (r : Result A ConfigFault) (f : A → Result B ConfigFault) (y : B) → (r >>= f) ≡ Ok y → (x : A) × (r ≡ Ok x) × (f x ≡ Ok y)
+bind_ok (Ok x) f y e = (x, refl, e)
+bind_ok (Err w) f y e = cc
+
+ok_same : {A : Type 0} (x y : A) → ◌≡◌ {A = Result A ConfigFault} (Ok x) (Ok y) → x ≡ y
+ok_same x y e = cc
+
+provided_ok : (b : Bool) (w : ConfigFault) (u : Unit {0}) → provided b w ≡ Ok u → b ≡ true
+provided_ok true w u e = refl
+provided_ok false w u e = cc
+
+ok_or_some : {A : Type 0} (o : Option A) (w : ConfigFault) (x : A) → ok_or o w ≡ Ok x → o ≡ Some x
+ok_or_some (Some y) w x e = ap Some (ok_same y x e)
+ok_or_some None w x e = cc
+
+then_some : {A B : Type 0} (f : A → Option B) (o : Option A) (y : B) → option_and_then f o ≡ Some y → (x : A) × (f x ≡ Some y)
+then_some f (Some x) y e = (x, e)
+then_some f None y e = cc
+
+map_some : {A B : Type 0} (f : A → B) (o : Option A) (y : B) → option_map f o ≡ Some y → (x : A) × (o ≡ Some x) × (f x ≡ y)
+map_some f (Some x) y e = (x, refl, some_same (f x) y e)
+  where
+    some_same : {C : Type 0} (a b : C) → Some a ≡ Some b → a ≡ b
+    some_same a b h = cc
+map_some f None y e = cc
+
+if_some : {A : Type 0} (b : Bool) (o : Option A) (y : A) → (if b then o else None) ≡ Some y → (b ≡ true) × (o ≡ Some y)
+if_some true o y e = (refl, e)
+if_some false o y e = cc
+
+kinds_count : (ds : Items) (ks : List ProcessorKind) → kinds_of ds ≡ Some ks → count_of ds ≡ length ks
+kinds_count no_items [] e = refl
+kinds_count no_items (k ∷ ks) e = cc
+kinds_count (item d ds) ks e =
+    let (kind, one) = then_some (λ (kind : ProcessorKind). option_map (λ kinds. kind ∷ kinds) (kinds_of ds)) (text_kind processor_of d) ks e in
+    let (rest, more, same) = map_some (λ (kinds : List ProcessorKind). kind ∷ kinds) (kinds_of ds) ks one in
+    rw (← same, kinds_count ds rest more) (add-one (length rest))
+
+short_kinds : (v : Data) (ks : List ProcessorKind) → processor_list v ≡ Some ks → nat_le (length ks) 16 ≡ true
+short_kinds v ks e =
+    let (items, found) = then_some few_kinds (as_array v) ks e in
+    let (few, read) = if_some (nat_le (count_of items) 16) (kinds_of items) ks found in
+    rw (kinds_count items ks read) at few
+
+short_or : (n : ℕ) (o : Option Data) (ks : List ProcessorKind) → found_or [] processor_list n members.Processors o ≡ Ok ks → nat_le (length ks) 16 ≡ true
+short_or n None ks e = rw (← ok_same [] ks e) refl
+short_or n (Some v) ks e = short_kinds v ks (ok_or_some _ _ ks e)
+
+few_cache : (n : ℕ) (d : Data) (c : CacheSettings) → cache_of n d ≡ Ok c → few_processors c.config ≡ true
+unfolding cache_of
+few_cache n d c e =
+    let (name, e1, k1) = bind_ok (needed name_text n members.Name d) _ c e in
+    let (capacity, e2, k2) = bind_ok (needed (number 1 65536) n members.Capacity d) _ c k1 in
+    let (policy, e3, k3) = bind_ok (policy_of n d) _ c k2 in
+    let (loader, e4, k4) = bind_ok (optional (text_kind loader_of) n members.Loader d) _ c k3 in
+    let (writer, e5, k5) = bind_ok (optional (text_kind writer_of) n members.Writer d) _ c k4 in
+    let (kinds, e6, k6) = bind_ok (found_or [] processor_list n members.Processors (get (name_of members.Processors) d)) _ c k5 in
+    let (listeners, e7, k7) = bind_ok (found_or 0 (number 0 8) n members.Listeners (get (name_of members.Listeners) d)) _ c k6 in
+    let (none, e8, k8) = bind_ok (no_other_entry n d) _ c k7 in
+    let made = ok_same _ c k8 in
+    subst (λ (x : CacheSettings). few_processors x.config ≡ true) made (rw (length-map kinds wants_value_of) (short_or n (get (name_of members.Processors) d) kinds e6))
+
+few_caches : (n : ℕ) (ds : Items) (cs : List CacheSettings) → caches_of n ds ≡ Ok cs → list_all few_processors (map (λ c. c.config) cs) ≡ true
+few_caches n no_items cs e = subst (λ (xs : List CacheSettings). list_all few_processors (map (λ c. c.config) xs) ≡ true) (ok_same [] cs e) refl
+few_caches n (item d ds) cs e =
+    let (c, one, k) = bind_ok (cache_of n d) _ cs e in
+    let (rest, more, last) = bind_ok (caches_of (n + 1) ds) _ cs k in
+    subst (λ (xs : List CacheSettings). list_all few_processors (map (λ c. c.config) xs) ≡ true) (ok_same (c ∷ rest) cs last) (rw (few_cache n d c one, few_caches (n + 1) ds rest more) refl)
+
+pub limits_kept : (n : ℕ) (ds : Items) (cs : List CacheSettings) (u : Unit {0}) → caches_of n ds ≡ Ok cs → check_totals cs ≡ Ok u → within_limits (map (λ c. c.config) cs) ≡ true
+limits_kept n ds cs u read totals =
+    let (few, e, k) = bind_ok (provided (nat_le (length cs) 1024) _) _ u totals in
+    rw (length-map cs (λ (c : CacheSettings). c.config), provided_ok (nat_le (length cs) 1024) _ few e, few_caches n ds cs read) refl

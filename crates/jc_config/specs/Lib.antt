@@ -1,0 +1,5 @@
+pub mod Config
+pub mod Faults
+pub mod Kinds
+pub mod Limits
+pub mod Members

@@ -1,0 +1,107 @@
+-- The members of a cache's table.
+use Rattle.std.specs.Prelude.{ℕ, ◌+◌, ◌&&◌, ◌||◌, ℤ, pos, negsuc, List, [], ◌∷◌, Bool, true, false, Option, Some, None, option_map, option_and_then, Result, Ok, Err, nat_le, if◌then◌else◌, codes}
+use Rattle.std.specs.Option.{ok_or}
+use Rattle.std.specs.Str.{bytes_eq}
+use Rattle.toml.specs.Data.{Data, Items, no_items, item, Members, no_members, member, get, as_str, as_integer, as_array, as_table}
+use Rattle.jc_model.specs.declared.config.Policy.{Policy}
+use Rattle.jc_model.specs.declared.config.Policy.TheVariants as policies
+use Rattle.jc_config.specs.Faults.{◌>>=◌, name_of}
+use Rattle.jc_config.specs.Kinds.{is_name, expiry_of, processor_of}
+use Rattle.jc_config.specs.declared.fault.Member.{Member}
+use Rattle.jc_config.specs.declared.fault.Member.TheVariants as members
+use Rattle.jc_config.specs.declared.fault.ConfigFault.{ConfigFault}
+use Rattle.jc_config.specs.declared.fault.ConfigFault.TheVariants.{Bad}
+use Rattle.jc_config.specs.declared.members.ExpiryKind.{ExpiryKind}
+use Rattle.jc_config.specs.declared.members.ExpiryKind.TheVariants.{Eternal, Created, Accessed, Modified, Touched}
+use Rattle.jc_config.specs.declared.kinds.ProcessorKind.{ProcessorKind}
+
+abbrev pub natural : ℤ → Option ℕ
+natural (pos n) = Some n
+natural (negsuc n) = None
+
+-- a whole number from 0
+abbrev pub whole : Data → Option ℕ
+whole d = option_and_then natural (as_integer d)
+
+-- a whole number between these, both included
+abbrev pub number : ℕ → ℕ → Data → Option ℕ
+number low high d = option_and_then (λ n. if nat_le low n && nat_le n high then Some n else None) (whole d)
+
+abbrev pub name_text : Data → Option (List ℕ)
+name_text d = option_and_then (λ text. if is_name text then Some text else None) (as_str d)
+
+-- a text that names a kind
+abbrev pub text_kind : {A : Type 0} → (List ℕ → Option A) → Data → Option A
+text_kind kind d = option_and_then kind (as_str d)
+
+-- the kinds in a list of texts
+abbrev pub kinds_of : Items → Option (List ProcessorKind)
+kinds_of no_items = Some []
+kinds_of (item d ds) = option_and_then (λ kind. option_map (λ kinds. kind ∷ kinds) (kinds_of ds)) (text_kind processor_of d)
+
+abbrev pub count_of : Items → ℕ
+count_of no_items = 0
+count_of (item d ds) = count_of ds + 1
+
+-- at most 16 kinds
+abbrev pub few_kinds : Items → Option (List ProcessorKind)
+few_kinds items = if nat_le (count_of items) 16 then kinds_of items else None
+
+abbrev pub processor_list : Data → Option (List ProcessorKind)
+processor_list d = option_and_then few_kinds (as_array d)
+
+-- a member that must be there
+abbrev pub needed : {A : Type 0} → (Data → Option A) → ℕ → Member → Data → Result A ConfigFault
+needed f n m d = ok_or (option_and_then f (get (name_of m) d)) (Bad n m)
+
+-- a member that may be missing
+abbrev pub found_or : {A : Type 0} → A → (Data → Option A) → ℕ → Member → Option Data → Result A ConfigFault
+found_or a f n m None = Ok a
+found_or a f n m (Some d) = ok_or (f d) (Bad n m)
+
+abbrev pub optional : {A : Type 0} → (Data → Option A) → ℕ → Member → Data → Result (Option A) ConfigFault
+optional f n m d = found_or None (λ x. option_map Some (f x)) n m (get (name_of m) d)
+
+-- a member that must not be there
+abbrev pub missing_by : ℕ → Member → Option Data → Result (Unit {0}) ConfigFault
+missing_by n m None = Ok tt
+missing_by n m (Some d) = Err (Bad n m)
+
+abbrev pub missing : ℕ → Member → Data → Result (Unit {0}) ConfigFault
+missing n m d = missing_by n m (get (name_of m) d)
+
+-- the duration, which an eternal cache must not have
+abbrev pub policy_by : ExpiryKind → ℕ → Data → Result Policy ConfigFault
+policy_by Eternal n d = do
+  none ← missing n members.Duration d
+  Ok policies.Eternal
+policy_by Created n d = needed whole n members.Duration d >>= (λ t. Ok (policies.Created t))
+policy_by Accessed n d = needed whole n members.Duration d >>= (λ t. Ok (policies.Accessed t))
+policy_by Modified n d = needed whole n members.Duration d >>= (λ t. Ok (policies.Modified t))
+policy_by Touched n d = needed whole n members.Duration d >>= (λ t. Ok (policies.Touched t))
+
+unfoldable pub policy_of : ℕ → Data → Result Policy ConfigFault
+policy_of n d = do
+  kind ← found_or Eternal (text_kind expiry_of) n members.Expiry (get (name_of members.Expiry) d)
+  policy_by kind n d
+
+-- Entries.
+
+abbrev pub is_member : List ℕ → Bool
+is_member key =
+    bytes_eq key (codes "name") || bytes_eq key (codes "capacity") || bytes_eq key (codes "expiry") || bytes_eq key (codes "duration")
+    || bytes_eq key (codes "loader") || bytes_eq key (codes "writer") || bytes_eq key (codes "processors") || bytes_eq key (codes "listeners")
+
+abbrev pub all_known : (List ℕ → Bool) → Members → Bool
+all_known known no_members = true
+all_known known (member k d ms) = known k && all_known known ms
+
+abbrev pub knows_by : Option Members → Bool
+knows_by None = false
+knows_by (Some ms) = all_known is_member ms
+
+abbrev pub knows_members : Data → Bool
+knows_members d = knows_by (as_table d)
+
+abbrev pub no_other_entry : ℕ → Data → Result (Unit {0}) ConfigFault
+no_other_entry n d = if knows_members d then Ok tt else Err (Bad n members.Entry)

@@ -1,0 +1,63 @@
+//! The kinds of callbacks that a configuration names.
+
+ghost use Rattle.std.specs.Prelude.{◌≡◌};
+ghost use Rattle.jc_config.specs.Kinds.{wants_value_of};
+
+use crate::settings::Settings;
+use jc_model::config::CacheConfig;
+use jc_model::list::Sequence;
+
+/// The loader of a cache.
+#[derive(Clone, Copy, Debug, PartialEq, Eq)]
+pub enum LoaderKind {
+    Echo,
+}
+
+/// The writer of a cache.
+#[derive(Clone, Copy, Debug, PartialEq, Eq)]
+pub enum WriterKind {
+    Check,
+}
+
+/// One of a cache's entry processors.
+#[derive(Clone, Copy, Debug, PartialEq, Eq)]
+pub enum ProcessorKind {
+    Append,
+    Fail,
+    Drop,
+    Peek,
+}
+
+impl ProcessorKind {
+    /// Whether the processor is given the entry's value.
+    pub fn wants_value(self) -> bool
+        ensures { result ≡ wants_value_of self }
+    {
+        match self {
+            ProcessorKind::Append | ProcessorKind::Peek => true,
+            ProcessorKind::Fail | ProcessorKind::Drop => false,
+        }
+    }
+}
+
+/// The kinds of one cache's callbacks. All its listeners are tallies; its configuration says how many.
+#[derive(Drop)]
+pub struct HookKinds {
+    pub loader: Option<LoaderKind>,
+    pub writer: Option<WriterKind>,
+    pub processors: Sequence<ProcessorKind>,
+}
+
+/// One cache as its table gives it.
+#[derive(Drop)]
+pub struct CacheSettings {
+    pub config: CacheConfig,
+    pub hooks: HookKinds,
+}
+
+/// What a document says: the caches, and the kinds of their callbacks in the same order.
+#[derive(Drop)]
+pub struct Configuration {
+    pub settings: Settings,
+    pub hooks: Sequence<HookKinds>,
+}

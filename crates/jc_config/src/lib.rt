@@ -1,0 +1,21 @@
+//! The program's configuration: a TOML document that lists caches and the kinds of their callbacks.
+#![tactic(auto)]
+
+mod cache;
+mod document;
+mod fault;
+mod kinds;
+mod members;
+mod name;
+mod processors;
+mod read;
+mod settings;
+mod totals;
+
+pub use fault::{ConfigFault, Member};
+pub use kinds::{CacheSettings, Configuration, HookKinds, LoaderKind, ProcessorKind, WriterKind};
+pub use read::read_config;
+pub use settings::Settings;
+
+#[cfg(test)]
+mod tests;

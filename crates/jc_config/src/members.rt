@@ -1,0 +1,205 @@
+//! The members of a cache's table, each read by itself.
+
+ghost use Rattle.std.specs.Prelude.{◌≡◌, None, pos, option_map};
+ghost use Rattle.toml.specs.View.{view};
+ghost use Rattle.toml.specs.Data.{get};
+ghost use Rattle.jc_config.specs.Faults.{Gives, name_of};
+ghost use Rattle.jc_config.specs.Kinds.{expiry_of, with_duration, loader_of, writer_of, processor_of};
+ghost use Rattle.jc_config.specs.Members.{number, whole, name_text, text_kind, optional, missing, needed, found_or, policy_of};
+
+use crate::fault::{ConfigFault, Member};
+use crate::kinds::{LoaderKind, ProcessorKind, WriterKind};
+use crate::name::is_name;
+use jc_model::config::Policy;
+use jc_model::key::Key;
+use toml::Value;
+
+/// The most rows of one cache.
+const MAX_CAPACITY: i64 = 65_536;
+
+/// The most listeners of one cache.
+const MAX_LISTENERS: i64 = 8;
+
+/// An expiry policy whose duration is not read yet.
+#[derive(Clone, Copy, PartialEq, Eq)]
+pub enum ExpiryKind {
+    Eternal,
+    Created,
+    Accessed,
+    Modified,
+    Touched,
+}
+
+impl ExpiryKind {
+    fn of(text: &str) -> Option<ExpiryKind>
+        ensures { result ≡ expiry_of text.now }
+    {
+        match text {
+            "eternal" => Some(ExpiryKind::Eternal),
+            "created" => Some(ExpiryKind::Created),
+            "accessed" => Some(ExpiryKind::Accessed),
+            "modified" => Some(ExpiryKind::Modified),
+            "touched" => Some(ExpiryKind::Touched),
+            _ => None,
+        }
+    }
+
+    fn with_duration(self, duration: u64) -> Policy
+        ensures { result ≡ with_duration self duration }
+    {
+        match self {
+            ExpiryKind::Eternal => Policy::Eternal,
+            ExpiryKind::Created => Policy::Created(duration),
+            ExpiryKind::Accessed => Policy::Accessed(duration),
+            ExpiryKind::Modified => Policy::Modified(duration),
+            ExpiryKind::Touched => Policy::Touched(duration),
+        }
+    }
+}
+
+impl LoaderKind {
+    fn of(text: &str) -> Option<LoaderKind>
+        ensures { result ≡ loader_of text.now }
+    {
+        if text == "echo" {
+            Some(LoaderKind::Echo)
+        } else {
+            None
+        }
+    }
+}
+
+impl WriterKind {
+    fn of(text: &str) -> Option<WriterKind>
+        ensures { result ≡ writer_of text.now }
+    {
+        if text == "check" {
+            Some(WriterKind::Check)
+        } else {
+            None
+        }
+    }
+}
+
+impl ProcessorKind {
+    pub(crate) fn of(text: &str) -> Option<ProcessorKind>
+        ensures { result ≡ processor_of text.now }
+    {
+        match text {
+            "append" => Some(ProcessorKind::Append),
+            "fail" => Some(ProcessorKind::Fail),
+            "drop" => Some(ProcessorKind::Drop),
+            "peek" => Some(ProcessorKind::Peek),
+            _ => None,
+        }
+    }
+}
+
+pub fn name(table: &Value, cache: usize) -> Result<Key, ConfigFault>
+    ensures { Gives (λ x. x) result (needed name_text cache Member.Name (view table.now)) }
+{
+    let member = Member::Name;
+    match table.get(member.name()).and_then(Value::as_str) {
+        Some(text) if is_name(text) => match Key::from_text(text) {
+            Ok(name) => Ok(name),
+            Err(_) => Err(ConfigFault::Bad { cache, member }),
+        },
+        _ => Err(ConfigFault::Bad { cache, member }),
+    }
+}
+
+pub fn capacity(table: &Value, cache: usize) -> Result<u32, ConfigFault>
+    ensures { Gives (λ x. x) result (needed (number 1 65536) cache Member.Capacity (view table.now)) }
+{
+    let member = Member::Capacity;
+    match table.get(member.name()).and_then(Value::as_integer) {
+        Some(number) if number >= 1 && number <= MAX_CAPACITY => Ok(number as u32),
+        _ => Err(ConfigFault::Bad { cache, member }),
+    }
+}
+
+fn expiry(table: &Value, cache: usize) -> Result<ExpiryKind, ConfigFault>
+    ensures { Gives (λ x. x) result (found_or ExpiryKind.Eternal (text_kind expiry_of) cache Member.Expiry (get (name_of Member.Expiry) (view table.now))) }
+{
+    let member = Member::Expiry;
+    match table.get(member.name()) {
+        None => Ok(ExpiryKind::Eternal),
+        Some(value) => match value.as_str().and_then(ExpiryKind::of) {
+            Some(kind) => Ok(kind),
+            None => Err(ConfigFault::Bad { cache, member }),
+        },
+    }
+}
+
+fn duration(table: &Value, cache: usize) -> Result<u64, ConfigFault>
+    ensures { Gives (λ x. x) result (needed whole cache Member.Duration (view table.now)) }
+{
+    let member = Member::Duration;
+    match table.get(member.name()).and_then(Value::as_integer) {
+        Some(number) if number >= 0 => Ok(number as u64),
+        _ => Err(ConfigFault::Bad { cache, member }),
+    }
+}
+
+fn no_duration(table: &Value, cache: usize) -> Result<(), ConfigFault>
+    ensures { Gives (λ x. x) result (missing cache Member.Duration (view table.now)) }
+{
+    let member = Member::Duration;
+    match table.get(member.name()) {
+        None => Ok(()),
+        Some(_) => Err(ConfigFault::Bad { cache, member }),
+    }
+}
+
+/// The members `expiry` and `duration`.
+#[tactic(auto, unfolding(crate::specs::Members::policy_of))]
+pub fn policy(table: &Value, cache: usize) -> Result<Policy, ConfigFault>
+    ensures { Gives (λ x. x) result (policy_of cache (view table.now)) }
+{
+    let kind = expiry(table, cache)?;
+    if kind == ExpiryKind::Eternal {
+        no_duration(table, cache)?;
+        return Ok(Policy::Eternal);
+    }
+    let duration = duration(table, cache)?;
+    Ok(kind.with_duration(duration))
+}
+
+pub fn loader(table: &Value, cache: usize) -> Result<Option<LoaderKind>, ConfigFault>
+    ensures { Gives (λ x. x) result (optional (text_kind loader_of) cache Member.Loader (view table.now)) }
+{
+    let member = Member::Loader;
+    match table.get(member.name()) {
+        None => Ok(None),
+        Some(value) => match value.as_str().and_then(LoaderKind::of) {
+            Some(kind) => Ok(Some(kind)),
+            None => Err(ConfigFault::Bad { cache, member }),
+        },
+    }
+}
+
+pub fn writer(table: &Value, cache: usize) -> Result<Option<WriterKind>, ConfigFault>
+    ensures { Gives (λ x. x) result (optional (text_kind writer_of) cache Member.Writer (view table.now)) }
+{
+    let member = Member::Writer;
+    match table.get(member.name()) {
+        None => Ok(None),
+        Some(value) => match value.as_str().and_then(WriterKind::of) {
+            Some(kind) => Ok(Some(kind)),
+            None => Err(ConfigFault::Bad { cache, member }),
+        },
+    }
+}
+
+pub fn listeners(table: &Value, cache: usize) -> Result<u8, ConfigFault>
+    ensures { Gives (λ x. x) result (found_or 0 (number 0 8) cache Member.Listeners (get (name_of Member.Listeners) (view table.now))) }
+{
+    let member = Member::Listeners;
+    match table.get(member.name()) {
+        None => Ok(0),
+        Some(value) => match value.as_integer() {
+            Some(number) if number >= 0 && number <= MAX_LISTENERS => Ok(number as u8),
+            _ => Err(ConfigFault::Bad { cache, member }),
+        },
+    }
+}

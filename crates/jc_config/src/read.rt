@@ -1,0 +1,70 @@
+//! Reading a configuration.
+
+ghost use Rattle.std.specs.Prelude.{◌≡◌, true, IfOk, map};
+ghost use Rattle.jc_config.specs.Faults.{Gives};
+ghost use Rattle.jc_config.specs.Config.{configuration_of};
+ghost use Rattle.jc_config.specs.Limits.{within_limits};
+
+use crate::document::{parse, read_caches, tables};
+use crate::fault::ConfigFault;
+use crate::kinds::{CacheSettings, Configuration, HookKinds};
+use crate::settings::Settings;
+use crate::totals::check_totals;
+use jc_model::config::CacheConfig;
+use jc_model::list::Sequence;
+use std::alloc::{AllocError, Global};
+
+/// The most bytes of a configuration.
+const MAX_BYTES: usize = 8_388_608;
+
+/// The configurations and the kinds of callbacks, each by itself.
+fn split(
+    alloc: Global,
+    caches: Vec<CacheSettings>,
+) -> Result<(Vec<CacheConfig>, Vec<HookKinds>), AllocError>
+    ensures { IfOk result (λ r. (r.0.items ≡ map (λ c. c.config) caches.items) × (r.1.items ≡ map (λ c. c.hooks) caches.items)) }
+{
+    let mut configs = Vec::with_capacity(alloc, caches.len())?;
+    let mut hooks = Vec::with_capacity(alloc, caches.len())?;
+    for cache in caches {
+        configs.push(cache.config)?;
+        hooks.push(cache.hooks)?;
+    }
+    Ok((configs, hooks))
+}
+
+/// The configuration of caches that were read and that keep to what all caches together must keep to.
+fn configured(alloc: Global, caches: Vec<CacheSettings>) -> Result<Configuration, AllocError>
+    requires { within_limits (map (λ c. c.config) caches.items) ≡ true }
+    ensures { IfOk result (λ r. r ≡ record { settings = map (λ c. c.config) caches.items; hooks = map (λ c. c.hooks) caches.items }) }
+{
+    let (configs, hooks) = split(alloc, caches)?;
+    match Settings::new(Sequence::new(configs)) {
+        Some(settings) => Ok(Configuration {
+            settings,
+            hooks: Sequence::new(hooks),
+        }),
+        None => unreachable!(),
+    }
+}
+
+/// Reads a TOML document with an array of tables `cache`, which may be missing.
+///
+/// Faults come in this order: the text's length, its form, the document's entries, then table by table the
+/// members in `Member`'s order, then the number of caches, their names and their capacity together. Memory may
+/// be wanting at any point.
+#[tactic(auto, unfolding(crate::specs::Config::configuration_of))]
+pub fn read_config(alloc: Global, bytes: &[u8]) -> Result<Configuration, ConfigFault>
+    ensures read { Gives (λ r. r) result (configuration_of bytes.now) }
+{
+    if bytes.len() > MAX_BYTES {
+        return Err(ConfigFault::TooLong);
+    }
+    let Some(document) = parse(alloc, bytes)? else {
+        return Err(ConfigFault::NotToml);
+    };
+    let tables = tables(&document)?;
+    let caches = read_caches(alloc, tables)?;
+    check_totals(alloc, &caches)?;
+    Ok(configured(alloc, caches)?)
+}

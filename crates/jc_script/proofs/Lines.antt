@@ -1,0 +1,69 @@
+-- Reading lines one after the other, as a loop does.
+use Rattle.std.proofs.Common.{◌≡◌, ℕ, ◌+◌, ◌<◌, ◌≤◌, List, [], ◌∷◌, ◌++◌, length, true, false, Option, Some, None, Result, Ok, Err, refl, sym, ap, ◌∙◌, append_assoc, arith}
+use Rattle.std.specs.Borrow.{Bor}
+use Rattle.std.proofs.lemmas.List.{append-nil}
+use Rattle.std.specs.List.{slice_split}
+use Rattle.std.proofs.Common.{le-ltb}
+use Rattle.std.specs.Prelude.{IfSome}
+use Rattle.jc_model.specs.declared.config.CacheConfig.{CacheConfig}
+use Rattle.jc_script.specs.declared.line.Line.{Line}
+use Rattle.jc_script.specs.declared.fault.ScriptFault.{ScriptFault}
+use Rattle.jc_script.specs.declared.fault.ScriptFault.TheVariants.{TooLong, NotJson, NotObject, Bad, OutOfMemory}
+use Rattle.jc_script.specs.Faults.{◌>>=◌, Fails}
+use Rattle.jc_script.specs.Script.{piece_of, lines_from, is_blank, is_feed, lines}
+
+-- what was read before, and what is still read
+abbrev pub with_front : List Line → Result (List Line) ScriptFault → Result (List Line) ScriptFault
+with_front front read = read >>= λ xs. Ok (front ++ xs)
+
+-- an upper bound on the number of lines left
+abbrev pub room : Option (Bor (List ℕ)) → ℕ
+room None = 0
+room (Some rest) = length rest.now + 1
+
+regroup : (front : List Line) (x : Line) (read : Result (List Line) ScriptFault) → with_front front (read >>= λ xs. Ok (x ∷ xs)) ≡ with_front (front ++ x ∷ []) read
+regroup front x (Ok xs) = ap (λ (ys : List Line). Ok ys) (simp append_assoc)
+regroup front x (Err f) = refl
+
+pub passes : (caches : List CacheConfig) (front : List Line) (n : ℕ) (pieces rest : List (List ℕ)) (piece : List ℕ) (total : Result (List Line) ScriptFault) → pieces ≡ piece ∷ rest → is_blank piece ≡ true
+    → with_front front (lines_from caches n pieces) ≡ total → with_front front (lines_from caches (n + 1) rest) ≡ total
+unfolding lines_from
+passes caches front n pieces rest piece total cut blank so_far = rw (cut, blank) at so_far
+
+pub goes_on : (caches : List CacheConfig) (front : List Line) (n : ℕ) (pieces rest : List (List ℕ)) (piece : List ℕ) (x : Line) (total : Result (List Line) ScriptFault) → pieces ≡ piece ∷ rest → is_blank piece ≡ false
+    → piece_of caches n piece ≡ Ok x → with_front front (lines_from caches n pieces) ≡ total → with_front (front ++ x ∷ []) (lines_from caches (n + 1) rest) ≡ total
+unfolding lines_from
+goes_on caches front n pieces rest piece x total cut full line so_far =
+    let one : with_front front (lines_from caches n pieces) ≡ with_front (front ++ x ∷ []) (lines_from caches (n + 1) rest) = rw (cut, full, line) (regroup front x (lines_from caches (n + 1) rest)) in
+    sym one ∙ so_far
+
+stops : (caches : List CacheConfig) (front : List Line) (n : ℕ) (pieces rest : List (List ℕ)) (piece : List ℕ) (e : ScriptFault) (total : Result (List Line) ScriptFault) → pieces ≡ piece ∷ rest → is_blank piece ≡ false
+    → with_front front (lines_from caches n pieces) ≡ total → piece_of caches n piece ≡ Err e → total ≡ Err e
+unfolding lines_from
+stops caches front n pieces rest piece e total cut full so_far fault =
+    let one : with_front front (lines_from caches n pieces) ≡ Err e = rw (cut, full, fault) refl in
+    sym so_far ∙ one
+
+-- a fault of a step that is a fault of the whole, by cases on the fault
+fails_by : {A B : Type 0} (e : ScriptFault) (step : Result A ScriptFault) (total : Result B ScriptFault) → ((f : ScriptFault) → step ≡ Err f → total ≡ Err f) → Fails e step → Fails e total
+fails_by OutOfMemory step total up h = tt
+fails_by TooLong step total up h = up TooLong h
+fails_by (NotJson n) step total up h = up (NotJson n) h
+fails_by (NotObject n) step total up h = up (NotObject n) h
+fails_by (Bad n m) step total up h = up (Bad n m) h
+
+pub ends : (e : ScriptFault) (caches : List CacheConfig) (front : List Line) (n : ℕ) (pieces rest : List (List ℕ)) (piece : List ℕ) (total : Result (List Line) ScriptFault) → pieces ≡ piece ∷ rest → is_blank piece ≡ false
+    → with_front front (lines_from caches n pieces) ≡ total → Fails e (piece_of caches n piece) → Fails e total
+ends e caches front n pieces rest piece total cut full so_far h = fails_by e (piece_of caches n piece) total (λ f is. stops caches front n pieces rest piece f total cut full so_far is) h
+
+pub fewer : (o : Option (Bor (List ℕ))) (most : ℕ) → IfSome o (λ r. length r.now < most) → room o ≤ most
+fewer None most h = omega arith
+fewer (Some r) most h = omega (arith, h)
+
+pub is_done : (caches : List CacheConfig) (front : List Line) (n : ℕ) (total : Result (List Line) ScriptFault) → with_front front (lines_from caches n []) ≡ total → total ≡ Ok front
+unfolding lines_from
+is_done caches front n total so_far = sym so_far ∙ ap (λ (xs : List Line). Ok xs) (append-nil front)
+
+pub all_from : (caches : List CacheConfig) (bytes : List ℕ) → length bytes ≤ 8388608 → lines_from caches 1 (slice_split is_feed bytes) ≡ lines caches bytes
+unfolding lines
+all_from caches bytes le = rw (le-ltb 8388608 (length bytes) le) refl

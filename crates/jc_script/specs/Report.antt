@@ -1,0 +1,95 @@
+-- The text of a report.
+use Rattle.std.specs.Prelude.{ℕ, ◌+◌, List, [], ◌∷◌, ◌++◌, map, true, false, Option, Some, None, Vec, if◌then◌else◌, codes, decimal}
+use Rattle.std.specs.Borrow.{Bor}
+use Rattle.std.specs.List.{flat_map}
+use Rattle.std.specs.Str.{is_utf8}
+use Rattle.std.specs.declared.alloc.Global.{Global}
+use Rattle.hex.specs.Hex.{encode_lower}
+use Rattle.json.specs.Print.{quoted}
+use Rattle.jc_model.specs.declared.call.By.{By}
+use Rattle.jc_model.specs.declared.call.By.TheVariants as by
+use Rattle.jc_model.specs.declared.call.Counts.{Counts}
+use Rattle.jc_model.specs.declared.call.Kind.{Kind}
+use Rattle.jc_model.specs.declared.call.Kind.TheVariants as kind
+use Rattle.jc_model.specs.declared.call.Notice.{Notice}
+use Rattle.jc_model.specs.declared.call.Reply.{Reply}
+use Rattle.jc_model.specs.declared.call.Reply.TheVariants.{Done, Truth, Found, Counted, Fault}
+use Rattle.jc_model.specs.declared.event.End.{End}
+use Rattle.jc_model.specs.declared.event.End.TheVariants.{Waiting, Replied, GivenUp}
+use Rattle.jc_model.specs.declared.event.Entry.{Entry}
+use Rattle.jc_model.specs.Legal.{entries_of}
+use Rattle.jc_script.specs.Operation.{operation_name, operation_of}
+
+-- a key or a value as a JSON string, and as hexadecimal digits where it is no text
+unfoldable pub bytes_text : List ℕ → List ℕ
+bytes_text bytes = if is_utf8 bytes then quoted bytes else codes "hex:" ++ encode_lower bytes
+
+-- Replies.
+
+abbrev pub found_text : Option (List ℕ) → List ℕ
+found_text None = codes "none"
+found_text (Some bytes) = codes "some " ++ bytes_text bytes
+
+abbrev pub spaced : ℕ → List ℕ
+spaced n = decimal n ++ codes " "
+
+abbrev pub counts_text : Counts → List ℕ
+counts_text c = spaced c.hits ++ spaced c.misses ++ spaced c.puts ++ spaced c.removals ++ decimal c.evictions
+
+abbrev pub by_text : By → List ℕ
+by_text by.Loader = codes "loader"
+by_text by.Writer = codes "writer"
+by_text by.Processor = codes "processor"
+
+abbrev pub done_text : Option ℕ → List ℕ
+done_text None = []
+done_text (Some keys) = codes " after " ++ decimal keys
+
+abbrev pub reply_text : Reply → List ℕ
+reply_text Done = codes "ok"
+reply_text (Truth true) = codes "true"
+reply_text (Truth false) = codes "false"
+reply_text (Found found) = found_text found
+reply_text (Counted counts) = counts_text counts
+reply_text (Fault by done) = codes "fault " ++ by_text by ++ done_text done
+
+-- Entries.
+
+abbrev pub kind_text : Kind → List ℕ
+kind_text kind.Created = codes "created"
+kind_text kind.Updated = codes "updated"
+kind_text kind.Removed = codes "removed"
+kind_text kind.Expired = codes "expired"
+
+abbrev pub event_text : ℕ → Notice → List ℕ
+event_text session n = decimal session ++ codes " event " ++ kind_text n.kind ++ codes " " ++ bytes_text n.key ++ codes "\n"
+
+abbrev pub end_text : End → List ℕ
+end_text Waiting = codes "waiting"
+end_text (Replied reply) = reply_text reply
+end_text GivenUp = codes "gave up"
+
+abbrev pub call_text : Entry → List ℕ
+call_text e = spaced e.session ++ operation_name (operation_of e.call) ++ codes " " ++ end_text e.end ++ codes "\n"
+
+-- the notices that were told, then the call and its end
+abbrev pub entry_text : Entry → List ℕ
+entry_text e = flat_map (event_text e.session) e.told ++ call_text e
+
+-- Caches.
+
+-- the entries behind a group's references
+abbrev pub group : Option (Vec (Bor Entry) Global) → List Entry
+group None = []
+group (Some entries) = map (λ e. e.now) entries.items
+
+abbrev pub header : List ℕ → List ℕ
+header name = codes "cache " ++ name ++ codes "\n"
+
+-- the caches from number id on, each with its entries
+abbrev pub text_from : ℕ → List (List ℕ) → List Entry → List ℕ
+text_from id [] entries = []
+text_from id (name ∷ names) entries = header name ++ flat_map entry_text (entries_of id entries) ++ text_from (id + 1) names entries
+
+abbrev pub text : List (List ℕ) → List Entry → List ℕ
+text names entries = text_from 0 names entries

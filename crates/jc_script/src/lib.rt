@@ -1,0 +1,24 @@
+//! The program's texts: a script of calls, one JSON object a line, and the report of what they came to.
+#![tactic(auto)]
+
+mod caches;
+mod call;
+mod fault;
+mod groups;
+mod line;
+mod member;
+mod operation;
+mod parse;
+mod quote;
+mod reply;
+mod report_text;
+mod script;
+#[cfg(test)]
+mod tests;
+
+pub use fault::{Member, ScriptFault};
+pub use line::Line;
+pub use operation::Operation;
+pub use reply::reply_text;
+pub use report_text::report;
+pub use script::read_script;

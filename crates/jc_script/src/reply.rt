@@ -1,0 +1,94 @@
+//! Replies as text.
+ghost use Rattle.std.specs.Prelude.{◌≡◌, ◌++◌, IfOk, OnOk, string_bytes, decimal, codes};
+ghost use Rattle.jc_script.specs.Report.{found_text, spaced, counts_text, by_text, done_text, reply_text};
+
+use crate::quote::push_bytes;
+use jc_model::call::{By, Counts, Reply};
+use jc_model::value::Value;
+use std::alloc::{AllocError, Global};
+
+/// Adds a number in decimal digits.
+pub fn push_number(alloc: Global, text: &mut String, number: u64) -> Result<(), AllocError>
+    ensures { OnOk result (string_bytes text.new ≡ string_bytes text.old ++ decimal number) }
+{
+    text.push_str(number.to_string(alloc)?.as_str())
+}
+
+fn push_found(alloc: Global, text: &mut String, found: &Option<Value>) -> Result<(), AllocError>
+    ensures { OnOk result (string_bytes text.new ≡ string_bytes text.old ++ found_text found.now) }
+{
+    match found {
+        None => text.push_str("none"),
+        Some(value) => {
+            text.push_str("some ")?;
+            push_bytes(alloc, text, value.bytes())
+        }
+    }
+}
+
+/// Adds a number and a space.
+pub fn push_spaced(alloc: Global, text: &mut String, number: u64) -> Result<(), AllocError>
+    ensures { OnOk result (string_bytes text.new ≡ string_bytes text.old ++ spaced number) }
+{
+    push_number(alloc, text, number)?;
+    text.push_str(" ")
+}
+
+fn push_counts(alloc: Global, text: &mut String, counts: &Counts) -> Result<(), AllocError>
+    ensures { OnOk result (string_bytes text.new ≡ string_bytes text.old ++ counts_text counts.now) }
+{
+    push_spaced(alloc, text, counts.hits)?;
+    push_spaced(alloc, text, counts.misses)?;
+    push_spaced(alloc, text, counts.puts)?;
+    push_spaced(alloc, text, counts.removals)?;
+    push_number(alloc, text, counts.evictions)
+}
+
+fn name_of_hook(by: &By) -> &'static str
+    ensures { result.now ≡ by_text by.now }
+{
+    match by {
+        By::Loader => "loader",
+        By::Writer => "writer",
+        By::Processor => "processor",
+    }
+}
+
+fn push_done(alloc: Global, text: &mut String, done: Option<u32>) -> Result<(), AllocError>
+    ensures { OnOk result (string_bytes text.new ≡ string_bytes text.old ++ done_text done) }
+{
+    match done {
+        None => Ok(()),
+        Some(keys) => {
+            text.push_str(" after ")?;
+            push_number(alloc, text, keys as u64)
+        }
+    }
+}
+
+/// Adds the text of a reply.
+pub fn push_reply(alloc: Global, text: &mut String, reply: &Reply) -> Result<(), AllocError>
+    ensures { OnOk result (string_bytes text.new ≡ string_bytes text.old ++ reply_text reply.now) }
+{
+    match reply {
+        Reply::Done => text.push_str("ok"),
+        Reply::Truth(true) => text.push_str("true"),
+        Reply::Truth(false) => text.push_str("false"),
+        Reply::Found(found) => push_found(alloc, text, found),
+        Reply::Counted(counts) => push_counts(alloc, text, counts),
+        Reply::Fault { by, done } => {
+            text.push_str("fault ")?;
+            text.push_str(name_of_hook(by))?;
+            push_done(alloc, text, *done)
+        }
+    }
+}
+
+/// The text of a reply, as a report has it.
+pub fn reply_text(alloc: Global, reply: &Reply) -> Result<String, AllocError>
+    ensures { IfOk result (λ s. string_bytes s ≡ reply_text reply.now) }
+{
+    let mut text = String::new(alloc);
+    push_reply(alloc, &mut text, reply)?;
+    Ok(text)
+}

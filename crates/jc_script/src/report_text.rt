@@ -1,0 +1,126 @@
+//! The whole report.
+ghost use Rattle.std.specs.Prelude.{◌≡◌, ◌++◌, IfOk, OnOk, map, string_bytes, option_copied};
+ghost use Rattle.std.specs.List.{flat_map};
+ghost use Rattle.jc_script.specs.Report.{kind_text, event_text, end_text, call_text, entry_text, group, header, text};
+
+use crate::groups::grouped;
+use crate::operation::Operation;
+use crate::quote::push_bytes;
+use crate::reply::{push_number, push_reply, push_spaced};
+use jc_model::call::{Kind, Notice};
+use jc_model::event::{End, Entry};
+use jc_model::key::Key;
+use jc_model::transcript::Transcript;
+use std::alloc::{AllocError, Global};
+
+fn name_of_kind(kind: &Kind) -> &'static str
+    ensures { result.now ≡ kind_text kind.now }
+{
+    match kind {
+        Kind::Created => "created",
+        Kind::Updated => "updated",
+        Kind::Removed => "removed",
+        Kind::Expired => "expired",
+    }
+}
+
+fn push_event(
+    alloc: Global,
+    report: &mut String,
+    session: u32,
+    notice: &Notice,
+) -> Result<(), AllocError>
+    ensures { OnOk result (string_bytes report.new ≡ string_bytes report.old ++ event_text session notice.now) }
+{
+    push_number(alloc, report, session as u64)?;
+    report.push_str(" event ")?;
+    report.push_str(name_of_kind(&notice.kind))?;
+    report.push_str(" ")?;
+    push_bytes(alloc, report, notice.key.text().as_bytes())?;
+    report.push_str("\n")
+}
+
+fn push_events(
+    alloc: Global,
+    report: &mut String,
+    session: u32,
+    told: &[Notice],
+) -> Result<(), AllocError>
+    ensures { OnOk result (string_bytes report.new ≡ string_bytes report.old ++ flat_map (event_text session) told.now) }
+{
+    for notice in told {
+        push_event(alloc, report, session, notice)?;
+    }
+    Ok(())
+}
+
+fn push_end(alloc: Global, report: &mut String, end: &End) -> Result<(), AllocError>
+    ensures { OnOk result (string_bytes report.new ≡ string_bytes report.old ++ end_text end.now) }
+{
+    match end {
+        End::Waiting => report.push_str("waiting"),
+        End::Replied(reply) => push_reply(alloc, report, reply),
+        End::GivenUp => report.push_str("gave up"),
+    }
+}
+
+fn push_call(alloc: Global, report: &mut String, entry: &Entry) -> Result<(), AllocError>
+    ensures { OnOk result (string_bytes report.new ≡ string_bytes report.old ++ call_text entry.now) }
+{
+    push_spaced(alloc, report, entry.session as u64)?;
+    report.push_str(Operation::of(&entry.call).name())?;
+    report.push_str(" ")?;
+    push_end(alloc, report, &entry.end)?;
+    report.push_str("\n")
+}
+
+fn push_entry(alloc: Global, report: &mut String, entry: &Entry) -> Result<(), AllocError>
+    ensures { OnOk result (string_bytes report.new ≡ string_bytes report.old ++ entry_text entry.now) }
+{
+    push_events(alloc, report, entry.session, entry.told.items())?;
+    push_call(alloc, report, entry)
+}
+
+fn push_group(alloc: Global, report: &mut String, group: &[&Entry]) -> Result<(), AllocError>
+    ensures { OnOk result (string_bytes report.new ≡ string_bytes report.old ++ flat_map entry_text (map (λ e. e.now) group.now)) }
+{
+    for entry in group {
+        push_entry(alloc, report, entry)?;
+    }
+    Ok(())
+}
+
+fn push_header(report: &mut String, name: &str) -> Result<(), AllocError>
+    ensures { OnOk result (string_bytes report.new ≡ string_bytes report.old ++ header name.now) }
+{
+    report.push_str("cache ")?;
+    report.push_str(name)?;
+    report.push_str("\n")
+}
+
+fn push_cache(
+    alloc: Global,
+    report: &mut String,
+    name: &str,
+    entries: Option<&Vec<&Entry>>,
+) -> Result<(), AllocError>
+    ensures { OnOk result (string_bytes report.new ≡ string_bytes report.old ++ (header name.now ++ flat_map entry_text (group (option_copied entries.entry)))) }
+{
+    push_header(report, name)?;
+    match entries {
+        None => Ok(()),
+        Some(group) => push_group(alloc, report, group.as_slice()),
+    }
+}
+
+/// The report of a transcript: each cache by its name in order, then its entries, each with the notices that were told.
+pub fn report(alloc: Global, names: &[Key], transcript: &Transcript) -> Result<String, AllocError>
+    ensures { IfOk result (λ s. string_bytes s ≡ text names.now transcript.now) }
+{
+    let groups = grouped(alloc, transcript.entries())?;
+    let mut report = String::new(alloc);
+    for (id, name) in names.iter().enumerate() {
+        push_cache(alloc, &mut report, name.text(), groups.get(&id))?;
+    }
+    Ok(report)
+}

@@ -1,0 +1,110 @@
+//! A whole script.
+ghost use Rattle.std.specs.Prelude.{◌≡◌, ◌≤◌, ◌<◌, ◌∷◌, length, IfSome};
+ghost use Rattle.std.specs.List.{slice_split, list_all, All};
+ghost use Rattle.serde_json.specs.View.{view};
+ghost use Rattle.jc_script.specs.Caches.{Finds};
+ghost use Rattle.jc_script.specs.Faults.{Gives};
+ghost use Rattle.jc_script.specs.Line.{line_of};
+ghost use Rattle.jc_script.specs.Script.{is_feed, is_blank, pieces_after, piece_of, lines};
+
+use crate::caches::{Caches, read_cache};
+use crate::call::read_call;
+use crate::fault::ScriptFault;
+use crate::line::Line;
+use crate::member::{read_moment, read_operation, read_session};
+use crate::parse::read_object;
+use jc_config::Settings;
+use jc_model::event::CacheId;
+use serde_json::Value;
+use std::alloc::Global;
+
+/// The most bytes of a script.
+const MOST_BYTES: usize = 8_388_608;
+
+#[tactic(auto, unfolding(crate::specs::Line::line_of))]
+fn read_line(
+    alloc: Global,
+    caches: &Caches,
+    object: &Value,
+    line: usize,
+) -> Result<Line, ScriptFault>
+    requires places { Finds caches.now.places caches.now.list.now }
+    requires processors { All (λ c. length c.processors ≤ 16) caches.now.list.now }
+    ensures { Gives (λ x. x) result (line_of caches.now.list.now line (view object.now)) }
+{
+    let session = read_session(object, line)?;
+    let place = read_cache(caches, object, line)?;
+    let at = read_moment(object, line)?;
+    let operation = read_operation(object, line)?;
+    let call = read_call(alloc, caches.processors(place), operation, object, line)?;
+    Ok(Line {
+        session,
+        id: CacheId::new(place),
+        at,
+        call,
+    })
+}
+
+#[tactic(auto, unfolding(crate::specs::Script::piece_of))]
+fn read_piece(
+    alloc: Global,
+    caches: &Caches,
+    piece: &[u8],
+    line: usize,
+) -> Result<Line, ScriptFault>
+    requires places { Finds caches.now.places caches.now.list.now }
+    requires processors { All (λ c. length c.processors ≤ 16) caches.now.list.now }
+    ensures { Gives (λ x. x) result (piece_of caches.now.list.now line piece.now) }
+{
+    let object = read_object(alloc, piece, line)?;
+    read_line(alloc, caches, &object, line)
+}
+
+fn is_blank(piece: &[u8]) -> bool
+    ensures { result ≡ is_blank piece.now }
+{
+    piece
+        .iter()
+        .all(|b| *b == b' ' || *b == b'\t' || *b == b'\r')
+}
+
+/// The bytes before the first line feed, and those behind it if there is one.
+fn first_piece(bytes: &[u8]) -> (&[u8], Option<&[u8]>)
+    ensures cut { slice_split is_feed bytes.now ≡ result.0.now ∷ pieces_after result.1 }
+    ensures shorter { IfSome result.1 (λ rest. length rest.now < length bytes.now) }
+{
+    for (i, b) in bytes.iter().enumerate() {
+        if *b == b'\n' {
+            return (&bytes[..i], Some(&bytes[i + 1..]));
+        }
+    }
+    (bytes, None)
+}
+
+/// The lines of a script, or its first fault: one JSON object a line.
+#[tactic(auto, unfolding(crate::specs::Script::lines))]
+pub fn read_script(
+    alloc: Global,
+    bytes: &[u8],
+    settings: &Settings,
+) -> Result<Vec<Line>, ScriptFault>
+    ensures { Gives (λ v. v.items) result (lines settings.now bytes.now) }
+{
+    if bytes.len() > MOST_BYTES {
+        return Err(ScriptFault::TooLong);
+    }
+    let caches = Caches::new(alloc, settings.caches())?;
+    let mut lines = Vec::new(alloc);
+    let mut number = 0;
+    let mut left = Some(bytes);
+    while let Some(rest) = left {
+        let (piece, after) = first_piece(rest);
+        number += 1;
+        left = after;
+        if !is_blank(piece) {
+            let line = read_piece(alloc, &caches, piece, number)?;
+            lines.push(line)?;
+        }
+    }
+    Ok(lines)
+}
