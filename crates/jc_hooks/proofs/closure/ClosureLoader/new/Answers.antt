@@ -1,0 +1,8 @@
+use Rattle.std.specs.Coded.{Coded-set}
+use Rattle.jc_hooks.specs.Codes.{loaded_code}
+use Rattle.jc_hooks.proofs.Stated.{stated_is}
+use Rattle.jc_hooks.proofs.closure.ClosureLoader.new.Goals as goal
+
+-- there is one function only
+pub returns : goal.returns
+returns g c = λ f is. stated_is (Coded-set loaded_code) _ c.result-1.given.1.0 f is

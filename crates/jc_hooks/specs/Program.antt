@@ -1,0 +1,56 @@
+-- What the program's callbacks answer.
+use Rattle.std.specs.Prelude.{◌≡◌, ℕ, Bool, false, not, ◌==◌, nat_le, if◌then◌else◌, List, [], ◌∷◌, ◌++◌, length, Option, Some, None, Result, Ok, Err, ⊤}
+use Rattle.jc_model.specs.declared.call.Request.{Request}
+use Rattle.jc_model.specs.declared.call.Request.TheVariants.{Write, Delete}
+use Rattle.jc_model.specs.declared.call.Answer.{Answer}
+use Rattle.jc_model.specs.declared.call.Action.TheVariants as actions
+use Rattle.jc_model.specs.declared.call.Verdict.{Verdict}
+use Rattle.jc_model.specs.declared.call.ProcessorFault.{ProcessorFault}
+use Rattle.jc_hooks.specs.Answers.{write_answer_of}
+use Rattle.jc_hooks.specs.declared.loader.Loaded.{Loaded}
+use Rattle.jc_hooks.specs.declared.loader.Loaded.TheVariants.{Found, Failed}
+
+-- the first byte of a key for which nothing is found
+abbrev pub dash : ℕ
+dash = 45
+
+-- the first byte of a key for which loader and writer fail
+abbrev pub exclamation_mark : ℕ
+exclamation_mark = 33
+
+abbrev pub begins : ℕ → List ℕ → Bool
+begins byte [] = false
+begins byte (x ∷ xs) = x == byte
+
+abbrev pub echoed : List ℕ → Loaded
+echoed key = if begins dash key then Found None else (if begins exclamation_mark key then Failed else Found (Some key))
+
+-- the check writer's answer
+abbrev pub IsChecked : Request → Answer → Type 0
+IsChecked (Write key value) answer = answer ≡ write_answer_of (not (begins exclamation_mark key))
+IsChecked (Delete key) answer = answer ≡ write_answer_of (not (begins exclamation_mark key))
+IsChecked _ answer = ⊥
+
+abbrev pub AllChecked : List (Request × Answer) → Type 0
+AllChecked [] = ⊤
+AllChecked (given ∷ rest) = IsChecked given.0 given.1 × AllChecked rest
+
+-- a value's bytes, or none
+abbrev pub bytes_of : Option (List ℕ) → List ℕ
+bytes_of None = []
+bytes_of (Some value) = value
+
+abbrev pub failed : Result Verdict ProcessorFault
+failed = Err (record {})
+
+abbrev pub set_to : List ℕ → Result Verdict ProcessorFault
+set_to value = if nat_le (length value) 65535 then Ok (record { action = actions.Set value; answer = Some value }) else failed
+
+abbrev pub appended : Option (List ℕ) → List ℕ → Result Verdict ProcessorFault
+appended value argument = set_to (bytes_of value ++ argument)
+
+abbrev pub dropped : Option (List ℕ) → Result Verdict ProcessorFault
+dropped value = Ok (record { action = actions.Remove; answer = value })
+
+abbrev pub peeked : Option (List ℕ) → Result Verdict ProcessorFault
+peeked value = Ok (record { action = actions.Keep; answer = value })

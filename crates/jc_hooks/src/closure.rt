@@ -1,0 +1,119 @@
+//! Loaders and processors made of closures.
+//!
+//! The caller boxes the closure. Beside it stands the one function by which it answers where memory suffices.
+
+ghost use Rattle.std.specs.Prelude.{◌≡◌, ℕ, List, Option, Result, Ok};
+ghost use Rattle.jc_model.specs.declared.call.Verdict.{Verdict};
+ghost use Rattle.jc_model.specs.declared.call.ProcessorFault.{ProcessorFault};
+ghost use Rattle.std.specs.Coded.{Coded-set};
+ghost use Rattle.jc_hooks.specs.declared.loader.Loaded.{Loaded};
+ghost use Rattle.jc_hooks.specs.Codes.{loaded_code, verdict_code};
+ghost use Rattle.jc_hooks.specs.Stated.{IsFunction, AnswersBy, AnswersBy-prop, MayLoad, MayProcess};
+
+use crate::loader::{Loaded, Loader};
+use crate::processor::{Processor, shared};
+use jc_model::OutOfMemory;
+use jc_model::call::{ProcessorFault, Verdict};
+use jc_model::key::Key;
+use jc_model::value::Value;
+use std::alloc::Global;
+
+/// A boxed closure that loads.
+pub type LoadClosure = Box<dyn Fn(Global, &Key) -> Result<Loaded, OutOfMemory> + Send + Sync>;
+
+/// A stored closure that answers by one function of the key. It is used as it
+/// is, unboxed: an object that holds a box has no proof in a box of its own.
+#[derive(Drop)]
+pub struct ClosureLoader {
+    closure: LoadClosure,
+    ghost callable: { LoadClosure.IsAlwaysCallable closure },
+    ghost answers: { AnswersBy (MayLoad (λ a k l. LoadClosure.post closure a k (Ok l))) } by { AnswersBy-prop (Coded-set loaded_code) _ },
+}
+
+impl ClosureLoader {
+    pub fn new(closure: LoadClosure) -> ClosureLoader
+        requires callable { LoadClosure.IsAlwaysCallable closure }
+        requires answers { AnswersBy (MayLoad (λ a k l. LoadClosure.post closure a k (Ok l))) }
+        ensures { (f : List ℕ → Loaded) → IsFunction (MayLoad (λ a k l. LoadClosure.post closure a k (Ok l))) f → result.answers.0 ≡ f }
+    {
+        ClosureLoader { closure }
+    }
+}
+
+fn ask(closure: &LoadClosure, alloc: Global, key: &Key) -> Result<Loaded, OutOfMemory>
+    requires { LoadClosure.IsAlwaysCallable closure.now }
+    ensures { LoadClosure.post closure.now alloc key.entry result }
+{
+    closure(alloc, key)
+}
+
+impl Loader for ClosureLoader {
+    ghost load_of = { λ s. s.answers.0 };
+
+    fn load(&self, alloc: Global, key: &Key) -> Result<Loaded, OutOfMemory> {
+        ask(&self.closure, alloc, key)
+    }
+}
+
+/// A boxed closure that processes a value, or nothing, by an argument. The value is a further handle of the same
+/// bytes.
+pub type ProcessClosure = Box<
+    dyn Fn(Global, Option<Value>, &Value) -> Result<Result<Verdict, ProcessorFault>, OutOfMemory>
+        + Send
+        + Sync,
+>;
+
+/// A stored closure that answers by a function of value and argument, and whether it wants the entry's value.
+#[derive(Drop)]
+pub struct ClosureProcessor {
+    wants_value: bool,
+    closure: ProcessClosure,
+    ghost callable: { ProcessClosure.IsAlwaysCallable closure },
+    ghost answers: { AnswersBy (MayProcess (λ a v p r. ProcessClosure.post closure a v p (Ok r))) } by { AnswersBy-prop (Coded-set verdict_code) _ },
+}
+
+impl ClosureProcessor {
+    pub fn new(wants_value: bool, closure: ProcessClosure) -> ClosureProcessor
+        requires callable { ProcessClosure.IsAlwaysCallable closure }
+        requires answers { AnswersBy (MayProcess (λ a v p r. ProcessClosure.post closure a v p (Ok r))) }
+        ensures wants { result.wants_value ≡ wants_value }
+        ensures answers { (f : Option (List ℕ) × List ℕ → Result Verdict ProcessorFault) → IsFunction (MayProcess (λ a v p r. ProcessClosure.post closure a v p (Ok r))) f → result.answers.0 ≡ f }
+    {
+        ClosureProcessor {
+            wants_value,
+            closure,
+        }
+    }
+}
+
+fn run(
+    closure: &ProcessClosure,
+    alloc: Global,
+    value: Option<Value>,
+    argument: &Value,
+) -> Result<Result<Verdict, ProcessorFault>, OutOfMemory>
+    requires { ProcessClosure.IsAlwaysCallable closure.now }
+    ensures { ProcessClosure.post closure.now alloc value argument.entry result }
+{
+    closure(alloc, value, argument)
+}
+
+impl Processor for ClosureProcessor {
+    ghost wants = { λ s. s.wants_value };
+
+    ghost verdict_of = { λ s value argument. s.answers.0 (value, argument) };
+
+    fn wants_value(&self) -> bool {
+        self.wants_value
+    }
+
+    fn process(
+        &self,
+        alloc: Global,
+        value: Option<&Value>,
+        argument: &Value,
+    ) -> Result<Result<Verdict, ProcessorFault>, OutOfMemory> {
+        let value = shared(value)?;
+        run(&self.closure, alloc, value, argument)
+    }
+}

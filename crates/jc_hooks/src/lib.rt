@@ -1,0 +1,27 @@
+//! The callbacks of a cache: loaders, writers, entry processors and listeners.
+//!
+//! Each trait states, as a ghost member, what its object answers, so that the code that asks it can say what it
+//! was told. The traits are implemented for their own boxes: everything above is generic in the objects'
+//! types, and only a program, a test or another caller names the boxed types.
+#![tactic(auto)]
+
+mod answer;
+mod cache_hooks;
+mod closure;
+mod listener;
+mod loader;
+mod processor;
+pub mod program;
+mod tally;
+#[cfg(test)]
+mod tests;
+mod writer;
+
+pub use answer::{load_answer, process_answer, write_answer};
+pub use cache_hooks::CacheHooks;
+pub use closure::{ClosureLoader, ClosureProcessor, LoadClosure, ProcessClosure};
+pub use listener::Listener;
+pub use loader::{Loaded, Loader};
+pub use processor::Processor;
+pub use tally::{Tally, TallyListener};
+pub use writer::Writer;

@@ -1,0 +1,26 @@
+//! Listeners: who is told of created, updated, removed and expired entries.
+
+use jc_model::call::Notice;
+
+/// Is told of each change of an entry, in order. It takes no memory and cannot fail.
+///
+/// A listener states, for each list of notices, the state that they lead to, as a list of numbers that it reads
+/// in its own way. After it was told a notice it states for a list what it stated before for that notice and
+/// then the list.
+pub trait Listener: Drop + Send {
+    ghost use Rattle.std.specs.Prelude.{◌≡◌, ℕ, List, ◌∷◌};
+    ghost use Rattle.jc_model.specs.declared.call.Notice.{Notice};
+
+    ghost state_after: { Self → List Notice → List ℕ };
+
+    fn tell(&mut self, notice: &Notice)
+        ensures stated { (rest : List Notice) → state_after self.new rest ≡ state_after self.old (notice.now ∷ rest) };
+}
+
+impl Listener for Box<dyn Listener> {
+    ghost state_after = { λ b. (Listener-box b).state_after b.value };
+
+    fn tell(&mut self, notice: &Notice) {
+        (**self).tell(notice)
+    }
+}

@@ -1,0 +1,68 @@
+//! A listener that counts.
+
+ghost use Rattle.std.specs.Prelude.{◌≡◌};
+ghost use Rattle.jc_hooks.specs.Tallies.{no_notices};
+
+use crate::listener::Listener;
+use jc_model::call::{Kind, Notice};
+use std::marker::Model;
+
+/// How many notices of each kind there were. A count stays at `u64::MAX` once it is there.
+#[derive(Clone, Copy, Debug, PartialEq, Eq)]
+pub struct Tally {
+    pub created: u64,
+    pub updated: u64,
+    pub removed: u64,
+    pub expired: u64,
+}
+
+/// Counts the notices that it is told, by kind. Its stated state is the four counts, in `Tally`'s order.
+#[derive(Drop)]
+pub struct TallyListener {
+    tally: Tally,
+}
+
+impl Model for TallyListener {
+    ghost use Rattle.jc_hooks.specs.declared.tally.Tally.{Tally};
+
+    ghost Value = { Tally };
+
+    ghost view = { λ l. l.tally };
+}
+
+impl TallyListener {
+    pub fn new() -> TallyListener
+        ensures { result ≡ no_notices }
+    {
+        TallyListener {
+            tally: Tally {
+                created: 0,
+                updated: 0,
+                removed: 0,
+                expired: 0,
+            },
+        }
+    }
+
+    pub fn tally(&self) -> Tally
+        ensures { result ≡ self.now }
+    {
+        self.tally
+    }
+}
+
+impl Listener for TallyListener {
+    ghost use Rattle.jc_hooks.specs.Tallies.{tallied, numbers};
+
+    ghost state_after = { λ l notices. numbers (tallied l notices) };
+
+    fn tell(&mut self, notice: &Notice) {
+        let tally = &mut self.tally;
+        match notice.kind {
+            Kind::Created => tally.created = tally.created.saturating_add(1),
+            Kind::Updated => tally.updated = tally.updated.saturating_add(1),
+            Kind::Removed => tally.removed = tally.removed.saturating_add(1),
+            Kind::Expired => tally.expired = tally.expired.saturating_add(1),
+        }
+    }
+}

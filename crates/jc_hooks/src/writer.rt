@@ -1,0 +1,42 @@
+//! Writers: where a cache with write-through writes and deletes before it changes a row.
+
+use jc_model::OutOfMemory;
+use jc_model::key::Key;
+use jc_model::value::Value;
+use std::alloc::Global;
+
+/// Writes a cache's changes outside it. An answer of `false` says that the write failed.
+///
+/// A writer states which lists of requests and answers it may give from now on; that no request comes is always
+/// among them. A list that it states after a call, put behind that call's request and answer, was stated before
+/// the call. A writer whose answers nobody knows states all lists.
+pub trait Writer: Drop + Send {
+    ghost use Rattle.std.specs.Prelude.{List, ◌∷◌, IfOk};
+    ghost use Rattle.jc_model.specs.declared.call.Request.{Request};
+    ghost use Rattle.jc_model.specs.declared.call.Request.TheVariants.{Write, Delete};
+    ghost use Rattle.jc_model.specs.declared.call.Answer.{Answer};
+    ghost use Rattle.jc_hooks.specs.Answers.{write_answer_of, MayGive};
+
+    // Of a list with at least one request.
+    ghost may: { Self → List (Request × Answer) → Type 0 };
+
+    fn write(&mut self, alloc: Global, key: &Key, value: &Value) -> Result<bool, OutOfMemory>
+        ensures stated { IfOk result (λ done. (rest : List (Request × Answer)) → MayGive (may self.new) rest
+            → MayGive (may self.old) ((Write key.now value.now, write_answer_of done) ∷ rest)) };
+
+    fn delete(&mut self, alloc: Global, key: &Key) -> Result<bool, OutOfMemory>
+        ensures stated { IfOk result (λ done. (rest : List (Request × Answer)) → MayGive (may self.new) rest
+            → MayGive (may self.old) ((Delete key.now, write_answer_of done) ∷ rest)) };
+}
+
+impl Writer for Box<dyn Writer> {
+    ghost may = { λ b. (Writer-box b).may b.value };
+
+    fn write(&mut self, alloc: Global, key: &Key, value: &Value) -> Result<bool, OutOfMemory> {
+        (**self).write(alloc, key, value)
+    }
+
+    fn delete(&mut self, alloc: Global, key: &Key) -> Result<bool, OutOfMemory> {
+        (**self).delete(alloc, key)
+    }
+}
