@@ -4,3 +4,4 @@ pub mod Places
 pub mod Named
 pub mod Shown
 pub mod EachCache
+pub mod Existing

@@ -2,5 +2,6 @@ pub mod Faults
 pub mod Operation
 pub mod Line
 pub mod Script
+pub mod Named
 pub mod Caches
 pub mod Report

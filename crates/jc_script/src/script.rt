@@ -1,10 +1,11 @@
 //! A whole script.
-ghost use Rattle.std.specs.Prelude.{◌≡◌, ◌≤◌, ◌<◌, ◌∷◌, length, IfSome};
+ghost use Rattle.std.specs.Prelude.{◌≡◌, ◌≤◌, ◌<◌, ◌∷◌, length, IfSome, IfOk};
 ghost use Rattle.std.specs.List.{slice_split, list_all, All};
 ghost use Rattle.serde_json.specs.View.{view};
 ghost use Rattle.jc_script.specs.Caches.{Finds};
 ghost use Rattle.jc_script.specs.Faults.{Gives};
 ghost use Rattle.jc_script.specs.Line.{line_of};
+ghost use Rattle.jc_script.specs.Named.{AllName};
 ghost use Rattle.jc_script.specs.Script.{is_feed, is_blank, pieces_after, piece_of, lines};
 
 use crate::caches::{Caches, read_cache};
@@ -88,7 +89,8 @@ pub fn read_script(
     bytes: &[u8],
     settings: &Settings,
 ) -> Result<Vec<Line>, ScriptFault>
-    ensures { Gives (λ v. v.items) result (lines settings.now bytes.now) }
+    ensures read { Gives (λ v. v.items) result (lines settings.now bytes.now) }
+    ensures named { IfOk result (λ v. AllName settings.now v.items) }
 {
     if bytes.len() > MOST_BYTES {
         return Err(ScriptFault::TooLong);

@@ -3,10 +3,11 @@ use Rattle.std.proofs.lemmas.Result.{err_from_is_err_and}
 use Rattle.std.specs.List.{slice_split}
 use Rattle.jc_script.specs.Script.{is_feed, lines, lines_from, pieces_after}
 use Rattle.jc_script.proofs.Lines.{with_front, passes, goes_on, ends, is_done, fewer, all_from}
+use Rattle.jc_script.proofs.Existing.{lines_named}
 use Rattle.jc_script.proofs.script.read_script.Goals as goal
 
-pub returns-in_err-line : goal.returns-in_err-line
-returns-in_err-line c =
+pub returns-in_err-line-clause-read : goal.returns-in_err-line-clause-read
+returns-in_err-line-clause-read c =
     let same : c.in_ok-caches.caches.list.now ≡ c.args.settings.now = c.in_ok-caches.ensures.list ∙ c.caches.ensures.same in
     let p = err_from_is_err_and c.from_residual-in_err-line.result c.from_residual-in_err-line.ensures.1 in
     let cut : pieces_after c.loop-left.left ≡ c.first_piece.result.0.now ∷ pieces_after c.first_piece.result.1 = rw c.in-Some.is c.first_piece.ensures.cut in
@@ -33,7 +34,10 @@ loop-left-preserved c =
       exact = passes c.args.settings.now c.loop-left.lines.items (c.loop-left.number + 1) (pieces_after c.loop-left.left) (pieces_after c.first_piece.result.1) c.first_piece.result.0.now _ cut (search rules) c.loop-left.invariant.exact;
     }
 
-pub returns : goal.returns
-returns c =
+pub returns-clause-read : goal.returns-clause-read
+returns-clause-read c =
     let so_far : with_front c.loop-left.lines.items (lines_from c.args.settings.now (c.loop-left.number + 1) []) ≡ lines_from c.args.settings.now 1 (slice_split is_feed c.args.bytes.now) = rw c.in_default.is at c.loop-left.invariant.exact in
     is_done c.args.settings.now c.loop-left.lines.items (c.loop-left.number + 1) (lines c.args.settings.now c.args.bytes.now) (so_far ∙ all_from c.args.settings.now c.args.bytes.now c.if-bytes-gt-MOST_BYTES.false)
+
+pub returns-clause-named : goal.returns-clause-named
+returns-clause-named c = lines_named c.args.settings.now c.args.bytes.now c.loop-left.lines.items (returns-clause-read c)

@@ -1,0 +1,132 @@
+-- The transcript, as events write it at the places of its entries.
+use Rattle.std.proofs.Common.{◌≡◌, ℕ, ◌<◌, zero, suc, Bool, true, false, eqb, List, [], ◌∷◌, ◌++◌, map, length, Option, Some, None, refl, sym, ap, subst, ◌∙◌, arith, append-nil}
+use Rattle.std.specs.Prelude.{slice_get, slice_set, ◌==◌}
+use Rattle.std.proofs.lemmas.Bool.Decides.{nat_tests}
+use Rattle.jc_model.specs.declared.call.Notice.{Notice}
+use Rattle.jc_model.specs.declared.call.Request.{Request}
+use Rattle.jc_model.specs.declared.event.Step.TheVariants.{Need}
+use Rattle.jc_model.specs.declared.event.Outcome.TheVariants as outcome
+use Rattle.jc_model.specs.declared.event.End.{End}
+use Rattle.jc_model.specs.declared.event.End.TheVariants.{Waiting}
+use Rattle.jc_model.specs.declared.event.Entry.{Entry}
+use Rattle.jc_model.specs.Run.{Awaited, told_by}
+use Rattle.jc_model.specs.Runs.{Status}
+use Rattle.jc_model.specs.Solo.{fresh}
+use Rattle.jc_model.specs.Suspended.{Wait}
+use Rattle.jc_model.specs.Legal.{entries_of, on_open, Tells, with_outcome}
+use Rattle.jc_model.proofs.EachCache.{at_same, at_other}
+use Rattle.jc_model.proofs.Legal.{set_open}
+use Rattle.jc_engine.specs.Caches.{Cache, status_of}
+use Rattle.jc_engine.specs.Advances.{ChangesOne}
+use Rattle.jc_engine.specs.Recording.{IsOpenAt, HasEntry}
+use Rattle.jc_engine.proofs.Places.{same_set}
+
+-- Lists.
+
+pub get_last : {A : Type 0} (xs : List A) (y : A) → slice_get (xs ++ y ∷ []) (length xs) ≡ Some y
+get_last [] y = refl
+get_last (x ∷ xs) y = get_last xs y
+
+pub set_last : {A : Type 0} (xs : List A) (y z : A) → slice_set (xs ++ y ∷ []) (length xs) z ≡ xs ++ z ∷ []
+set_last [] y z = refl
+set_last (x ∷ xs) y z = ap (λ zs. x ∷ zs) (set_last xs y z)
+
+pub get_append : {A : Type 0} (xs ys : List A) (i : ℕ) (x : A) → slice_get xs i ≡ Some x → slice_get (xs ++ ys) i ≡ Some x
+get_append [] ys i x at = absurd cc
+get_append (a ∷ xs) ys zero x at = at
+get_append (a ∷ xs) ys (suc i) x at = get_append xs ys i x at
+
+pub set_set : {A : Type 0} (xs : List A) (i : ℕ) (x y : A) → slice_set (slice_set xs i x) i y ≡ slice_set xs i y
+set_set [] i x y = refl
+set_set (a ∷ xs) zero x y = refl
+set_set (a ∷ xs) (suc i) x y = ap (λ zs. a ∷ zs) (set_set xs i x y)
+
+pub length_set : {A : Type 0} (xs : List A) (i : ℕ) (y : A) → length (slice_set xs i y) ≡ length xs
+length_set [] i y = refl
+length_set (x ∷ xs) zero y = refl
+length_set (x ∷ xs) (suc i) y = ap suc (length_set xs i y)
+
+pub same_front : {A : Type 0} (xs ys : List A) (x y : A) → xs ++ x ∷ [] ≡ ys ++ y ∷ [] → xs ≡ ys
+same_front [] [] x y same = refl
+same_front [] (b ∷ []) x y same = absurd cc
+same_front [] (b ∷ c ∷ ys) x y same = absurd cc
+same_front (a ∷ []) [] x y same = absurd cc
+same_front (a ∷ c ∷ xs) [] x y same = absurd cc
+same_front (a ∷ xs) (b ∷ ys) x y same =
+    let heads : a ≡ b = cc in
+    let fronts : xs ≡ ys = same_front xs ys x y cc in
+    cc
+
+pub not_empty : {A : Type 0} (xs : List A) (x : A) → xs ++ x ∷ [] ≡ [] → ⊥
+not_empty [] x same = cc
+not_empty (a ∷ xs) x same = cc
+
+pub some_at : {A : Type 0} (xs : List A) (i : ℕ) → i < length xs → (x : A) × (slice_get xs i ≡ Some x)
+some_at [] i below = absurd (omega arith)
+some_at (x ∷ xs) zero below = (x, refl)
+some_at (x ∷ xs) (suc i) below = some_at xs i (omega arith)
+
+-- One entry.
+
+-- while a call waits for its next request, its entry stays
+pub asked_same : (transcript : List Entry) (place : ℕ) (request : Request) (e : Entry) → slice_get transcript place ≡ Some e → e.end ≡ Waiting → told_by request ≡ [] → transcript ≡ slice_set transcript place (with_outcome (outcome.Step (Need request)) e)
+asked_same transcript place request e at waits untold =
+    sym (same_set transcript place (with_outcome (outcome.Step (Need request)) e) (at ∙ ap Some (sym same)))
+  where
+    same : with_outcome (outcome.Step (Need request)) e ≡ e
+    same =
+        ap (λ (ns : List Notice). record e { told = e.told ++ ns; end = Waiting }) untold
+        ∙ (ap (λ (ns : List Notice). record e { told = ns; end = Waiting }) (append-nil e.told)
+        ∙ ap (λ (n : End). record e { end = n }) (sym waits))
+
+-- The entries of the other caches' open calls stay.
+
+pub record StayElsewhere (id : ℕ) (transcript transcript' : List Entry) : Type 0 where
+  pub stays : (place : ℕ) (e : Entry) → (e.id ≡ id → ⊥) → slice_get transcript place ≡ Some e → slice_get transcript' place ≡ Some e
+
+pub added_elsewhere : (id : ℕ) (transcript : List Entry) (e : Entry) → StayElsewhere id transcript (transcript ++ e ∷ [])
+added_elsewhere id transcript e = record { stays = λ place d differ at. get_append transcript (e ∷ []) place d at }
+
+pub set_elsewhere : (id : ℕ) (transcript : List Entry) (place : ℕ) (e f : Entry) → slice_get transcript place ≡ Some e → e.id ≡ id → StayElsewhere id transcript (slice_set transcript place f)
+set_elsewhere id transcript place e f at own = record {
+  stays = λ other d differ found.
+      let apart : place ≡ other → ⊥ = λ same. differ (ap (λ (o : Option Entry). elim o [ None ↦ id | Some x ↦ x.id ]) (sym found ∙ (ap (slice_get transcript) (sym same) ∙ at)) ∙ own) in
+      at_other transcript place other f apart ∙ found;
+}
+
+has_elsewhere : (id other : ℕ) (transcript transcript' : List Entry) → StayElsewhere id transcript transcript' → (other ≡ id → ⊥) → (place : Option ℕ) (turn : Option (Awaited × Wait)) → HasEntry transcript other place turn → HasEntry transcript' other place turn
+has_elsewhere id other transcript transcript' stay differ place None has = tt
+has_elsewhere id other transcript transcript' stay differ None (Some w) has = has
+has_elsewhere id other transcript transcript' stay differ (Some place) (Some w) has = record {
+  entry = has.entry;
+  there = stay.stays place has.entry (λ same. differ (sym has.own ∙ same)) has.there;
+  own = has.own;
+  waits = has.waits;
+  untold = has.untold;
+}
+
+abbrev pub AllOpened : List Cache → List Entry → List ℕ → Type 0
+AllOpened caches transcript places = (id : ℕ) (k : Cache) → slice_get caches id ≡ Some k → HasEntry transcript id (slice_get places id) k.turn
+
+module _ (id : ℕ) (caches caches' : List Cache) (transcript transcript' : List Entry) (places places' : List ℕ) where
+  pub opened_after : AllOpened caches transcript places → ChangesOne caches id caches' → StayElsewhere id transcript transcript'
+      → ((other : ℕ) → (other ≡ id → ⊥) → slice_get places' other ≡ slice_get places other)
+      → ((k : Cache) → slice_get caches' id ≡ Some k → HasEntry transcript' id (slice_get places' id) k.turn)
+      → AllOpened caches' transcript' places'
+  opened_after opened one stay same here = λ other k at. by other k (eqb other id) refl at
+    where
+      by : (other : ℕ) (k : Cache) (b : Bool) → eqb other id ≡ b → slice_get caches' other ≡ Some k → HasEntry transcript' other (slice_get places' other) k.turn
+      by other k true h at =
+          let is : id ≡ other = grind (arith, nat_tests) in
+          subst (λ (i : ℕ). slice_get caches' i ≡ Some k → HasEntry transcript' i (slice_get places' i) k.turn) is (here k) at
+      by other k false h at =
+          let differ : other ≡ id → ⊥ = λ e. grind (arith, nat_tests) in
+          let differ' : id ≡ other → ⊥ = λ e. grind (arith, nat_tests) in
+          let before : slice_get caches other ≡ Some k = sym (at_other caches id other one.cache differ') ∙ (ap (λ (ks : List Cache). slice_get ks other) (sym one.is) ∙ at) in
+          has_elsewhere id other transcript transcript' stay differ (slice_get places' other) k.turn
+          (subst (λ (p : Option ℕ). HasEntry transcript other p k.turn) (sym (same other differ)) (opened other k before))
+
+-- a write at the place of the open call's entry is one to the entry that waits
+pub written_open : (statuses : List Status) (transcript : List Entry) (id place : ℕ) (k : Status) (e : Entry) (f : Entry → Entry) → Tells transcript statuses → slice_get statuses id ≡ Some k → slice_get transcript place ≡ Some e → e.id ≡ id → e.end ≡ Waiting → slice_set transcript place (f e) ≡ on_open id f transcript
+written_open statuses transcript id place k e f tells at there own waits =
+    set_open k.config id f transcript place e (record { standing = fresh; legal = (tells.each id k at).0 }) there (grind (arith, nat_tests)) waits

@@ -1,0 +1,13 @@
+pub mod Tables
+pub mod Places
+pub mod Steps
+pub mod Entries
+pub mod Moving
+pub mod GivingUp
+pub mod Recordings
+pub mod Keys
+pub mod Names
+pub mod Openings
+pub mod Hookless
+pub mod Untold
+pub mod Calls

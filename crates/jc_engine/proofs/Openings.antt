@@ -1,0 +1,129 @@
+-- A manager that has just been opened.
+use Rattle.std.proofs.Common.{◌≡◌, ℕ, ◌<◌, ◌≤◌, ◌+◌, zero, suc, Bool, true, false, List, [], ◌∷◌, ◌++◌, map, length, Option, Some, None, Result, Ok, Err, refl, sym, ap, subst, ◌∙◌, arith}
+use Rattle.std.specs.Prelude.{slice_get, option_map, IfSome, position, sum, ltb, ◌||◌, if◌then◌else◌}
+use Rattle.std.specs.FinMap as table
+use Rattle.std.specs.HashMap.{HashMap, get}
+use Rattle.std.specs.Str.{bytes_eq}
+use Rattle.std.proofs.lemmas.Bool.Decides.{nat_tests}
+use Rattle.std.proofs.lemmas.Option.{slice_get-map}
+use Rattle.jc_model.specs.declared.config.CacheConfig.{CacheConfig}
+use Rattle.jc_model.specs.declared.config.Expiry.{Expiry}
+use Rattle.jc_model.specs.Legal.{Tells}
+use Rattle.jc_model.proofs.Legal.{nothing_told}
+use Rattle.jc_rows.specs.Rows.{RowMap}
+use Rattle.jc_rows.proofs.Laws.{get-empty}
+use Rattle.jc_engine.specs.declared.cache.Managed.{Managed}
+use Rattle.jc_engine.specs.declared.open.OpenRefusal.{OpenRefusal}
+use Rattle.jc_engine.specs.declared.open.OpenRefusal.TheVariants.{BadCapacity, TooManyListeners, TooManyProcessors, DuplicateName}
+use Rattle.jc_engine.specs.Caches.{Cache, status_of, fresh_cache}
+use Rattle.jc_engine.specs.Managed.{cache_in, IsManaged}
+use Rattle.jc_engine.specs.Opening.{Hookless, or_else, is_taken, names_in, limit_refusal, refusal_at, refusal_from, capacities, open_refusal}
+use Rattle.jc_engine.specs.Fresh.{AreIds, fresh_fields}
+use Rattle.jc_engine.specs.Sound.{IsAt, IsSound}
+use Rattle.jc_engine.specs.Recording.{HasEntry, IsRecorded}
+use Rattle.jc_engine.proofs.Places.{map_map}
+
+-- Caches that are not refused may have rows.
+
+none_first : (a b : Option OpenRefusal) → or_else a b ≡ None → a ≡ None
+none_first None b h = refl
+none_first (Some r) b h = absurd cc
+
+none_second : (a b : Option OpenRefusal) → or_else a b ≡ None → b ≡ None
+none_second None b h = h
+none_second (Some r) b h = absurd cc
+
+not_refused : (b : Bool) (r : OpenRefusal) (next : Option OpenRefusal) → (if b then Some r else next) ≡ None → b ≡ false
+not_refused true r next h = absurd cc
+not_refused false r next h = refl
+
+some_rows : (place : ℕ) (c : CacheConfig) → limit_refusal place c ≡ None → 1 ≤ c.capacity
+some_rows place c h = by (ltb c.capacity 1) refl (not_refused (ltb c.capacity 1 || ltb 65536 c.capacity) _ _ h)
+  where
+    by : (b : Bool) → ltb c.capacity 1 ≡ b → (b || ltb 65536 c.capacity) ≡ false → 1 ≤ c.capacity
+    by true is h = absurd cc
+    by false is h = grind (arith, nat_tests)
+
+pub all_some : (names : List (List ℕ)) (place : ℕ) (configs : List CacheConfig) → refusal_from names place configs ≡ None → (id : ℕ) (c : CacheConfig) → slice_get configs id ≡ Some c → 1 ≤ c.capacity
+all_some names place [] h id c at = absurd cc
+all_some names place (d ∷ configs) h zero c at =
+    let same : d ≡ c = cc in
+    subst (λ (k : CacheConfig). 1 ≤ k.capacity) same (some_rows place d (none_first _ _ (none_first (refusal_at names place d) (refusal_from (names ++ d.name ∷ []) (place + 1) configs) h)))
+all_some names place (d ∷ configs) h (suc id) c at =
+    all_some (names ++ d.name ∷ []) (place + 1) configs (none_second (refusal_at names place d) (refusal_from (names ++ d.name ∷ []) (place + 1) configs) h) id c at
+
+hookless_at : (configs : List CacheConfig) → Hookless configs → (id : ℕ) (c : CacheConfig) → slice_get configs id ≡ Some c → c.processors ≡ []
+hookless_at [] h id c at = absurd cc
+hookless_at (d ∷ configs) h zero c at = let same : d ≡ c = cc in subst (λ (k : CacheConfig). k.processors ≡ []) same h.0
+hookless_at (d ∷ configs) h (suc id) c at = hookless_at configs h.1 id c at
+
+-- Where none of the checks refuses, none does.
+
+pub all_allowed : (configs : List CacheConfig) → length configs ≤ 1024 → refusal_from [] 0 configs ≡ None → sum (capacities configs) ≤ 262144 → open_refusal configs ≡ None
+all_allowed configs few none small =
+    let h : ltb 1024 (length configs) ≡ false = grind (arith, nat_tests) in
+    let k : ltb 262144 (sum (capacities configs)) ≡ false = grind (arith, nat_tests) in
+    rw (h, none, k) refl
+
+pub none_refused : (o : Option OpenRefusal) (P : OpenRefusal → Type 0) → o ≡ None → IfSome o P
+none_refused None P none = tt
+none_refused (Some r) P none = absurd cc
+
+-- The fields at first.
+
+fresh_at : {G : Type 0} (m : RowMap) → ((x : ℕ × List ℕ) → table.get m x ≡ None) → (id : ℕ) (c : CacheConfig) → 1 ≤ c.capacity → c.processors ≡ [] → IsManaged {G = G} m id (fresh_fields c)
+fresh_at m none id c some hookless = record {
+  kept = record {
+    tied = record {
+      distinct = tt;
+      placed = tt;
+      found = λ k r e h. absurd (let no : ◌≡◌ {A = Option (ℕ × Expiry)} (Some (r, e)) None = sym h ∙ none (id, k) in cc);
+    };
+    within = omega arith;
+    limit = refl;
+    some = some;
+  };
+  waits = tt;
+  hookless = hookless;
+}
+
+pub opened_sound : {G S : Type 0} (m : RowMap) (configs : List CacheConfig) (caches : List (Managed G)) (names : List (List ℕ)) (ids : HashMap (List ℕ) ℕ S)
+    → m ≡ table.empty → Hookless configs → refusal_from [] 0 configs ≡ None → caches ≡ map fresh_fields configs → names ≡ names_in configs → AreIds (Some ids) (names_in configs) → IsSound m caches names (get bytes_eq ids)
+opened_sound {G} {S} m configs caches names ids empty hookless allowed fresh named are = record {
+  each = λ id. subst (λ (ks : List (Managed G)). IsAt m id (slice_get ks id)) (sym fresh) (subst (IsAt m id) (sym (slice_get-map fresh_fields configs id)) (by id (slice_get configs id) refl));
+  named = named ∙ (sym (map_map (λ (k : Managed G). k.config.name) fresh_fields configs) ∙ ap (map (λ (k : Managed G). k.config.name)) (sym fresh));
+  found = λ name. are name ∙ ap (λ (ns : List (List ℕ)). position (λ n. bytes_eq n name) ns) (sym named);
+}
+  where
+    none : (x : ℕ × List ℕ) → table.get m x ≡ None
+    none x = ap (λ (n : RowMap). table.get n x) empty ∙ get-empty x
+
+    by : (id : ℕ) (o : Option CacheConfig) → slice_get configs id ≡ o → IsAt {G = G} m id (option_map fresh_fields o)
+    by id None at = λ key. none (id, key)
+    by id (Some c) at = fresh_at m none id c (all_some [] 0 configs allowed id c at) (hookless_at configs hookless id c at)
+
+pub opened_fresh : {G : Type 0} (configs : List CacheConfig) (caches : List (Managed G)) → caches ≡ map fresh_fields configs → map cache_in caches ≡ map fresh_cache configs
+opened_fresh {G} configs caches fresh = ap (map cache_in) fresh ∙ map_map cache_in fresh_fields configs
+
+-- With the transcript of no calls.
+
+pub never_refused : {A B : Type 0} (o : Option OpenRefusal) (x : A) (y : B) → IfSome o (λ r. ◌≡◌ {A = Result A OpenRefusal} (Ok x) (Err r)) → IfSome o (λ r. ◌≡◌ {A = Result B OpenRefusal} (Ok y) (Err r))
+never_refused None x y h = tt
+never_refused (Some r) x y h = absurd cc
+
+length_map : {A B : Type 0} (f : A → B) (xs : List A) → length (map f xs) ≡ length xs
+length_map f [] = refl
+length_map f (x ∷ xs) = ap suc (length_map f xs)
+
+fresh_turn : (o : Option CacheConfig) (k : Cache) → option_map fresh_cache o ≡ Some k → k.turn ≡ None
+fresh_turn None k at = absurd cc
+fresh_turn (Some c) k at = let same : fresh_cache c ≡ k = cc in ap (λ (x : Cache). x.turn) (sym same)
+
+pub first_recorded : (configs : List CacheConfig) (caches : List Cache) (places : List ℕ) → caches ≡ map fresh_cache configs → length places ≡ length configs → IsRecorded caches [] places
+first_recorded configs caches places fresh counted = record {
+  told = subst (Tells []) (sym (ap (map status_of) fresh ∙ map_map status_of fresh_cache configs)) (nothing_told configs);
+  counted = counted ∙ (sym (length_map fresh_cache configs) ∙ ap length (sym fresh));
+  opened = λ id k at.
+      let none : k.turn ≡ None = fresh_turn (slice_get configs id) k (sym (slice_get-map fresh_cache configs id) ∙ (ap (λ (ks : List Cache). slice_get ks id) (sym fresh) ∙ at)) in
+      subst (HasEntry [] id (slice_get places id)) (sym none) tt;
+}

@@ -1,0 +1,38 @@
+use Rattle.std.proofs.Common.{◌≡◌, List, [], ◌∷◌, ◌++◌, length, map, sym, subst, ◌∙◌, arith}
+use Rattle.std.proofs.lemmas.Grind.{common_steps}
+use Rattle.std.specs.Vec.Iter.{into_iter_items}
+use Rattle.jc_model.proofs.Leads.{Leads, IsRunTo, leads_on, leads_last, alone_in}
+use Rattle.jc_model.specs.declared.event.Event.{Event}
+use Rattle.jc_model.specs.declared.event.Outcome.{Outcome}
+use Rattle.jc_model.specs.Runs.{Status}
+use Rattle.jc_engine.specs.Caches.{status_of}
+use Rattle.jc_engine.proofs.engine.Engine.run.Given as given
+use Rattle.jc_engine.proofs.engine.Engine.run.Goals as goal
+
+pub loop-event-preserved : goal.loop-event-preserved
+loop-event-preserved g c =
+    let next : into_iter_items c.loop-event.left ≡ c.in-Some.event ∷ into_iter_items c.next.new.self = grind (arith, common_steps) in
+    let leads = leads_on (map status_of c.args.self.now) c.args.events.items c.loop-event.outcomes.items (map status_of c.loop-event.self) c.in-Some.event (into_iter_items c.next.new.self) c.take-outcome.result
+    (subst (λ (es : List Event). Leads (map status_of c.args.self.now) c.args.events.items c.loop-event.outcomes.items (map status_of c.loop-event.self) es) next c.loop-event.invariant.run) c.take-outcome.ensures.outcome in
+    record {
+      run =
+          subst (λ (os : List Outcome). Leads (map status_of c.args.self.now) c.args.events.items os (map status_of c.take-outcome.new.self) (into_iter_items c.next.new.self)) (sym c.push_reserved.ensures.items)
+          (subst (λ (ss : List Status). Leads (map status_of c.args.self.now) c.args.events.items (c.loop-event.outcomes.items ++ c.take-outcome.result ∷ []) ss (into_iter_items c.next.new.self)) (sym c.take-outcome.ensures.statuses) leads);
+      counted = grind (arith, common_steps);
+      room = grind (arith, common_steps);
+    }
+
+-- nothing is left, and the outcomes are those of the whole run
+ran : (g : given.Over) (c : goal.After-drop-left g) → IsRunTo (map status_of c.args.self.now) c.args.events.items c.loop-event.outcomes.items (map status_of c.loop-event.self)
+ran g c =
+    let none : length (into_iter_items c.loop-event.left) ≡ 0 = grind (arith, common_steps) in
+    leads_last _ _ _ _ _ c.loop-event.invariant.run none
+
+pub returns-clause-outcomes : goal.returns-clause-outcomes
+returns-clause-outcomes g c = (ran g c).run
+
+pub returns-clause-statuses : goal.returns-clause-statuses
+returns-clause-statuses g c = (ran g c).ends
+
+pub returns-clause-alone : goal.returns-clause-alone
+returns-clause-alone g c = alone_in _ _ _ _ (ran g c)

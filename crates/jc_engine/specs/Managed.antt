@@ -1,0 +1,109 @@
+-- What the fields of one cache stand for, and how it moves.
+use Rattle.std.specs.Prelude.{◌≡◌, ℕ, Bool, true, false, List, [], Result, Ok, Err}
+use Rattle.std.specs.Prelude.{Option, Some, None}
+use Rattle.std.specs.FinMap as table
+use Rattle.jc_model.specs.declared.call.Notice.{Notice}
+use Rattle.jc_model.specs.declared.call.Request.TheVariants.{Tell}
+use Rattle.jc_model.specs.declared.config.CacheConfig.{CacheConfig}
+use Rattle.jc_model.specs.declared.event.Cause.{Cause}
+use Rattle.jc_model.specs.declared.event.Cause.TheVariants.{NoTurn}
+use Rattle.jc_model.specs.declared.event.Step.{Step}
+use Rattle.jc_model.specs.declared.event.Step.TheVariants.{Done, Need}
+use Rattle.jc_model.specs.declared.event.Outcome.{Outcome}
+use Rattle.jc_model.specs.declared.event.Outcome.TheVariants as outcome
+use Rattle.jc_model.specs.Changes.{Progress}
+use Rattle.jc_model.specs.Run.{Run, ended, waiting, and_then, Awaited, for_tell, told_by}
+use Rattle.jc_model.specs.Whole.{told_first}
+use Rattle.jc_model.specs.Runs.{Said, gives_up, shown, standing_of, reply_of, moved}
+use Rattle.jc_model.specs.Suspended.{Wait, one, telling, standing_by}
+use Rattle.jc_rows.specs.Rows.{RowMap}
+use Rattle.jc_ops.specs.Noted.{Noted}
+use Rattle.jc_ops.specs.Kept.{Kept, progress_of, IsKept}
+use Rattle.jc_ops.specs.Moved.{IsSuspended}
+use Rattle.jc_engine.specs.declared.cache.Turn.{Turn}
+use Rattle.jc_engine.specs.declared.cache.Turn.TheVariants.{Idle, Waiting, Telling}
+use Rattle.jc_engine.specs.declared.cache.Advance.{Advance}
+use Rattle.jc_engine.specs.declared.cache.Advance.TheVariants.{Replied, Asked, Told}
+use Rattle.jc_engine.specs.declared.cache.Managed.{Managed}
+use Rattle.jc_engine.specs.Caches.{Cache, status_of}
+
+abbrev pub turn_in : Turn → Option (Awaited × Wait)
+turn_in Idle = None
+turn_in (Waiting s) = Some (s.awaits, s.wait)
+turn_in (Telling reply) = Some (for_tell, telling reply)
+
+-- the notices that no one has been told
+abbrev pub notices_in : Turn → List Notice
+notices_in Idle = []
+notices_in (Waiting s) = s.notices
+notices_in (Telling reply) = []
+
+abbrev pub cache_in : {G : Type 0} → Managed G → Cache
+cache_in cache = record { config = cache.config; progress = progress_of cache.state (notices_in cache.turn); turn = turn_in cache.turn }
+
+-- an open call waits where its run leads
+abbrev pub WaitsThere : CacheConfig → Kept → Turn → Type 0
+WaitsThere c k Idle = Unit {0}
+WaitsThere c k (Waiting s) = IsSuspended c (progress_of k s.notices) s
+WaitsThere c k (Telling reply) = Unit {0}
+
+pub record IsManaged {G : Type 0} (m : RowMap) (id : ℕ) (cache : Managed G) : Type 0 where
+  pub kept : IsKept cache.config m id cache.state
+  pub waits : WaitsThere cache.config cache.state cache.turn
+  pub hookless : cache.config.processors ≡ []
+
+-- The call moves.
+
+abbrev pub step_of : Advance → Step
+step_of (Replied reply) = Done reply
+step_of (Asked request) = Need request
+step_of (Told notices) = Need (Tell notices.told)
+
+abbrev pub is_telling : Wait → Bool
+is_telling (one w) = false
+is_telling (telling reply) = true
+
+-- whether a call waits for its notices to be told
+abbrev pub tells : Option (Awaited × Wait) → Bool
+tells None = false
+tells (Some w) = is_telling w.1
+
+-- the requests of a step tell nothing; when a call's notices are told, it waits for that
+abbrev pub FitsTurn : Advance → Option (Awaited × Wait) → Type 0
+FitsTurn (Replied reply) turn = turn ≡ None
+FitsTurn (Asked request) turn = (told_by request ≡ []) × (tells turn ≡ false)
+FitsTurn (Told notices) turn = tells turn ≡ true
+
+-- no request of a run tells notices
+abbrev pub NeverTells : Run → Type 0
+NeverTells (ended p r) = Unit {0}
+NeverTells (waiting q p resumed) = (told_by q ≡ []) × ((a : _) → NeverTells (resumed a))
+
+-- a call that has come to this run goes on as the turn says
+pub record Settled (c : CacheConfig) (run : Run) (k : Kept) (turn : Turn) (advance : Advance) : Type 0 where
+  pub shows : outcome.Step (step_of advance) ≡ shown (and_then run told_first)
+  pub stands : standing_by c (progress_of k (notices_in turn)) (turn_in turn) ≡ standing_of (and_then run told_first)
+  pub waits : WaitsThere c k turn
+  pub fits : NeverTells run → FitsTurn advance (turn_in turn)
+
+-- a cache has heard an event and moved as it is to
+pub record Moves (k : Cache) (said : Said) (advance : Advance) (k' : Cache) : Type 0 where
+  pub shows : outcome.Step (step_of advance) ≡ reply_of k.config (status_of k).standing said
+  pub moves : status_of k' ≡ moved (status_of k) said
+  pub fits : FitsTurn advance k'.turn
+
+abbrev pub is_step : Outcome → Bool
+is_step (outcome.Step s) = true
+is_step (outcome.Refused cause) = false
+is_step (outcome.GivenUp notices) = false
+
+-- the notices that are left of an open call: none while they are being told
+abbrev pub LeavesNotices : Cache → Option Noted → Type 0
+LeavesNotices k None = (tells k.turn ≡ true) × (k.progress.notices ≡ [])
+LeavesNotices k (Some left) = (tells k.turn ≡ false) × (left.told ≡ k.progress.notices)
+
+-- a call was given up, where one was open
+abbrev pub Abandons : {G : Type 0} → Managed G → Result (Option Noted) Cause → Managed G → Type 0
+Abandons cache (Ok left) after =
+    (after ≡ record cache { turn = Idle }) × (◌≡◌ {A = Option (Awaited × Wait)} (turn_in cache.turn) None → ⊥) × LeavesNotices (cache_in cache) left
+Abandons cache (Err cause) after = (cause ≡ NoTurn) × (turn_in cache.turn ≡ None) × (after ≡ cache)

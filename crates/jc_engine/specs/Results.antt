@@ -1,0 +1,38 @@
+-- The outcome that a call's result stands for.
+use Rattle.std.specs.Prelude.{List, Result, Ok, Err}
+use Rattle.std.specs.Prelude.{Option, Some, None}
+use Rattle.jc_model.specs.declared.call.Call.{Call}
+use Rattle.jc_model.specs.declared.call.Answer.{Answer}
+use Rattle.jc_model.specs.declared.call.Notice.{Notice}
+use Rattle.jc_model.specs.declared.call.Reply.{Reply}
+use Rattle.jc_model.specs.declared.event.Step.{Step}
+use Rattle.jc_model.specs.declared.event.Step.TheVariants.{Done, Need}
+use Rattle.jc_model.specs.declared.event.Cause.{Cause}
+use Rattle.jc_model.specs.declared.event.Outcome.{Outcome}
+use Rattle.jc_model.specs.declared.event.Outcome.TheVariants.{Step as Stepped, Refused, GivenUp}
+
+abbrev pub of_begin : Result Step (Cause × Call) → Outcome
+of_begin (Ok step) = Stepped step
+of_begin (Err e) = Refused e.0
+
+abbrev pub of_resume : Result Step (Cause × Answer) → Outcome
+of_resume (Ok step) = Stepped step
+of_resume (Err e) = Refused e.0
+
+abbrev pub of_give_up : Result (List Notice) Cause → Outcome
+of_give_up (Ok notices) = GivenUp notices
+of_give_up (Err cause) = Refused cause
+
+-- of a recorded call, whose result has a copy of the reply beside the step
+abbrev pub of_recorded_begin : Result (Step × Option Reply) (Cause × Call) → Outcome
+of_recorded_begin (Ok s) = Stepped s.0
+of_recorded_begin (Err e) = Refused e.0
+
+abbrev pub of_recorded_resume : Result (Step × Option Reply) (Cause × Answer) → Outcome
+of_recorded_resume (Ok s) = Stepped s.0
+of_recorded_resume (Err e) = Refused e.0
+
+-- the reply that a step shows, if it does
+abbrev pub reply_in : Step → Option Reply
+reply_in (Done reply) = Some reply
+reply_in (Need request) = None

@@ -1,0 +1,195 @@
+//! One cache under the manager: its configuration, its rows and counters, and its open call.
+ghost use Rattle.std.specs.Prelude.{◌≡◌, ℕ, ◌<◌, true, List, Some, None, IfOk, IfErr, OnErr, MatchOption, length};
+ghost use Rattle.jc_model.specs.declared.config.CacheConfig.{CacheConfig};
+ghost use Rattle.jc_model.specs.declared.event.Outcome.TheVariants.{Refused, GivenUp};
+ghost use Rattle.jc_model.specs.Run.{Run};
+ghost use Rattle.jc_model.specs.Runs.{begins, answers, gives_up, has_processor, reply_of, moved};
+ghost use Rattle.jc_ops.specs.Kept.{Kept};
+ghost use Rattle.jc_ops.specs.Tied.{SameElsewhere};
+ghost use Rattle.jc_ops.specs.Moved.{ComesTo};
+ghost use Rattle.jc_engine.specs.Caches.{status_of};
+ghost use Rattle.jc_engine.specs.Managed.{cache_in, step_of, is_step, IsManaged, Moves, Settled, Abandons};
+
+use jc_model::call::{Answer, Call, Reply, Request};
+use jc_model::config::CacheConfig;
+use jc_model::event::{CacheId, Cause, Step};
+use jc_model::thrice::Thrice;
+use jc_ops::call::{Moved, answer_call, start_call};
+use jc_ops::notices::Notices;
+use jc_ops::state::CacheState;
+use jc_ops::waits::Suspended;
+use jc_ring::ring::Ring;
+use jc_rows::rows::Rows;
+use std::alloc::Global;
+use std::mem;
+
+/// Whether a call is open, and for what it waits.
+#[derive(Drop)]
+pub(crate) enum Turn {
+    Idle,
+    Waiting(Suspended),
+    /// Its notices are being told; then this is its reply.
+    Telling(Thrice<Reply>),
+}
+
+/// What an open call has come to: its step, with the copies that a transcript needs.
+#[derive(Drop)]
+pub(crate) enum Advance {
+    Replied(Thrice<Reply>),
+    Asked(Request),
+    Told(Notices),
+}
+
+impl Advance {
+    /// The step alone; the copies are let go.
+    pub(crate) fn into_step(self) -> Step
+        ensures { result ≡ step_of self }
+    {
+        match self {
+            Advance::Replied(reply) => Step::Done(reply.into_first()),
+            Advance::Asked(request) => Step::Need(request),
+            Advance::Told(notices) => Step::Need(Request::Tell(notices.into_lists().0)),
+        }
+    }
+}
+
+#[derive(Drop)]
+pub(crate) struct Managed<G: Ring> {
+    pub(crate) config: CacheConfig,
+    pub(crate) state: CacheState<G>,
+    pub(crate) turn: Turn,
+}
+
+/// Whether the processor that a call names, if any, is there.
+fn has_processor(config: &CacheConfig, call: &Call) -> bool
+    ensures { result ≡ has_processor config.now call.now }
+{
+    match call {
+        Call::Invoke { processor, .. } => (*processor as usize) < config.processors.items().len(),
+        _ => true,
+    }
+}
+
+/// How the cache goes on from what its call has come to. All notices are told before the reply.
+fn settle(moved: Moved) -> (Turn, Advance)
+    ensures { (c : CacheConfig) (run : Run) (k : Kept) → ComesTo c run moved k → Settled c run k result.0 result.1 }
+{
+    match moved {
+        Moved::Waiting(request, suspended) => {
+            (Turn::Waiting(suspended), Advance::Asked(request))
+        }
+        Moved::Ended(reply, notices) => {
+            if notices.is_empty() {
+                (Turn::Idle, Advance::Replied(reply))
+            } else {
+                (Turn::Telling(reply), Advance::Told(notices))
+            }
+        }
+    }
+}
+
+impl<G: Ring> Managed<G> {
+    /// Why a call can't begin now, where memory suffices.
+    pub(crate) fn begin_refusal(&self, call: &Call) -> Option<Cause>
+        ensures { (now : ℕ) → let reply = reply_of self.now.config (status_of (cache_in self.now)).standing (begins now call.now) in MatchOption result (is_step reply ≡ true) (λ cause. reply ≡ Refused cause) }
+    {
+        match self.turn {
+            Turn::Idle => {
+                if has_processor(&self.config, call) {
+                    None
+                } else {
+                    Some(Cause::NoSuchProcessor)
+                }
+            }
+            _ => Some(Cause::Busy),
+        }
+    }
+
+    /// Why an answer is refused now, where memory suffices.
+    pub(crate) fn resume_refusal(&self, answer: &Answer) -> Option<Cause>
+        ensures { let reply = reply_of self.now.config (status_of (cache_in self.now)).standing (answers answer.now) in MatchOption result (is_step reply ≡ true) (λ cause. reply ≡ Refused cause) }
+    {
+        let awaited = match &self.turn {
+            Turn::Idle => return Some(Cause::NoTurn),
+            Turn::Waiting(suspended) => suspended.awaits(answer),
+            Turn::Telling(_) => matches!(answer, Answer::Told),
+        };
+        if awaited {
+            None
+        } else {
+            Some(Cause::WrongAnswer)
+        }
+    }
+
+    /// Begins a call. Only memory can refuse it, before any change.
+    pub(crate) fn start<R: Rows>(
+        &mut self,
+        alloc: Global,
+        rows: &mut R,
+        id: CacheId,
+        now: u64,
+        call: Call,
+    ) -> Result<Advance, Call>
+        requires managed { IsManaged (R.contents rows.old) id self.old }
+        requires allowed { is_step (reply_of self.old.config (status_of (cache_in self.old)).standing (begins now call)) ≡ true }
+        ensures config { self.new.config ≡ self.old.config }
+        ensures managed_after { IsManaged (R.contents rows.new) id self.new }
+        ensures elsewhere { SameElsewhere id (R.contents rows.old) (R.contents rows.new) }
+        ensures ok { IfOk result (λ advance. Moves (cache_in self.old) (begins now call) advance (cache_in self.new)) }
+        ensures back { IfErr result (λ back. back ≡ call) }
+        ensures same { OnErr result (self.new ≡ self.old) }
+        ensures table { OnErr result (R.contents rows.new ≡ R.contents rows.old) }
+    {
+        let moved = start_call(alloc, &self.config, &mut self.state, rows, id, now, call)?;
+        let (turn, advance) = settle(moved);
+        self.turn = turn;
+        Ok(advance)
+    }
+
+    /// Goes on with the open call. Only memory can refuse it, before any change.
+    pub(crate) fn go_on<R: Rows>(
+        &mut self,
+        rows: &mut R,
+        id: CacheId,
+        answer: Answer,
+    ) -> Result<Advance, Answer>
+        requires managed { IsManaged (R.contents rows.old) id self.old }
+        requires allowed { is_step (reply_of self.old.config (status_of (cache_in self.old)).standing (answers answer)) ≡ true }
+        ensures config { self.new.config ≡ self.old.config }
+        ensures managed_after { IsManaged (R.contents rows.new) id self.new }
+        ensures elsewhere { SameElsewhere id (R.contents rows.old) (R.contents rows.new) }
+        ensures ok { IfOk result (λ advance. Moves (cache_in self.old) (answers answer) advance (cache_in self.new)) }
+        ensures back { IfErr result (λ back. back ≡ answer) }
+        ensures same { OnErr result (self.new ≡ self.old) }
+        ensures table { OnErr result (R.contents rows.new ≡ R.contents rows.old) }
+    {
+        match mem::replace(&mut self.turn, Turn::Idle) {
+            Turn::Idle => unreachable!(),
+            Turn::Telling(reply) => Ok(Advance::Replied(reply)),
+            Turn::Waiting(suspended) => {
+                match answer_call(&self.config, &mut self.state, rows, id, suspended, answer) {
+                    Ok(moved) => {
+                        let (turn, advance) = settle(moved);
+                        self.turn = turn;
+                        Ok(advance)
+                    }
+                    Err((suspended, answer)) => {
+                        self.turn = Turn::Waiting(suspended);
+                        Err(answer)
+                    }
+                }
+            }
+        }
+    }
+
+    /// Ends the open call without a reply, and hands out the notices that no one was told, if any may be left.
+    pub(crate) fn abandon(&mut self) -> Result<Option<Notices>, Cause>
+        ensures { Abandons self.old result self.new }
+    {
+        match mem::replace(&mut self.turn, Turn::Idle) {
+            Turn::Idle => Err(Cause::NoTurn),
+            Turn::Telling(_) => Ok(None),
+            Turn::Waiting(suspended) => Ok(Some(suspended.into_notices())),
+        }
+    }
+}

@@ -1,0 +1,11 @@
+//! The manager of many caches over one table of rows: which calls are open, how they go on, and the transcript.
+#![tactic(auto)]
+
+mod cache;
+pub mod engine;
+mod moves;
+pub mod open;
+pub mod recorded;
+mod run;
+#[cfg(test)]
+mod tests;

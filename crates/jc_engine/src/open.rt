@@ -1,0 +1,206 @@
+//! Opening a manager: which configurations it takes, and the caches as they are at first.
+ghost use Rattle.std.specs.Prelude.{◌≡◌, ◌≤◌, ℕ, false, List, [], ◌∷◌, ◌++◌, IfSome, IfOk, IfErr, ◌⊎◌, map, sum, length};
+ghost use Rattle.std.specs.FinMap as table;
+ghost use Rattle.std.specs.List.{list_any};
+ghost use Rattle.std.specs.Str.{bytes_eq};
+ghost use Rattle.jc_engine.specs.Caches.{fresh_cache};
+ghost use Rattle.jc_engine.specs.Opening.{Hookless, open_refusal, limit_refusal, refusal_from, is_taken, capacities, names_in};
+ghost use Rattle.jc_engine.specs.Fresh.{AreIds, fresh_fields};
+
+use crate::cache::{Managed, Turn};
+use crate::engine::Engine;
+use jc_model::OutOfMemory;
+use jc_model::config::CacheConfig;
+use jc_model::key::Key;
+use jc_ops::state::CacheState;
+use jc_ring::ring::Ring;
+use jc_rows::rows::Rows;
+use std::alloc::Global;
+use std::collections::HashMap;
+
+/// The most caches of one manager.
+pub const MOST_CACHES: usize = 1024;
+/// The most rows of one cache.
+pub const MOST_ROWS: u32 = 65_536;
+/// The most rows of all caches of one manager together.
+pub const MOST_ROWS_TOGETHER: u64 = 262_144;
+/// The most listeners of one cache.
+pub const MOST_LISTENERS: u8 = 8;
+/// The most processors of one cache.
+pub const MOST_PROCESSORS: usize = 16;
+
+/// Why a manager does not open; `cache` is the place of the cache in the list, from 0.
+#[derive(Debug, Drop, PartialEq, Eq)]
+pub enum OpenRefusal {
+    /// More than 1,024 caches.
+    TooManyCaches,
+    /// Not from 1 to 65,536 rows.
+    BadCapacity { cache: u32 },
+    /// More than 8 listeners.
+    TooManyListeners { cache: u32 },
+    /// More than 16 processors.
+    TooManyProcessors { cache: u32 },
+    /// An earlier cache has the same name.
+    DuplicateName { cache: u32 },
+    /// More than 262,144 rows together.
+    TotalCapacity,
+    OutOfMemory,
+}
+
+impl From<OutOfMemory> for OpenRefusal {
+    ghost use Rattle.std.specs.Prelude.{◌≡◌};
+    ghost use Rattle.jc_engine.specs.declared.open.OpenRefusal.TheVariants.{OutOfMemory as NoMemory};
+
+    ghost from_gives = { λ _ refusal. refusal ≡ NoMemory };
+
+    fn from(_: OutOfMemory) -> OpenRefusal {
+        OpenRefusal::OutOfMemory
+    }
+}
+
+impl<R: Rows, G: Ring> Engine<R, G> {
+    /// Opens a manager with these caches, each without rows and counts, over an empty table. A cache's id is its
+    /// place in the list.
+    ///
+    /// Refused as `TooManyCaches`; for each cache in turn `BadCapacity`, `TooManyListeners`, `TooManyProcessors`,
+    /// `DuplicateName`; then `TotalCapacity`, `OutOfMemory`.
+    pub fn open(
+        alloc: Global,
+        rows: R,
+        configs: Vec<CacheConfig>,
+    ) -> Result<Engine<R, G>, OpenRefusal>
+        requires empty { R.contents rows ≡ table.empty }
+        requires hookless { Hookless configs.items }
+        ensures refused { IfSome (open_refusal configs.items) (λ refusal. result ≡ Err refusal) }
+        ensures memory { IfErr result (λ refusal. (open_refusal configs.items ≡ Some refusal) ⊎ (refusal ≡ OpenRefusal.OutOfMemory)) }
+        ensures opened { IfOk result (λ engine. engine ≡ map fresh_cache configs.items) }
+    {
+        if configs.len() > MOST_CACHES {
+            return Err(OpenRefusal::TooManyCaches);
+        }
+        let ids = checked_ids(alloc, &configs)?;
+        if total_capacity(&configs) > MOST_ROWS_TOGETHER {
+            return Err(OpenRefusal::TotalCapacity);
+        }
+        let Some(ids) = ids else {
+            return Err(OpenRefusal::OutOfMemory);
+        };
+        let names = all_names(alloc, &configs)?;
+        let caches = fresh_caches(alloc, configs)?;
+        Ok(Engine {
+            alloc,
+            rows,
+            caches,
+            names,
+            ids,
+        })
+    }
+}
+
+/// What is wrong with one cache, its name aside.
+fn limit_refusal(config: &CacheConfig, cache: u32) -> Option<OpenRefusal>
+    ensures { result ≡ limit_refusal cache config.now }
+{
+    if config.capacity < 1 || config.capacity > MOST_ROWS {
+        Some(OpenRefusal::BadCapacity { cache })
+    } else if config.listeners > MOST_LISTENERS {
+        Some(OpenRefusal::TooManyListeners { cache })
+    } else if config.processors.items().len() > MOST_PROCESSORS {
+        Some(OpenRefusal::TooManyProcessors { cache })
+    } else {
+        None
+    }
+}
+
+/// Whether one of these caches has this name, by comparing it with each.
+fn is_named(configs: &[CacheConfig], name: Key) -> bool
+    ensures { result ≡ list_any (λ c. bytes_eq c.name name) configs.now }
+{
+    let bytes = name.text().as_bytes();
+    configs
+        .iter()
+        .any(|config| config.name.text().as_bytes() == bytes)
+}
+
+/// Whether one of these caches has this name, by the map of their ids where memory sufficed for one.
+fn is_taken(ids: &Option<HashMap<Key, u32>>, before: &[CacheConfig], name: &Key) -> bool
+    requires { AreIds ids.now (names_in before.now) }
+    ensures { result ≡ is_taken name.now (names_in before.now) }
+{
+    match ids {
+        Some(ids) => ids.contains_key(name),
+        None => is_named(before, *name),
+    }
+}
+
+/// The map with one id more, unless memory is refused for it.
+fn with_id(ids: Option<HashMap<Key, u32>>, name: Key, number: u32) -> Option<HashMap<Key, u32>>
+    ensures { (names : List (List ℕ)) → AreIds ids names → is_taken name names ≡ false → number ≡ length names → AreIds result (names ++ name ∷ []) }
+{
+    let mut ids = ids?;
+    match ids.insert(name, number) {
+        Ok(_) => Some(ids),
+        Err(_) => None,
+    }
+}
+
+/// The ids of the caches by name, where memory suffices for them, unless one of the caches is refused.
+fn checked_ids(
+    alloc: Global,
+    configs: &[CacheConfig],
+) -> Result<Option<HashMap<Key, u32>>, OpenRefusal>
+    requires { length configs.now ≤ 1024 }
+    ensures ok { IfOk result (λ ids. refusal_from [] 0 configs.now ≡ None) }
+    ensures ids { IfOk result (λ ids. AreIds ids (names_in configs.now)) }
+    ensures refused { IfErr result (λ refusal. refusal_from [] 0 configs.now ≡ Some refusal) }
+{
+    let mut ids = HashMap::with_capacity(alloc, configs.len()).ok();
+    for (place, config) in configs.iter().enumerate() {
+        let number = place as u32;
+        if let Some(refusal) = limit_refusal(config, number) {
+            return Err(refusal);
+        }
+        if is_taken(&ids, &configs[..place], &config.name) {
+            return Err(OpenRefusal::DuplicateName { cache: number });
+        }
+        ids = with_id(ids, config.name, number);
+    }
+    Ok(ids)
+}
+
+/// How many rows the caches may have together.
+fn total_capacity(configs: &[CacheConfig]) -> u64
+    requires { length configs.now ≤ 1024 }
+    ensures { result ≡ sum (capacities configs.now) }
+{
+    let mut total: u64 = 0;
+    for config in configs {
+        total += u64::from(config.capacity);
+    }
+    total
+}
+
+fn all_names(alloc: Global, configs: &[CacheConfig]) -> Result<Vec<Key>, OutOfMemory>
+    ensures { IfOk result (λ names. names.items ≡ names_in configs.now) }
+{
+    configs.iter().map(|config| config.name).collect(alloc)
+}
+
+/// The caches as they are at first.
+fn fresh_caches<G: Ring>(
+    alloc: Global,
+    configs: Vec<CacheConfig>,
+) -> Result<Vec<Managed<G>>, OutOfMemory>
+    ensures { IfOk result (λ caches. caches.items ≡ map fresh_fields configs.items) }
+{
+    let mut caches = Vec::with_capacity(alloc, configs.len())?;
+    for config in configs {
+        let state = CacheState::with_capacity(alloc, config.capacity)?;
+        caches.push(Managed {
+            config,
+            state,
+            turn: Turn::Idle,
+        })?;
+    }
+    Ok(caches)
+}

@@ -1,0 +1,35 @@
+-- The line that says why the program ends.
+use Rattle.std.specs.Prelude.{ℕ, List, ◌++◌, codes, decimal}
+use Rattle.jc_script.specs.declared.fault.ScriptFault.{ScriptFault}
+use Rattle.jc_script.specs.declared.fault.ScriptFault.TheVariants as script
+use Rattle.jc_script.specs.Line.{member_name}
+use Rattle.jc_runner.specs.declared.fault.RunFault.{RunFault}
+use Rattle.jc_runner.specs.declared.fault.RunFault.TheVariants as run
+use Rattle.jc_runner.specs.declared.fault.ProgramFault.{ProgramFault}
+use Rattle.jc_runner.specs.declared.fault.ProgramFault.TheVariants.{ConfigRead, Run}
+
+abbrev pub at_line : ℕ → List ℕ → List ℕ
+at_line n text = codes "script line " ++ decimal n ++ text
+
+abbrev pub bad_line : ℕ → List ℕ → List ℕ
+bad_line n member = at_line n (codes ": bad " ++ member ++ codes "\n")
+
+abbrev pub script_line : ScriptFault → List ℕ
+script_line script.TooLong = codes "script: too long\n"
+script_line (script.NotJson n) = at_line n (codes ": not JSON\n")
+script_line (script.NotObject n) = at_line n (codes ": not an object\n")
+script_line (script.Bad n member) = bad_line n (member_name member)
+script_line script.OutOfMemory = codes "out of memory\n"
+
+abbrev pub run_line : RunFault → List ℕ
+run_line run.Read = codes "script: cannot be read\n"
+run_line run.TooLong = codes "script: too long\n"
+run_line (run.Script fault) = script_line fault
+run_line run.Open = codes "manager: cannot be opened\n"
+run_line run.Close = codes "sessions and transcript differ\n"
+run_line run.Write = codes "report: cannot be written\n"
+run_line run.Memory = codes "out of memory\n"
+
+abbrev pub fault_line : ProgramFault → List ℕ
+fault_line ConfigRead = codes "config: cannot be read\n"
+fault_line (Run fault) = run_line fault

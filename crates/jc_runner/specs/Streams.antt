@@ -1,0 +1,38 @@
+-- What is read from a reader and written to a writer.
+use Rattle.std.specs.Prelude.{◌≡◌, ℕ, ◌==◌, List, ◌++◌, Bool, true, Option, Result, Ok, Err}
+use Rattle.std.specs.Io.KnownBytes.{Consumes, IsAtEnd, Appends}
+use Rattle.jc_script.specs.declared.fault.ScriptFault.{ScriptFault}
+use Rattle.jc_runner.specs.declared.fault.RunFault.{RunFault}
+use Rattle.jc_runner.specs.declared.fault.RunFault.TheVariants.{Read, TooLong, Script, Open, Memory}
+
+-- all that was left was read
+abbrev pub IsAll : Option (List ℕ) → Option (List ℕ) → List ℕ → Type 0
+IsAll old new bytes = Consumes old new bytes × IsAtEnd new
+
+-- a front of the text was written
+abbrev pub WritesFront : Option (List ℕ) → Option (List ℕ) → List ℕ → Type 0
+WritesFront old new text = (front rest : List ℕ) × (text ≡ front ++ rest) × Appends old new front
+
+-- the faults that reading can end with
+abbrev pub IsOfReading : RunFault → Type 0
+IsOfReading Read = Unit {0}
+IsOfReading TooLong = Unit {0}
+IsOfReading Memory = Unit {0}
+IsOfReading _ = ⊥
+
+-- a write failed, or took no byte
+abbrev pub takes_nothing : {E : Type 0} → Result ℕ E → Bool
+takes_nothing (Ok n) = n == 0
+takes_nothing (Err e) = true
+
+-- the faults that running can end with
+abbrev pub IsOfRunning : RunFault → Type 0
+IsOfRunning Open = Unit {0}
+IsOfRunning Memory = Unit {0}
+IsOfRunning _ = ⊥
+
+-- the faults that reading a script's text can end with
+abbrev pub IsOfScript : RunFault → Type 0
+IsOfScript (Script f) = Unit {0}
+IsOfScript Memory = Unit {0}
+IsOfScript _ = ⊥

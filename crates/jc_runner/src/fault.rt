@@ -1,0 +1,99 @@
+//! Why a run ends, and the line that says so.
+ghost use Rattle.std.specs.Prelude.{◌≡◌, OnOk};
+ghost use Rattle.std.specs.Bool.{OnTrue};
+ghost use Rattle.std.specs.Io.KnownBytes.{Appends};
+ghost use Rattle.jc_runner.specs.declared.fault.RunFault.TheVariants.{Memory};
+ghost use Rattle.jc_runner.specs.Faults.{bad_line, script_line, run_line, fault_line};
+
+use jc_script::ScriptFault;
+use std::alloc::{AllocError, AllocFailed};
+use std::io;
+use std::io::Write;
+use thiserror::Error;
+
+/// The fault of a run.
+#[derive(Debug, Drop, PartialEq, Eq, Error)]
+pub enum RunFault {
+    #[error("the reader failed")]
+    Read,
+    #[error("the input is too long")]
+    TooLong,
+    #[error("the script is faulty: {0:?}")]
+    Script(ScriptFault),
+    #[error("the manager does not open")]
+    Open,
+    #[error("the sessions and the transcript differ")]
+    Close,
+    #[error("the writer failed")]
+    Write,
+    #[error("out of memory")]
+    Memory,
+}
+
+impl From<AllocError> for RunFault {
+    ghost from_gives = { λ _ e. e ≡ Memory };
+
+    fn from(_e: AllocError) -> RunFault {
+        RunFault::Memory
+    }
+}
+
+impl<T: Drop> From<AllocFailed<T>> for RunFault {
+    ghost from_gives = { λ _ e. e ≡ Memory };
+
+    fn from(_e: AllocFailed<T>) -> RunFault {
+        RunFault::Memory
+    }
+}
+
+/// The fault of the program.
+#[derive(Debug, Drop, PartialEq, Eq, Error)]
+pub enum ProgramFault {
+    #[error("the configuration can't be read")]
+    ConfigRead,
+    #[error("the run ended: {0:?}")]
+    Run(RunFault),
+}
+
+fn write_bad<W: Write>(line: usize, member: &str, writer: &mut W) -> io::Result<()>
+    ensures { OnOk result (Appends (W.contents writer.old) (W.contents writer.new) (bad_line line member.now)) }
+{
+    writeln!(writer, "script line {line}: bad {member}")
+}
+
+fn write_script_fault<W: Write>(fault: ScriptFault, writer: &mut W) -> io::Result<()>
+    ensures { OnOk result (Appends (W.contents writer.old) (W.contents writer.new) (script_line fault)) }
+{
+    match fault {
+        ScriptFault::TooLong => writeln!(writer, "script: too long"),
+        ScriptFault::NotJson { line } => writeln!(writer, "script line {line}: not JSON"),
+        ScriptFault::NotObject { line } => writeln!(writer, "script line {line}: not an object"),
+        ScriptFault::Bad { line, member } => write_bad(line, member.name(), writer),
+        ScriptFault::OutOfMemory => writeln!(writer, "out of memory"),
+    }
+}
+
+fn write_run_fault<W: Write>(fault: &RunFault, writer: &mut W) -> io::Result<()>
+    ensures { OnOk result (Appends (W.contents writer.old) (W.contents writer.new) (run_line fault.now)) }
+{
+    match fault {
+        RunFault::Read => writeln!(writer, "script: cannot be read"),
+        RunFault::TooLong => writeln!(writer, "script: too long"),
+        RunFault::Script(fault) => write_script_fault(*fault, writer),
+        RunFault::Open => writeln!(writer, "manager: cannot be opened"),
+        RunFault::Close => writeln!(writer, "sessions and transcript differ"),
+        RunFault::Write => writeln!(writer, "report: cannot be written"),
+        RunFault::Memory => writeln!(writer, "out of memory"),
+    }
+}
+
+/// Writes the line of a fault; false where the writer failed.
+pub fn write_fault<W: Write>(fault: &ProgramFault, writer: &mut W) -> bool
+    ensures { OnTrue result (Appends (W.contents writer.old) (W.contents writer.new) (fault_line fault.now)) }
+{
+    let result = match fault {
+        ProgramFault::ConfigRead => writeln!(writer, "config: cannot be read"),
+        ProgramFault::Run(fault) => write_run_fault(fault, writer),
+    };
+    result.is_ok()
+}

@@ -1,0 +1,19 @@
+//! The program over a reader and a writer: it reads a script, runs its lines in order and writes the report.
+#![tactic(auto)]
+
+mod calls;
+mod fault;
+mod hooks;
+mod presets;
+mod reading;
+mod run;
+mod writing;
+
+pub use fault::{ProgramFault, RunFault, write_fault};
+pub use presets::demonstration;
+pub use reading::{Watched, read_bytes};
+pub use run::serial;
+pub use writing::WatchedWriter;
+
+#[cfg(test)]
+mod tests;

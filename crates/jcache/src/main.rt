@@ -1,0 +1,47 @@
+//! Runs a script of cache calls from standard input on the demonstration's caches, and prints what they came to.
+#![tactic(auto)]
+
+use jc_runner::{
+    ProgramFault, RunFault, Watched, WatchedWriter, demonstration, serial, write_fault,
+};
+use std::env;
+use std::io::ErrorKind;
+use std::process::ExitCode;
+
+/// Whether there is a word behind the program's name; one that is no text is a word too.
+fn has_words(rt: &HostRuntime) -> Result<bool, ProgramFault> {
+    match env::args(rt) {
+        Ok(words) => Ok(words.skip(1).next().is_some()),
+        Err(fault) if fault.kind() == ErrorKind::OutOfMemory => {
+            Err(ProgramFault::Run(RunFault::Memory))
+        }
+        Err(_) => Ok(true),
+    }
+}
+
+fn run(rt: &HostRuntime) -> Result<(), ProgramFault> {
+    let alloc = rt.alloc();
+    let settings = match demonstration(alloc) {
+        Ok(settings) => settings,
+        Err(_) => return Err(ProgramFault::Run(RunFault::Memory)),
+    };
+    let mut reader = Watched::new(rt.stdin());
+    let mut writer = WatchedWriter::new(rt.stdout());
+    serial(alloc, settings, &mut reader, &mut writer).map_err(ProgramFault::Run)
+}
+
+fn fail(rt: &HostRuntime, fault: &ProgramFault) -> ExitCode {
+    let _ = write_fault(fault, &mut rt.stderr());
+    ExitCode::FAILURE
+}
+
+fn main(rt: HostRuntime) -> ExitCode {
+    match has_words(&rt) {
+        Err(fault) => fail(&rt, &fault),
+        Ok(true) => ExitCode::from(2),
+        Ok(false) => match run(&rt) {
+            Ok(()) => ExitCode::SUCCESS,
+            Err(fault) => fail(&rt, &fault),
+        },
+    }
+}
