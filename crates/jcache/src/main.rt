@@ -1,6 +1,9 @@
 //! Runs a script of cache calls from standard input on the demonstration's caches, and prints what they came to.
 #![tactic(auto)]
 
+ghost use Rattle.std.specs.Prelude.{◌≡◌, OnOk, OnErr};
+ghost use Rattle.std.specs.Process.{exit_status};
+
 use jc_runner::{
     ProgramFault, RunFault, Watched, WatchedWriter, demonstration, serial, write_fault,
 };
@@ -30,18 +33,24 @@ fn run(rt: &HostRuntime) -> Result<(), ProgramFault> {
     serial(alloc, settings, &mut reader, &mut writer).map_err(ProgramFault::Run)
 }
 
-fn fail(rt: &HostRuntime, fault: &ProgramFault) -> ExitCode {
-    let _ = write_fault(fault, &mut rt.stderr());
-    ExitCode::FAILURE
+/// How the program ends: with status 0, or with the fault's line on standard error and status 1.
+fn ended(rt: &HostRuntime, outcome: Result<(), ProgramFault>) -> ExitCode
+    ensures success { OnOk outcome (exit_status result ≡ 0) }
+    ensures failure { OnErr outcome (exit_status result ≡ 1) }
+{
+    match outcome {
+        Ok(()) => ExitCode::SUCCESS,
+        Err(fault) => {
+            let _ = write_fault(&fault, &mut rt.stderr());
+            ExitCode::FAILURE
+        }
+    }
 }
 
 fn main(rt: HostRuntime) -> ExitCode {
     match has_words(&rt) {
-        Err(fault) => fail(&rt, &fault),
         Ok(true) => ExitCode::from(2),
-        Ok(false) => match run(&rt) {
-            Ok(()) => ExitCode::SUCCESS,
-            Err(fault) => fail(&rt, &fault),
-        },
+        Ok(false) => ended(&rt, run(&rt)),
+        Err(fault) => ended(&rt, Err(fault)),
     }
 }
