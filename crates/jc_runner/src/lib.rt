@@ -17,3 +17,5 @@ pub use writing::WatchedWriter;
 
 #[cfg(test)]
 mod tests;
+#[cfg(test)]
+mod worked;
