@@ -1,5 +1,5 @@
 -- Where there are no processors, none is invoked.
-use Rattle.std.proofs.Common.{◌≡◌, ℕ, Bool, true, false, if◌then◌else◌, List, [], length, Option, Some, None, refl, sym, ap, subst, ◌∙◌, arith}
+use Rattle.std.proofs.Common.{◌≡◌, ℕ, Bool, true, false, if◌then◌else◌, List, [], ◌∷◌, ◌++◌, length, Option, Some, None, refl, sym, ap, subst, ◌∙◌, arith}
 use Rattle.std.specs.Prelude.{ltb}
 use Rattle.std.proofs.lemmas.Bool.Decides.{nat_tests}
 use Rattle.jc_model.specs.declared.call.Call.{Call}
@@ -10,6 +10,7 @@ use Rattle.jc_model.specs.declared.event.Outcome.TheVariants.{Refused}
 use Rattle.jc_model.specs.Changes.{Progress}
 use Rattle.jc_model.specs.Run.{Awaited}
 use Rattle.jc_model.specs.Whole.{whole}
+use Rattle.jc_engine.specs.Opening.{Hookless}
 use Rattle.jc_model.specs.Runs.{begins, shown, reply_of}
 use Rattle.jc_model.specs.Suspended.{Wait, standing_by}
 use Rattle.jc_ops.specs.KeyCalls.{invokes}
@@ -36,3 +37,8 @@ not_invoked c p (Some w) now (Invoke k n argument) none allowed = absurd cc
 not_invoked c p None now (Invoke k n argument) none allowed =
     let refused : is_step (if false then shown (whole c now (Invoke k n argument) p.state) else Refused NoSuchProcessor) ≡ true = subst (λ (b : Bool). is_step (if b then shown (whole c now (Invoke k n argument) p.state) else Refused NoSuchProcessor) ≡ true) (none_there c n none) allowed in
     absurd cc
+
+-- one cache more
+pub hookless_push : (caches : List CacheConfig) (c : CacheConfig) → Hookless caches → c.processors ≡ [] → Hookless (caches ++ c ∷ [])
+hookless_push [] c h p = (p, tt)
+hookless_push (d ∷ caches) c h p = (h.0, hookless_push caches c h.1 p)

@@ -7,3 +7,5 @@ mod moves;
 pub mod open;
 pub mod recorded;
 mod run;
+#[cfg(test)]
+mod tests;
