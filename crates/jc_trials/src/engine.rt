@@ -1,0 +1,259 @@
+//! The engine's refusals, and events on two caches that take turns.
+ghost use Rattle.std.specs.Prelude.{◌≡◌, [], IfOk};
+ghost use Rattle.jc_engine.specs.Opening.{Hookless};
+
+use crate::trial::{Trial, Trouble, key};
+use jc_engine::engine::Engine;
+use jc_engine::open::OpenRefusal;
+use jc_model::call::{Answer, Call, ProcessorFault, Reply, Request};
+use jc_model::config::CacheConfig;
+use jc_model::event::{CacheId, Cause, Event, Outcome, Step};
+use jc_model::value::Value;
+use jc_ring::list_ring::ListRing;
+use jc_rows::list_rows::ListRows;
+use std::alloc::Global;
+
+type Manager = Engine<ListRows, ListRing>;
+
+fn open(alloc: Global, configs: Vec<CacheConfig>) -> Result<Manager, Trouble>
+    requires { Hookless configs.items }
+{
+    match Engine::open(alloc, ListRows::new(alloc), configs) {
+        Ok(engine) => Ok(engine),
+        Err(refusal) => Err(Trouble::Opening(refusal)),
+    }
+}
+
+/// A cache `a` with the loader, and a cache `b` without hooks.
+fn two_caches(alloc: Global) -> Result<Manager, Trouble> {
+    let a = CacheConfig {
+        loader: true,
+        ..Trial::plain(alloc, "a")?
+    };
+    let configs = Vec::from_array(alloc, [a, Trial::plain(alloc, "b")?])?;
+    open(alloc, configs)
+}
+
+fn value(alloc: Global, text: &str) -> Result<Value, Trouble> {
+    Ok(Value::new(alloc, text.as_bytes().to_vec(alloc)?)?)
+}
+
+#[test]
+fn an_open_call_refuses_what_is_not_its_answer(rt: HostRuntime) -> Result<(), Trouble> {
+    let alloc = rt.alloc();
+    let (a, b) = (CacheId::new(0), CacheId::new(1));
+    let k = key("k")?;
+    let mut engine = two_caches(alloc)?;
+    assert_eq!(rt;
+        engine.begin(a, 0, Call::Get(k)),
+        Ok(Step::Need(Request::Load(k)))
+    );
+    assert_eq!(rt;
+        engine.begin(a, 0, Call::Stats),
+        Err((Cause::Busy, Call::Stats))
+    );
+    assert_eq!(rt;
+        engine.resume(a, Answer::Written),
+        Err((Cause::WrongAnswer, Answer::Written))
+    );
+    assert_eq!(rt;
+        engine.resume(b, Answer::Told),
+        Err((Cause::NoTurn, Answer::Told))
+    );
+    assert_eq!(rt; engine.give_up(b).err(), Some(Cause::NoTurn));
+    assert_eq!(rt;
+        engine.begin(CacheId::new(7), 0, Call::Stats),
+        Err((Cause::NoSuchCache, Call::Stats))
+    );
+    let invoke = Call::Invoke {
+        key: k,
+        processor: 0,
+        argument: value(alloc, "")?,
+    };
+    let refused = engine.begin(b, 0, invoke).err();
+    assert!(rt; matches!(refused, Some((Cause::NoSuchProcessor, Call::Invoke { .. }))));
+    let loaded = Answer::Loaded(Some(value(alloc, "k")?));
+    let found = Reply::Found(Some(value(alloc, "k")?));
+    assert_eq!(rt; engine.resume(a, loaded), Ok(Step::Done(found)));
+    Ok(())
+}
+
+#[test]
+fn a_call_that_was_given_up_has_no_turn(rt: HostRuntime) -> Result<(), Trouble> {
+    let alloc = rt.alloc();
+    let a = CacheId::new(0);
+    let k = key("k")?;
+    let mut engine = two_caches(alloc)?;
+    assert_eq!(rt;
+        engine.begin(a, 0, Call::Get(k)),
+        Ok(Step::Need(Request::Load(k)))
+    );
+    assert_eq!(rt; engine.give_up(a).map(|left| left.items().len()), Ok(0));
+    assert_eq!(rt;
+        engine.resume(a, Answer::LoadFailed),
+        Err((Cause::NoTurn, Answer::LoadFailed))
+    );
+    assert!(rt; !engine.has(a, &k, 0));
+    let put = Call::Put(k, value(alloc, "1")?);
+    assert_eq!(rt; engine.begin(a, 0, put), Ok(Step::Done(Reply::Done)));
+    assert!(rt; engine.has(a, &k, 0));
+    Ok(())
+}
+
+#[test]
+fn events_of_two_caches_take_turns(rt: HostRuntime) -> Result<(), Trouble> {
+    let alloc = rt.alloc();
+    let (a, b) = (CacheId::new(0), CacheId::new(1));
+    let (k, x) = (key("k")?, key("x")?);
+    let mut engine = two_caches(alloc)?;
+    let events = Vec::from_array(
+        alloc,
+        [
+            Event::Begin(a, 0, Call::Get(k)),
+            Event::Begin(b, 0, Call::Put(x, value(alloc, "1")?)),
+            Event::Answer(a, Answer::Loaded(Some(value(alloc, "k")?))),
+        ],
+    )?;
+    let expected = [
+        Outcome::Step(Step::Need(Request::Load(k))),
+        Outcome::Step(Step::Done(Reply::Done)),
+        Outcome::Step(Step::Done(Reply::Found(Some(value(alloc, "k")?)))),
+    ];
+    match engine.run(events) {
+        Ok(outcomes) => assert_eq!(rt; outcomes.as_slice(), expected.as_slice()),
+        Err(_) => assert!(rt; false, "the run found no room"),
+    }
+    Ok(())
+}
+
+fn of_capacity(alloc: Global, name: &str, capacity: u32) -> Result<CacheConfig, Trouble>
+    ensures { IfOk result (λ c. c.processors ≡ []) }
+{
+    Ok(CacheConfig {
+        capacity,
+        ..Trial::plain(alloc, name)?
+    })
+}
+
+#[test]
+fn four_caches_of_the_greatest_capacity_open(rt: HostRuntime) -> Result<(), Trouble> {
+    let alloc = rt.alloc();
+    let a = of_capacity(alloc, "a", 65_536)?;
+    let b = of_capacity(alloc, "b", 65_536)?;
+    let c = of_capacity(alloc, "c", 65_536)?;
+    let d = of_capacity(alloc, "d", 65_536)?;
+    let engine = open(alloc, Vec::from_array(alloc, [a, b, c, d])?)?;
+    assert_eq!(rt; engine.names().len(), 4);
+    assert_eq!(rt; engine.cache(&key("c")?), Some(CacheId::new(2)));
+    assert_eq!(rt; engine.cache(&key("e")?), None);
+    Ok(())
+}
+
+#[test]
+fn five_caches_of_the_greatest_capacity_are_too_many_rows(rt: HostRuntime) -> Result<(), Trouble> {
+    let alloc = rt.alloc();
+    let a = of_capacity(alloc, "a", 65_536)?;
+    let b = of_capacity(alloc, "b", 65_536)?;
+    let c = of_capacity(alloc, "c", 65_536)?;
+    let d = of_capacity(alloc, "d", 65_536)?;
+    let e = of_capacity(alloc, "e", 1)?;
+    let refused = open(alloc, Vec::from_array(alloc, [a, b, c, d, e])?);
+    assert_eq!(rt;
+        refused.err(),
+        Some(Trouble::Opening(OpenRefusal::TotalCapacity))
+    );
+    Ok(())
+}
+
+#[test]
+fn refusals_at_opening_name_the_first_fault(rt: HostRuntime) -> Result<(), Trouble> {
+    let alloc = rt.alloc();
+    let none = of_capacity(alloc, "b", 0)?;
+    let configs = Vec::from_array(alloc, [of_capacity(alloc, "a", 1)?, none])?;
+    let refusal = OpenRefusal::BadCapacity { cache: 1 };
+    assert_eq!(rt; open(alloc, configs).err(), Some(Trouble::Opening(refusal)));
+    let again = of_capacity(alloc, "a", 1)?;
+    let configs = Vec::from_array(alloc, [of_capacity(alloc, "a", 1)?, again])?;
+    let refusal = OpenRefusal::DuplicateName { cache: 1 };
+    assert_eq!(rt; open(alloc, configs).err(), Some(Trouble::Opening(refusal)));
+    Ok(())
+}
+
+/// The awaited requests, each by the call that asks it: load, write, delete, tell.
+fn asking(alloc: Global, request: usize) -> Result<Call, Trouble> {
+    let k = key("k")?;
+    Ok(match request {
+        0 => Call::Get(k),
+        2 => Call::Remove(k),
+        _ => Call::Put(k, value(alloc, "1")?),
+    })
+}
+
+/// A cache with the hook that this request is for alone.
+fn asked_cache(alloc: Global, request: usize) -> Result<Manager, Trouble> {
+    let config = CacheConfig {
+        loader: request == 0,
+        writer: request == 1 || request == 2,
+        listeners: if request == 3 { 1 } else { 0 },
+        ..Trial::plain(alloc, "a")?
+    };
+    open(alloc, Vec::from_array(alloc, [config])?)
+}
+
+/// All kinds of answers.
+fn given(place: usize) -> Answer {
+    match place {
+        0 => Answer::Loaded(None),
+        1 => Answer::LoadFailed,
+        2 => Answer::Written,
+        3 => Answer::WriteFailed,
+        4 => Answer::Processed(Err(ProcessorFault {})),
+        _ => Answer::Told,
+    }
+}
+
+/// An answer of the kind that a request awaits.
+fn awaited(request: usize) -> usize {
+    match request {
+        0 => 0,
+        1 | 2 => 2,
+        _ => 5,
+    }
+}
+
+/// Whether an answer is of the kind that a request awaits.
+fn is_awaited(request: usize, answer: usize) -> bool {
+    match request {
+        0 => answer < 2,
+        1 | 2 => answer == 2 || answer == 3,
+        _ => answer == 5,
+    }
+}
+
+#[test]
+fn answers_of_another_kind_are_handed_back(rt: HostRuntime) -> Result<(), Trouble> {
+    let alloc = rt.alloc();
+    let a = CacheId::new(0);
+    let mut refused = 0u32;
+    for request in 0..4 {
+        for answer in 0..6 {
+            let mut engine = asked_cache(alloc, request)?;
+            let step = engine.begin(a, 0, asking(alloc, request)?);
+            assert!(rt; matches!(step, Ok(Step::Need(_))), "request {request}");
+            let taken = engine.resume(a, given(answer));
+            if is_awaited(request, answer) {
+                assert!(rt;
+                    matches!(taken, Ok(Step::Done(_))),
+                    "request {request}, answer {answer}"
+                );
+            } else {
+                refused = refused.saturating_add(1);
+                assert_eq!(rt; taken, Err((Cause::WrongAnswer, given(answer))));
+                let right = given(awaited(request));
+                assert!(rt; matches!(engine.resume(a, right), Ok(Step::Done(_))));
+            }
+        }
+    }
+    assert_eq!(rt; refused, 17);
+    Ok(())
+}
