@@ -3,7 +3,7 @@ use Rattle.std.proofs.Common.{◌≡◌, ℕ, ◌≤◌, Bool, true, false, if�
 use Rattle.std.specs.Prelude.{Option, Some, None, slice_index_or}
 use Rattle.std.specs.Str.{bytes_eq}
 use Rattle.jc_model.specs.declared.call.Call.{Call}
-use Rattle.jc_model.specs.declared.call.Call.TheVariants.{Contains, Stats, ClearStats}
+use Rattle.jc_model.specs.declared.call.Call.TheVariants.{Contains, Clear, Entries, Stats, ClearStats}
 use Rattle.jc_model.specs.declared.call.Op.{Op}
 use Rattle.jc_model.specs.declared.call.Op.TheVariants as op
 use Rattle.jc_model.specs.declared.call.KeyCall.{KeyCall}
@@ -22,7 +22,8 @@ use Rattle.jc_model.specs.State.{Item, State, is_live}
 use Rattle.jc_model.specs.Changes.{Progress, begun, hit, miss, put, removal, find_row, access, update, delete, create, expire, purge}
 use Rattle.jc_model.specs.Run.{Run, ended, waiting, and_then, resume, answered, progress, load, load_for, write, delete_write, process, loaded_by, is_written, verdict_of}
 use Rattle.jc_model.specs.Step.{act_live, act_absent, on_live, on_absent, on_row, step}
-use Rattle.jc_model.specs.Whole.{Plan, one, at_once, plan, carried_out, told_first, whole}
+use Rattle.jc_model.specs.Bulk.{Gathered, Sum, empty_sum, with_key, ends_call}
+use Rattle.jc_model.specs.Whole.{each, Plan, one, many, at_once, touch_each, plan, carried_out, told_first, whole}
 use Rattle.jc_model.specs.Sound.{Lacks, IsSound, Throughout}
 use Rattle.jc_model.proofs.Sound.{row_of-None}
 use Rattle.jc_model.proofs.Keeps.{expire-sound, delete-sound, access-sound, update-sound, create-sound, create_by_put-sound}
@@ -132,6 +133,13 @@ module _ (c : CacheConfig) (now : ℕ) (roomy : 1 ≤ c.capacity) where
       go false = access-sound c now roomy x (hit p) h
   on_live-keeps op.GetAndRemove k x p h = delete_write-keeps k p _ h (delete-sound c now roomy x (hit p) h)
   on_live-keeps (op.Invoke n argument) k x p h = process-keeps k n (Some x.value) argument p _ _ h h (λ v. act_live-keeps k x p v.action v.answer h)
+  on_live-keeps (op.Load true) k x p h = load-keeps k p _ _ h h given
+    where
+      given : (o : Option (List ℕ)) → Keeps (elim o [ None ↦ ended p Done | Some v ↦ ended (update c now x v p) Done ])
+      given None = h
+      given (Some v) = update-sound c now roomy x v p h
+  on_live-keeps (op.Load false) k x p h = h
+  on_live-keeps op.Expire k x p h = h
 
   on_absent-keeps : (o : Op) (k : List ℕ) (p : Progress) → Holds p → Lacks k p.state.ring → Keeps (on_absent c now o k p)
   on_absent-keeps op.Get k p h l = load-keeps k p _ _ h h given
@@ -150,6 +158,12 @@ module _ (c : CacheConfig) (now : ℕ) (roomy : 1 ≤ c.capacity) where
   on_absent-keeps op.GetAndRemove k p h l = delete_write-keeps k p _ h h
   on_absent-keeps (op.Invoke n argument) k p h l =
       load_for-keeps n k p _ _ h h (λ loaded. process-keeps k n loaded argument p _ _ h h (λ v. act_absent-keeps k loaded p v.action v.answer h l))
+  on_absent-keeps (op.Load replace) k p h l = load-keeps k p _ _ h h given
+    where
+      given : (o : Option (List ℕ)) → Keeps (elim o [ None ↦ ended p Done | Some v ↦ ended (create c now k v p) Done ])
+      given None = h
+      given (Some v) = create-sound c now roomy k v p h l
+  on_absent-keeps op.Expire k p h l = h
 
   purge-sound : (k : List ℕ) (p : Progress) → Holds p → Holds (purge c now k p)
   purge-sound k p h = go (find_row k p)
@@ -173,6 +187,23 @@ module _ (c : CacheConfig) (now : ℕ) (roomy : 1 ≤ c.capacity) where
           on_absent-keeps call.op call.key _ (purge-sound call.key p h) (row_of-None call.key _ e)
       go (Some x) e = on_live-keeps call.op call.key x _ (purge-sound call.key p h)
 
+  pub each-keeps : (calls : List KeyCall) (sum : Sum) (p : Progress) → Holds p → Keeps (each c now calls sum p)
+  each-keeps [] sum p h = h
+  each-keeps (call ∷ calls) sum p h =
+      throughout-and_then (IsSound c) (step c now call p) _ (step-keeps call p h) (λ q r g. after q r (ends_call r) g (each-keeps calls (with_key call.key r sum) q g))
+    where
+      after : (q : Progress) (r : Reply) (o : Option By) → Holds q → Keeps (each c now calls (with_key call.key r sum) q) → Keeps (elim o [ Some by ↦ ended q (Fault by (Some sum.done)) | None ↦ each c now calls (with_key call.key r sum) q ])
+      after q r None g rest = rest
+      after q r (Some b) g rest = g
+
+  touch_each-sound : (xs : List Item) (p : Progress) → Holds p → Holds (touch_each c now xs p)
+  touch_each-sound [] p h = h
+  touch_each-sound (x ∷ xs) p h = touch_each-sound xs _ (go (is_live now x))
+    where
+      go : (b : Bool) → Holds (if b then access c now x (hit p) else p)
+      go true = access-sound c now roomy x (hit p) h
+      go false = h
+
   -- a change that is made at once is sound
   abbrev AtOnce : Plan → Type 0
   AtOnce (at_once q r) = Holds q
@@ -180,12 +211,15 @@ module _ (c : CacheConfig) (now : ℕ) (roomy : 1 ≤ c.capacity) where
 
   plan-sound : (call : Call) (p : Progress) → Holds p → AtOnce (plan c now call p)
   plan-sound (Contains k) p h = h
+  plan-sound Clear p h = (tt, zero-le)
+  plan-sound Entries p h = touch_each-sound p.state.ring p h
   plan-sound Stats p h = h
   plan-sound ClearStats p h = h
   plan-sound _ p h = tt
 
   carried_out-keeps : (pl : Plan) (p : Progress) → AtOnce pl → Holds p → Keeps (carried_out c now pl p)
   carried_out-keeps (one k o) p a h = step-keeps (record { key = k; op = o }) p h
+  carried_out-keeps (many calls gathered) p a h = each-keeps calls (empty_sum gathered) p h
   carried_out-keeps (at_once q r) p a h = a
 
   told_first-keeps : (p : Progress) (r : Reply) → Holds p → Keeps (told_first p r)

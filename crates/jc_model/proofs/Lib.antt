@@ -16,3 +16,5 @@ pub mod Legal
 pub mod Worked
 pub mod Places
 pub mod Suspended
+pub mod Distinct
+pub mod SameKey

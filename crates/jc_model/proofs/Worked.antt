@@ -3,9 +3,9 @@ use Rattle.std.specs.Prelude.{◌≡◌, ℕ, ◌+◌, ◌-◌, ◌^◌, Bool, t
 use Rattle.std.specs.Prelude.{Option, Some, None, Ok, Err}
 use Rattle.std.proofs.Common.{refl}
 use Rattle.jc_model.specs.declared.call.Call.{Call}
-use Rattle.jc_model.specs.declared.call.Call.TheVariants.{Get, Contains, Put, GetAndPut, PutIfAbsent, Replace, ReplaceIf, GetAndReplace, Remove, RemoveIf, GetAndRemove, Invoke, Stats, ClearStats}
+use Rattle.jc_model.specs.declared.call.Call.TheVariants.{Get, GetAll, Contains, Put, GetAndPut, PutIfAbsent, Replace, ReplaceIf, GetAndReplace, Remove, RemoveIf, GetAndRemove, Invoke, InvokeAll, PutAll, RemoveKeys, RemoveAll, Clear, LoadAll, Entries, Stats, ClearStats}
 use Rattle.jc_model.specs.declared.call.Reply.{Reply}
-use Rattle.jc_model.specs.declared.call.Reply.TheVariants.{Done, Truth, Found, Counted, Fault}
+use Rattle.jc_model.specs.declared.call.Reply.TheVariants.{Done, Truth, Found, Listed, Results, Counted, Fault}
 use Rattle.jc_model.specs.declared.call.By.TheVariants as by
 use Rattle.jc_model.specs.declared.call.Kind.{Kind}
 use Rattle.jc_model.specs.declared.call.Kind.TheVariants as kind
@@ -62,6 +62,24 @@ k = 107 ∷ []
 
 abbrev minus_k : K
 minus_k = 45 ∷ 107 ∷ []
+
+abbrev b : K
+b = 98 ∷ []
+
+abbrev c' : K
+c' = 99 ∷ []
+
+abbrev d : K
+d = 100 ∷ []
+
+abbrev minus_b : K
+minus_b = 45 ∷ 98 ∷ []
+
+abbrev bang_b : K
+bang_b = 33 ∷ 98 ∷ []
+
+abbrev bang_d : K
+bang_d = 33 ∷ 100 ∷ []
 
 abbrev bang_k : K
 bang_k = 33 ∷ 107 ∷ []
@@ -174,6 +192,21 @@ processors_take_turns = refl
 
 conditional_calls : replies all_hooks plain ((0, PutIfAbsent x (digit 1)) ∷ (0, GetAndPut x (digit 2)) ∷ (0, Replace x (digit 3)) ∷ (0, ReplaceIf x (digit 3) (digit 4)) ∷ (0, GetAndReplace x (digit 5)) ∷ (0, RemoveIf x (digit 9)) ∷ (0, RemoveIf x (digit 5)) ∷ (0, Remove x) ∷ (0, GetAndRemove x) ∷ (0, Replace x (digit 6)) ∷ (0, Put x (digit 7)) ∷ (0, GetAndRemove x) ∷ (0, Stats) ∷ []) ≡ Truth true ∷ Found (Some (digit 1)) ∷ Truth true ∷ Truth true ∷ Found (Some (digit 4)) ∷ Truth false ∷ Truth true ∷ Truth false ∷ Found None ∷ Truth false ∷ Done ∷ Found (Some (digit 7)) ∷ stats 7 3 6 2 0 ∷ []
 conditional_calls = refl
+
+writer_fault_ends_put_all : replies all_hooks writing ((0, PutAll ((a, digit 1) ∷ (bang_b, digit 2) ∷ (c', digit 3) ∷ [])) ∷ (0, Contains a) ∷ (0, Contains c') ∷ []) ≡ Fault by.Writer (Some 1) ∷ Truth true ∷ Truth false ∷ []
+writer_fault_ends_put_all = refl
+
+entries_pass_expired_rows_over : lines all_hooks (record plain { capacity = 3; policy = policy.Created 10; listeners = 1 }) first_state ((0, PutAll ((x, digit 1) ∷ (y, digit 2) ∷ [])) ∷ (5, Put z (digit 3)) ∷ (10, Entries) ∷ (10, RemoveAll) ∷ (10, Stats) ∷ []) ≡ ((kind.Created, x) ∷ (kind.Created, y) ∷ [], Done) ∷ ((kind.Created, z) ∷ [], Done) ∷ ([], Listed ((z, digit 3) ∷ [])) ∷ ((kind.Expired, x) ∷ (kind.Expired, y) ∷ (kind.Removed, z) ∷ [], Done) ∷ ([], stats 1 0 3 1 0) ∷ []
+entries_pass_expired_rows_over = refl
+
+loader_fault_ends_get_all : replies all_hooks loading ((0, Put a (digit 1)) ∷ (0, GetAll (a ∷ minus_b ∷ c' ∷ [])) ∷ (0, GetAll (a ∷ bang_d ∷ d ∷ [])) ∷ (0, Stats) ∷ []) ≡ Done ∷ Listed ((a, digit 1) ∷ (c', c') ∷ []) ∷ Fault by.Loader (Some 1) ∷ stats 2 3 1 0 0 ∷ []
+loader_fault_ends_get_all = refl
+
+load_all_counts_nothing : replies all_hooks loading ((0, Put a (digit 1)) ∷ (0, LoadAll (a ∷ c' ∷ []) false) ∷ (0, Get a) ∷ (0, LoadAll (a ∷ []) true) ∷ (0, Get a) ∷ (0, Stats) ∷ []) ≡ Done ∷ Done ∷ Found (Some (digit 1)) ∷ Done ∷ Found (Some a) ∷ stats 2 0 1 0 0 ∷ []
+load_all_counts_nothing = refl
+
+processor_fault_is_a_result : replies all_hooks (record plain { processors = true ∷ false ∷ false ∷ true ∷ [] }) ((0, Put x (digit 1)) ∷ (0, InvokeAll (x ∷ y ∷ []) 3 plus) ∷ (0, InvokeAll (x ∷ y ∷ []) 1 plus) ∷ (0, Stats) ∷ (0, GetAll []) ∷ []) ≡ Done ∷ Results ((x, Ok (digit 1)) ∷ []) ∷ Results ((x, Err (record {})) ∷ (y, Err (record {})) ∷ []) ∷ stats 2 2 1 0 0 ∷ Listed [] ∷ []
+processor_fault_is_a_result = refl
 
 abbrev entry : Call → List Answer → List Notice → End → Entry
 entry call answers told stop =

@@ -1,26 +1,48 @@
 -- One whole call on one cache.
-use Rattle.std.specs.Prelude.{ℕ, Bool, false, List, [], ◌∷◌}
+use Rattle.std.specs.Prelude.{ℕ, Bool, false, if◌then◌else◌, List, [], ◌∷◌, map}
 use Rattle.std.specs.Prelude.{Option, Some, None}
+use Rattle.std.specs.List.{filter}
 use Rattle.jc_model.specs.declared.call.Call.{Call}
-use Rattle.jc_model.specs.declared.call.Call.TheVariants.{Get, Contains, Put, GetAndPut, PutIfAbsent, Replace, ReplaceIf, GetAndReplace, Remove, RemoveIf, GetAndRemove, Invoke, Stats, ClearStats}
+use Rattle.jc_model.specs.declared.call.Call.TheVariants.{Get, GetAll, Contains, Put, GetAndPut, PutIfAbsent, Replace, ReplaceIf, GetAndReplace, Remove, RemoveIf, GetAndRemove, Invoke, InvokeAll, PutAll, RemoveKeys, RemoveAll, Clear, LoadAll, Entries, Stats, ClearStats}
 use Rattle.jc_model.specs.declared.call.Op.{Op}
 use Rattle.jc_model.specs.declared.call.Op.TheVariants as op
 use Rattle.jc_model.specs.declared.call.KeyCall.{KeyCall}
 use Rattle.jc_model.specs.declared.call.Reply.{Reply}
-use Rattle.jc_model.specs.declared.call.Reply.TheVariants.{Done, Truth, Counted}
+use Rattle.jc_model.specs.declared.call.Reply.TheVariants.{Done, Truth, Listed, Counted, Fault}
 use Rattle.jc_model.specs.declared.call.Request.TheVariants.{Tell}
 use Rattle.jc_model.specs.declared.config.CacheConfig.{CacheConfig}
-use Rattle.jc_model.specs.State.{State, zeros, row_of, is_live}
-use Rattle.jc_model.specs.Changes.{Progress, begun, with_counts}
+use Rattle.jc_model.specs.State.{Item, State, zeros, row_of, is_live}
+use Rattle.jc_model.specs.Changes.{Progress, begun, with_ring, with_counts, hit, access}
 use Rattle.jc_model.specs.Run.{Run, ended, waiting, and_then}
 use Rattle.jc_model.specs.Step.{step}
+use Rattle.jc_model.specs.Bulk.{Gathered, nothing, pairs, results, Sum, empty_sum, with_key, gathered_reply, ends_call, same_op, put_each, remove_each}
 
--- A call is one key's step, or a change and a reply at once.
+-- A call is one key's step, the steps of many keys with what is gathered of them, or a change and a reply at once.
 pub data Plan : Type 0 where
   one : List ℕ → Op → Plan
+  many : List KeyCall → Gathered → Plan
   at_once : Progress → Reply → Plan
 
+-- after one key's step: the first fault of a loader or a writer ends the call, with the number of keys done before
+abbrev pub after_key : List ℕ → (Sum → Progress → Run) → Sum → Progress → Reply → Run
+after_key k go_on sum p r =
+    elim (ends_call r) [ Some by ↦ ended p (Fault by (Some sum.done)) | None ↦ go_on (with_key k r sum) p ]
+
 module _ (c : CacheConfig) (now : ℕ) where
+  -- the steps in their order, and then the reply that they come to
+  abbrev pub each : List KeyCall → Sum → Progress → Run
+  each [] sum p = ended p (gathered_reply sum.gathered)
+  each (call ∷ calls) sum p =
+      and_then (step c now call p) (after_key call.key (λ next q. each calls next q) sum)
+
+  -- live rows are listed, each with a hit and an access; expired ones are passed over and stay
+  abbrev pub touch_each : List Item → Progress → Progress
+  touch_each [] p = p
+  touch_each (x ∷ xs) p = touch_each xs (if is_live now x then access c now x (hit p) else p)
+
+  abbrev pub contents : List Item → List (List ℕ × List ℕ)
+  contents ring = map (λ x. (x.key, x.value)) (filter (is_live now) ring)
+
   -- the key has a live row
   abbrev pub holds : List ℕ → State → Bool
   holds k s = elim (row_of k s.ring) [ None ↦ false | Some x ↦ is_live now x ]
@@ -28,6 +50,7 @@ module _ (c : CacheConfig) (now : ℕ) where
   -- what each call does
   abbrev pub plan : Call → Progress → Plan
   plan (Get k) p = one k op.Get
+  plan (GetAll ks) p = many (same_op op.Get ks) (pairs [])
   plan (Contains k) p = at_once p (Truth (holds k p.state))
   plan (Put k v) p = one k (op.Put v)
   plan (GetAndPut k v) p = one k (op.GetAndPut v)
@@ -39,11 +62,19 @@ module _ (c : CacheConfig) (now : ℕ) where
   plan (RemoveIf k expected) p = one k (op.RemoveIf expected)
   plan (GetAndRemove k) p = one k op.GetAndRemove
   plan (Invoke k processor argument) p = one k (op.Invoke processor argument)
+  plan (InvokeAll ks processor argument) p = many (same_op (op.Invoke processor argument) ks) (results [])
+  plan (PutAll given) p = many (put_each given) nothing
+  plan (RemoveKeys ks) p = many (same_op op.Remove ks) nothing
+  plan RemoveAll p = many (remove_each now p.state.ring) nothing
+  plan Clear p = at_once (with_ring [] p) Done
+  plan (LoadAll ks replace) p = many (same_op (op.Load replace) ks) nothing
+  plan Entries p = at_once (touch_each p.state.ring p) (Listed (contents p.state.ring))
   plan Stats p = at_once p (Counted p.state.counts)
   plan ClearStats p = at_once (with_counts zeros p) Done
 
   abbrev pub carried_out : Plan → Progress → Run
   carried_out (one k o) p = step c now (record { key = k; op = o }) p
+  carried_out (many calls gathered) p = each calls (empty_sum gathered) p
   carried_out (at_once q r) p = ended q r
 
 -- All notices are told after the changes and before the reply; from then on none is left.

@@ -5,6 +5,7 @@ use crate::OutOfMemory;
 use crate::call::{Action, Answer, By, Call, Kind, Notice, ProcessorFault, Reply, Verdict};
 use crate::event::{CacheId, End, Entry};
 use crate::key::Key;
+use crate::keys::{Keys, Pairs};
 use crate::list::Sequence;
 use crate::transcript::Transcript;
 use crate::value::Value;
@@ -57,6 +58,14 @@ impl<A: Share, B: Share> Share for Result<A, B> {
     }
 }
 
+impl<A: Share + Drop, B: Share> Share for (A, B) {
+    fn share(&self) -> Result<(A, B), OutOfMemory> {
+        let first = self.0.share()?;
+        let second = self.1.share()?;
+        Ok((first, second))
+    }
+}
+
 impl<T: Share + Drop> Share for Sequence<T> {
     fn share(&self) -> Result<Sequence<T>, OutOfMemory> {
         let mut items = self.empty();
@@ -64,6 +73,18 @@ impl<T: Share + Drop> Share for Sequence<T> {
             items.push(x.share()?)?;
         }
         Ok(Sequence::new(items))
+    }
+}
+
+impl Share for Keys {
+    fn share(&self) -> Result<Keys, OutOfMemory> {
+        Keys::share(self)
+    }
+}
+
+impl Share for Pairs {
+    fn share(&self) -> Result<Pairs, OutOfMemory> {
+        Pairs::share(self)
     }
 }
 
@@ -100,6 +121,8 @@ impl Share for Reply {
             Reply::Done => Ok(Reply::Done),
             Reply::Truth(b) => Ok(Reply::Truth(*b)),
             Reply::Found(v) => Ok(Reply::Found(v.share()?)),
+            Reply::Listed(pairs) => Ok(Reply::Listed(pairs.share()?)),
+            Reply::Results(results) => Ok(Reply::Results(results.share()?)),
             Reply::Counted(counts) => Ok(Reply::Counted(*counts)),
             Reply::Fault { by, done } => Ok(Reply::Fault {
                 by: by.share()?,
@@ -157,6 +180,7 @@ impl Share for Call {
     fn share(&self) -> Result<Call, OutOfMemory> {
         match self {
             Call::Get(key) => Ok(Call::Get(*key)),
+            Call::GetAll(keys) => Ok(Call::GetAll(keys.share()?)),
             Call::Contains(key) => Ok(Call::Contains(*key)),
             Call::Put(key, value) => Ok(Call::Put(*key, value.share()?)),
             Call::GetAndPut(key, value) => Ok(Call::GetAndPut(*key, value.share()?)),
@@ -191,6 +215,28 @@ impl Share for Call {
                 processor: *processor,
                 argument: argument.share()?,
             }),
+            Call::InvokeAll {
+                keys,
+                processor,
+                argument,
+            } => {
+                let keys = keys.share()?;
+                let argument = argument.share()?;
+                Ok(Call::InvokeAll {
+                    keys,
+                    processor: *processor,
+                    argument,
+                })
+            }
+            Call::PutAll(pairs) => Ok(Call::PutAll(pairs.share()?)),
+            Call::RemoveKeys(keys) => Ok(Call::RemoveKeys(keys.share()?)),
+            Call::RemoveAll => Ok(Call::RemoveAll),
+            Call::Clear => Ok(Call::Clear),
+            Call::LoadAll { keys, replace } => Ok(Call::LoadAll {
+                keys: keys.share()?,
+                replace: *replace,
+            }),
+            Call::Entries => Ok(Call::Entries),
             Call::Stats => Ok(Call::Stats),
             Call::ClearStats => Ok(Call::ClearStats),
         }
