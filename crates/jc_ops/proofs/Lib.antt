@@ -11,6 +11,8 @@ mod ClockLaw
 pub mod KeptLaws
 pub mod Asked
 pub mod Starts
-pub mod Plans
+pub mod Judged
+pub mod Acted
 pub mod Ended
 pub mod Made
+pub mod Walk

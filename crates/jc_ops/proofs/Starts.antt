@@ -12,6 +12,7 @@ use Rattle.jc_model.specs.declared.call.Op.{Op}
 use Rattle.jc_model.specs.declared.call.Op.TheVariants as op
 use Rattle.jc_model.specs.declared.call.Request.{Request}
 use Rattle.jc_model.specs.declared.call.Request.TheVariants as request
+use Rattle.jc_model.specs.declared.call.Verdict.{Verdict}
 use Rattle.jc_model.specs.declared.config.CacheConfig.{CacheConfig}
 use Rattle.jc_model.specs.State.{Item, is_live, row_of, without}
 use Rattle.jc_model.specs.Changes.{Progress, find_row, purge, with_ring, notify, expired, expire}
@@ -20,11 +21,12 @@ use Rattle.jc_model.specs.Step.{on_live, on_absent, on_row, step}
 use Rattle.jc_model.specs.Sound.{WaitsAt}
 use Rattle.jc_model.specs.Suspended.{KeyWait, key_run}
 use Rattle.jc_model.proofs.Waits.{step-waits}
-use Rattle.jc_ops.specs.Stepped.{StepWaits, IsWaiting, waits_first}
+use Rattle.jc_ops.specs.Stepped.{StepWaits, IsWaiting, waits_first, invoked}
 use Rattle.jc_ops.specs.declared.supply.Supply.{Supply}
-use Rattle.jc_ops.specs.Supply.{Covers, CoversLoaded, CoversAnswer}
-use Rattle.jc_ops.proofs.Asked.{live_none, live_some, live_resumed, absent_none, absent_some, absent_resumed, absent_get_resumed}
-use Rattle.jc_ops.specs.Lines.{unhooked, got_by, is_invoke, is_get, creates, asks_live, asks_absent, request_live, request_absent}
+use Rattle.jc_ops.specs.Given.{loaded_in}
+use Rattle.jc_ops.specs.Supply.{Covers, CoversAnswer, HasRoom, HasRoomBy, HasRoomAt}
+use Rattle.jc_ops.proofs.Asked.{live_none, live_some, live_resumed, absent_none, absent_asks_none, absent_some, absent_resumed, live_reloaded, absent_loaded}
+use Rattle.jc_ops.specs.Lines.{unhooked, got_by, regot_by, is_invoke, loads, reloads, creates, asks_live, asks_absent, request_live, request_absent}
 
 no_writer : (w : Bool) (q : Request) → (if w then Some q else None) ≡ None → w ≡ false
 no_writer true q e = cc
@@ -44,6 +46,8 @@ absent_stores c k op.Remove e h = no_writer c.writer (request.Delete k) e
 absent_stores c k (op.RemoveIf expected) e h = cc
 absent_stores c k op.GetAndRemove e h = no_writer c.writer (request.Delete k) e
 absent_stores c k (op.Invoke processor argument) e h = cc
+absent_stores c k (op.Load replace) e h = cc
+absent_stores c k op.Expire e h = cc
 
 pub creates_asks : (o : Op) → creates o ≡ true → IsSome (asks_absent [] o)
 creates_asks op.Get h = cc
@@ -57,6 +61,8 @@ creates_asks op.Remove h = cc
 creates_asks (op.RemoveIf expected) h = cc
 creates_asks op.GetAndRemove h = cc
 creates_asks (op.Invoke processor argument) h = cc
+creates_asks (op.Load replace) h = cc
+creates_asks op.Expire h = cc
 
 pub live_stores : (c : CacheConfig) (k : List ℕ) (o : Op) (live : List ℕ) → request_live c k o live ≡ None → IsSome (asks_live [] o live) → c.writer ≡ false
 live_stores c k op.Get live e h = cc
@@ -78,6 +84,8 @@ live_stores c k (op.RemoveIf expected) live e h = go (bytes_eq live expected) e 
     go false e h = cc
 live_stores c k op.GetAndRemove live e h = no_writer c.writer (request.Delete k) e
 live_stores c k (op.Invoke processor argument) live e h = cc
+live_stores c k (op.Load replace) live e h = cc
+live_stores c k op.Expire live e h = cc
 
 module _ (c : CacheConfig) (now : ℕ) where
   -- over a progress from which the key's expired row is gone
@@ -143,76 +151,127 @@ waits_purged c p w h =
 
 -- What an answer leads to.
 
-pub answer_to_live : (c : CacheConfig) (now : ℕ) (call : KeyCall) (p : Progress) (x : Item) (a : Answer) → is_invoke call.op ≡ false → IsWaiting c p (waits_first now call) → find_row call.key p ≡ Some x →
+pub answer_to_live : (c : CacheConfig) (now : ℕ) (call : KeyCall) (p : Progress) (x : Item) (a : Answer) → is_invoke call.op ≡ false → reloads call.op ≡ false → IsWaiting c p (waits_first now call) → find_row call.key p ≡ Some x →
     resume (key_run c p (waits_first now call)) a ≡ (if is_written a then on_live (unhooked c) now call.op call.key x p else ended p (Fault by.Writer None))
-answer_to_live c now call p x a invoke h found =
+answer_to_live c now call p x a invoke reload h found =
     let at : step c now call p ≡ on_live c now call.op call.key x p = step_live c now call p x (waits_purged c p (waits_first now call) h) found in
-    ap (λ run. resume run a) at ∙ live_resumed c now call.key call.op x p h.request p h.resumed a invoke (sym at ∙ h.run_is)
+    ap (λ run. resume run a) at ∙ live_resumed c now call.key call.op x p h.request p h.resumed a invoke reload (sym at ∙ h.run_is)
 
-pub answer_to_absent : (c : CacheConfig) (now : ℕ) (call : KeyCall) (p : Progress) (a : Answer) → is_invoke call.op ≡ false → is_get call.op ≡ false → IsWaiting c p (waits_first now call) → find_row call.key p ≡ None →
+pub answer_to_reload : (c : CacheConfig) (now : ℕ) (call : KeyCall) (p : Progress) (x : Item) (a : Answer) → reloads call.op ≡ true → IsWaiting c p (waits_first now call) → find_row call.key p ≡ Some x →
+    resume (key_run c p (waits_first now call)) a ≡ regot_by c now x p (loaded_by a)
+answer_to_reload c now call p x a reload h found =
+    let at : step c now call p ≡ on_live c now call.op call.key x p = step_live c now call p x (waits_purged c p (waits_first now call) h) found in
+    ap (λ run. resume run a) at ∙ live_reloaded c now call.key call.op x p h.request p h.resumed a reload (sym at ∙ h.run_is)
+
+pub answer_to_absent : (c : CacheConfig) (now : ℕ) (call : KeyCall) (p : Progress) (a : Answer) → is_invoke call.op ≡ false → loads call.op ≡ false → IsWaiting c p (waits_first now call) → find_row call.key p ≡ None →
     resume (key_run c p (waits_first now call)) a ≡ (if is_written a then on_absent (unhooked c) now call.op call.key p else ended p (Fault by.Writer None))
-answer_to_absent c now call p a invoke get h found =
+answer_to_absent c now call p a invoke load h found =
     let at : step c now call p ≡ on_absent c now call.op call.key p = step_absent c now call p (waits_purged c p (waits_first now call) h) found in
-    ap (λ run. resume run a) at ∙ absent_resumed c now call.key call.op p h.request p h.resumed a invoke get (sym at ∙ h.run_is)
+    ap (λ run. resume run a) at ∙ absent_resumed c now call.key call.op p h.request p h.resumed a invoke load (sym at ∙ h.run_is)
 
-pub answer_to_get : (c : CacheConfig) (now : ℕ) (k : List ℕ) (p : Progress) (a : Answer) → IsWaiting c p (waits_first now (record { key = k; op = op.Get })) → find_row k p ≡ None →
-    resume (key_run c p (waits_first now (record { key = k; op = op.Get }))) a ≡ got_by c now k p (loaded_by a)
-answer_to_get c now k p a h found =
-    let at : step c now (record { key = k; op = op.Get }) p ≡ on_absent c now op.Get k p = step_absent c now (record { key = k; op = op.Get }) p (waits_purged c p (waits_first now (record { key = k; op = op.Get })) h) found in
-    ap (λ run. resume run a) at ∙ absent_get_resumed c now k p h.request p h.resumed a (sym at ∙ h.run_is)
-
--- a get does not wait on a live row
-pub live_get : (c : CacheConfig) (now : ℕ) (k : List ℕ) (p : Progress) (x : Item) → IsWaiting c p (waits_first now (record { key = k; op = op.Get })) → find_row k p ≡ Some x → ⊥
-live_get c now k p x h found =
-    let at : step c now (record { key = k; op = op.Get }) p ≡ on_live c now op.Get k x p = step_live c now (record { key = k; op = op.Get }) p x (waits_purged c p (waits_first now (record { key = k; op = op.Get })) h) found in
-    let no : on_live c now op.Get k x p ≡ waiting h.request p h.resumed = sym at ∙ h.run_is in cc
+pub answer_to_load : (c : CacheConfig) (now : ℕ) (call : KeyCall) (p : Progress) (a : Answer) → loads call.op ≡ true → IsWaiting c p (waits_first now call) → find_row call.key p ≡ None →
+    resume (key_run c p (waits_first now call)) a ≡ got_by c now call.key call.op p (loaded_by a)
+answer_to_load c now call p a load h found =
+    let at : step c now call p ≡ on_absent c now call.op call.key p = step_absent c now call p (waits_purged c p (waits_first now call) h) found in
+    ap (λ run. resume run a) at ∙ absent_loaded c now call.key call.op p h.request p h.resumed a load (sym at ∙ h.run_is)
 
 -- What a step that begins leads to.
 
-pub waits_live : (c : CacheConfig) (now : ℕ) (call : KeyCall) (p : Progress) (x : Item) (q : Request) → is_invoke call.op ≡ false → purge c now call.key p ≡ p → find_row call.key p ≡ Some x → request_live c call.key call.op x.value ≡ Some q →
+pub waits_live : (c : CacheConfig) (now : ℕ) (call : KeyCall) (p : Progress) (x : Item) (q : Request) → purge c now call.key p ≡ p → find_row call.key p ≡ Some x → request_live c call.key call.op x.value ≡ Some q →
     StepWaits c p q (waits_first now call) (step c now call p)
-waits_live c now call p x q invoke purged found asks = record {
-  resumed = λ a. if is_written a then on_live (unhooked c) now call.op call.key x p else ended p (Fault by.Writer None);
-  run_is = step_live c now call p x purged found ∙ live_some c now call.key call.op x p q invoke asks;
-  meaning = refl;
-}
+waits_live c now call p x q purged found asks =
+    let w = live_some c now call.key call.op x p q asks in
+    record { resumed = w.0; run_is = step_live c now call p x purged found ∙ w.1; meaning = refl }
 
-pub waits_absent : (c : CacheConfig) (now : ℕ) (call : KeyCall) (p : Progress) (q : Request) → is_invoke call.op ≡ false → purge c now call.key p ≡ p → find_row call.key p ≡ None → request_absent c call.key call.op ≡ Some q →
+pub waits_absent : (c : CacheConfig) (now : ℕ) (call : KeyCall) (p : Progress) (q : Request) → purge c now call.key p ≡ p → find_row call.key p ≡ None → request_absent c call.key call.op ≡ Some q →
     StepWaits c p q (waits_first now call) (step c now call p)
-waits_absent c now call p q invoke purged found asks =
-    let w = absent_some c now call.key call.op p q invoke asks in
+waits_absent c now call p q purged found asks =
+    let w = absent_some c now call.key call.op p q asks in
     record { resumed = w.0; run_is = step_absent c now call p purged found ∙ w.1; meaning = refl }
 
-pub ends_live : (c : CacheConfig) (now : ℕ) (call : KeyCall) (p : Progress) (x : Item) → is_invoke call.op ≡ false → purge c now call.key p ≡ p → find_row call.key p ≡ Some x → request_live c call.key call.op x.value ≡ None →
+pub ends_live : (c : CacheConfig) (now : ℕ) (call : KeyCall) (p : Progress) (x : Item) → purge c now call.key p ≡ p → find_row call.key p ≡ Some x → request_live c call.key call.op x.value ≡ None →
     step c now call p ≡ on_live (unhooked c) now call.op call.key x p
-ends_live c now call p x invoke purged found asks = step_live c now call p x purged found ∙ live_none c now call.key call.op x p invoke asks
+ends_live c now call p x purged found asks = step_live c now call p x purged found ∙ live_none c now call.key call.op x p asks
 
-pub ends_absent : (c : CacheConfig) (now : ℕ) (call : KeyCall) (p : Progress) → is_invoke call.op ≡ false → purge c now call.key p ≡ p → find_row call.key p ≡ None → request_absent c call.key call.op ≡ None →
+pub ends_absent : (c : CacheConfig) (now : ℕ) (call : KeyCall) (p : Progress) → purge c now call.key p ≡ p → find_row call.key p ≡ None → request_absent c call.key call.op ≡ None →
     step c now call p ≡ on_absent (unhooked c) now call.op call.key p
-ends_absent c now call p invoke purged found asks = step_absent c now call p purged found ∙ absent_none c now call.key call.op p invoke asks
+ends_absent c now call p purged found asks =
+    step_absent c now call p purged found ∙ absent_none c now call.key call.op p (absent_asks_none c now call.key call.op asks) asks
 
--- A supply serves on as its key's expired row goes.
+-- A supply serves on as its key's expired row goes, and the table's room stays.
 
-pub covers_purged : (c : CacheConfig) (now : ℕ) (call : KeyCall) (p p' : Progress) (n m : ℕ) (w : Bool) (s : Supply) → p' ≡ purge c now call.key p → n ≤ m → Covers w c call p.state.ring n s → Covers w c call p'.state.ring m s
-covers_purged c now call p p' n m w s e le cov = record {
+pub covers_purged : (c : CacheConfig) (now : ℕ) (call : KeyCall) (p p' : Progress) (w : Bool) (s : Supply) → p' ≡ purge c now call.key p → Covers w c call p.state.ring s → Covers w c call p'.state.ring s
+covers_purged c now call p p' w s e cov = record {
   stored = cov.stored;
   told = cov.told;
   copy = cov.copy;
   shown = λ shows x there. cov.shown shows x (purged_row c now call.key p x (ap (λ q. find_row call.key q) (sym e) ∙ there));
-  room = λ none adds. let r : 0 < n = cov.room none adds in omega (arith, r, le);
+  entry = λ invokes x there. cov.entry invokes x (purged_row c now call.key p x (ap (λ q. find_row call.key q) (sym e) ∙ there));
 }
 
-pub loaded_serves : (c : CacheConfig) (v : List ℕ) (n m : ℕ) (s : Supply) → n ≤ m → CoversLoaded c v n s → CoversLoaded c v m s
-loaded_serves c v n m s le cov = record {
-  stored = cov.stored;
+pub answer_serves : (c : CacheConfig) (w : KeyWait) (a : Answer) (p p' : Progress) (s : Supply) → p' ≡ purge c w.now w.call.key p → CoversAnswer c w a p.state.ring s → CoversAnswer c w a p'.state.ring s
+answer_serves c w a p p' s e cov = record {
   told = cov.told;
-  shown = cov.shown;
-  room = let r : 0 < n = cov.room in omega (arith, r, le);
+  written = λ yes none. covers_purged c w.now w.call p p' false s e (cov.written yes none);
+  agreed = cov.agreed;
+  loaded = cov.loaded;
+  judged = cov.judged;
 }
 
-pub answer_serves : (c : CacheConfig) (now : ℕ) (call : KeyCall) (a : Answer) (p p' : Progress) (n m : ℕ) (s : Supply) → p' ≡ purge c now call.key p → n ≤ m → CoversAnswer c call a p.state.ring n s → CoversAnswer c call a p'.state.ring m s
-answer_serves c now call a p p' n m s e le cov = record {
-  told = cov.told;
-  written = λ yes. covers_purged c now call p p' n m false s e le (cov.written yes);
-  loaded = λ v given. loaded_serves c v n m s le (cov.loaded v given);
+pub has_room : (writer : Bool) (o : Op) (n m : ℕ) → n ≤ m → HasRoom writer o n → HasRoom writer o m
+has_room writer o n m le room = λ none adds. let r : 0 < n = room none adds in omega (arith, r, le)
+
+pub has_room_by : (writer : Bool) (loaded : Option (List ℕ)) (v : Verdict) (n m : ℕ) → n ≤ m → HasRoomBy writer loaded v n → HasRoomBy writer loaded v m
+has_room_by writer loaded v n m le room = λ stores. let r : 0 < n = room stores in omega (arith, r, le)
+
+pub has_room_at : (c : CacheConfig) (w : KeyWait) (a : Answer) (n m : ℕ) → n ≤ m → HasRoomAt c w a n → HasRoomAt c w a m
+has_room_at c w a n m le room = record {
+  written = λ yes none. has_room false w.call.op n m le (room.written yes none);
+  agreed = λ yes v is. has_room_by false (loaded_in w.given) v n m le (room.agreed yes v is);
+  loaded = λ get v is. let r : 0 < n = room.loaded get v is in omega (arith, r, le);
+  judged = λ v is. has_room_by c.writer (loaded_in w.given) v n m le (room.judged v is);
 }
+
+-- A step that waits, once its key's row was looked for anew: nothing has changed but the room, which has grown.
+
+pub record GoesOn (c : CacheConfig) (p p' : Progress) (w v : KeyWait) (a : Answer) (m : ℕ) (s : Supply) : Type 0 where
+  pub waits : IsWaiting c p' v
+  pub same : resume (key_run c p' v) a ≡ resume (key_run c p w) a
+  pub covered : CoversAnswer c v a p'.state.ring s
+  pub room : HasRoomAt c v a m
+
+pub goes_on : (c : CacheConfig) (p p' : Progress) (w v : KeyWait) (a : Answer) (n m : ℕ) (s : Supply) → v ≡ w → p' ≡ purge c v.now v.call.key p → n ≤ m →
+    IsWaiting c p w → CoversAnswer c w a p.state.ring s → HasRoomAt c w a n → GoesOn c p p' w v a m s
+goes_on c p p' w v a n m s is purged le waits covered room =
+    let waits_v : IsWaiting c p v = subst (λ (t : KeyWait). IsWaiting c p t) (sym is) waits in
+    let there : p' ≡ p = purged ∙ waits_purged c p v waits_v in
+    record {
+      waits = subst (λ (q : Progress). IsWaiting c q v) (sym there) waits_v;
+      same = ap (λ (q : Progress). resume (key_run c q v) a) there ∙ ap (λ (t : KeyWait). resume (key_run c p t) a) is;
+      covered = answer_serves c v a p p' s purged (subst (λ (t : KeyWait). CoversAnswer c t a p.state.ring s) (sym is) covered);
+      room = has_room_at c v a n m le (subst (λ (t : KeyWait). HasRoomAt c t a n) (sym is) room);
+    }
+
+-- what the code has of such a step
+
+pub not_invoke : (o : Op) → ((processor : ℕ) (argument : List ℕ) → o ≡ op.Invoke processor argument → ⊥) → is_invoke o ≡ false
+not_invoke op.Get h = refl
+not_invoke (op.Put v) h = refl
+not_invoke (op.GetAndPut v) h = refl
+not_invoke (op.PutIfAbsent v) h = refl
+not_invoke (op.Replace v) h = refl
+not_invoke (op.ReplaceIf expected v) h = refl
+not_invoke (op.GetAndReplace v) h = refl
+not_invoke op.Remove h = refl
+not_invoke (op.RemoveIf expected) h = refl
+not_invoke op.GetAndRemove h = refl
+not_invoke (op.Load replace) h = refl
+not_invoke op.Expire h = refl
+not_invoke (op.Invoke processor argument) h = absurd (h processor argument refl)
+
+pub line_view : (now : ℕ) (call : KeyCall) (given : List Answer) (w : KeyWait) → given ≡ [] → ◌≡◌ {A = KeyWait} (record { now = now; call = call; given = given }) w → waits_first now call ≡ w
+line_view now call given w none view = ap (λ (g : List Answer). let t : KeyWait = record { now = now; call = call; given = g } in t) (sym none) ∙ view
+
+pub invoke_view : (now : ℕ) (call : KeyCall) (given : List Answer) (w : KeyWait) (processor : ℕ) (argument : List ℕ) → call.op ≡ op.Invoke processor argument → ◌≡◌ {A = KeyWait} (record { now = now; call = call; given = given }) w →
+    invoked now call.key processor argument given ≡ w
+invoke_view now call given w processor argument is view = ap (λ (o : Op). let t : KeyWait = record { now = now; call = record { key = call.key; op = o }; given = given } in t) (sym is) ∙ view

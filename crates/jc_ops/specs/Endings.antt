@@ -1,6 +1,5 @@
 -- How a line of the case table ends: what is counted, what changes, and the reply.
 use Rattle.std.specs.Prelude.{ℕ, Bool, true, false, if◌then◌else◌, List, Option, Some, None}
-use Rattle.jc_model.specs.declared.call.By.TheVariants as by
 use Rattle.jc_model.specs.declared.call.Reply.{Reply}
 use Rattle.jc_model.specs.declared.call.Reply.TheVariants as reply
 use Rattle.jc_model.specs.declared.config.CacheConfig.{CacheConfig}
@@ -14,7 +13,7 @@ use Rattle.jc_ops.specs.declared.step.ending.AbsentChange.TheVariants as absent
 use Rattle.jc_ops.specs.declared.step.ending.LiveEnding.{LiveEnding}
 use Rattle.jc_ops.specs.declared.step.ending.AbsentEnding.{AbsentEnding}
 use Rattle.jc_ops.specs.declared.step.ending.Replied.{Replied}
-use Rattle.jc_ops.specs.declared.step.ending.Replied.TheVariants.{Done, Truth, Shown, Missing, LoaderFault, WriterFault}
+use Rattle.jc_ops.specs.declared.step.ending.Replied.TheVariants.{Done, Truth, Shown, Missing, Fault}
 
 -- the reply, where this value is to be shown
 abbrev pub reply_by : Replied → Option (List ℕ) → Reply
@@ -22,8 +21,7 @@ reply_by Done shown = reply.Done
 reply_by (Truth answer) shown = reply.Truth answer
 reply_by Shown shown = reply.Found shown
 reply_by Missing shown = reply.Found None
-reply_by LoaderFault shown = reply.Fault by.Loader None
-reply_by WriterFault shown = reply.Fault by.Writer None
+reply_by (Fault who) shown = reply.Fault who None
 
 abbrev pub is_shown : Replied → Bool
 is_shown Shown = true
@@ -32,6 +30,7 @@ is_shown _ = false
 -- whether a change stores a value
 abbrev pub updates : LiveChange → Bool
 updates live.Update = true
+updates live.Put = true
 updates _ = false
 
 abbrev pub adds : AbsentChange → Bool
@@ -45,7 +44,9 @@ module _ (c : CacheConfig) (now : ℕ) where
   changed_live x live.Keep v p = p
   changed_live x live.Access v p = access c now x p
   changed_live x live.Update None p = p
-  changed_live x live.Update (Some v) p = put (update c now x v p)
+  changed_live x live.Update (Some v) p = update c now x v p
+  changed_live x live.Put None p = p
+  changed_live x live.Put (Some v) p = put (update c now x v p)
   changed_live x live.Delete v p = removal (delete c now x p)
 
   abbrev pub changed_absent : List ℕ → AbsentChange → Option (List ℕ) → Progress → Progress

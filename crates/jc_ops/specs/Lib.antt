@@ -5,10 +5,9 @@ pub mod Tied
 pub mod Kept
 pub mod Clock
 pub mod Lines
+pub mod Given
+pub mod Verdicts
 pub mod Endings
 pub mod Supply
 pub mod Stepped
-pub mod Waits
-pub mod Awaiting
-pub mod KeyCalls
-pub mod Moved
+pub mod Invoked

@@ -1,9 +1,9 @@
 -- The rows of one cache in the order of its ring, and where they are kept.
-use Rattle.std.specs.Prelude.{◌≡◌, ◌<◌, ◌^◌, ℕ, Bool, false, true, eqb, ◌||◌, not, cond, List, [], ◌∷◌, ◌++◌, length, Option, Some, None, is_some, count_by, map, filter, slice_index_or}
+use Rattle.std.specs.Prelude.{◌≡◌, ◌<◌, ◌^◌, ℕ, Bool, false, true, eqb, ◌||◌, not, cond, List, [], ◌∷◌, ◌++◌, length, Option, Some, None, option_map, is_some, count_by, map, filter, slice_index_or}
 use Rattle.jc_model.specs.declared.config.Expiry.{Expiry}
 use Rattle.jc_model.specs.declared.config.Expiry.TheVariants.{Never}
 use Rattle.jc_ops.specs.declared.slots.Record.{Record}
-use Rattle.jc_ring.specs.Ring.{on_ring}
+use Rattle.jc_ring.specs.Ring.{on_ring, first}
 
 -- a row: its number, what it holds, and its bit
 pub record Cell : Type 0 where
@@ -24,6 +24,11 @@ seek r (c ∷ cs) = cond (eqb c.row r) (Some c.held) (seek r cs)
 abbrev pub has_row : ℕ → List Cell → Bool
 has_row r [] = false
 has_row r (c ∷ cs) = eqb c.row r || has_row r cs
+
+-- the number of the row behind a row
+abbrev pub row_after : ℕ → List Cell → Option ℕ
+row_after r [] = None
+row_after r (c ∷ cs) = cond (eqb c.row r) (option_map (λ d. d.row) (first cs)) (row_after r cs)
 
 abbrev pub without_row : ℕ → List Cell → List Cell
 without_row r cs = filter (λ c. not (eqb c.row r)) cs

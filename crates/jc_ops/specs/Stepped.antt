@@ -3,6 +3,7 @@ use Rattle.std.specs.Prelude.{◌≡◌, ℕ, List, []}
 use Rattle.jc_model.specs.declared.call.Answer.{Answer}
 use Rattle.jc_model.specs.declared.call.KeyCall.{KeyCall}
 use Rattle.jc_model.specs.declared.call.Notice.{Notice}
+use Rattle.jc_model.specs.declared.call.Op.TheVariants.{Invoke}
 use Rattle.jc_model.specs.declared.call.Request.{Request}
 use Rattle.jc_model.specs.declared.config.CacheConfig.{CacheConfig}
 use Rattle.jc_model.specs.Changes.{Progress}
@@ -15,6 +16,11 @@ use Rattle.jc_ops.specs.declared.step.Next.TheVariants.{Ended, Waiting}
 -- a step that waits for its first answer
 abbrev pub waits_first : ℕ → KeyCall → KeyWait
 waits_first now call = record { now = now; call = call; given = [] }
+
+-- a step of a processor, which was given this
+abbrev pub invoked : ℕ → List ℕ → ℕ → List ℕ → List Answer → KeyWait
+invoked now k processor argument given =
+    record { now = now; call = record { key = k; op = Invoke processor argument }; given = given }
 
 -- the run waits with this request, and the step that waits has it as its own
 pub record StepWaits (c : CacheConfig) (p : Progress) (request : Request) (w : KeyWait) (run : Run) : Type 0 where
@@ -32,3 +38,8 @@ pub record IsWaiting (c : CacheConfig) (p : Progress) (w : KeyWait) : Type 0 whe
 abbrev pub StepsTo : CacheConfig → Run → Next → Kept → List Notice → Type 0
 StepsTo c run (Ended reply) k told = run ≡ ended (progress_of k told) reply
 StepsTo c run (Waiting request w) k told = StepWaits c (progress_of k told) request w run
+
+-- a step that waits is still the step of this call
+abbrev pub StaysAt : ℕ → KeyCall → Next → Type 0
+StaysAt now call (Ended reply) = Unit {0}
+StaysAt now call (Waiting request w) = (w.now ≡ now) × (w.call ≡ call)

@@ -1,13 +1,18 @@
 -- What a step is given before any change.
-use Rattle.std.specs.Prelude.{◌≡◌, ℕ, ◌<◌, Bool, true, false, List, Option, Some, None, option_map}
+use Rattle.std.specs.Prelude.{◌≡◌, ℕ, ◌<◌, Bool, true, false, List, Option, Some, None, is_some, option_map}
 use Rattle.jc_model.specs.declared.call.Answer.{Answer}
 use Rattle.jc_model.specs.declared.call.KeyCall.{KeyCall}
+use Rattle.jc_model.specs.declared.call.Op.{Op}
+use Rattle.jc_model.specs.declared.call.Verdict.{Verdict}
 use Rattle.jc_model.specs.declared.config.CacheConfig.{CacheConfig}
-use Rattle.jc_model.specs.Run.{is_written, loaded_by}
+use Rattle.jc_model.specs.Run.{is_written, loaded_by, verdict_of}
 use Rattle.jc_model.specs.State.{Item, row_of}
+use Rattle.jc_model.specs.Suspended.{KeyWait}
 use Rattle.jc_ops.specs.declared.supply.Stored.{Stored}
 use Rattle.jc_ops.specs.declared.supply.Supply.{Supply}
-use Rattle.jc_ops.specs.Lines.{value_of, shows, creates}
+use Rattle.jc_ops.specs.Given.{loaded_in, verdict_in}
+use Rattle.jc_ops.specs.Lines.{value_of, handed, shows, creates, loads, is_invoke}
+use Rattle.jc_ops.specs.Verdicts.{stores_by, hands_by}
 
 -- listeners are told a value of its own
 abbrev pub IsTold : CacheConfig → Stored → Type 0
@@ -18,24 +23,49 @@ abbrev pub StoredIsTold : CacheConfig → Option Stored → Type 0
 StoredIsTold c None = Unit {0}
 StoredIsTold c (Some s) = IsTold c s
 
--- The supply serves the step of this call, in a cache with these items and with this much room in the table.
+-- The supply has the values for the step of this call, in a cache with these items.
 -- Where the writer is asked first, it is a copy for the writer; what is stored comes with his answer.
-pub record Covers (writer : Bool) (c : CacheConfig) (call : KeyCall) (items : List Item) (spare : ℕ) (s : Supply) : Type 0 where
+pub record Covers (writer : Bool) (c : CacheConfig) (call : KeyCall) (items : List Item) (s : Supply) : Type 0 where
   pub stored : writer ≡ false → option_map (λ t. t.value) s.stored ≡ value_of call.op
   pub told : StoredIsTold c s.stored
-  pub copy : writer ≡ true → s.copy ≡ value_of call.op
+  pub copy : s.copy ≡ handed writer call.op
   pub shown : shows call.op ≡ true → (x : Item) → row_of call.key items ≡ Some x → s.shown ≡ Some x.value
-  pub room : writer ≡ false → creates call.op ≡ true → 0 < spare
+  pub entry : is_invoke call.op ≡ true → (x : Item) → row_of call.key items ≡ Some x → s.entry ≡ Some x.value
 
--- the supply serves a get whose loader gave this value
-pub record CoversLoaded (c : CacheConfig) (v : List ℕ) (spare : ℕ) (s : Supply) : Type 0 where
-  pub stored : option_map (λ t. t.value) s.stored ≡ Some v
+-- for the loader's answer, which gave this, to a line that loads or to a call of a processor
+pub record CoversLoaded (c : CacheConfig) (o : Op) (loaded : Option (List ℕ)) (s : Supply) : Type 0 where
+  pub stored : loads o ≡ true → option_map (λ t. t.value) s.stored ≡ loaded
   pub told : StoredIsTold c s.stored
-  pub shown : s.shown ≡ Some v
-  pub room : 0 < spare
+  pub shown : shows o ≡ true → s.shown ≡ loaded
+  pub entry : is_invoke o ≡ true → s.entry ≡ loaded
+  pub copy : is_invoke o ≡ true → s.copy ≡ handed false o
 
--- the supply serves the step at this answer
-pub record CoversAnswer (c : CacheConfig) (call : KeyCall) (answer : Answer) (items : List Item) (spare : ℕ) (s : Supply) : Type 0 where
+-- for a verdict, where the loader gave this value, if any
+pub record CoversVerdict (writer : Bool) (c : CacheConfig) (loaded : Option (List ℕ)) (v : Verdict) (s : Supply) : Type 0 where
+  pub stored : option_map (λ t. t.value) s.stored ≡ stores_by writer loaded v.action
   pub told : StoredIsTold c s.stored
-  pub written : is_written answer ≡ true → Covers false c call items spare s
-  pub loaded : (v : List ℕ) → loaded_by answer ≡ Some (Some v) → CoversLoaded c v spare s
+  pub copy : s.copy ≡ hands_by writer v.action
+  pub shown : s.shown ≡ v.answer
+
+-- for the step that waits, at this answer
+pub record CoversAnswer (c : CacheConfig) (w : KeyWait) (a : Answer) (items : List Item) (s : Supply) : Type 0 where
+  pub told : StoredIsTold c s.stored
+  pub written : is_written a ≡ true → verdict_in w.given ≡ None → Covers false c w.call items s
+  pub agreed : is_written a ≡ true → (v : Verdict) → verdict_in w.given ≡ Some v → CoversVerdict false c (loaded_in w.given) v s
+  pub loaded : (o : Option (List ℕ)) → loaded_by a ≡ Some o → CoversLoaded c w.call.op o s
+  pub judged : (v : Verdict) → verdict_of a ≡ Some v → CoversVerdict c.writer c (loaded_in w.given) v s
+
+-- The table has room where a step may add a row: as it begins ..
+
+abbrev pub HasRoom : Bool → Op → ℕ → Type 0
+HasRoom writer o spare = writer ≡ false → creates o ≡ true → 0 < spare
+
+abbrev pub HasRoomBy : Bool → Option (List ℕ) → Verdict → ℕ → Type 0
+HasRoomBy writer loaded v spare = is_some (stores_by writer loaded v.action) ≡ true → 0 < spare
+
+-- .. and at this answer
+pub record HasRoomAt (c : CacheConfig) (w : KeyWait) (a : Answer) (spare : ℕ) : Type 0 where
+  pub written : is_written a ≡ true → verdict_in w.given ≡ None → HasRoom false w.call.op spare
+  pub agreed : is_written a ≡ true → (v : Verdict) → verdict_in w.given ≡ Some v → HasRoomBy false (loaded_in w.given) v spare
+  pub loaded : loads w.call.op ≡ true → (v : List ℕ) → loaded_by a ≡ Some (Some v) → 0 < spare
+  pub judged : (v : Verdict) → verdict_of a ≡ Some v → HasRoomBy c.writer (loaded_in w.given) v spare

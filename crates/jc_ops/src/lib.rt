@@ -1,7 +1,6 @@
 //! The operations of one cache.
 #![tactic(auto)]
 
-pub mod call;
 pub mod clock;
 pub mod notices;
 pub mod shelf;
@@ -9,4 +8,3 @@ pub mod slots;
 pub mod state;
 pub mod step;
 pub mod supply;
-pub mod waits;

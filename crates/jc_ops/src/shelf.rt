@@ -4,7 +4,7 @@ ghost use Rattle.jc_model.specs.State.{turned};
 ghost use Rattle.jc_ring.specs.Ring.{first};
 ghost use Rattle.jc_rows.specs.Rows.{RowMap};
 ghost use Rattle.jc_ops.specs.declared.slots.Record.{Record};
-ghost use Rattle.jc_ops.specs.Shelf.{seek, has_row, without_row, turned_cells, stored, with_expiry_of};
+ghost use Rattle.jc_ops.specs.Shelf.{seek, has_row, row_after, without_row, turned_cells, stored, with_expiry_of};
 ghost use Rattle.jc_ops.specs.Tied.{Tied};
 ghost use Rattle.jc_ops.specs.Kept.{items_of};
 
@@ -56,6 +56,24 @@ impl<G: Ring> Shelf<G> {
         ensures { result ≡ option_map (λ c. (c.row, c.bit)) (first self.now.cells) }
     {
         self.ring.head()
+    }
+
+    /// The number of the first row.
+    pub fn first(&self) -> Option<u32>
+        ensures { result ≡ option_map (λ c. c.row) (first self.now.cells) }
+    {
+        match self.head() {
+            Some((row, _)) => Some(row),
+            None => None,
+        }
+    }
+
+    /// The number of the row behind a row.
+    pub fn after(&self, row: u32) -> Option<u32>
+        requires { has_row row self.now.cells ≡ true }
+        ensures { result ≡ row_after row self.now.cells }
+    {
+        self.ring.after(row)
     }
 
     /// What a row holds.

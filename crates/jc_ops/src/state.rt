@@ -10,6 +10,7 @@ mod room;
 mod rows;
 #[cfg(test)]
 mod tests;
+mod walk;
 
 ghost use Rattle.std.specs.Prelude.{◌≡◌, ℕ, List, [], true, Some, IfOk};
 ghost use Rattle.jc_model.specs.declared.config.CacheConfig.{CacheConfig};

@@ -1,19 +1,24 @@
 //! What one key's step may need in memory, made before any change.
 //!
 //! Each value that a step leaves behind is shared beforehand: what it stores, the same for the notice of it, what
-//! it replies, and what its writer is given. So the step itself can't be refused.
-ghost use Rattle.std.specs.Prelude.{◌≡◌, ◌<◌, if◌then◌else◌, true, false, Some, None, IfOk, OnOk, option_map};
+//! it replies, and what its writer or processor is given. So the step itself can't be refused. Values may be kept
+//! while a call waits; room in the table may be used up by others meanwhile, and is made anew.
+pub(crate) mod needs;
+
+ghost use Rattle.std.specs.Prelude.{◌≡◌, ◌<◌, ◌≤◌, true, Some, None, is_some, IfOk, OnOk, option_map};
 ghost use Rattle.jc_model.specs.State.{Item, row_of};
 ghost use Rattle.jc_ops.specs.Kept.{items_of};
-ghost use Rattle.jc_ops.specs.Lines.{value_of, shows, creates};
+ghost use Rattle.jc_ops.specs.Lines.{loads};
 ghost use Rattle.jc_ops.specs.Noted.{HasPlaces};
-ghost use Rattle.jc_ops.specs.Supply.{IsTold, StoredIsTold, Covers, CoversLoaded, CoversAnswer};
+ghost use Rattle.jc_ops.specs.Supply.{IsTold, StoredIsTold, Covers, CoversLoaded, CoversVerdict, CoversAnswer, HasRoom, HasRoomBy, HasRoomAt};
 ghost use Rattle.jc_ops.specs.Tied.{Tied};
 
 use crate::notices::Notices;
 use crate::state::CacheState;
+use crate::step::KeyStep;
+use crate::supply::needs::{creates, handed, handed_by, is_invoke, shows, stored_by, stored_now};
 use jc_model::OutOfMemory;
-use jc_model::call::{Answer, KeyCall, Op};
+use jc_model::call::{Answer, KeyCall, Op, Verdict};
 use jc_model::config::CacheConfig;
 use jc_model::event::CacheId;
 use jc_model::key::Key;
@@ -37,66 +42,30 @@ pub struct Supply {
     pub stored: Option<Stored>,
     /// What the step replies.
     pub shown: Option<Thrice<Value>>,
-    /// What the writer is given.
+    /// What the writer is given, or the processor as its argument.
     pub copy: Option<Value>,
+    /// What the processor is given as the value of its entry.
+    pub entry: Option<Value>,
 }
 
-/// The value that an operation stores, if any.
-fn value_of(op: &Op) -> Option<&Value>
-    ensures { option_map (λ v. v.now) result ≡ value_of op.now }
-{
-    match op {
-        Op::Put(value) => Some(value),
-        Op::GetAndPut(value) => Some(value),
-        Op::PutIfAbsent(value) => Some(value),
-        Op::Replace(value) => Some(value),
-        Op::ReplaceIf { value, .. } => Some(value),
-        Op::GetAndReplace(value) => Some(value),
-        _ => None,
-    }
-}
-
-/// Whether an operation replies the live value.
-fn shows(op: &Op) -> bool
-    ensures { result ≡ shows op.now }
-{
-    match op {
-        Op::Get => true,
-        Op::GetAndPut(_) => true,
-        Op::GetAndReplace(_) => true,
-        Op::GetAndRemove => true,
-        _ => false,
-    }
-}
-
-/// Whether an operation itself stores a key that is not there.
-fn creates(op: &Op) -> bool
-    ensures { result ≡ creates op.now }
-{
-    match op {
-        Op::Put(_) => true,
-        Op::GetAndPut(_) => true,
-        Op::PutIfAbsent(_) => true,
-        _ => false,
-    }
-}
-
-/// Whether an operation stores such a key without asking the writer before.
-fn creates_now(op: &Op, writer: bool) -> bool
-    ensures { result ≡ (if writer then false else creates op.now) }
-{
-    if writer { false } else { creates(op) }
-}
-
-/// Room in the table for one row more.
-fn make_room<R: Rows>(rows: &mut R) -> Result<(), OutOfMemory>
+/// Room in the table for so many rows more.
+pub fn make_room<R: Rows>(rows: &mut R, more: usize) -> Result<(), OutOfMemory>
     ensures same { R.contents rows.new ≡ R.contents rows.old }
-    ensures room { OnOk result (0 < R.spare rows.new) }
+    ensures room { OnOk result (more ≤ R.spare rows.new) }
+    ensures kept { R.spare rows.old ≤ R.spare rows.new }
 {
-    match rows.len().checked_add(1) {
+    match rows.len().checked_add(more) {
         Some(all) => rows.make_room(all),
         None => Err(AllocError),
     }
+}
+
+/// Room in the table for one row more, where a step may need it.
+fn make_room_for<R: Rows>(rows: &mut R, adds: bool) -> Result<(), OutOfMemory>
+    ensures same { R.contents rows.new ≡ R.contents rows.old }
+    ensures room { OnOk result (adds ≡ true → 0 < R.spare rows.new) }
+{
+    if adds { make_room(rows, 1) } else { Ok(()) }
 }
 
 /// Places for the notices of one step, where there are listeners: its expired row, its victim and its own.
@@ -130,101 +99,104 @@ fn to_store(config: &CacheConfig, value: &Value) -> Result<Stored, OutOfMemory>
     })
 }
 
-/// Copies of the value that the key has.
-fn to_show<R: Rows, G: Ring>(
-    state: &CacheState<G>,
-    rows: &R,
-    id: CacheId,
-    key: &Key,
-) -> Result<Option<Thrice<Value>>, OutOfMemory>
-    requires tied { Tied (R.contents rows.now) id state.now.cells }
-    ensures { IfOk result (λ shown. (x : Item) → row_of key.now (items_of state.now.cells) ≡ Some x → shown ≡ Some x.value) }
+/// Copies of what is stored, if anything is.
+fn to_store_if(config: &CacheConfig, value: Option<&Value>) -> Result<Option<Stored>, OutOfMemory>
+    ensures value { IfOk result (λ s. option_map (λ t. t.value) s ≡ option_map (λ v. v.now) value.entry) }
+    ensures told { IfOk result (λ s. StoredIsTold config.now s) }
 {
-    match state.find(rows, id, key) {
+    match value {
         None => Ok(None),
-        Some(row) => {
-            let shown = Thrice::of(state.value(row).first())?;
+        Some(value) => {
+            let stored = to_store(config, value)?;
+            Ok(Some(stored))
+        }
+    }
+}
+
+/// Copies of what is replied, if a value is.
+fn to_show(value: Option<&Value>) -> Result<Option<Thrice<Value>>, OutOfMemory>
+    ensures { IfOk result (λ shown. shown ≡ option_map (λ v. v.now) value.entry) }
+{
+    match value {
+        None => Ok(None),
+        Some(value) => {
+            let shown = Thrice::of(value)?;
             Ok(Some(shown))
         }
     }
 }
 
-/// Room in the table for one row more, where a step may need it.
-fn make_room_for<R: Rows>(rows: &mut R, adds: bool) -> Result<(), OutOfMemory>
-    ensures same { R.contents rows.new ≡ R.contents rows.old }
-    ensures room { OnOk result (adds ≡ true → 0 < R.spare rows.new) }
+/// A copy of what a hook is given, if it is given a value.
+fn to_hand(value: Option<&Value>) -> Result<Option<Value>, OutOfMemory>
+    ensures { IfOk result (λ copy. copy ≡ option_map (λ v. v.now) value.entry) }
 {
-    if adds { make_room(rows) } else { Ok(()) }
+    match value {
+        None => Ok(None),
+        Some(value) => {
+            let copy = value.share()?;
+            Ok(Some(copy))
+        }
+    }
 }
 
-/// Copies of the value that the key has, where a step may reply it.
-fn to_show_for<R: Rows, G: Ring>(
-    state: &CacheState<G>,
+/// The value that the key has, where it is wanted.
+fn value_if<'a, R: Rows, G: Ring>(
+    state: &'a CacheState<G>,
     rows: &R,
     id: CacheId,
     key: &Key,
-    shows: bool,
-) -> Result<Option<Thrice<Value>>, OutOfMemory>
+    wanted: bool,
+) -> Option<&'a Value>
     requires tied { Tied (R.contents rows.now) id state.now.cells }
-    ensures { IfOk result (λ shown. shows ≡ true → (x : Item) → row_of key.now (items_of state.now.cells) ≡ Some x → shown ≡ Some x.value) }
+    ensures { wanted ≡ true → (x : Item) → row_of key.now (items_of state.now.cells) ≡ Some x → option_map (λ v. v.now) result ≡ Some x.value }
 {
-    if shows {
-        to_show(state, rows, id, key)
-    } else {
-        Ok(None)
+    if !wanted {
+        return None;
+    }
+    match state.find(rows, id, key) {
+        None => None,
+        Some(row) => Some(state.value(row).first()),
     }
 }
 
 impl Supply {
     /// Nothing.
     fn nothing() -> Supply
-        ensures { result ≡ record { stored = None; shown = None; copy = None } }
+        ensures { result ≡ record { stored = None; shown = None; copy = None; entry = None } }
     {
         Supply {
             stored: None,
             shown: None,
             copy: None,
+            entry: None,
         }
     }
 
-    /// What is stored or given to the writer.
-    fn with_value(
+    /// The values of a step that stores at once, or that asks its writer before: then he alone is given a copy.
+    pub fn values_for<R: Rows, G: Ring>(
         config: &CacheConfig,
-        op: &Op,
-        shown: Option<Thrice<Value>>,
+        state: &CacheState<G>,
+        rows: &R,
+        id: CacheId,
+        call: &KeyCall,
         writer: bool,
     ) -> Result<Supply, OutOfMemory>
-        ensures stored { IfOk result (λ s. writer ≡ false → option_map (λ t. t.value) s.stored ≡ value_of op.now) }
-        ensures told { IfOk result (λ s. StoredIsTold config.now s.stored) }
-        ensures copy { IfOk result (λ s. writer ≡ true → s.copy ≡ value_of op.now) }
-        ensures shown { IfOk result (λ s. s.shown ≡ shown) }
+        requires tied { Tied (R.contents rows.now) id state.now.cells }
+        ensures { IfOk result (λ s. Covers writer config.now call.now (items_of state.now.cells) s) }
     {
-        match value_of(op) {
-            None => Ok(Supply {
-                stored: None,
-                shown,
-                copy: None,
-            }),
-            Some(value) if writer => {
-                let copy = value.share()?;
-                Ok(Supply {
-                    stored: None,
-                    shown,
-                    copy: Some(copy),
-                })
-            }
-            Some(value) => {
-                let stored = to_store(config, value)?;
-                Ok(Supply {
-                    stored: Some(stored),
-                    shown,
-                    copy: None,
-                })
-            }
-        }
+        let shown = to_show(value_if(state, rows, id, &call.key, shows(&call.op)))?;
+        let entry = to_hand(value_if(state, rows, id, &call.key, is_invoke(&call.op)))?;
+        let stored = to_store_if(config, stored_now(&call.op, writer))?;
+        let copy = to_hand(handed(&call.op, writer))?;
+        Ok(Supply {
+            stored,
+            shown,
+            copy,
+            entry,
+        })
     }
 
-    /// What a step may need that stores at once, or that asks its writer before: then he alone is given a copy.
+    /// All that such a step may need: its values, the room for its row and the places for its notices.
     pub fn for_step<R: Rows, G: Ring>(
         config: &CacheConfig,
         state: &CacheState<G>,
@@ -238,30 +210,70 @@ impl Supply {
         ensures same { R.contents rows.new ≡ R.contents rows.old }
         ensures told { notices.new.told ≡ notices.old.told }
         ensures places { OnOk result (HasPlaces config.now 3 notices.new) }
-        ensures covers { IfOk result (λ s. Covers writer config.now call.now (items_of state.now.cells) (R.spare rows.new) s) }
+        ensures room { OnOk result (HasRoom writer call.now.op (R.spare rows.new)) }
+        ensures covers { IfOk result (λ s. Covers writer config.now call.now (items_of state.now.cells) s) }
     {
         make_places(config, notices)?;
-        make_room_for(rows, creates_now(&call.op, writer))?;
-        let shown = to_show_for(state, rows, id, &call.key, shows(&call.op))?;
-        Supply::with_value(config, &call.op, shown, writer)
+        make_room_for(rows, !writer && creates(&call.op))?;
+        Supply::values_for(config, state, rows, id, call, writer)
     }
 
-    /// What a get may need to store and to reply what its loader gave.
+    /// What a step may need on its loader's answer: a line that loads to store it, and a get to reply it; a processor's
+    /// step to hand it on.
     fn for_loaded<R: Rows>(
         config: &CacheConfig,
         rows: &mut R,
-        value: &Value,
+        op: &Op,
+        loaded: Option<&Value>,
     ) -> Result<Supply, OutOfMemory>
         ensures same { R.contents rows.new ≡ R.contents rows.old }
-        ensures covers { IfOk result (λ s. CoversLoaded config.now value.now (R.spare rows.new) s) }
+        ensures room { OnOk result (loads op.now ≡ true → is_some (option_map (λ v. v.now) loaded.entry) ≡ true → 0 < R.spare rows.new) }
+        ensures covers { IfOk result (λ s. CoversLoaded config.now op.now (option_map (λ v. v.now) loaded.entry) s) }
     {
-        make_room(rows)?;
-        let stored = to_store(config, value)?;
-        let shown = Thrice::of(value)?;
+        if is_invoke(op) {
+            let entry = to_hand(loaded)?;
+            let copy = to_hand(handed(op, false))?;
+            return Ok(Supply {
+                stored: None,
+                shown: None,
+                copy,
+                entry,
+            });
+        }
+        make_room_for(rows, loaded.is_some())?;
+        let stored = to_store_if(config, loaded)?;
+        let shown = to_show(if shows(op) { loaded } else { None })?;
         Ok(Supply {
-            stored: Some(stored),
-            shown: Some(shown),
+            stored,
+            shown,
             copy: None,
+            entry: None,
+        })
+    }
+
+    /// What a step may need for a verdict, where the loader gave `loaded`. Where the writer is asked before, he alone
+    /// is given a copy.
+    fn for_verdict<R: Rows>(
+        config: &CacheConfig,
+        rows: &mut R,
+        loaded: Option<&Value>,
+        verdict: &Verdict,
+        writer: bool,
+    ) -> Result<Supply, OutOfMemory>
+        ensures same { R.contents rows.new ≡ R.contents rows.old }
+        ensures room { OnOk result (HasRoomBy writer (option_map (λ v. v.now) loaded.entry) verdict.now (R.spare rows.new)) }
+        ensures covers { IfOk result (λ s. CoversVerdict writer config.now (option_map (λ v. v.now) loaded.entry) verdict.now s) }
+    {
+        let value = stored_by(&verdict.action, loaded, writer);
+        make_room_for(rows, value.is_some())?;
+        let stored = to_store_if(config, value)?;
+        let shown = to_show(verdict.answer.as_ref())?;
+        let copy = to_hand(handed_by(&verdict.action, writer))?;
+        Ok(Supply {
+            stored,
+            shown,
+            copy,
+            entry: None,
         })
     }
 
@@ -272,19 +284,33 @@ impl Supply {
         rows: &mut R,
         notices: &mut Notices,
         id: CacheId,
-        call: &KeyCall,
+        step: &KeyStep,
         answer: &Answer,
     ) -> Result<Supply, OutOfMemory>
         requires tied { Tied (R.contents rows.old) id state.now.cells }
         ensures same { R.contents rows.new ≡ R.contents rows.old }
         ensures told { notices.new.told ≡ notices.old.told }
         ensures places { OnOk result (HasPlaces config.now 3 notices.new) }
-        ensures covers { IfOk result (λ s. CoversAnswer config.now call.now answer.now (items_of state.now.cells) (R.spare rows.new) s) }
+        ensures room { OnOk result (HasRoomAt config.now step.entry.now answer.now (R.spare rows.new)) }
+        ensures covers { IfOk result (λ s. CoversAnswer config.now step.entry.now answer.now (items_of state.now.cells) s) }
     {
         make_places(config, notices)?;
         match answer {
-            Answer::Written => Supply::for_step(config, state, rows, notices, id, call, false),
-            Answer::Loaded(Some(value)) => Supply::for_loaded(config, rows, value),
+            Answer::Written => match step.verdict() {
+                None => Supply::for_step(config, state, rows, notices, id, step.call(), false),
+                Some(verdict) => {
+                    Supply::for_verdict(config, rows, step.loaded(), verdict, false)
+                }
+            },
+            Answer::Loaded(loaded) => {
+                Supply::for_loaded(config, rows, &step.call().op, loaded.as_ref())
+            }
+            Answer::Processed(judged) => match judged {
+                Ok(verdict) => {
+                    Supply::for_verdict(config, rows, step.loaded(), verdict, config.writer)
+                }
+                Err(_) => Ok(Supply::nothing()),
+            },
             _ => Ok(Supply::nothing()),
         }
     }

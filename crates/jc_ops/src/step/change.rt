@@ -1,5 +1,5 @@
 //! Endings carried out.
-ghost use Rattle.std.specs.Prelude.{◌≡◌, ◌<◌, true, Some, None, List, if◌then◌else◌, option_map};
+ghost use Rattle.std.specs.Prelude.{◌≡◌, ◌+◌, ◌<◌, ◌≤◌, true, Some, None, List, if◌then◌else◌, option_map};
 ghost use Rattle.std.specs.FinMap as map;
 ghost use Rattle.jc_model.specs.State.{Item, row_of};
 ghost use Rattle.jc_ops.specs.Tied.{SameElsewhere};
@@ -9,7 +9,7 @@ ghost use Rattle.jc_ops.specs.Supply.{IsTold, StoredIsTold};
 ghost use Rattle.jc_ops.specs.Endings.{changed_live, changed_absent, ended_live, ended_absent, adds};
 ghost use Rattle.jc_model.specs.Run.{ended};
 ghost use Rattle.jc_model.specs.declared.call.Notice.{Notice};
-ghost use Rattle.jc_model.specs.Changes.{create_by_put, hit as hit_of, miss as miss_of};
+ghost use Rattle.jc_model.specs.Changes.{update, create_by_put, hit as hit_of, miss as miss_of};
 
 use crate::notices::Notices;
 use crate::state::CacheState;
@@ -24,6 +24,42 @@ use jc_model::thrice::Thrice;
 use jc_model::value::Value;
 use jc_ring::ring::Ring;
 use jc_rows::rows::Rows;
+
+/// The key's live row is given another value.
+fn update_live<R: Rows, G: Ring>(
+    config: &CacheConfig,
+    state: &mut CacheState<G>,
+    rows: &mut R,
+    notices: &mut Notices,
+    id: CacheId,
+    now: u64,
+    key: &Key,
+    row: u32,
+    stored: Stored,
+)
+    requires kept { IsKept config.now (R.contents rows.old) id state.old }
+    requires row { FoundRow (R.contents rows.old) id key.now state.old (Some row) }
+    requires places { HasPlaces config.now 1 notices.old }
+    requires told { IsTold config.now stored }
+    ensures kept_after { IsKept config.now (R.contents rows.new) id state.new }
+    ensures elsewhere { SameElsewhere id (R.contents rows.old) (R.contents rows.new) }
+    ensures spare { R.spare rows.old ≤ R.spare rows.new }
+    ensures places { notices.old.spare ≤ notices.new.spare + 1 }
+    ensures progress { (x : Item) → row_of key.now (items_of state.old.cells) ≡ Some x →
+        progress_of state.new notices.new.told ≡ update config.now now x stored.value (progress_of state.old notices.old.told) }
+{
+    state.update(
+        config,
+        rows,
+        notices,
+        id,
+        now,
+        key,
+        row,
+        stored.value,
+        stored.told,
+    );
+}
 
 /// What becomes of the key's live row.
 fn change_live<R: Rows, G: Ring>(
@@ -44,6 +80,8 @@ fn change_live<R: Rows, G: Ring>(
     requires told { StoredIsTold config.now stored }
     ensures kept_after { IsKept config.now (R.contents rows.new) id state.new }
     ensures elsewhere { SameElsewhere id (R.contents rows.old) (R.contents rows.new) }
+    ensures spare { R.spare rows.old ≤ R.spare rows.new }
+    ensures places { notices.old.spare ≤ notices.new.spare + 1 }
     ensures progress { (x : Item) → row_of key.now (items_of state.old.cells) ≡ Some x →
         progress_of state.new notices.new.told ≡ changed_live config.now now x change (option_map (λ s. s.value) stored) (progress_of state.old notices.old.told) }
 {
@@ -52,17 +90,12 @@ fn change_live<R: Rows, G: Ring>(
         LiveChange::Access => state.access(config, rows, id, now, key, row),
         LiveChange::Update => {
             if let Some(stored) = stored {
-                state.update(
-                    config,
-                    rows,
-                    notices,
-                    id,
-                    now,
-                    key,
-                    row,
-                    stored.value,
-                    stored.told,
-                );
+                update_live(config, state, rows, notices, id, now, key, row, stored);
+            }
+        }
+        LiveChange::Put => {
+            if let Some(stored) = stored {
+                update_live(config, state, rows, notices, id, now, key, row, stored);
                 state.put();
             }
         }
@@ -91,6 +124,8 @@ fn put_absent<R: Rows, G: Ring>(
     requires room { 0 < R.spare rows.old }
     ensures kept_after { IsKept config.now (R.contents rows.new) id state.new }
     ensures elsewhere { SameElsewhere id (R.contents rows.old) (R.contents rows.new) }
+    ensures spare { R.spare rows.old ≤ R.spare rows.new + 1 }
+    ensures places { notices.old.spare ≤ notices.new.spare + 2 }
     ensures progress { progress_of state.new notices.new.told ≡ create_by_put config.now now key stored.value (progress_of state.old notices.old.told) }
 {
     if state.create(
@@ -126,6 +161,8 @@ fn change_absent<R: Rows, G: Ring>(
     requires room { adds change ≡ true → 0 < R.spare rows.old }
     ensures kept_after { IsKept config.now (R.contents rows.new) id state.new }
     ensures elsewhere { SameElsewhere id (R.contents rows.old) (R.contents rows.new) }
+    ensures spare { R.spare rows.old ≤ R.spare rows.new + 1 }
+    ensures places { notices.old.spare ≤ notices.new.spare + 2 }
     ensures progress { progress_of state.new notices.new.told ≡ changed_absent config.now now key change (option_map (λ s. s.value) stored) (progress_of state.old notices.old.told) }
 {
     match change {
@@ -194,6 +231,8 @@ pub fn end_live<R: Rows, G: Ring>(
     requires told { StoredIsTold config.now stored }
     ensures kept_after { IsKept config.now (R.contents rows.new) id state.new }
     ensures elsewhere { SameElsewhere id (R.contents rows.old) (R.contents rows.new) }
+    ensures spare { R.spare rows.old ≤ R.spare rows.new }
+    ensures places { notices.old.spare ≤ notices.new.spare + 1 }
     ensures run { (x : Item) → row_of key.now (items_of state.old.cells) ≡ Some x →
         ended_live config.now now x ending (option_map (λ s. s.value) stored) shown (progress_of state.old notices.old.told) ≡ ended (progress_of state.new notices.new.told) result }
 {
@@ -233,6 +272,8 @@ pub fn end_absent<R: Rows, G: Ring>(
     requires room { adds ending.change ≡ true → 0 < R.spare rows.old }
     ensures kept_after { IsKept config.now (R.contents rows.new) id state.new }
     ensures elsewhere { SameElsewhere id (R.contents rows.old) (R.contents rows.new) }
+    ensures spare { R.spare rows.old ≤ R.spare rows.new + 1 }
+    ensures places { notices.old.spare ≤ notices.new.spare + 2 }
     ensures run { ended_absent config.now now key ending (option_map (λ s. s.value) stored) shown (progress_of state.old notices.old.told) ≡ ended (progress_of state.new notices.new.told) result }
 {
     count_miss(state, ending.miss);

@@ -48,26 +48,11 @@ fn fault_by(by: By) -> Reply
     Reply::Fault { by, done: None }
 }
 
-/// The loader's fault, which ends a call on one key.
-fn loader_fault() -> Thrice<Reply>
-    ensures { result ≡ Reply.Fault By.Loader None }
+/// A hook's fault, which ends a call on one key.
+pub fn fault(by: By) -> Thrice<Reply>
+    ensures { result ≡ Reply.Fault by None }
 {
-    Thrice::new(
-        fault_by(By::Loader),
-        fault_by(By::Loader),
-        fault_by(By::Loader),
-    )
-}
-
-/// The writer's.
-pub fn writer_fault() -> Thrice<Reply>
-    ensures { result ≡ Reply.Fault By.Writer None }
-{
-    Thrice::new(
-        fault_by(By::Writer),
-        fault_by(By::Writer),
-        fault_by(By::Writer),
-    )
+    Thrice::new(fault_by(by), fault_by(by), fault_by(by))
 }
 
 /// The reply, where `shown` is the value to be shown.
@@ -79,7 +64,6 @@ pub fn reply_of(replied: Replied, shown: Option<Thrice<Value>>) -> Thrice<Reply>
         Replied::Done => done(),
         Replied::Truth(answer) => truth(answer),
         Replied::Missing => found(None),
-        Replied::LoaderFault => loader_fault(),
-        Replied::WriterFault => writer_fault(),
+        Replied::Fault(by) => fault(by),
     }
 }
