@@ -1,0 +1,9 @@
+pub mod Others
+pub mod Left
+pub mod Ready
+pub mod EachStep
+pub mod TiedKeys
+pub mod Rows
+pub mod Apart
+pub mod Touched
+pub mod Plans

@@ -1,0 +1,6 @@
+use Rattle.std.proofs.Common.{◌≡◌, take}
+use Rattle.jc_model.specs.Bulk.{same_op}
+use Rattle.jc_bulk.proofs.steps.each_key.Given as goal
+
+abbrev pub invariant-loop-key : goal.invariant-loop-key
+invariant-loop-key l = l.calls.items ≡ same_op l.op (take l.key-index l.keys)

@@ -1,0 +1,7 @@
+use Rattle.std.proofs.Common.{◌≡◌, ◌++◌, drop}
+use Rattle.jc_model.specs.Bulk.{remove_each}
+use Rattle.jc_ops.specs.Kept.{items_of}
+use Rattle.jc_bulk.proofs.steps.each_row.Given as goal
+
+abbrev pub invariant-loop-key : goal.invariant-loop-key
+invariant-loop-key g l = l.calls.items ++ remove_each l.now (drop l.key-index (items_of l.state.cells)) ≡ remove_each l.now (items_of l.state.cells)

@@ -1,0 +1,9 @@
+pub mod Listing
+pub mod Tallied
+pub mod Provided
+pub mod Waits
+pub mod Awaiting
+pub mod Paused
+pub mod Calls
+pub mod Moved
+pub mod Entries

@@ -1,0 +1,50 @@
+-- The steps that are left of a call, each with its values.
+use Rattle.std.specs.Prelude.{◌≡◌, ◌≢◌, ◌+◌, ◌*◌, ◌<◌, ◌≤◌, ◌^◌, ℕ, Bool, true, false, List, [], ◌∷◌, length, map}
+use Rattle.std.specs.List.{list_any}
+use Rattle.jc_model.specs.declared.call.KeyCall.{KeyCall}
+use Rattle.jc_model.specs.declared.config.CacheConfig.{CacheConfig}
+use Rattle.jc_model.specs.State.{Item}
+use Rattle.jc_ops.specs.Lines.{creates}
+use Rattle.jc_ops.specs.Noted.{Noted, HasPlaces}
+use Rattle.jc_ops.specs.Supply.{Covers}
+use Rattle.jc_bulk.specs.declared.bulk.Provided.{Provided}
+use Rattle.jc_bulk.specs.declared.tally.Tally.{Tally}
+use Rattle.jc_bulk.specs.Tallied.{HasRoomFor}
+
+abbrev pub calls_in : List Provided → List KeyCall
+calls_in ps = map (λ p. p.call) ps
+
+abbrev pub keys_in : List KeyCall → List (List ℕ)
+keys_in calls = map (λ call. call.key) calls
+
+-- the key is none of these
+abbrev pub IsNone : List ℕ → List (List ℕ) → Type 0
+IsNone k [] = Unit {0}
+IsNone k (q ∷ qs) = (k ≢ q) × IsNone k qs
+
+abbrev pub AreApart : List (List ℕ) → Type 0
+AreApart [] = Unit {0}
+AreApart (k ∷ ks) = IsNone k ks × AreApart ks
+
+-- each step has its values, in a cache with these items
+abbrev pub AreCovered : CacheConfig → List Item → List Provided → Type 0
+AreCovered c items [] = Unit {0}
+AreCovered c items (p ∷ ps) = Covers c.writer c p.call items p.supply × AreCovered c items ps
+
+-- whether any of these itself stores a key that is not there
+abbrev pub any_creates : List KeyCall → Bool
+any_creates calls = list_any (λ call. creates call.op) calls
+
+-- what needs no look at the cache: the keys are different, and lists and numbers have room for all
+pub record IsAhead (keys : List (List ℕ)) (rest : List KeyCall) (sum : Tally) (adds : Bool) : Type 0 where
+  pub apart : AreApart keys
+  pub lists : HasRoomFor (length keys) sum.collected
+  pub few : sum.done + length keys < 2 ^ 32
+  pub adding : adds ≡ false → any_creates rest ≡ false
+
+-- and all that the steps ahead may need is there
+pub record IsReady (c : CacheConfig) (items : List Item) (notices : Noted) (spare : ℕ) (rest : List Provided) (sum : Tally) (adds : Bool) : Type 0 where
+  pub ahead : IsAhead (keys_in (calls_in rest)) (calls_in rest) sum adds
+  pub covered : AreCovered c items rest
+  pub places : HasPlaces c (3 * length rest) notices
+  pub room : adds ≡ true → length rest ≤ spare

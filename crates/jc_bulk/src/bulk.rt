@@ -1,0 +1,128 @@
+//! The steps of a call on many keys, one after the other.
+//!
+//! All that they need was made before the first of them, so none is refused. Where one waits for an answer, those after
+//! it keep their values: no other step changes the value of its key.
+ghost use Rattle.std.specs.Prelude.{◌≡◌, ◌*◌, ◌≤◌, ◌∷◌, true, length};
+ghost use Rattle.jc_model.specs.Whole.{after_key, each};
+ghost use Rattle.jc_ops.specs.Kept.{items_of, progress_of, IsKept};
+ghost use Rattle.jc_ops.specs.Noted.{HasPlaces};
+ghost use Rattle.jc_ops.specs.Tied.{SameElsewhere};
+ghost use Rattle.jc_bulk.specs.Moved.{ComesTo};
+ghost use Rattle.jc_bulk.specs.Provided.{calls_in, keys_in, AreCovered, IsAhead, IsReady};
+ghost use Rattle.jc_bulk.specs.Tallied.{sum_of};
+
+use crate::call::Moved;
+use crate::tally::{Tally, ends_call, fault_after};
+use crate::waits::{Paused, suspend};
+use jc_model::call::{KeyCall, Reply};
+use jc_model::config::CacheConfig;
+use jc_model::event::CacheId;
+use jc_model::key::Key;
+use jc_model::thrice::Thrice;
+use jc_ops::notices::Notices;
+use jc_ops::state::CacheState;
+use jc_ops::step::{KeyStep, Next};
+use jc_ops::supply::Supply;
+use jc_ring::ring::Ring;
+use jc_rows::rows::Rows;
+use std::collections::VecDeque;
+use std::marker::Model;
+
+/// A step with its values.
+#[derive(Drop)]
+pub struct Provided {
+    pub call: KeyCall,
+    pub supply: Supply,
+}
+
+/// The steps that are left, and what was gathered of those before them.
+#[derive(Drop)]
+pub struct Ahead {
+    pub rest: VecDeque<Provided>,
+    pub sum: Tally,
+    /// Whether a step may itself store a key that is not there.
+    pub adds: bool,
+}
+
+/// A call on many keys that waits: the step that waits, and those after it.
+#[derive(Drop)]
+pub struct BulkStep {
+    pub(crate) step: KeyStep,
+    pub(crate) ahead: Ahead,
+}
+
+impl Model for BulkStep {
+    ghost use Rattle.std.specs.Prelude.{◌∷◌};
+    ghost use Rattle.jc_bulk.specs.Provided.{calls_in, keys_in, IsAhead};
+    ghost use Rattle.jc_bulk.specs.Tallied.{sum_of};
+    ghost use Rattle.jc_bulk.specs.Waits.{Bulk};
+
+    ghost Value = { Bulk };
+
+    ghost view = { λ b. record { key = b.step; rest = b.ahead.rest.items; adds = b.ahead.adds; sum = sum_of b.ahead.sum } };
+
+    ghost invariant = { λ b. IsAhead (b.step.call.key ∷ keys_in (calls_in b.ahead.rest.items)) (calls_in b.ahead.rest.items) b.ahead.sum b.ahead.adds };
+}
+
+/// Goes on with the steps that are left, until one waits or fails.
+pub(crate) fn go_on<R: Rows, G: Ring>(
+    config: &CacheConfig,
+    state: &mut CacheState<G>,
+    rows: &mut R,
+    mut notices: Notices,
+    id: CacheId,
+    now: u64,
+    mut ahead: Ahead,
+) -> Moved
+    requires kept { IsKept config.now (R.contents rows.old) id state.old }
+    requires ready { IsReady config.now (items_of state.old.cells) notices (R.spare rows.old) ahead.rest.items ahead.sum ahead.adds }
+    ensures kept_after { IsKept config.now (R.contents rows.new) id state.new }
+    ensures elsewhere { SameElsewhere id (R.contents rows.old) (R.contents rows.new) }
+    ensures moved { ComesTo config.now (each config.now now (calls_in ahead.rest.items) (sum_of ahead.sum) (progress_of state.old notices.told)) result state.new }
+{
+    'steps: while let Some(Provided { call, supply }) = ahead.rest.pop_front() {
+        let key = call.key;
+        match KeyStep::start(config, state, rows, &mut notices, id, now, call, supply) {
+            Next::Waiting(request, step) => {
+                return suspend(request, Paused::Many(BulkStep { step, ahead }), notices);
+            }
+            Next::Ended(reply) => {
+                if let Some(by) = ends_call(reply.first()) {
+                    return Moved::Ended(fault_after(by, ahead.sum.done), notices);
+                }
+                ahead.sum.add(key, reply);
+            }
+        }
+    }
+    Moved::Ended(ahead.sum.into_reply(), notices)
+}
+
+/// Goes on after the step that waited has ended with this reply.
+pub(crate) fn go_on_after<R: Rows, G: Ring>(
+    config: &CacheConfig,
+    state: &mut CacheState<G>,
+    rows: &mut R,
+    notices: Notices,
+    id: CacheId,
+    now: u64,
+    key: Key,
+    reply: Thrice<Reply>,
+    mut ahead: Ahead,
+) -> Moved
+    requires kept { IsKept config.now (R.contents rows.old) id state.old }
+    requires ahead { IsAhead (key ∷ keys_in (calls_in ahead.rest.items)) (calls_in ahead.rest.items) ahead.sum ahead.adds }
+    requires covered { AreCovered config.now (items_of state.old.cells) ahead.rest.items }
+    requires places { HasPlaces config.now (3 * length ahead.rest.items) notices }
+    requires room { ahead.adds ≡ true → length ahead.rest.items ≤ R.spare rows.old }
+    ensures kept_after { IsKept config.now (R.contents rows.new) id state.new }
+    ensures elsewhere { SameElsewhere id (R.contents rows.old) (R.contents rows.new) }
+    ensures moved { ComesTo config.now (after_key key (λ next q. each config.now now (calls_in ahead.rest.items) next q) (sum_of ahead.sum) (progress_of state.old notices.told) reply) result state.new }
+{
+    match ends_call(reply.first()) {
+        Some(by) => Moved::Ended(fault_after(by, ahead.sum.done), notices),
+        None => {
+            ahead.sum.add(key, reply);
+            go_on(config, state, rows, notices, id, now, ahead)
+        }
+    }
+}

@@ -1,0 +1,312 @@
+//! One call on one cache, against the shared table.
+//!
+//! A call first makes the memory that it may need. Where memory is refused, the call is handed back and nothing has
+//! changed; from there on it can't be refused. It ends with its reply and its notices, or waits for one answer.
+ghost use Rattle.std.specs.Prelude.{◌≡◌, true, [], IfOk, IfErr, OnErr};
+ghost use Rattle.jc_model.specs.declared.config.CacheConfig.{CacheConfig};
+ghost use Rattle.jc_model.specs.Changes.{begun};
+ghost use Rattle.jc_model.specs.Run.{Run, ended, resume, fits};
+ghost use Rattle.jc_model.specs.Step.{step as step_of};
+ghost use Rattle.jc_model.specs.Suspended.{one, many, key_run, bulk_run};
+ghost use Rattle.jc_model.specs.Whole.{plan, carried_out};
+ghost use Rattle.jc_ops.specs.Kept.{Kept, items_of, state_of, progress_of, IsKept};
+ghost use Rattle.jc_ops.specs.Stepped.{StepsTo, IsWaiting};
+ghost use Rattle.jc_ops.specs.Tied.{SameElsewhere};
+ghost use Rattle.jc_bulk.specs.Awaiting.{awaited};
+ghost use Rattle.jc_bulk.specs.Calls.{many_call, once_call};
+ghost use Rattle.jc_bulk.specs.Moved.{ComesTo, IsSuspended, wait_run};
+ghost use Rattle.jc_bulk.specs.Paused.{bulk_wait};
+ghost use Rattle.jc_bulk.specs.Provided.{AreCovered};
+
+use crate::bulk::{BulkStep, go_on, go_on_after};
+use crate::entries::entries;
+use crate::plan::{AtOnce, ManyKeys, Planned, plan_of, whole_call, whole_many};
+use crate::provide::{prepare, prepare_answer};
+use crate::tally::listed;
+use crate::waits::{Awaits, Paused, Suspended, suspend};
+use jc_model::call::{Answer, Call, Counts, KeyCall, Reply, Request};
+use jc_model::config::CacheConfig;
+use jc_model::event::CacheId;
+use jc_model::thrice::Thrice;
+use jc_ops::notices::Notices;
+use jc_ops::state::CacheState;
+use jc_ops::step::reply::{done, truth};
+use jc_ops::step::{KeyStep, Next};
+use jc_ops::supply::Supply;
+use jc_ring::ring::Ring;
+use jc_rows::rows::Rows;
+use std::alloc::Global;
+
+/// What a call has come to: its reply and its notices, or the next request.
+#[derive(Drop)]
+pub enum Moved {
+    Ended(Thrice<Reply>, Notices),
+    Waiting(Request, Suspended),
+}
+
+/// The statistics as a reply.
+fn counted(counts: Counts) -> Thrice<Reply>
+    ensures { result ≡ Reply.Counted counts }
+{
+    Thrice::new(
+        Reply::Counted(counts),
+        Reply::Counted(counts),
+        Reply::Counted(counts),
+    )
+}
+
+/// A call that told nothing.
+fn ended(alloc: Global, reply: Thrice<Reply>) -> Moved
+    ensures { (c : CacheConfig) → (run : Run) → (k : Kept) → run ≡ ended (begun (state_of k)) reply → ComesTo c run result k }
+{
+    Moved::Ended(reply, Notices::none(alloc))
+}
+
+/// A step's next word as the call's, with the call's notices so far.
+fn with_notices(next: Next, notices: Notices) -> Moved
+    ensures { (c : CacheConfig) → (run : Run) → (k : Kept) → StepsTo c run next k notices.told → ComesTo c run result k }
+{
+    match next {
+        Next::Ended(reply) => Moved::Ended(reply, notices),
+        Next::Waiting(request, step) => suspend(request, Paused::One(step), notices),
+    }
+}
+
+/// Begins a call on one key.
+fn start_key<R: Rows, G: Ring>(
+    alloc: Global,
+    config: &CacheConfig,
+    state: &mut CacheState<G>,
+    rows: &mut R,
+    id: CacheId,
+    now: u64,
+    call: KeyCall,
+) -> Result<Moved, KeyCall>
+    requires kept { IsKept config.now (R.contents rows.old) id state.old }
+    ensures kept_after { IsKept config.now (R.contents rows.new) id state.new }
+    ensures elsewhere { SameElsewhere id (R.contents rows.old) (R.contents rows.new) }
+    ensures ok { IfOk result (λ m. ComesTo config.now (step_of config.now now call (begun (state_of state.old))) m state.new) }
+    ensures back { IfErr result (λ back. back ≡ call) }
+    ensures same { OnErr result (state.new ≡ state.old) }
+    ensures table { OnErr result (R.contents rows.new ≡ R.contents rows.old) }
+{
+    let mut notices = Notices::none(alloc);
+    match Supply::for_step(config, state, rows, &mut notices, id, &call, config.writer) {
+        Err(_) => Err(call),
+        Ok(supply) => {
+            let next = KeyStep::start(config, state, rows, &mut notices, id, now, call, supply);
+            Ok(with_notices(next, notices))
+        }
+    }
+}
+
+/// Begins a call on many keys.
+fn start_many<R: Rows, G: Ring>(
+    alloc: Global,
+    config: &CacheConfig,
+    state: &mut CacheState<G>,
+    rows: &mut R,
+    id: CacheId,
+    now: u64,
+    call: ManyKeys,
+) -> Result<Moved, ManyKeys>
+    requires kept { IsKept config.now (R.contents rows.old) id state.old }
+    ensures kept_after { IsKept config.now (R.contents rows.new) id state.new }
+    ensures elsewhere { SameElsewhere id (R.contents rows.old) (R.contents rows.new) }
+    ensures ok { IfOk result (λ m. ComesTo config.now (carried_out config.now now (plan config.now now (many_call call) (begun (state_of state.old))) (begun (state_of state.old))) m state.new) }
+    ensures back { IfErr result (λ back. back ≡ call) }
+    ensures same { OnErr result (state.new ≡ state.old) }
+    ensures table { OnErr result (R.contents rows.new ≡ R.contents rows.old) }
+{
+    let mut notices = Notices::none(alloc);
+    match prepare(alloc, config, state, rows, &mut notices, id, now, &call) {
+        Err(_) => Err(call),
+        Ok(ahead) => Ok(go_on(config, state, rows, notices, id, now, ahead)),
+    }
+}
+
+/// Carries out a call that asks no hook.
+fn at_once<R: Rows, G: Ring>(
+    alloc: Global,
+    config: &CacheConfig,
+    state: &mut CacheState<G>,
+    rows: &mut R,
+    id: CacheId,
+    now: u64,
+    call: AtOnce,
+) -> Result<Moved, Call>
+    requires kept { IsKept config.now (R.contents rows.old) id state.old }
+    ensures kept_after { IsKept config.now (R.contents rows.new) id state.new }
+    ensures elsewhere { SameElsewhere id (R.contents rows.old) (R.contents rows.new) }
+    ensures ok { IfOk result (λ m. ComesTo config.now (carried_out config.now now (plan config.now now (once_call call) (begun (state_of state.old))) (begun (state_of state.old))) m state.new) }
+    ensures back { IfErr result (λ back. back ≡ once_call call) }
+    ensures same { OnErr result (state.new ≡ state.old) }
+    ensures table { OnErr result (R.contents rows.new ≡ R.contents rows.old) }
+{
+    match call {
+        AtOnce::Contains(key) => Ok(ended(alloc, truth(state.holds(rows, id, &key, now)))),
+        AtOnce::Stats => Ok(ended(alloc, counted(state.counts()))),
+        AtOnce::ClearStats => {
+            state.clear_counts();
+            Ok(ended(alloc, done()))
+        }
+        AtOnce::Clear => {
+            state.clear(rows, id);
+            Ok(ended(alloc, done()))
+        }
+        AtOnce::Entries => match entries(alloc, config, state, rows, id, now) {
+            Err(_) => Err(Call::Entries),
+            Ok(pairs) => Ok(ended(alloc, listed(pairs))),
+        },
+    }
+}
+
+/// Begins a call on a cache. Where memory is refused, the call is handed back, and nothing has changed.
+pub fn start_call<R: Rows, G: Ring>(
+    alloc: Global,
+    config: &CacheConfig,
+    state: &mut CacheState<G>,
+    rows: &mut R,
+    id: CacheId,
+    now: u64,
+    call: Call,
+) -> Result<Moved, Call>
+    requires kept { IsKept config.now (R.contents rows.old) id state.old }
+    ensures kept_after { IsKept config.now (R.contents rows.new) id state.new }
+    ensures elsewhere { SameElsewhere id (R.contents rows.old) (R.contents rows.new) }
+    ensures ok { IfOk result (λ m. ComesTo config.now (carried_out config.now now (plan config.now now call (begun (state_of state.old))) (begun (state_of state.old))) m state.new) }
+    ensures back { IfErr result (λ back. back ≡ call) }
+    ensures same { OnErr result (state.new ≡ state.old) }
+    ensures table { OnErr result (R.contents rows.new ≡ R.contents rows.old) }
+{
+    match plan_of(call) {
+        Planned::OneKey(part) => {
+            match start_key(alloc, config, state, rows, id, now, part) {
+                Ok(moved) => Ok(moved),
+                Err(part) => Err(whole_call(part)),
+            }
+        }
+        Planned::ManyKeys(many) => {
+            match start_many(alloc, config, state, rows, id, now, many) {
+                Ok(moved) => Ok(moved),
+                Err(many) => Err(whole_many(many)),
+            }
+        }
+        Planned::AtOnce(once) => at_once(alloc, config, state, rows, id, now, once),
+    }
+}
+
+/// Gives a call on one key its answer.
+fn answer_key<R: Rows, G: Ring>(
+    config: &CacheConfig,
+    state: &mut CacheState<G>,
+    rows: &mut R,
+    id: CacheId,
+    step: KeyStep,
+    awaits: Awaits,
+    mut notices: Notices,
+    answer: Answer,
+) -> Result<Moved, (Suspended, Answer)>
+    requires kept { IsKept config.now (R.contents rows.old) id state.old }
+    requires waits { IsWaiting config.now (progress_of state.old notices.told) step }
+    ensures kept_after { IsKept config.now (R.contents rows.new) id state.new }
+    ensures elsewhere { SameElsewhere id (R.contents rows.old) (R.contents rows.new) }
+    ensures ok { IfOk result (λ m. ComesTo config.now (resume (key_run config.now (progress_of state.old notices.told) step) answer) m state.new) }
+    ensures back { IfErr result (λ back. back ≡ (record { awaits = awaited awaits; wait = one step; notices = notices.told; stock = [] }, answer)) }
+    ensures same { OnErr result (state.new ≡ state.old) }
+    ensures table { OnErr result (R.contents rows.new ≡ R.contents rows.old) }
+{
+    match Supply::for_answer(config, state, rows, &mut notices, id, &step, &answer) {
+        Err(_) => Err((
+            Suspended {
+                paused: Paused::One(step),
+                awaits,
+                notices,
+            },
+            answer,
+        )),
+        Ok(supply) => {
+            let next = step.answer(config, state, rows, &mut notices, id, answer, supply);
+            Ok(with_notices(next, notices))
+        }
+    }
+}
+
+/// Gives a call on many keys its answer.
+fn answer_many<R: Rows, G: Ring>(
+    config: &CacheConfig,
+    state: &mut CacheState<G>,
+    rows: &mut R,
+    id: CacheId,
+    bulk: BulkStep,
+    awaits: Awaits,
+    mut notices: Notices,
+    answer: Answer,
+) -> Result<Moved, (Suspended, Answer)>
+    requires kept { IsKept config.now (R.contents rows.old) id state.old }
+    requires waits { IsWaiting config.now (progress_of state.old notices.told) bulk.key }
+    requires covered { AreCovered config.now (items_of state.old.cells) bulk.rest }
+    ensures kept_after { IsKept config.now (R.contents rows.new) id state.new }
+    ensures elsewhere { SameElsewhere id (R.contents rows.old) (R.contents rows.new) }
+    ensures ok { IfOk result (λ m. ComesTo config.now (resume (bulk_run config.now (progress_of state.old notices.told) (bulk_wait bulk)) answer) m state.new) }
+    ensures back { IfErr result (λ back. back ≡ (record { awaits = awaited awaits; wait = many (bulk_wait bulk); notices = notices.told; stock = bulk.rest }, answer)) }
+    ensures same { OnErr result (state.new ≡ state.old) }
+    ensures table { OnErr result (R.contents rows.new ≡ R.contents rows.old) }
+{
+    match prepare_answer(config, state, rows, &mut notices, id, &bulk, &answer) {
+        Err(_) => Err((
+            Suspended {
+                paused: Paused::Many(bulk),
+                awaits,
+                notices,
+            },
+            answer,
+        )),
+        Ok(supply) => {
+            let BulkStep { step, ahead } = bulk;
+            let now = step.now();
+            let key = step.call().key;
+            match step.answer(config, state, rows, &mut notices, id, answer, supply) {
+                Next::Waiting(request, step) => {
+                    let bulk = BulkStep { step, ahead };
+                    Ok(suspend(request, Paused::Many(bulk), notices))
+                }
+                Next::Ended(reply) => Ok(go_on_after(
+                    config, state, rows, notices, id, now, key, reply, ahead,
+                )),
+            }
+        }
+    }
+}
+
+/// Gives a suspended call its answer. Where memory is refused, both are handed back, and nothing has changed.
+pub fn answer_call<R: Rows, G: Ring>(
+    config: &CacheConfig,
+    state: &mut CacheState<G>,
+    rows: &mut R,
+    id: CacheId,
+    suspended: Suspended,
+    answer: Answer,
+) -> Result<Moved, (Suspended, Answer)>
+    requires kept { IsKept config.now (R.contents rows.old) id state.old }
+    requires awaited { fits suspended.awaits answer ≡ true }
+    requires waits { IsSuspended config.now (progress_of state.old suspended.notices) suspended }
+    ensures kept_after { IsKept config.now (R.contents rows.new) id state.new }
+    ensures elsewhere { SameElsewhere id (R.contents rows.old) (R.contents rows.new) }
+    ensures ok { IfOk result (λ m. ComesTo config.now (resume (wait_run config.now (progress_of state.old suspended.notices) suspended.wait) answer) m state.new) }
+    ensures back { IfErr result (λ back. back ≡ (suspended, answer)) }
+    ensures same { OnErr result (state.new ≡ state.old) }
+    ensures table { OnErr result (R.contents rows.new ≡ R.contents rows.old) }
+{
+    let Suspended {
+        paused,
+        awaits,
+        notices,
+    } = suspended;
+    match paused {
+        Paused::One(step) => answer_key(config, state, rows, id, step, awaits, notices, answer),
+        Paused::Many(bulk) => {
+            answer_many(config, state, rows, id, bulk, awaits, notices, answer)
+        }
+    }
+}

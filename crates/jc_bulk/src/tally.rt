@@ -1,0 +1,206 @@
+//! What a call on many keys gathers of its steps, in room that was made before the first of them.
+ghost use Rattle.std.specs.Prelude.{◌≡◌, ℕ, ◌+◌, ◌<◌, ◌≤◌, ◌^◌, [], IfOk};
+ghost use Rattle.jc_model.specs.Bulk.{nothing, pairs, results, empty_sum, gather, with_key, gathered_reply, ends_call};
+ghost use Rattle.jc_bulk.specs.Tallied.{gathered_in, HasRoomFor, sum_of, found_in, result_in, pushed};
+
+use crate::lists::Lists;
+use jc_model::OutOfMemory;
+use jc_model::call::{By, ProcessorFault, Reply};
+use jc_model::key::Key;
+use jc_model::list::Sequence;
+use jc_model::thrice::Thrice;
+use jc_model::value::Value;
+use jc_ops::step::reply::done;
+use std::alloc::Global;
+
+/// The replies of the keys so far.
+#[derive(Drop)]
+pub enum Collected {
+    Nothing,
+    Pairs(Lists<(Key, Value)>),
+    Results(Lists<(Key, Result<Value, ProcessorFault>)>),
+}
+
+/// How many keys are done, and what was gathered of them.
+#[derive(Drop)]
+pub struct Tally {
+    pub done: u32,
+    pub collected: Collected,
+}
+
+/// Whose fault ends the call, if this reply to a key is one.
+pub fn ends_call(reply: &Reply) -> Option<By>
+    ensures { result ≡ ends_call reply.now }
+{
+    match reply {
+        Reply::Fault { by: By::Loader, .. } => Some(By::Loader),
+        Reply::Fault { by: By::Writer, .. } => Some(By::Writer),
+        _ => None,
+    }
+}
+
+fn fault_by(by: By, done: u32) -> Reply
+    ensures { result ≡ Reply.Fault by (Some done) }
+{
+    Reply::Fault {
+        by,
+        done: Some(done),
+    }
+}
+
+/// The fault that ended a call, after so many keys.
+pub fn fault_after(by: By, done: u32) -> Thrice<Reply>
+    ensures { result ≡ Reply.Fault by (Some done) }
+{
+    Thrice::new(fault_by(by, done), fault_by(by, done), fault_by(by, done))
+}
+
+/// The value that was found.
+fn found(reply: Reply) -> Option<Value>
+    ensures { result ≡ found_in reply }
+{
+    match reply {
+        Reply::Found(value) => value,
+        _ => None,
+    }
+}
+
+/// What the processor came to, if it answered or failed.
+fn processed(reply: Reply) -> Option<Result<Value, ProcessorFault>>
+    ensures { result ≡ result_in reply }
+{
+    match reply {
+        Reply::Found(Some(value)) => Some(Ok(value)),
+        Reply::Fault { .. } => Some(Err(ProcessorFault {})),
+        _ => None,
+    }
+}
+
+/// Adds a key with its part of the reply, where it has one.
+fn push<T: Drop>(
+    lists: &mut Lists<(Key, T)>,
+    key: Key,
+    first: Option<T>,
+    second: Option<T>,
+    third: Option<T>,
+)
+    requires room { 0 < lists.old.spare }
+    requires second { second ≡ first }
+    requires third { third ≡ first }
+    ensures items { lists.new.items ≡ pushed lists.old.items key first }
+    ensures spare { lists.old.spare ≤ lists.new.spare + 1 }
+{
+    if let (Some(first), Some(second), Some(third)) = (first, second, third) {
+        lists.push(Thrice::new((key, first), (key, second), (key, third)));
+    }
+}
+
+impl Collected {
+    /// Adds a key's reply.
+    fn add(&mut self, key: Key, reply: Thrice<Reply>)
+        requires room { HasRoomFor 1 self.old }
+        ensures gathered { gathered_in self.new ≡ gather key reply (gathered_in self.old) }
+        ensures room { (n : ℕ) → HasRoomFor (n + 1) self.old → HasRoomFor n self.new }
+    {
+        let (first, second, third) = reply.into_three();
+        match self {
+            Collected::Nothing => {}
+            Collected::Pairs(pairs) => {
+                push(pairs, key, found(first), found(second), found(third));
+            }
+            Collected::Results(results) => push(
+                results,
+                key,
+                processed(first),
+                processed(second),
+                processed(third),
+            ),
+        }
+    }
+
+    /// The reply after the last key.
+    fn into_reply(self) -> Thrice<Reply>
+        ensures { result ≡ gathered_reply (gathered_in self) }
+    {
+        match self {
+            Collected::Nothing => done(),
+            Collected::Pairs(pairs) => listed(pairs.into_lists()),
+            Collected::Results(results) => {
+                let (first, second, third) = results.into_lists().into_three();
+                Thrice::new(
+                    Reply::Results(first),
+                    Reply::Results(second),
+                    Reply::Results(third),
+                )
+            }
+        }
+    }
+}
+
+/// Pairs as a reply.
+pub fn listed(pairs: Thrice<Sequence<(Key, Value)>>) -> Thrice<Reply>
+    ensures { result ≡ Reply.Listed pairs }
+{
+    let (first, second, third) = pairs.into_three();
+    Thrice::new(
+        Reply::Listed(first),
+        Reply::Listed(second),
+        Reply::Listed(third),
+    )
+}
+
+impl Tally {
+    /// No keys are done, and nothing is to be gathered.
+    pub fn nothing() -> Tally
+        ensures sum { sum_of result ≡ empty_sum nothing }
+        ensures room { (n : ℕ) → HasRoomFor n result.collected }
+    {
+        Tally {
+            done: 0,
+            collected: Collected::Nothing,
+        }
+    }
+
+    /// No keys are done; the pairs of so many are to be gathered.
+    pub fn pairs(alloc: Global, keys: usize) -> Result<Tally, OutOfMemory>
+        ensures sum { IfOk result (λ t. sum_of t ≡ empty_sum (pairs [])) }
+        ensures room { IfOk result (λ t. HasRoomFor keys t.collected) }
+    {
+        let pairs = Lists::with_room(alloc, keys)?;
+        Ok(Tally {
+            done: 0,
+            collected: Collected::Pairs(pairs),
+        })
+    }
+
+    /// No keys are done; the processors' results on so many are to be gathered.
+    pub fn results(alloc: Global, keys: usize) -> Result<Tally, OutOfMemory>
+        ensures sum { IfOk result (λ t. sum_of t ≡ empty_sum (results [])) }
+        ensures room { IfOk result (λ t. HasRoomFor keys t.collected) }
+    {
+        let results = Lists::with_room(alloc, keys)?;
+        Ok(Tally {
+            done: 0,
+            collected: Collected::Results(results),
+        })
+    }
+
+    /// Adds a key that is done, with its reply.
+    pub fn add(&mut self, key: Key, reply: Thrice<Reply>)
+        requires room { HasRoomFor 1 self.old.collected }
+        requires few { self.old.done + 1 < 2 ^ 32 }
+        ensures sum { sum_of self.new ≡ with_key key reply (sum_of self.old) }
+        ensures done { self.new.done ≡ self.old.done + 1 }
+        ensures room { (n : ℕ) → HasRoomFor (n + 1) self.old.collected → HasRoomFor n self.new.collected }
+    {
+        self.done += 1;
+        self.collected.add(key, reply);
+    }
+
+    /// The reply after the last key.
+    pub fn into_reply(self) -> Thrice<Reply>
+        ensures { result ≡ gathered_reply (gathered_in self.collected) }
+    {
+        self.collected.into_reply()
+    }
+}
