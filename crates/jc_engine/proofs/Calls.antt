@@ -1,26 +1,29 @@
 -- One cache and its call: what the call has come to is what the cache is to answer.
-use Rattle.std.proofs.Common.{◌≡◌, ℕ, Bool, true, false, if◌then◌else◌, Option, Some, None, refl, sym, ap, subst, ◌∙◌}
+use Rattle.std.proofs.Common.{◌≡◌, ℕ, Bool, true, false, if◌then◌else◌, Option, Some, None, refl, sym, ap, ap₂, subst, ◌∙◌}
 use Rattle.jc_model.specs.declared.call.Answer.{Answer}
 use Rattle.jc_model.specs.declared.call.Call.{Call}
 use Rattle.jc_model.specs.declared.call.Reply.{Reply}
+use Rattle.jc_model.specs.declared.call.Request.{Request}
 use Rattle.jc_model.specs.declared.config.CacheConfig.{CacheConfig}
 use Rattle.jc_model.specs.declared.event.Cause.{Cause}
 use Rattle.jc_model.specs.declared.event.Cause.TheVariants.{NoSuchProcessor, WrongAnswer}
 use Rattle.jc_model.specs.declared.event.Outcome.{Outcome}
 use Rattle.jc_model.specs.declared.event.Outcome.TheVariants as outcome
 use Rattle.jc_model.specs.Changes.{Progress, begun}
-use Rattle.jc_model.specs.Run.{Run, ended, waiting, and_then, resume, fits}
+use Rattle.jc_model.specs.Run.{Run, Awaited, ended, waiting, and_then, resume, fits}
 use Rattle.jc_model.specs.Whole.{whole, plan, carried_out, told_first}
-use Rattle.jc_model.specs.Runs.{Standing, Status, begins, answers, has_processor, shown, standing_of, reply_of, moved_by, moved}
-use Rattle.jc_model.specs.Suspended.{Wait, one, telling, run_of, standing_by}
+use Rattle.jc_model.specs.Runs.{Standing, Status, busy, begins, answers, has_processor, shown, standing_of, reply_of, moved_by, moved}
+use Rattle.jc_model.specs.Suspended.{Wait, one, many, telling, run_of, standing_by}
 use Rattle.jc_ops.specs.Kept.{Kept, state_of, progress_of}
-use Rattle.jc_ops.specs.Waits.{Waits}
-use Rattle.jc_ops.specs.Moved.{wait_run, IsSuspended}
+use Rattle.jc_bulk.specs.Waits.{Waits}
+use Rattle.jc_bulk.specs.Moved.{wait_run, WaitsOn, IsSuspended}
 use Rattle.jc_engine.specs.declared.cache.Advance.{Advance}
+use Rattle.jc_engine.specs.declared.cache.Advance.TheVariants.{Asked}
 use Rattle.jc_engine.specs.declared.cache.Turn.{Turn}
 use Rattle.jc_engine.specs.declared.cache.Turn.TheVariants.{Idle, Waiting, Telling}
 use Rattle.jc_engine.specs.Caches.{Cache, status_of}
-use Rattle.jc_engine.specs.Managed.{turn_in, notices_in, step_of, is_step, WaitsThere, Settled, Moves}
+use Rattle.jc_engine.specs.Managed.{turn_in, notices_in, step_of, is_step, is_telling, NeverTells, WaitsThere, Settled, Moves}
+use mathlib.Core.Path.{fun_ext}
 use Rattle.jc_engine.proofs.Untold.{carried_out-untold, resume-untold, wait_run-untold}
 
 abbrev pub cache_of : CacheConfig → Kept → Turn → Cache
@@ -50,7 +53,26 @@ began c k (Telling r) now call k' turn' advance allowed settled = absurd cc
 -- a suspended call goes on as its run does
 run_on : (c : CacheConfig) (p : Progress) (w : Wait) (a : Answer) (run : Run) → wait_run c p w ≡ run → ((q : Progress) (r : Reply) → run ≡ ended q r → ⊥) → run_of c p w a ≡ and_then (resume (wait_run c p w) a) told_first
 run_on c p (one w) a run is waits = refl
+run_on c p (many w) a run is waits = refl
 run_on c p (telling r) a run is waits = absurd (waits p r (sym is))
+
+never_telling : (c : CacheConfig) (p : Progress) (w : Wait) (run : Run) → wait_run c p w ≡ run → ((q : Progress) (r : Reply) → run ≡ ended q r → ⊥) → is_telling w ≡ false
+never_telling c p (one w) run is waits = refl
+never_telling c p (many w) run is waits = refl
+never_telling c p (telling r) run is waits = absurd (waits p r (sym is))
+
+-- a call that waits stands as its run does
+pub settled_waiting : (c : CacheConfig) (run : Run) (k : Kept) (request : Request) (s : Waits) → WaitsOn c (progress_of k s.notices) request s run → Settled c run k (Waiting s) (Asked request)
+settled_waiting c run k request s w =
+    let p : Progress = progress_of k s.notices in
+    let stays : (q : Progress) (r : Reply) → run ≡ ended q r → ⊥ = λ q r e. (let no : waiting request p w.resumed ≡ ended q r = sym w.run_is ∙ e in cc) in
+    let goes : (a : Answer) → run_of c p s.wait a ≡ and_then (w.resumed a) told_first = λ a. run_on c p s.wait a run w.meaning stays ∙ ap (λ (r : Run). and_then (resume r a) told_first) (w.meaning ∙ w.run_is) in
+    record {
+      shows = ap (λ (r : Run). shown (and_then r told_first)) (sym w.run_is);
+      stands = ap₂ (λ (v : Awaited) (f : Answer → Run). busy v p f) w.awaits (fun_ext goes) ∙ ap (λ (r : Run). standing_of (and_then r told_first)) (sym w.run_is);
+      waits = record { request = request; resumed = w.resumed; run_is = w.meaning ∙ w.run_is; awaits = w.awaits; held = w.held };
+      fits = λ never. ((subst NeverTells w.run_is never).0, never_telling c p s.wait run w.meaning stays);
+    }
 
 pub went_on : (c : CacheConfig) (k : Kept) (turn : Turn) (a : Answer) (k' : Kept) (turn' : Turn) (advance : Advance) (s : Waits) → turn ≡ Waiting s → WaitsThere c k turn
     → is_step (reply_of c (standing_by c (progress_of k (notices_in turn)) (turn_in turn)) (answers a)) ≡ true

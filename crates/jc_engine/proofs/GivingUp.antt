@@ -1,5 +1,5 @@
 -- A call that is given up.
-use Rattle.std.proofs.Common.{◌≡◌, ℕ, Bool, true, false, List, [], ◌∷◌, map, Option, Some, None, Ok, Err, Result, refl, sym, ap, subst, ◌∙◌}
+use Rattle.std.proofs.Common.{◌≡◌, ℕ, false, List, [], map, Option, Some, None, Ok, Err, Result, refl, sym, ap, subst, ◌∙◌}
 use Rattle.std.specs.Prelude.{slice_get, slice_set, IfOk, OnOk}
 use Rattle.jc_model.specs.declared.call.Notice.{Notice}
 use Rattle.jc_model.specs.declared.config.CacheConfig.{CacheConfig}
@@ -17,7 +17,7 @@ use Rattle.jc_engine.specs.declared.cache.Turn.TheVariants.{Idle}
 use Rattle.jc_engine.specs.declared.cache.Managed.{Managed}
 use Rattle.jc_engine.specs.Caches.{Cache, status_of}
 use Rattle.jc_rows.specs.Rows.{RowMap}
-use Rattle.jc_engine.specs.Managed.{cache_in, turn_in, IsManaged, Abandons, LeavesNotices}
+use Rattle.jc_engine.specs.Managed.{cache_in, turn_in, IsManaged, Abandons}
 use Rattle.jc_engine.specs.Advances.{of_abandon, LeavesAt, ClosedAt}
 use Rattle.jc_engine.proofs.Places.{same_set, cache_at, status_at}
 use Rattle.jc_engine.proofs.Steps.{moves_on, new_at}
@@ -89,7 +89,7 @@ always (Err e) p = tt
 -- The fields after it.
 
 pub managed_after : {G : Type 0} (m : RowMap) (id : ℕ) (cache cache' : Managed G) (r : Result (Option Noted) Cause) → IsManaged m id cache → Abandons cache r cache' → IsManaged m id cache'
-managed_after {G} m id cache cache' (Ok left) managed is = let idle : IsManaged m id (record cache { turn = Idle }) = record { kept = managed.kept; waits = tt; hookless = managed.hookless } in subst (IsManaged m id) (sym is.0) idle
+managed_after {G} m id cache cache' (Ok left) managed is = let idle : IsManaged m id (record cache { turn = Idle }) = record { kept = managed.kept; waits = tt } in subst (IsManaged m id) (sym is.0) idle
 managed_after {G} m id cache cache' (Err cause) managed is = subst (IsManaged m id) (sym is.2) managed
 
 pub config_after : {G : Type 0} (cache cache' : Managed G) (r : Result (Option Noted) Cause) → Abandons cache r cache' → cache'.config ≡ cache.config

@@ -8,6 +8,5 @@ pub mod Recordings
 pub mod Keys
 pub mod Names
 pub mod Openings
-pub mod Hookless
 pub mod Untold
 pub mod Calls

@@ -12,7 +12,8 @@ use Rattle.std.proofs.lemmas.Slice.Eq.{bytes_eq-Decides}
 use Rattle.jc_model.specs.contracts.key.KeyPartialEq.TheImpl.{eq-value}
 use Rattle.jc_engine.specs.Opening.{is_taken}
 use Rattle.jc_engine.specs.Fresh.{AreIds}
-use Rattle.jc_engine.proofs.Keys.{key_eq, lookup_same}
+use Rattle.jc_model.proofs.SameKey.{key_eq}
+use Rattle.jc_engine.proofs.Keys.{lookup_same}
 
 either : (b c : Bool) → (b || c) ≡ false → (b ≡ false) × (c ≡ false)
 either true c h = absurd cc

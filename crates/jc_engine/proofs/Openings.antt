@@ -1,5 +1,5 @@
 -- A manager that has just been opened.
-use Rattle.std.proofs.Common.{◌≡◌, ℕ, ◌<◌, ◌≤◌, ◌+◌, zero, suc, Bool, true, false, List, [], ◌∷◌, ◌++◌, map, length, Option, Some, None, Result, Ok, Err, refl, sym, ap, subst, ◌∙◌, arith}
+use Rattle.std.proofs.Common.{◌≡◌, ℕ, ◌≤◌, ◌+◌, zero, suc, Bool, true, false, List, [], ◌∷◌, ◌++◌, map, length, Option, Some, None, Result, Ok, Err, refl, sym, ap, subst, ◌∙◌, arith}
 use Rattle.std.specs.Prelude.{slice_get, option_map, IfSome, position, sum, ltb, ◌||◌, if◌then◌else◌}
 use Rattle.std.specs.FinMap as table
 use Rattle.std.specs.HashMap.{HashMap, get}
@@ -14,10 +14,9 @@ use Rattle.jc_rows.specs.Rows.{RowMap}
 use Rattle.jc_rows.proofs.Laws.{get-empty}
 use Rattle.jc_engine.specs.declared.cache.Managed.{Managed}
 use Rattle.jc_engine.specs.declared.open.OpenRefusal.{OpenRefusal}
-use Rattle.jc_engine.specs.declared.open.OpenRefusal.TheVariants.{BadCapacity, TooManyListeners, TooManyProcessors, DuplicateName}
 use Rattle.jc_engine.specs.Caches.{Cache, status_of, fresh_cache}
 use Rattle.jc_engine.specs.Managed.{cache_in, IsManaged}
-use Rattle.jc_engine.specs.Opening.{Hookless, or_else, is_taken, names_in, limit_refusal, refusal_at, refusal_from, capacities, open_refusal}
+use Rattle.jc_engine.specs.Opening.{or_else, names_in, limit_refusal, refusal_at, refusal_from, capacities, open_refusal}
 use Rattle.jc_engine.specs.Fresh.{AreIds, fresh_fields}
 use Rattle.jc_engine.specs.Sound.{IsAt, IsSound}
 use Rattle.jc_engine.specs.Recording.{HasEntry, IsRecorded}
@@ -52,11 +51,6 @@ all_some names place (d ∷ configs) h zero c at =
 all_some names place (d ∷ configs) h (suc id) c at =
     all_some (names ++ d.name ∷ []) (place + 1) configs (none_second (refusal_at names place d) (refusal_from (names ++ d.name ∷ []) (place + 1) configs) h) id c at
 
-hookless_at : (configs : List CacheConfig) → Hookless configs → (id : ℕ) (c : CacheConfig) → slice_get configs id ≡ Some c → c.processors ≡ []
-hookless_at [] h id c at = absurd cc
-hookless_at (d ∷ configs) h zero c at = let same : d ≡ c = cc in subst (λ (k : CacheConfig). k.processors ≡ []) same h.0
-hookless_at (d ∷ configs) h (suc id) c at = hookless_at configs h.1 id c at
-
 -- Where none of the checks refuses, none does.
 
 pub all_allowed : (configs : List CacheConfig) → length configs ≤ 1024 → refusal_from [] 0 configs ≡ None → sum (capacities configs) ≤ 262144 → open_refusal configs ≡ None
@@ -71,8 +65,8 @@ none_refused (Some r) P none = absurd cc
 
 -- The fields at first.
 
-fresh_at : {G : Type 0} (m : RowMap) → ((x : ℕ × List ℕ) → table.get m x ≡ None) → (id : ℕ) (c : CacheConfig) → 1 ≤ c.capacity → c.processors ≡ [] → IsManaged {G = G} m id (fresh_fields c)
-fresh_at m none id c some hookless = record {
+fresh_at : {G : Type 0} (m : RowMap) → ((x : ℕ × List ℕ) → table.get m x ≡ None) → (id : ℕ) (c : CacheConfig) → 1 ≤ c.capacity → IsManaged {G = G} m id (fresh_fields c)
+fresh_at m none id c some = record {
   kept = record {
     tied = record {
       distinct = tt;
@@ -84,12 +78,11 @@ fresh_at m none id c some hookless = record {
     some = some;
   };
   waits = tt;
-  hookless = hookless;
 }
 
 pub opened_sound : {G S : Type 0} (m : RowMap) (configs : List CacheConfig) (caches : List (Managed G)) (names : List (List ℕ)) (ids : HashMap (List ℕ) ℕ S)
-    → m ≡ table.empty → Hookless configs → refusal_from [] 0 configs ≡ None → caches ≡ map fresh_fields configs → names ≡ names_in configs → AreIds (Some ids) (names_in configs) → IsSound m caches names (get bytes_eq ids)
-opened_sound {G} {S} m configs caches names ids empty hookless allowed fresh named are = record {
+    → m ≡ table.empty → refusal_from [] 0 configs ≡ None → caches ≡ map fresh_fields configs → names ≡ names_in configs → AreIds (Some ids) (names_in configs) → IsSound m caches names (get bytes_eq ids)
+opened_sound {G} {S} m configs caches names ids empty allowed fresh named are = record {
   each = λ id. subst (λ (ks : List (Managed G)). IsAt m id (slice_get ks id)) (sym fresh) (subst (IsAt m id) (sym (slice_get-map fresh_fields configs id)) (by id (slice_get configs id) refl));
   named = named ∙ (sym (map_map (λ (k : Managed G). k.config.name) fresh_fields configs) ∙ ap (map (λ (k : Managed G). k.config.name)) (sym fresh));
   found = λ name. are name ∙ ap (λ (ns : List (List ℕ)). position (λ n. bytes_eq n name) ns) (sym named);
@@ -100,7 +93,7 @@ opened_sound {G} {S} m configs caches names ids empty hookless allowed fresh nam
 
     by : (id : ℕ) (o : Option CacheConfig) → slice_get configs id ≡ o → IsAt {G = G} m id (option_map fresh_fields o)
     by id None at = λ key. none (id, key)
-    by id (Some c) at = fresh_at m none id c (all_some [] 0 configs allowed id c at) (hookless_at configs hookless id c at)
+    by id (Some c) at = fresh_at m none id c (all_some [] 0 configs allowed id c at)
 
 pub opened_fresh : {G : Type 0} (configs : List CacheConfig) (caches : List (Managed G)) → caches ≡ map fresh_fields configs → map cache_in caches ≡ map fresh_cache configs
 opened_fresh {G} configs caches fresh = ap (map cache_in) fresh ∙ map_map cache_in fresh_fields configs

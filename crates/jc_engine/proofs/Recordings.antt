@@ -17,7 +17,7 @@ use Rattle.jc_model.specs.declared.event.Entry.{Entry}
 use Rattle.jc_model.specs.Changes.{Progress}
 use Rattle.jc_model.specs.Run.{Run, Awaited, fits, told_by}
 use Rattle.jc_model.specs.Runs.{Status, answers, gives_up, cache_of, said, reply_of, shown, refuse_last, for_memory, answer_of, answer_to, statuses_after}
-use Rattle.jc_model.specs.Suspended.{Wait, one, telling, standing_by, run_of}
+use Rattle.jc_model.specs.Suspended.{Wait, one, many, telling, standing_by, run_of}
 use Rattle.jc_model.specs.Legal.{Tells, recorded, with_outcome, with_answer, on_open}
 use Rattle.jc_model.proofs.EachCache.{at_same, at_other}
 use Rattle.jc_model.proofs.Recording.{one_more_event}
@@ -41,6 +41,7 @@ is_replied (Told notices) = false
 -- a call that waits for its notices to be told then replies
 pub not_telling : (c : CacheConfig) (p : Progress) (w : Awaited × Wait) (a : Answer) (advance : Advance) → outcome.Step (step_of advance) ≡ refuse_last false (reply_of c (standing_by c p (Some w)) (answers a)) → is_replied advance ≡ false → is_telling w.1 ≡ false
 not_telling c p (v, one x) a advance shows goes = refl
+not_telling c p (v, many x) a advance shows goes = refl
 not_telling c p (v, telling r) a advance shows goes = by (fits v a) shows
   where
     by : (b : Bool) → outcome.Step (step_of advance) ≡ refuse_last false (if b then shown (run_of c p (telling r) a) else outcome.Refused WrongAnswer) → is_telling (telling r) ≡ false

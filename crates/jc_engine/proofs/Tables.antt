@@ -1,17 +1,17 @@
 -- The shared table, as the caches see it.
-use Rattle.std.proofs.Common.{◌≡◌, ℕ, Bool, true, false, eqb, List, Option, Some, None, refl, sym, ap, ◌∙◌}
+use Rattle.std.proofs.Common.{◌≡◌, ℕ, false, eqb, List, Option, Some, None, refl, sym, ap, ◌∙◌}
 use Rattle.std.specs.Prelude.{option_map}
 use Rattle.std.specs.FinMap as table
 use Rattle.jc_model.specs.declared.config.Expiry.{Expiry}
 use Rattle.jc_model.specs.State.{Item, row_of}
 use Rattle.jc_rows.specs.Rows.{RowMap}
 use Rattle.jc_ops.specs.Tied.{Tied, SameElsewhere}
-use Rattle.jc_ops.specs.Kept.{Kept, items_of, state_of, IsKept, IsRow}
+use Rattle.jc_ops.specs.Kept.{Kept, items_of}
 use Rattle.jc_ops.proofs.Ties.{Tied-same}
 use Rattle.jc_ops.proofs.Found.{is_row, row_of-absent}
 use Rattle.jc_engine.specs.declared.cache.Managed.{Managed}
 use Rattle.jc_engine.specs.Managed.{IsManaged, cache_in}
-use Rattle.jc_engine.specs.Caches.{Cache, expiry_in}
+use Rattle.jc_engine.specs.Caches.{expiry_in}
 use Rattle.jc_engine.specs.Sound.{IsAt}
 
 -- a cache is as it was where the table has changed elsewhere
@@ -24,7 +24,6 @@ managed_elsewhere m n id other cache same differ is = record {
     some = is.kept.some;
   };
   waits = is.waits;
-  hookless = is.hookless;
 }
 
 pub at_elsewhere : {G : Type 0} (m n : RowMap) (id other : ℕ) (found : Option (Managed G)) → SameElsewhere id m n → eqb other id ≡ false → IsAt m other found → IsAt n other found

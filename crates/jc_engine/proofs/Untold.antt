@@ -9,17 +9,20 @@ use Rattle.jc_model.specs.declared.call.Action.{Action}
 use Rattle.jc_model.specs.declared.call.Action.TheVariants as action
 use Rattle.jc_model.specs.declared.call.Verdict.{Verdict}
 use Rattle.jc_model.specs.declared.call.Reply.TheVariants.{Done, Truth, Found, Fault}
+use Rattle.jc_model.specs.declared.call.Reply.{Reply}
+use Rattle.jc_model.specs.declared.call.By.{By}
 use Rattle.jc_model.specs.declared.call.By.TheVariants as by
 use Rattle.jc_model.specs.declared.call.Request.TheVariants as request
 use Rattle.jc_model.specs.declared.config.CacheConfig.{CacheConfig}
 use Rattle.jc_model.specs.State.{Item}
 use Rattle.jc_model.specs.Changes.{Progress, hit, miss, put, removal, find_row, access, update, delete, create, purge}
 use Rattle.jc_model.specs.declared.call.Answer.{Answer}
-use Rattle.jc_model.specs.Run.{Run, resume, answered, ended, waiting, load, load_for, write, delete_write, process, loaded_by, is_written, verdict_of}
+use Rattle.jc_model.specs.Run.{Run, and_then, resume, answered, ended, waiting, load, load_for, write, delete_write, process, loaded_by, is_written, verdict_of}
 use Rattle.jc_model.specs.Step.{act_live, act_absent, on_live, on_absent, on_row, step}
-use Rattle.jc_model.specs.Whole.{Plan, one, at_once, carried_out}
-use Rattle.jc_model.specs.Suspended.{Wait, one as one_key, telling}
-use Rattle.jc_ops.specs.Moved.{wait_run}
+use Rattle.jc_model.specs.Bulk.{Sum, empty_sum, with_key, ends_call}
+use Rattle.jc_model.specs.Whole.{Plan, one, many, at_once, after_key, each, carried_out}
+use Rattle.jc_model.specs.Suspended.{Wait, one as one_key, many as many_keys, telling, key_run}
+use Rattle.jc_bulk.specs.Moved.{wait_run}
 use Rattle.jc_engine.specs.Managed.{NeverTells}
 
 module _ (c : CacheConfig) (now : ℕ) where
@@ -103,6 +106,13 @@ module _ (c : CacheConfig) (now : ℕ) where
       go false = tt
   on_live-untold op.GetAndRemove k x p = delete_write-untold k p _ tt
   on_live-untold (op.Invoke n argument) k x p = process-untold k n (Some x.value) argument p _ _ tt (λ v. act_live-untold k x p v.action v.answer)
+  on_live-untold (op.Load true) k x p = load-untold k p _ _ tt given
+    where
+      given : (o : Option (List ℕ)) → NeverTells (elim o [ None ↦ ended p Done | Some v ↦ ended (update c now x v p) Done ])
+      given None = tt
+      given (Some v) = tt
+  on_live-untold (op.Load false) k x p = tt
+  on_live-untold op.Expire k x p = tt
 
   on_absent-untold : (o : Op) (k : List ℕ) (p : Progress) → NeverTells (on_absent c now o k p)
   on_absent-untold op.Get k p = load-untold k p _ _ tt given
@@ -121,6 +131,12 @@ module _ (c : CacheConfig) (now : ℕ) where
   on_absent-untold op.GetAndRemove k p = delete_write-untold k p _ tt
   on_absent-untold (op.Invoke n argument) k p =
       load_for-untold n k p _ _ tt (λ loaded. process-untold k n loaded argument p _ _ tt (λ v. act_absent-untold k loaded p v.action v.answer))
+  on_absent-untold (op.Load replace) k p = load-untold k p _ _ tt given
+    where
+      given : (o : Option (List ℕ)) → NeverTells (elim o [ None ↦ ended p Done | Some v ↦ ended (create c now k v p) Done ])
+      given None = tt
+      given (Some v) = tt
+  on_absent-untold op.Expire k p = tt
 
   pub step-untold : (call : KeyCall) (p : Progress) → NeverTells (step c now call p)
   step-untold call p = go (find_row call.key (purge c now call.key p))
@@ -131,8 +147,25 @@ module _ (c : CacheConfig) (now : ℕ) where
 
 -- Nor does one of a call, before its notices are told.
 
+and_then-untold : (run : Run) (next : Progress → Reply → Run) → NeverTells run → ((p : Progress) (r : Reply) → NeverTells (next p r)) → NeverTells (and_then run next)
+and_then-untold (ended p r) next h g = g p r
+and_then-untold (waiting q p resumed) next h g = (h.0, λ a. and_then-untold (resumed a) next (h.1 a) g)
+
+after_key-untold : (k : List ℕ) (go_on : Sum → Progress → Run) (sum : Sum) (p : Progress) (r : Reply) → ((next : Sum) (q : Progress) → NeverTells (go_on next q)) → NeverTells (after_key k go_on sum p r)
+after_key-untold k go_on sum p r h = by (ends_call r)
+  where
+    by : (o : Option By) → NeverTells (elim o [ Some by ↦ ended p (Fault by (Some sum.done)) | None ↦ go_on (with_key k r sum) p ])
+    by None = h (with_key k r sum) p
+    by (Some b) = tt
+
+each-untold : (c : CacheConfig) (now : ℕ) (calls : List KeyCall) (sum : Sum) (p : Progress) → NeverTells (each c now calls sum p)
+each-untold c now [] sum p = tt
+each-untold c now (call ∷ calls) sum p =
+    and_then-untold (step c now call p) _ (step-untold c now call p) (λ q r. after_key-untold call.key (λ next q. each c now calls next q) sum q r (each-untold c now calls))
+
 pub carried_out-untold : (c : CacheConfig) (now : ℕ) (plan : Plan) (p : Progress) → NeverTells (carried_out c now plan p)
 carried_out-untold c now (one k o) p = step-untold c now (record { key = k; op = o }) p
+carried_out-untold c now (many calls gathered) p = each-untold c now calls (empty_sum gathered) p
 carried_out-untold c now (at_once q r) p = tt
 
 pub resume-untold : (run : Run) (a : Answer) → NeverTells run → NeverTells (resume run a)
@@ -145,4 +178,7 @@ answered-untold run (a ∷ given) h = answered-untold (resume run a) given (resu
 
 pub wait_run-untold : (c : CacheConfig) (p : Progress) (w : Wait) → NeverTells (wait_run c p w)
 wait_run-untold c p (one_key w) = answered-untold (step c w.now w.call p) w.given (step-untold c w.now w.call p)
+wait_run-untold c p (many_keys w) =
+    and_then-untold (key_run c p w.key) _ (answered-untold (step c w.key.now w.key.call p) w.key.given (step-untold c w.key.now w.key.call p))
+    (λ q r. after_key-untold w.key.call.key (λ next q. each c w.key.now w.rest next q) w.sum q r (each-untold c w.key.now w.rest))
 wait_run-untold c p (telling r) = tt

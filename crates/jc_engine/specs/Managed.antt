@@ -1,7 +1,6 @@
 -- What the fields of one cache stand for, and how it moves.
 use Rattle.std.specs.Prelude.{◌≡◌, ℕ, Bool, true, false, List, [], Result, Ok, Err}
 use Rattle.std.specs.Prelude.{Option, Some, None}
-use Rattle.std.specs.FinMap as table
 use Rattle.jc_model.specs.declared.call.Notice.{Notice}
 use Rattle.jc_model.specs.declared.call.Request.TheVariants.{Tell}
 use Rattle.jc_model.specs.declared.config.CacheConfig.{CacheConfig}
@@ -11,15 +10,14 @@ use Rattle.jc_model.specs.declared.event.Step.{Step}
 use Rattle.jc_model.specs.declared.event.Step.TheVariants.{Done, Need}
 use Rattle.jc_model.specs.declared.event.Outcome.{Outcome}
 use Rattle.jc_model.specs.declared.event.Outcome.TheVariants as outcome
-use Rattle.jc_model.specs.Changes.{Progress}
 use Rattle.jc_model.specs.Run.{Run, ended, waiting, and_then, Awaited, for_tell, told_by}
 use Rattle.jc_model.specs.Whole.{told_first}
-use Rattle.jc_model.specs.Runs.{Said, gives_up, shown, standing_of, reply_of, moved}
-use Rattle.jc_model.specs.Suspended.{Wait, one, telling, standing_by}
+use Rattle.jc_model.specs.Runs.{Said, shown, standing_of, reply_of, moved}
+use Rattle.jc_model.specs.Suspended.{Wait, one, many, telling, standing_by}
 use Rattle.jc_rows.specs.Rows.{RowMap}
 use Rattle.jc_ops.specs.Noted.{Noted}
 use Rattle.jc_ops.specs.Kept.{Kept, progress_of, IsKept}
-use Rattle.jc_ops.specs.Moved.{IsSuspended}
+use Rattle.jc_bulk.specs.Moved.{IsSuspended}
 use Rattle.jc_engine.specs.declared.cache.Turn.{Turn}
 use Rattle.jc_engine.specs.declared.cache.Turn.TheVariants.{Idle, Waiting, Telling}
 use Rattle.jc_engine.specs.declared.cache.Advance.{Advance}
@@ -50,7 +48,6 @@ WaitsThere c k (Telling reply) = Unit {0}
 pub record IsManaged {G : Type 0} (m : RowMap) (id : ℕ) (cache : Managed G) : Type 0 where
   pub kept : IsKept cache.config m id cache.state
   pub waits : WaitsThere cache.config cache.state cache.turn
-  pub hookless : cache.config.processors ≡ []
 
 -- The call moves.
 
@@ -61,6 +58,7 @@ step_of (Told notices) = Need (Tell notices.told)
 
 abbrev pub is_telling : Wait → Bool
 is_telling (one w) = false
+is_telling (many w) = false
 is_telling (telling reply) = true
 
 -- whether a call waits for its notices to be told

@@ -1,5 +1,5 @@
 -- Which configurations a manager opens with.
-use Rattle.std.specs.Prelude.{◌≡◌, ℕ, ◌+◌, ◌||◌, ltb, Bool, if◌then◌else◌, List, [], ◌∷◌, ◌++◌, length, sum, map}
+use Rattle.std.specs.Prelude.{ℕ, ◌+◌, ◌||◌, ltb, Bool, if◌then◌else◌, List, [], ◌∷◌, ◌++◌, length, sum, map}
 use Rattle.std.specs.Prelude.{Option, Some, None}
 use Rattle.std.specs.List.{list_any}
 use Rattle.std.specs.Str.{bytes_eq}
@@ -42,8 +42,3 @@ abbrev pub open_refusal : List CacheConfig → Option OpenRefusal
 open_refusal configs =
     if ltb 1024 (length configs) then Some TooManyCaches
     else or_else (refusal_from [] 0 configs) (if ltb 262144 (sum (capacities configs)) then Some TotalCapacity else None)
-
--- no cache has processors
-abbrev pub Hookless : List CacheConfig → Type 0
-Hookless [] = Unit {0}
-Hookless (c ∷ configs) = (c.processors ≡ []) × Hookless configs

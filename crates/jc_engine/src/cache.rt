@@ -6,18 +6,18 @@ ghost use Rattle.jc_model.specs.Run.{Run};
 ghost use Rattle.jc_model.specs.Runs.{begins, answers, gives_up, has_processor, reply_of, moved};
 ghost use Rattle.jc_ops.specs.Kept.{Kept};
 ghost use Rattle.jc_ops.specs.Tied.{SameElsewhere};
-ghost use Rattle.jc_ops.specs.Moved.{ComesTo};
+ghost use Rattle.jc_bulk.specs.Moved.{ComesTo};
 ghost use Rattle.jc_engine.specs.Caches.{status_of};
 ghost use Rattle.jc_engine.specs.Managed.{cache_in, step_of, is_step, IsManaged, Moves, Settled, Abandons};
 
+use jc_bulk::call::{Moved, answer_call, start_call};
+use jc_bulk::waits::Suspended;
 use jc_model::call::{Answer, Call, Reply, Request};
 use jc_model::config::CacheConfig;
 use jc_model::event::{CacheId, Cause, Step};
 use jc_model::thrice::Thrice;
-use jc_ops::call::{Moved, answer_call, start_call};
 use jc_ops::notices::Notices;
 use jc_ops::state::CacheState;
-use jc_ops::waits::Suspended;
 use jc_ring::ring::Ring;
 use jc_rows::rows::Rows;
 use std::alloc::Global;
@@ -65,7 +65,9 @@ fn has_processor(config: &CacheConfig, call: &Call) -> bool
     ensures { result ≡ has_processor config.now call.now }
 {
     match call {
-        Call::Invoke { processor, .. } => (*processor as usize) < config.processors.items().len(),
+        Call::Invoke { processor, .. } | Call::InvokeAll { processor, .. } => {
+            (*processor as usize) < config.processors.items().len()
+        }
         _ => true,
     }
 }

@@ -4,7 +4,7 @@ ghost use Rattle.std.specs.FinMap as table;
 ghost use Rattle.std.specs.List.{list_any};
 ghost use Rattle.std.specs.Str.{bytes_eq};
 ghost use Rattle.jc_engine.specs.Caches.{fresh_cache};
-ghost use Rattle.jc_engine.specs.Opening.{Hookless, open_refusal, limit_refusal, refusal_from, is_taken, capacities, names_in};
+ghost use Rattle.jc_engine.specs.Opening.{open_refusal, limit_refusal, refusal_from, is_taken, capacities, names_in};
 ghost use Rattle.jc_engine.specs.Fresh.{AreIds, fresh_fields};
 
 use crate::cache::{Managed, Turn};
@@ -69,8 +69,7 @@ impl<R: Rows, G: Ring> Engine<R, G> {
         rows: R,
         configs: Vec<CacheConfig>,
     ) -> Result<Engine<R, G>, OpenRefusal>
-        requires empty { R.contents rows ≡ table.empty }
-        requires hookless { Hookless configs.items }
+        requires { R.contents rows ≡ table.empty }
         ensures refused { IfSome (open_refusal configs.items) (λ refusal. result ≡ Err refusal) }
         ensures memory { IfErr result (λ refusal. (open_refusal configs.items ≡ Some refusal) ⊎ (refusal ≡ OpenRefusal.OutOfMemory)) }
         ensures opened { IfOk result (λ engine. engine ≡ map fresh_cache configs.items) }

@@ -10,7 +10,7 @@ ghost use Rattle.jc_model.specs.Runs.{answer_to, statuses_after, for_memory};
 ghost use Rattle.jc_model.specs.Solo.{opened};
 ghost use Rattle.jc_model.specs.Legal.{IsLegal, Tells, recorded, with_outcome, with_answer};
 ghost use Rattle.jc_engine.specs.Caches.{status_of, configs_of, names_of, expiry_in, holds_in};
-ghost use Rattle.jc_engine.specs.Opening.{Hookless, open_refusal};
+ghost use Rattle.jc_engine.specs.Opening.{open_refusal};
 ghost use Rattle.jc_engine.specs.Results.{of_recorded_begin, of_recorded_resume, of_give_up, reply_in};
 ghost use Rattle.jc_engine.specs.Managed.{step_of};
 ghost use Rattle.jc_engine.specs.Recording.{CanTell, blank, left_in};
@@ -59,8 +59,7 @@ impl<R: Rows, G: Ring> Recorded<R, G> {
         rows: R,
         configs: Vec<CacheConfig>,
     ) -> Result<Recorded<R, G>, OpenRefusal>
-        requires empty { R.contents rows ≡ table.empty }
-        requires hookless { Hookless configs.items }
+        requires { R.contents rows ≡ table.empty }
         ensures refused { IfSome (open_refusal configs.items) (λ refusal. result ≡ Err refusal) }
         ensures memory { IfErr result (λ refusal. (open_refusal configs.items ≡ Some refusal) ⊎ (refusal ≡ OpenRefusal.OutOfMemory)) }
         ensures opened { IfOk result (λ r. map status_of r.caches ≡ map opened configs.items) }

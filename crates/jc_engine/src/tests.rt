@@ -1,7 +1,4 @@
 //! A manager over the plain table and the plain ring.
-ghost use Rattle.std.specs.Prelude.{IfOk};
-ghost use Rattle.jc_engine.specs.Opening.{Hookless};
-
 use crate::engine::Engine;
 use crate::open::OpenRefusal;
 use crate::recorded::Recorded;
@@ -16,11 +13,8 @@ use jc_rows::list_rows::ListRows;
 use std::alloc::Global;
 use std::test::Fail;
 
-#[tactic(auto, using(crate::proofs::Hookless::hookless_push))]
 /// Caches with a loader, named by their places.
-fn configs(alloc: Global, count: u32, capacity: u32) -> Result<Vec<CacheConfig>, OutOfMemory>
-    ensures { IfOk result (λ configs. Hookless configs.items) }
-{
+fn configs(alloc: Global, count: u32, capacity: u32) -> Result<Vec<CacheConfig>, OutOfMemory> {
     let mut configs = Vec::new(alloc);
     for place in 0..count {
         let name = format!(in alloc; "{place}")?;

@@ -1,4 +1,4 @@
-use Rattle.std.proofs.Common.{◌≡◌, ◌≤◌, List, [], length, sum, Some, None, subst, ap, ◌∙◌, arith}
+use Rattle.std.proofs.Common.{◌≡◌, ◌≤◌, List, [], length, sum, None, subst, ap, ◌∙◌, arith}
 use Rattle.jc_model.specs.declared.config.CacheConfig.{CacheConfig}
 use Rattle.jc_engine.specs.Opening.{names_in, refusal_from, capacities}
 use Rattle.jc_engine.specs.Fresh.{AreIds}
@@ -9,7 +9,7 @@ pub invariant_of-result : goal.invariant_of-result
 invariant_of-result g c =
     let named : c.in_ok-names.names.items ≡ names_in c.args.configs.items = c.in_ok-names.ensures ∙ ap names_in c.deref-3.ensures.value in
     opened_sound (g.R.Rows.contents c.args.rows) c.args.configs.items c.in_ok-caches.caches.items c.in_ok-names.names.items c.in-Some.ids
-    c.requires.empty c.requires.hookless (subst (λ (cs : List CacheConfig). refusal_from [] 0 cs ≡ None) c.deref.ensures.value c.in_ok-ids.ensures.ok) c.in_ok-caches.ensures named
+    c.requires (subst (λ (cs : List CacheConfig). refusal_from [] 0 cs ≡ None) c.deref.ensures.value c.in_ok-ids.ensures.ok) c.in_ok-caches.ensures named
     (subst (λ ids. AreIds ids (names_in c.args.configs.items)) c.in-Some.is (subst (λ (cs : List CacheConfig). AreIds c.in_ok-ids.ids (names_in cs)) c.deref.ensures.value c.in_ok-ids.ensures.ids))
 
 pub returns-clause-opened : goal.returns-clause-opened
