@@ -4,11 +4,10 @@ use Rattle.std.specs.Prelude.{IfSome, IfOk, nat_lt, option_and_then, if◌then�
 use Rattle.std.specs.List.{position_from, slice_split}
 use Rattle.std.specs.Option.{ok_or}
 use Rattle.serde_json.specs.Data.{Data}
-use Rattle.serde_json.specs.Find.{get, as_str}
+use Rattle.serde_json.specs.Find.{get, as_bool, as_str}
 use Rattle.jc_model.specs.declared.call.Call.{Call}
 use Rattle.jc_model.specs.declared.config.CacheConfig.{CacheConfig}
 use Rattle.jc_model.specs.Runs.{has_processor}
-use Rattle.jc_script.specs.declared.fault.Member.{Member}
 use Rattle.jc_script.specs.declared.fault.Member.TheVariants as members
 use Rattle.jc_script.specs.declared.fault.ScriptFault.{ScriptFault}
 use Rattle.jc_script.specs.declared.fault.ScriptFault.TheVariants.{TooLong, Bad}
@@ -16,7 +15,7 @@ use Rattle.jc_script.specs.declared.line.Line.{Line}
 use Rattle.jc_script.specs.declared.operation.Operation.{Operation}
 use Rattle.jc_script.specs.declared.operation.Operation.TheVariants as ops
 use Rattle.jc_script.specs.Faults.{◌>>=◌}
-use Rattle.jc_script.specs.Line.{member_name, needed, whole, whole_below, place_of, cache, operation, key, value, key_and_value, call_of, processors_at, object_of, line_of}
+use Rattle.jc_script.specs.Line.{member_name, needed, whole, whole_below, place_of, cache, operation, key, keys, pairs, value, key_and_value, call_of, processors_at, object_of, line_of}
 use Rattle.jc_script.specs.Script.{piece_of, lines_from, lines, is_blank, is_feed}
 use Rattle.jc_script.specs.Named.{Names, AllName}
 
@@ -94,6 +93,7 @@ processor_below processors n d =
 call_within : (processors : ℕ) (o : Operation) (n : ℕ) (d : Data) → IfOk (call_of processors o n d) (IsWithin processors)
 unfolding call_of
 call_within m ops.Get n d = behind (IsWithin m) (needed key n members.Key d) _ (λ k c e. refl)
+call_within m ops.GetAll n d = behind (IsWithin m) (needed keys n members.Keys d) _ (λ ks c e. refl)
 call_within m ops.Contains n d = behind (IsWithin m) (needed key n members.Key d) _ (λ k c e. refl)
 call_within m ops.Put n d = behind (IsWithin m) (key_and_value n d) _ (λ row c e. refl)
 call_within m ops.GetAndPut n d = behind (IsWithin m) (key_and_value n d) _ (λ row c e. refl)
@@ -108,6 +108,15 @@ call_within m ops.GetAndRemove n d = behind (IsWithin m) (needed key n members.K
 call_within m ops.Invoke n d =
     behind (IsWithin m) (needed key n members.Key d) _ (λ k. knowing (λ p. nat_lt p m ≡ true) (IsWithin m) (needed (whole_below m) n members.Processor d) _ (processor_below m n d)
     (λ p lt. behind (IsWithin m) (needed value n members.Argument d) _ (λ a c e. subst (λ (i : ℕ). ltb p i ≡ true) e lt)))
+call_within m ops.InvokeAll n d =
+    behind (IsWithin m) (needed keys n members.Keys d) _ (λ ks. knowing (λ p. nat_lt p m ≡ true) (IsWithin m) (needed (whole_below m) n members.Processor d) _ (processor_below m n d)
+    (λ p lt. behind (IsWithin m) (needed value n members.Argument d) _ (λ a c e. subst (λ (i : ℕ). ltb p i ≡ true) e lt)))
+call_within m ops.PutAll n d = behind (IsWithin m) (needed pairs n members.Pairs d) _ (λ ps c e. refl)
+call_within m ops.RemoveKeys n d = behind (IsWithin m) (needed keys n members.Keys d) _ (λ ks c e. refl)
+call_within m ops.RemoveAll n d = λ c e. refl
+call_within m ops.Clear n d = λ c e. refl
+call_within m ops.LoadAll n d = behind (IsWithin m) (needed keys n members.Keys d) _ (λ ks. behind (IsWithin m) (needed as_bool n members.Replace d) _ (λ replace c e. refl))
+call_within m ops.Entries n d = λ c e. refl
 call_within m ops.Stats n d = λ c e. refl
 call_within m ops.ClearStats n d = λ c e. refl
 

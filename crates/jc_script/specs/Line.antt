@@ -1,14 +1,15 @@
 -- What a line of a script says: its call, or the first fault.
-use Rattle.std.specs.Prelude.{ℕ, List, length, Option, Some, None, option_and_then, is_some, Result, Ok, Err, nat_lt, nat_le, ◌&&◌, if◌then◌else◌, codes, slice_get}
+use Rattle.std.specs.Prelude.{ℕ, Bool, List, [], ◌∷◌, length, map, Option, Some, None, option_and_then, option_map, is_some, Result, Ok, Err, nat_lt, nat_le, ◌&&◌, if◌then◌else◌, codes, slice_get}
 use Rattle.std.specs.Option.{ok_or}
 use Rattle.std.specs.List.{position_from}
 use Rattle.std.specs.Str.{is_utf8, bytes_eq}
-use Rattle.serde_json.specs.Data.{Data}
+use Rattle.serde_json.specs.Data.{Data, Items, no_items, item}
 use Rattle.serde_json.specs.Read.{read}
-use Rattle.serde_json.specs.Find.{get, as_object, as_number, as_u64, as_str}
+use Rattle.serde_json.specs.Find.{get, as_array, as_bool, as_object, as_number, as_u64, as_str}
 use Rattle.jc_model.specs.declared.call.Call.{Call}
 use Rattle.jc_model.specs.declared.call.Call.TheVariants as calls
 use Rattle.jc_model.specs.declared.config.CacheConfig.{CacheConfig}
+use Rattle.jc_model.specs.Lists.{distinct}
 use Rattle.jc_script.specs.declared.fault.Member.{Member}
 use Rattle.jc_script.specs.declared.fault.Member.TheVariants as members
 use Rattle.jc_script.specs.declared.fault.ScriptFault.{ScriptFault}
@@ -36,8 +37,11 @@ member_name members.Cache = codes "c"
 member_name members.At = codes "at"
 member_name members.Op = codes "op"
 member_name members.Key = codes "k"
+member_name members.Keys = codes "ks"
+member_name members.Pairs = codes "kvs"
 member_name members.Expect = codes "expect"
 member_name members.Value = codes "v"
+member_name members.Replace = codes "replace"
 member_name members.Processor = codes "p"
 member_name members.Argument = codes "arg"
 
@@ -76,6 +80,37 @@ value_text text = if nat_le (length text) 65535 then Some text else None
 abbrev pub value : Data → Option (List ℕ)
 value d = option_and_then value_text (as_str d)
 
+-- a key, and its value
+abbrev pub pair_of : Items → Option (List ℕ × List ℕ)
+pair_of (item k (item v no_items)) = option_and_then (λ a. option_map (λ b. (a, b)) (value v)) (key k)
+pair_of _ = None
+
+abbrev pub pair : Data → Option (List ℕ × List ℕ)
+pair d = option_and_then pair_of (as_array d)
+
+-- Lists.
+
+-- every item as f takes it, if f takes them all
+abbrev pub each : {A : Type 0} → (Data → Option A) → Items → Option (List A)
+each f no_items = Some []
+each f (item d ds) = option_and_then (λ x. option_map (λ xs. x ∷ xs) (each f ds)) (f d)
+
+-- the keys of one call: few enough, and all different
+abbrev pub are_keys : List (List ℕ) → Bool
+are_keys ks = nat_le (length ks) 64 && distinct ks
+
+abbrev pub distinct_keys : List (List ℕ) → Option (List (List ℕ))
+distinct_keys ks = if are_keys ks then Some ks else None
+
+abbrev pub keys : Data → Option (List (List ℕ))
+keys d = option_and_then (λ ds. option_and_then distinct_keys (each key ds)) (as_array d)
+
+abbrev pub distinct_pairs : List (List ℕ × List ℕ) → Option (List (List ℕ × List ℕ))
+distinct_pairs ps = if are_keys (map (λ p. p.0) ps) then Some ps else None
+
+abbrev pub pairs : Data → Option (List (List ℕ × List ℕ))
+pairs d = option_and_then (λ ds. option_and_then distinct_pairs (each pair ds)) (as_array d)
+
 -- The call, of a cache with so many processors.
 
 unfoldable pub key_and_value : ℕ → Data → Result (List ℕ × List ℕ) ScriptFault
@@ -88,6 +123,9 @@ unfoldable pub call_of : ℕ → Operation → ℕ → Data → Result Call Scri
 call_of processors ops.Get n d = do
   k ← needed key n members.Key d
   Ok (calls.Get k)
+call_of processors ops.GetAll n d = do
+  ks ← needed keys n members.Keys d
+  Ok (calls.GetAll ks)
 call_of processors ops.Contains n d = do
   k ← needed key n members.Key d
   Ok (calls.Contains k)
@@ -126,6 +164,24 @@ call_of processors ops.Invoke n d = do
   p ← needed (whole_below processors) n members.Processor d
   a ← needed value n members.Argument d
   Ok (calls.Invoke k p a)
+call_of processors ops.InvokeAll n d = do
+  ks ← needed keys n members.Keys d
+  p ← needed (whole_below processors) n members.Processor d
+  a ← needed value n members.Argument d
+  Ok (calls.InvokeAll ks p a)
+call_of processors ops.PutAll n d = do
+  ps ← needed pairs n members.Pairs d
+  Ok (calls.PutAll ps)
+call_of processors ops.RemoveKeys n d = do
+  ks ← needed keys n members.Keys d
+  Ok (calls.RemoveKeys ks)
+call_of processors ops.RemoveAll n d = Ok calls.RemoveAll
+call_of processors ops.Clear n d = Ok calls.Clear
+call_of processors ops.LoadAll n d = do
+  ks ← needed keys n members.Keys d
+  replace ← needed as_bool n members.Replace d
+  Ok (calls.LoadAll ks replace)
+call_of processors ops.Entries n d = Ok calls.Entries
 call_of processors ops.Stats n d = Ok calls.Stats
 call_of processors ops.ClearStats n d = Ok calls.ClearStats
 

@@ -1,5 +1,5 @@
 -- The text of a report.
-use Rattle.std.specs.Prelude.{ℕ, ◌+◌, List, [], ◌∷◌, ◌++◌, map, true, false, Option, Some, None, Vec, if◌then◌else◌, codes, decimal}
+use Rattle.std.specs.Prelude.{ℕ, ◌+◌, List, [], ◌∷◌, ◌++◌, map, true, false, Option, Some, None, Result, Ok, Err, Vec, if◌then◌else◌, codes, decimal}
 use Rattle.std.specs.Borrow.{Bor}
 use Rattle.std.specs.List.{flat_map}
 use Rattle.std.specs.Str.{is_utf8}
@@ -12,8 +12,9 @@ use Rattle.jc_model.specs.declared.call.Counts.{Counts}
 use Rattle.jc_model.specs.declared.call.Kind.{Kind}
 use Rattle.jc_model.specs.declared.call.Kind.TheVariants as kind
 use Rattle.jc_model.specs.declared.call.Notice.{Notice}
+use Rattle.jc_model.specs.declared.call.ProcessorFault.{ProcessorFault}
 use Rattle.jc_model.specs.declared.call.Reply.{Reply}
-use Rattle.jc_model.specs.declared.call.Reply.TheVariants.{Done, Truth, Found, Counted, Fault}
+use Rattle.jc_model.specs.declared.call.Reply.TheVariants.{Done, Truth, Found, Listed, Results, Counted, Fault}
 use Rattle.jc_model.specs.declared.event.End.{End}
 use Rattle.jc_model.specs.declared.event.End.TheVariants.{Waiting, Replied, GivenUp}
 use Rattle.jc_model.specs.declared.event.Entry.{Entry}
@@ -29,6 +30,20 @@ bytes_text bytes = if is_utf8 bytes then quoted bytes else codes "hex:" ++ encod
 abbrev pub found_text : Option (List ℕ) → List ℕ
 found_text None = codes "none"
 found_text (Some bytes) = codes "some " ++ bytes_text bytes
+
+-- what stands before a key's value
+abbrev pub key_text : List ℕ → List ℕ
+key_text key = codes " " ++ bytes_text key ++ codes "="
+
+abbrev pub pair_text : List ℕ × List ℕ → List ℕ
+pair_text p = key_text p.0 ++ bytes_text p.1
+
+abbrev pub answered_text : Result (List ℕ) ProcessorFault → List ℕ
+answered_text (Ok bytes) = codes "some " ++ bytes_text bytes
+answered_text (Err fault) = codes "fault"
+
+abbrev pub result_text : List ℕ × Result (List ℕ) ProcessorFault → List ℕ
+result_text r = key_text r.0 ++ answered_text r.1
 
 abbrev pub spaced : ℕ → List ℕ
 spaced n = decimal n ++ codes " "
@@ -50,6 +65,8 @@ reply_text Done = codes "ok"
 reply_text (Truth true) = codes "true"
 reply_text (Truth false) = codes "false"
 reply_text (Found found) = found_text found
+reply_text (Listed pairs) = codes "pairs" ++ flat_map pair_text pairs
+reply_text (Results results) = codes "results" ++ flat_map result_text results
 reply_text (Counted counts) = counts_text counts
 reply_text (Fault by done) = codes "fault " ++ by_text by ++ done_text done
 

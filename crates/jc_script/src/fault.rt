@@ -13,8 +13,11 @@ pub enum Member {
     At,
     Op,
     Key,
+    Keys,
+    Pairs,
     Expect,
     Value,
+    Replace,
     Processor,
     Argument,
 }
@@ -30,8 +33,11 @@ impl Member {
             Member::At => "at",
             Member::Op => "op",
             Member::Key => "k",
+            Member::Keys => "ks",
+            Member::Pairs => "kvs",
             Member::Expect => "expect",
             Member::Value => "v",
+            Member::Replace => "replace",
             Member::Processor => "p",
             Member::Argument => "arg",
         }

@@ -5,6 +5,7 @@ mod caches;
 mod call;
 mod fault;
 mod groups;
+mod item;
 mod line;
 mod member;
 mod operation;

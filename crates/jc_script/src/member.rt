@@ -1,20 +1,19 @@
 //! The members of a line, each as it is needed.
-ghost use Rattle.std.specs.Prelude.{◌≡◌, ◌≤◌, length};
+ghost use Rattle.std.specs.Prelude.{◌≤◌};
+ghost use Rattle.serde_json.specs.Find.{as_bool};
 ghost use Rattle.serde_json.specs.View.{view};
 ghost use Rattle.jc_script.specs.declared.fault.Member.TheVariants as members;
 ghost use Rattle.jc_script.specs.Faults.{Gives};
-ghost use Rattle.jc_script.specs.Line.{needed, whole, whole_below, operation, key, value};
+ghost use Rattle.jc_script.specs.Line.{needed, whole, whole_below, operation, key, keys, pairs, value};
 
 use crate::fault::{Member, ScriptFault};
+use crate::item::{Item, key_in};
 use crate::operation::{Operation, operation_named};
 use jc_model::key::Key;
+use jc_model::keys::{Keys, Pairs};
 use jc_model::value;
-use jc_model::value::ValueFault;
 use serde_json::Value;
 use std::alloc::Global;
-
-/// The most bytes of a value.
-const MOST_BYTES: usize = 65_535;
 
 /// The session's number, 0 to 63.
 pub fn read_session(object: &Value, line: usize) -> Result<u32, ScriptFault>
@@ -58,12 +57,9 @@ pub fn read_key(object: &Value, line: usize) -> Result<Key, ScriptFault>
     ensures { Gives (λ x. x) result (needed key line members.Key (view object.now)) }
 {
     let member = Member::Key;
-    match object.get(member.name()).and_then(Value::as_str) {
+    match object.get(member.name()).and_then(key_in) {
+        Some(key) => Ok(key),
         None => Err(ScriptFault::Bad { line, member }),
-        Some(text) => match Key::from_text(text) {
-            Ok(key) => Ok(key),
-            Err(_) => Err(ScriptFault::Bad { line, member }),
-        },
     }
 }
 
@@ -79,6 +75,34 @@ pub fn read_processor(object: &Value, line: usize, processors: usize) -> Result<
     }
 }
 
+/// Whether keys that have a row are loaded too.
+pub fn read_replace(object: &Value, line: usize) -> Result<bool, ScriptFault>
+    ensures { Gives (λ x. x) result (needed as_bool line members.Replace (view object.now)) }
+{
+    let member = Member::Replace;
+    match object.get(member.name()).and_then(Value::as_bool) {
+        Some(replace) => Ok(replace),
+        None => Err(ScriptFault::Bad { line, member }),
+    }
+}
+
+fn read_item<T: Item>(
+    alloc: Global,
+    object: &Value,
+    line: usize,
+    member: Member,
+) -> Result<T, ScriptFault>
+    ensures { Gives (λ x. x) result (needed T.reading line member (view object.now)) }
+{
+    let Some(item) = object.get(member.name()) else {
+        return Err(ScriptFault::Bad { line, member });
+    };
+    match T::from_json(alloc, item)? {
+        Some(read) => Ok(read),
+        None => Err(ScriptFault::Bad { line, member }),
+    }
+}
+
 /// The bytes of a text, as the value that a member gives.
 pub fn read_value(
     alloc: Global,
@@ -88,20 +112,19 @@ pub fn read_value(
 ) -> Result<value::Value, ScriptFault>
     ensures { Gives (λ x. x) result (needed value line member (view object.now)) }
 {
-    match object.get(member.name()).and_then(Value::as_str) {
-        Some(text) if text.len() <= MOST_BYTES => made(alloc, text),
-        _ => Err(ScriptFault::Bad { line, member }),
-    }
+    read_item(alloc, object, line, member)
 }
 
-fn made(alloc: Global, text: &str) -> Result<value::Value, ScriptFault>
-    requires { length text.now ≤ 65535 }
-    ensures { Gives (λ x. x) result (Ok text.now) }
+/// The keys of a call on many.
+pub fn read_keys(alloc: Global, object: &Value, line: usize) -> Result<Keys, ScriptFault>
+    ensures { Gives (λ x. x) result (needed keys line members.Keys (view object.now)) }
 {
-    let bytes = Vec::from_slice(alloc, text.as_bytes())?;
-    match value::Value::new(alloc, bytes) {
-        Ok(value) => Ok(value),
-        Err(ValueFault::OutOfMemory) => Err(ScriptFault::OutOfMemory),
-        Err(ValueFault::TooLong) => unreachable!(),
-    }
+    read_item(alloc, object, line, Member::Keys)
+}
+
+/// The keys of a call on many, each with a value.
+pub fn read_pairs(alloc: Global, object: &Value, line: usize) -> Result<Pairs, ScriptFault>
+    ensures { Gives (λ x. x) result (needed pairs line members.Pairs (view object.now)) }
+{
+    read_item(alloc, object, line, Member::Pairs)
 }

@@ -9,6 +9,7 @@ use jc_model::call::Call;
 #[derive(Clone, Copy, Debug, PartialEq, Eq)]
 pub enum Operation {
     Get,
+    GetAll,
     Contains,
     Put,
     GetAndPut,
@@ -20,6 +21,13 @@ pub enum Operation {
     RemoveIf,
     GetAndRemove,
     Invoke,
+    InvokeAll,
+    PutAll,
+    RemoveKeys,
+    RemoveAll,
+    Clear,
+    LoadAll,
+    Entries,
     Stats,
     ClearStats,
 }
@@ -31,6 +39,7 @@ impl Operation {
     {
         match self {
             Operation::Get => "get",
+            Operation::GetAll => "get_all",
             Operation::Contains => "contains",
             Operation::Put => "put",
             Operation::GetAndPut => "get_and_put",
@@ -42,6 +51,13 @@ impl Operation {
             Operation::RemoveIf => "remove_if",
             Operation::GetAndRemove => "get_and_remove",
             Operation::Invoke => "invoke",
+            Operation::InvokeAll => "invoke_all",
+            Operation::PutAll => "put_all",
+            Operation::RemoveKeys => "remove_keys",
+            Operation::RemoveAll => "remove_all",
+            Operation::Clear => "clear",
+            Operation::LoadAll => "load_all",
+            Operation::Entries => "entries",
             Operation::Stats => "stats",
             Operation::ClearStats => "clear_stats",
         }
@@ -53,6 +69,7 @@ impl Operation {
     {
         match call {
             Call::Get(_) => Operation::Get,
+            Call::GetAll(_) => Operation::GetAll,
             Call::Contains(_) => Operation::Contains,
             Call::Put(..) => Operation::Put,
             Call::GetAndPut(..) => Operation::GetAndPut,
@@ -64,6 +81,13 @@ impl Operation {
             Call::RemoveIf { .. } => Operation::RemoveIf,
             Call::GetAndRemove(_) => Operation::GetAndRemove,
             Call::Invoke { .. } => Operation::Invoke,
+            Call::InvokeAll { .. } => Operation::InvokeAll,
+            Call::PutAll(_) => Operation::PutAll,
+            Call::RemoveKeys(_) => Operation::RemoveKeys,
+            Call::RemoveAll => Operation::RemoveAll,
+            Call::Clear => Operation::Clear,
+            Call::LoadAll { .. } => Operation::LoadAll,
+            Call::Entries => Operation::Entries,
             Call::Stats => Operation::Stats,
             Call::ClearStats => Operation::ClearStats,
         }
@@ -71,8 +95,9 @@ impl Operation {
 }
 
 /// All operations.
-const OPERATIONS: [Operation; 14] = [
+const OPERATIONS: [Operation; 22] = [
     Operation::Get,
+    Operation::GetAll,
     Operation::Contains,
     Operation::Put,
     Operation::GetAndPut,
@@ -84,6 +109,13 @@ const OPERATIONS: [Operation; 14] = [
     Operation::RemoveIf,
     Operation::GetAndRemove,
     Operation::Invoke,
+    Operation::InvokeAll,
+    Operation::PutAll,
+    Operation::RemoveKeys,
+    Operation::RemoveAll,
+    Operation::Clear,
+    Operation::LoadAll,
+    Operation::Entries,
     Operation::Stats,
     Operation::ClearStats,
 ];

@@ -1,9 +1,11 @@
 //! Replies as text.
 ghost use Rattle.std.specs.Prelude.{◌≡◌, ◌++◌, IfOk, OnOk, string_bytes, decimal, codes};
-ghost use Rattle.jc_script.specs.Report.{found_text, spaced, counts_text, by_text, done_text, reply_text};
+ghost use Rattle.std.specs.List.{flat_map};
+ghost use Rattle.jc_script.specs.Report.{found_text, key_text, pair_text, answered_text, result_text, spaced, counts_text, by_text, done_text, reply_text};
 
 use crate::quote::push_bytes;
-use jc_model::call::{By, Counts, Reply};
+use jc_model::call::{By, Counts, ProcessorFault, Reply};
+use jc_model::key::Key;
 use jc_model::value::Value;
 use std::alloc::{AllocError, Global};
 
@@ -24,6 +26,72 @@ fn push_found(alloc: Global, text: &mut String, found: &Option<Value>) -> Result
             push_bytes(alloc, text, value.bytes())
         }
     }
+}
+
+fn push_key(alloc: Global, text: &mut String, key: &Key) -> Result<(), AllocError>
+    ensures { OnOk result (string_bytes text.new ≡ string_bytes text.old ++ key_text key.now) }
+{
+    text.push_str(" ")?;
+    push_bytes(alloc, text, key.text().as_bytes())?;
+    text.push_str("=")
+}
+
+fn push_pair(alloc: Global, text: &mut String, pair: &(Key, Value)) -> Result<(), AllocError>
+    ensures { OnOk result (string_bytes text.new ≡ string_bytes text.old ++ pair_text pair.now) }
+{
+    push_key(alloc, text, &pair.0)?;
+    push_bytes(alloc, text, pair.1.bytes())
+}
+
+fn push_pairs(alloc: Global, text: &mut String, pairs: &[(Key, Value)]) -> Result<(), AllocError>
+    ensures { OnOk result (string_bytes text.new ≡ string_bytes text.old ++ (codes "pairs" ++ flat_map pair_text pairs.now)) }
+{
+    text.push_str("pairs")?;
+    for pair in pairs {
+        push_pair(alloc, text, pair)?;
+    }
+    Ok(())
+}
+
+fn push_answered(
+    alloc: Global,
+    text: &mut String,
+    answered: &Result<Value, ProcessorFault>,
+) -> Result<(), AllocError>
+    ensures { OnOk result (string_bytes text.new ≡ string_bytes text.old ++ answered_text answered.now) }
+{
+    match answered {
+        Ok(value) => {
+            text.push_str("some ")?;
+            push_bytes(alloc, text, value.bytes())
+        }
+        Err(_) => text.push_str("fault"),
+    }
+}
+
+fn push_result(
+    alloc: Global,
+    text: &mut String,
+    of_key: &(Key, Result<Value, ProcessorFault>),
+) -> Result<(), AllocError>
+    ensures { OnOk result (string_bytes text.new ≡ string_bytes text.old ++ result_text of_key.now) }
+{
+    push_key(alloc, text, &of_key.0)?;
+    push_answered(alloc, text, &of_key.1)
+}
+
+fn push_results(
+    alloc: Global,
+    text: &mut String,
+    results: &[(Key, Result<Value, ProcessorFault>)],
+) -> Result<(), AllocError>
+    ensures { OnOk result (string_bytes text.new ≡ string_bytes text.old ++ (codes "results" ++ flat_map result_text results.now)) }
+{
+    text.push_str("results")?;
+    for of_key in results {
+        push_result(alloc, text, of_key)?;
+    }
+    Ok(())
 }
 
 /// Adds a number and a space.
@@ -75,6 +143,8 @@ pub fn push_reply(alloc: Global, text: &mut String, reply: &Reply) -> Result<(),
         Reply::Truth(true) => text.push_str("true"),
         Reply::Truth(false) => text.push_str("false"),
         Reply::Found(found) => push_found(alloc, text, found),
+        Reply::Listed(pairs) => push_pairs(alloc, text, pairs.items()),
+        Reply::Results(results) => push_results(alloc, text, results.items()),
         Reply::Counted(counts) => push_counts(alloc, text, counts),
         Reply::Fault { by, done } => {
             text.push_str("fault ")?;

@@ -1,0 +1,15 @@
+use Rattle.std.proofs.Common.{◌≡◌, ◌≢◌, List, [], ◌∷◌, length, None, refl, sym}
+use Rattle.serde_json.specs.View.{items_view}
+use Rattle.serde_json.specs.declared.value.Value.{Value}
+use Rattle.jc_script.specs.Line.{pair_of}
+use Rattle.jc_script.proofs.item.pair_of.Goals as goal
+
+-- a list of other than two items is no pair
+no_pair : (items : List Value) → length items ≢ 2 → pair_of (items_view items) ≡ None
+no_pair [] h = refl
+no_pair (first ∷ []) h = refl
+no_pair (first ∷ second ∷ []) h = absurd (h refl)
+no_pair (first ∷ second ∷ third ∷ rest) h = refl
+
+pub returns-then-items-ne2 : goal.returns-then-items-ne2
+returns-then-items-ne2 c = sym (no_pair c.args.items.now c.if-items-ne2.true)
