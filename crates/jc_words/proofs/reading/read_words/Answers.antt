@@ -1,0 +1,23 @@
+use Rattle.std.proofs.Common.{◌≡◌, ◌∙◌, sym, ap, subst, map, option_map, List}
+use Rattle.std.proofs.lemmas.Result.{err_from_is_err_and}
+use Rattle.clap.specs.Words.{App, Text, app_of, is_simple, subcommand_of, subcommand_rows_of}
+use Rattle.jc_words.specs.Program.{program, MayRefuse}
+use Rattle.clap.specs.declared.error.Error.{Error}
+use Rattle.jc_words.proofs.Readings.{named, some_asks, refused, is_simple_program}
+use Rattle.jc_words.proofs.reading.read_words.Goals as goal
+
+pub returns-in_err-matches-clause-refused : goal.returns-in_err-matches-clause-refused
+returns-in_err-matches-clause-refused c =
+    let p = err_from_is_err_and c.from_residual-in_err-matches.result c.from_residual-in_err-matches.ensures.1 in
+    let words : List Text = map (λ word. word.now) c.args.words.now in
+    let refusal = refused (app_of c.in_ok-command.command) words c.in_err-matches.field-0.0 c.in_ok-command.ensures.app c.in_err-matches.ensures.kinds in
+    let Q : Error → Type 0 = MayRefuse words in
+    rw p.1 (subst Q (sym p.2) refusal)
+
+pub returns-in-Some-2-clause-exact : goal.returns-in-Some-2-clause-exact
+returns-in-Some-2-clause-exact c =
+    let is : app_of c.in_ok-command.command ≡ program = c.in_ok-command.ensures.app in
+    let words : List Text = map (λ word. word.now) c.args.words.now in
+    let read : subcommand_rows_of c.in_ok-matches.matches ≡ subcommand_of program words =
+    (c.in_ok-matches.ensures.ok.2 (ap is_simple is ∙ is_simple_program)).1 ∙ ap (λ (app : App). subcommand_of app words) is in
+    named (subcommand_of program words) _ c.in-Some-2.run' (c.in-Some.ensures.rows ∙ ap (λ o. option_map (λ p. p.1) o) read) (some_asks _ _ _ c.in_ok-run.ensures.asks c.in-Some-2.is)

@@ -1,0 +1,69 @@
+-- The program's command, and what words ask of it as `clap` reads them.
+use Rattle.std.specs.Prelude.{◌≡◌, ℕ, pos, Bool, true, false, List, [], ◌∷◌, Option, Some, None, codes, string_bytes}
+use Rattle.std.specs.Str.Parse.{IsNumeral, without_leading_plus, digits_value}
+use Rattle.clap.specs.Kinds.{HasKind}
+use Rattle.clap.specs.Words.{App, Row, Rule, Text, new_app, new_rule, one_of, first_of, subcommand_of, with_rule, with_subcommand, fault_of}
+use Rattle.clap.specs.declared.builder.ArgAction.TheVariants.{Set, SetTrue}
+use Rattle.clap.specs.declared.builder.value_parser.ValueParser.TheVariants as parsers
+use Rattle.clap.specs.declared.error.Error.{Error}
+use Rattle.clap.specs.declared.error.kind.ErrorKind.TheVariants as kinds
+use Rattle.jc_words.specs.declared.run.Run.{Run}
+use Rattle.jc_words.specs.declared.run.Options.{Options}
+
+-- The arguments of `run`.
+
+abbrev pub path_rule : Text → Rule
+path_rule id = record (new_rule id) { required = true; action = Some Set }
+
+abbrev pub workers_rule : Rule
+workers_rule = record (new_rule (codes "workers")) { long = Some (codes "workers"); action = Some Set; value_names = 1; parser = Some (parsers.Signed (pos 1) (pos 8)); defaults = codes "1" ∷ [] }
+
+abbrev pub seed_rule : Rule
+seed_rule = record (new_rule (codes "seed")) { long = Some (codes "seed"); action = Some Set; value_names = 1; parser = Some (parsers.Signed (pos 0) (pos 9223372036854775807)); defaults = codes "0" ∷ [] }
+
+abbrev pub serial_rule : Rule
+serial_rule = record (new_rule (codes "serial")) { long = Some (codes "serial"); action = Some SetTrue }
+
+abbrev pub run_app : App
+run_app = with_rule (with_rule (with_rule (with_rule (with_rule (new_app (codes "run")) (path_rule (codes "CONFIG"))) (path_rule (codes "SCRIPT"))) workers_rule) seed_rule) serial_rule
+
+-- the words begin after the program's name, and one of them has to be a subcommand
+abbrev pub bare_app : App
+bare_app = record (new_app (codes "jcache")) { top = record (new_app (codes "jcache")).top { no_binary_name = true; subcommand_required = true } }
+
+abbrev pub program : App
+program = with_subcommand bare_app run_app.top
+
+-- What is asked.
+
+-- a text as `str::parse` reads it
+abbrev pub IsNumber : Option Text → ℕ → Type 0
+IsNumber None n = ⊥
+IsNumber (Some text) n = IsNumeral 10 (without_leading_plus text) × (digits_value 10 (without_leading_plus text) ≡ n)
+
+abbrev pub truth : Bool → Text
+truth true = codes "true"
+truth false = codes "false"
+
+-- the options in rows of matches
+pub record AsksOptions (rows : List Row) (options : Options) : Type 0 where
+  pub workers : IsNumber (one_of (codes "workers") rows) options.workers
+  pub seed : IsNumber (one_of (codes "seed") rows) options.seed
+  pub serial : one_of (codes "serial") rows ≡ Some (truth options.serial)
+
+abbrev pub options_of : Run → Options
+options_of run = record { workers = run.workers; seed = run.seed; serial = run.serial }
+
+-- what rows of matches ask for
+pub record Asks (rows : List Row) (run : Run) : Type 0 where
+  pub config : first_of (codes "CONFIG") rows ≡ Some (string_bytes run.config)
+  pub script : first_of (codes "SCRIPT") rows ≡ Some (string_bytes run.script)
+  pub options : AsksOptions rows (options_of run)
+
+-- the words name the subcommand, and its matches ask for the run
+abbrev pub AsksFor : List Text → Run → Type 0
+AsksFor words run = (p : Text × List Row) × (subcommand_of program words ≡ Some p) × Asks p.1 run
+
+-- a kind of fault that `clap` has for the words, want of memory, or that the words name no run
+abbrev pub MayRefuse : List Text → Error → Type 0
+MayRefuse words e = HasKind (kinds.InvalidSubcommand ∷ fault_of program words) e

@@ -1,0 +1,97 @@
+//! The command that `clap` is given.
+
+ghost use Rattle.std.specs.Prelude.{◌≡◌, IfOk, false};
+ghost use Rattle.clap.specs.Words.{app_of, new_app, rule_of};
+ghost use Rattle.clap.specs.declared.builder.Command.TheViews.{out-Command};
+ghost use Rattle.jc_words.specs.Program.{path_rule, workers_rule, seed_rule, serial_rule, run_app, bare_app, program as program_app};
+
+use crate::help;
+use clap::{Arg, ArgAction, Command, value_parser};
+use std::alloc::{AllocError, Global};
+
+fn path<'a>(alloc: Global, id: &'a str, help: &'a str) -> Arg<'a>
+    ensures rule { rule_of result ≡ path_rule id.entry.now }
+    ensures global { result.global ≡ false }
+{
+    Arg::new(alloc, id)
+        .help(help)
+        .required(true)
+        .action(ArgAction::Set)
+}
+
+fn workers<'a>(alloc: Global) -> Arg<'a>
+    ensures rule { rule_of result ≡ workers_rule }
+    ensures global { result.global ≡ false }
+{
+    Arg::new(alloc, "workers")
+        .long("workers")
+        .value_name("N")
+        .help("How many threads run the script, from 1 to 8")
+        .action(ArgAction::Set)
+        .value_parser(value_parser!(u8).range(1..=8))
+        .default_value("1")
+}
+
+fn seed<'a>(alloc: Global) -> Arg<'a>
+    ensures rule { rule_of result ≡ seed_rule }
+    ensures global { result.global ≡ false }
+{
+    Arg::new(alloc, "seed")
+        .long("seed")
+        .value_name("N")
+        .help("Seed of the places in the table, from 0 to 9223372036854775807")
+        .action(ArgAction::Set)
+        .value_parser(value_parser!(i64).range(0..))
+        .default_value("0")
+}
+
+fn serial<'a>(alloc: Global) -> Arg<'a>
+    ensures rule { rule_of result ≡ serial_rule }
+    ensures global { result.global ≡ false }
+{
+    Arg::new(alloc, "serial")
+        .long("serial")
+        .help(
+            "Makes all calls in the script's order in one thread; the number of workers is ignored",
+        )
+        .action(ArgAction::SetTrue)
+}
+
+/// A command with the help's texts.
+fn described<'a>(alloc: Global, name: &'a str) -> Command<'a>
+    ensures app { app_of result ≡ new_app name.entry.now }
+    ensures local { (out-Command result).has_globals ≡ false }
+{
+    Command::new(alloc, name)
+        .about(help::ABOUT)
+        .after_help(help::AFTER)
+}
+
+fn run<'a>(alloc: Global) -> Result<Command<'a>, AllocError>
+    ensures app { IfOk result (λ c. app_of c ≡ run_app) }
+    ensures local { IfOk result (λ c. (out-Command c).has_globals ≡ false) }
+{
+    described(alloc, "run")
+        .arg(path(alloc, "CONFIG", "Path of the configuration"))?
+        .arg(path(alloc, "SCRIPT", "Path of the script"))?
+        .arg(workers(alloc))?
+        .arg(seed(alloc))?
+        .arg(serial(alloc))
+}
+
+/// The program's command without `run`.
+fn bare<'a>(alloc: Global) -> Result<Command<'a>, AllocError>
+    ensures app { IfOk result (λ c. app_of c ≡ bare_app) }
+{
+    described(alloc, "jcache")
+        .no_binary_name(true)
+        .subcommand_required(true)
+        .bin_name("jcache")
+}
+
+/// The program's command.
+pub fn program<'a>(alloc: Global) -> Result<Command<'a>, AllocError>
+    ensures app { IfOk result (λ c. app_of c ≡ program_app) }
+{
+    bare(alloc)?.subcommand(run(alloc)?)
+}

@@ -1,0 +1,13 @@
+//! The program's command line.
+#![tactic(auto)]
+
+mod command;
+mod help;
+mod reading;
+mod run;
+
+pub use reading::read_words;
+pub use run::Run;
+
+#[cfg(test)]
+mod tests;
