@@ -1,5 +1,10 @@
 pub mod Known
+pub mod Answered
+pub mod Hearing
+pub mod Reached
+pub mod Bounds
+pub mod Telling
+pub mod Suiting
 pub mod Steps
 pub mod Told
-pub mod AtOnce
-pub mod Ready
+pub mod Configured

@@ -1,52 +1,48 @@
 -- One line more.
-use Rattle.std.proofs.Common.{◌≡◌, ◌≢◌, ℕ, ◌+◌, ◌==◌, Bool, true, false, if◌then◌else◌, List, [], ◌∷◌, ◌++◌, map, slice_get, slice_set, Option, Some, None, refl, sym, ap, ◌∙◌, subst, append_assoc, append-nil, arith, length}
+use Rattle.std.proofs.Common.{◌≡◌, ◌≢◌, ℕ, ◌+◌, ◌<◌, ◌==◌, Bool, true, false, if◌then◌else◌, List, [], ◌∷◌, ◌++◌, length, map, Option, Some, None, Result, refl, sym, ap, ◌∙◌, subst, append_assoc, append-nil, arith}
+use Rattle.std.specs.Prelude.{slice_get, slice_set, ◌&&◌}
 use Rattle.std.proofs.lemmas.Bool.Decides.{nat_tests}
 use Rattle.std.proofs.lemmas.Bool.{false≢true}
-use Rattle.std.proofs.lemmas.Option.{none-some, same_Some}
+use Rattle.std.proofs.lemmas.Option.{same_Some, slice_get-map, slice_get_within}
+use Rattle.std.proofs.lemmas.List.{map_push}
 use Rattle.std.proofs.lemmas.List.Elements.{filter-append}
+use Rattle.std.specs.Option.{option_map}
+use Rattle.jc_model.specs.declared.call.Answer.{Answer}
+use Rattle.jc_model.specs.declared.call.Notice.{Notice}
+use Rattle.jc_model.specs.declared.call.ProcessorFault.{ProcessorFault}
 use Rattle.jc_model.specs.declared.call.Reply.{Reply}
+use Rattle.jc_model.specs.declared.call.Request.{Request}
+use Rattle.jc_model.specs.declared.call.Verdict.{Verdict}
 use Rattle.jc_model.specs.declared.config.CacheConfig.{CacheConfig}
-use Rattle.jc_model.specs.declared.event.Entry.{Entry}
-use Rattle.jc_model.specs.declared.event.End.TheVariants.{Replied}
-use Rattle.jc_model.specs.declared.event.Outcome.{Outcome}
-use Rattle.jc_model.specs.declared.event.Outcome.TheVariants.{Step, Refused, GivenUp}
-use Rattle.jc_model.specs.declared.event.Step.TheVariants.{Done, Need}
 use Rattle.jc_model.specs.declared.event.Cause.TheVariants.{NoSuchProcessor}
+use Rattle.jc_model.specs.declared.event.Entry.{Entry}
+use Rattle.jc_model.specs.declared.event.Outcome.{Outcome}
+use Rattle.jc_model.specs.declared.event.Outcome.TheVariants.{Step as Stepped, Refused}
+use Rattle.jc_model.specs.declared.event.Step.{Step}
+use Rattle.jc_model.specs.declared.event.Step.TheVariants.{Done}
 use Rattle.jc_model.specs.State.{State, first_state}
-use Rattle.jc_model.specs.Changes.{Progress}
-use Rattle.jc_model.specs.Run.{Run, ended, waiting}
-use Rattle.jc_model.specs.Whole.{whole}
-use Rattle.jc_model.specs.Runs.{Status, Standing, idle, begins, shown, refuse_last, has_processor, answer_to, answer_of, statuses_after, put_moved, moved, standing_of}
-use Rattle.jc_model.specs.Legal.{entries_of, recorded}
-use Rattle.jc_model.proofs.EachCache.{at_same, at_other}
-use Rattle.jc_script.specs.declared.line.Line.{Line}
-use Rattle.jc_runner.specs.Alone.{lines_of, entries_alone, entry_by, state_by, run_alone, no_hooks}
+use Rattle.jc_model.specs.Run.{Run, answered, progress}
+use Rattle.jc_model.specs.Runs.{Status, Standing, idle, begins, shown, standing_of, has_processor, refuse_last, answer_of}
+use Rattle.jc_model.specs.Solo.{state_of}
+use Rattle.jc_model.specs.Legal.{is_waiting, is_open, on_open, entries_of}
+use Rattle.jc_model.proofs.EachCache.{at_same, at_other, reply_kept}
 use Rattle.jc_model.proofs.Legal as legal
 use Rattle.jc_engine.specs.Caches.{Cache, configs_of, status_of}
 use Rattle.jc_engine.specs.Recording.{Recording}
-use Rattle.jc_runner.specs.Halfway.{event_of, replied, statuses_of, Replies, Goes, Halfway}
+use Rattle.jc_engine.proofs.Entries.{length_set}
+use Rattle.jc_engine.proofs.Places.{map_set, same_set}
+use Rattle.jc_hooks.specs.declared.cache_hooks.CacheHooks.{CacheHooks}
+use Rattle.jc_hooks.specs.declared.loader.Loaded.{Loaded}
+use Rattle.jc_script.specs.declared.line.Line.{Line}
+use Rattle.jc_script.specs.Named.{Names}
+use Rattle.jc_runner.specs.Alone.{lines_of, exchanged, unused, end_of, HasEnded, run_alone, entry_by, state_by, entries_alone, exchanges_alone, AllReply}
+use Rattle.jc_runner.specs.Answering.{Heard, HeardAt}
+use Rattle.jc_runner.specs.Halfway.{statuses_of, event_of, CanMove, NoneOpen, IsReady, ReachedFrom, Reached, Replies, RepliesAt, Goes, Halfway, CanRun}
+use Rattle.jc_runner.proofs.Answered.{Enough, enough, entry_enough, Ends, ends_with}
+use Rattle.jc_runner.proofs.Hearing.{heard_more}
+use Rattle.jc_runner.proofs.Reached.{step_shown, shows_step}
 
-abbrev reply_in : Outcome → Option Reply
-reply_in (Step (Done reply)) = Some reply
-reply_in (Step (Need request)) = None
-reply_in (Refused cause) = None
-reply_in (GivenUp notices) = None
-
-record Ends (run : Run) (reply : Reply) : Type 0 where
-  progress : Progress
-  is : run ≡ ended progress reply
-
-has_ended : (run : Run) (reply : Reply) → replied reply ≡ shown run → Ends run reply
-has_ended (ended p r) reply e = record { progress = p; is = ap (λ (x : Reply). ended p x) (sym (same_Some reply r (ap reply_in e))) }
-has_ended (waiting q p resumed) reply e = absurd (none-some reply (sym (ap reply_in e)))
-
-whole_ended : (run : Run) (b : Bool) (reply : Reply) → replied reply ≡ refuse_last false (if b then shown run else Refused NoSuchProcessor) → Ends run reply
-whole_ended (ended p r) true reply e = has_ended (ended p r) reply e
-whole_ended (waiting q p resumed) true reply e = has_ended (waiting q p resumed) reply e
-whole_ended run false reply e = absurd (none-some reply (sym (ap reply_in e)))
-
-abbrev recorded_entry : Line → Reply → Entry
-recorded_entry l reply = record { session = l.session; id = l.id; at = l.at; call = l.call; answers = []; told = []; end = Replied reply }
+-- Entries and lines of one cache.
 
 id_is_id : (n : ℕ) → (n == n) ≡ true
 id_is_id n = grind (arith, nat_tests)
@@ -69,79 +65,205 @@ line_of_same id l rest h = rw h refl
 line_of_other : (id : ℕ) (l : Line) (rest : List Line) → (l.id == id) ≡ false → lines_of id (l ∷ rest) ≡ lines_of id rest
 line_of_other id l rest h = rw h refl
 
-abbrev after : List Status → Line → Reply → List Status
-after statuses l reply = statuses_after statuses (event_of l) (replied reply)
+-- A call that replied is closed.
 
-abbrev written : List Entry → Line → Reply → List Entry
-written transcript l reply = recorded l.session (event_of l) (replied reply) transcript
+kept_closed : (b w : Bool) (x y : Entry) → w ≡ false → (if b && w then x else y) ≡ y
+kept_closed true w x y e = rw e refl
+kept_closed false w x y e = refl
 
--- what a line and those behind it add to their cache
-abbrev adds : CacheConfig → Line → List Line → Run → List Entry
-adds c l rest run = entry_by no_hooks l run ∷ entries_alone no_hooks c (state_by no_hooks run) (lines_of l.id rest)
+none_open_more : (transcript : List Entry) (e : Entry) → NoneOpen transcript → is_waiting e.end ≡ false → NoneOpen (transcript ++ e ∷ [])
+none_open_more transcript e closed over id f =
+    let g : Entry → Entry = λ d. if is_open id d then f d else d in
+    map_push g transcript e ∙ ap (λ (es : List Entry). es ++ g e ∷ []) (closed id f) ∙ ap (λ (d : Entry). transcript ++ d ∷ []) (kept_closed (e.id == id) (is_waiting e.end) (f e) e over)
 
--- the line's own cache
-goes_same : (c : CacheConfig) (all rest : List Line) (l : Line) (reply : Reply) (statuses : List Status) (transcript : List Entry) → Goes c l.id all (l ∷ rest) statuses transcript
-    → replied reply ≡ answer_to statuses (event_of l) false → Goes c l.id all rest (after statuses l reply) (written transcript l reply)
-goes_same c all rest l reply statuses transcript g answered =
-    let k : Status = record { config = c; standing = idle g.state } in
-    let run : Run = run_alone no_hooks c g.state l in
-    let e : Ends run reply = whole_ended run (has_processor c l.call) reply (answered ∙ ap (λ found. answer_of found (begins l.at l.call) false) g.stands) in
-    let own : (l.id == l.id) ≡ true = id_is_id l.id in
-    let next : after statuses l reply ≡ slice_set statuses l.id (moved k (begins l.at l.call)) = ap (put_moved statuses (event_of l)) g.stands in
-    let there : slice_get (slice_set statuses l.id (moved k (begins l.at l.call))) l.id ≡ Some (moved k (begins l.at l.call)) = at_same statuses l.id k (moved k (begins l.at l.call)) g.stands in
-    let left : standing_of run ≡ idle e.progress.state = ap standing_of e.is in
-    let more : entries_of l.id (written transcript l reply) ≡ entries_of l.id transcript ++ recorded_entry l reply ∷ [] = entry_of_same l.id transcript (recorded_entry l reply) own in
-    let tail : List Entry = entries_alone no_hooks c e.progress.state (lines_of l.id rest) in
-    let grouped : (entries_of l.id transcript ++ recorded_entry l reply ∷ []) ++ tail ≡ entries_of l.id transcript ++ (recorded_entry l reply ∷ tail) = append_assoc (entries_of l.id transcript) (recorded_entry l reply ∷ []) tail in
-    let added : entries_of l.id transcript ++ (recorded_entry l reply ∷ tail) ≡ entries_of l.id transcript ++ adds c l rest run = ap (λ (r : Run). entries_of l.id transcript ++ adds c l rest r) (sym e.is) in
-    let whole_line : entries_of l.id transcript ++ adds c l rest run ≡ entries_of l.id transcript ++ entries_alone no_hooks c g.state (lines_of l.id (l ∷ rest)) = ap (λ (ls : List Line). entries_of l.id transcript ++ entries_alone no_hooks c g.state ls) (sym (line_of_same l.id l rest own)) in
-    record {
-      state = e.progress.state;
-      stands = ap (λ (ks : List Status). slice_get ks l.id) next ∙ there ∙ ap (λ (s : Standing). Some (record { config = c; standing = s })) left;
-      entries = ap (λ (es : List Entry). es ++ tail) more ∙ grouped ∙ added ∙ whole_line ∙ g.entries;
-    }
+over : (l : Line) (run : Run) (given : List Answer) (reply : Reply) → Ends (answered run given) reply → is_waiting (entry_by l run given).end ≡ false
+over l run given reply e = ap (λ (now : Run). is_waiting (end_of now)) e.is
 
-stays : (statuses : List Status) (id : ℕ) (l : Line) (found : Option Status) → l.id ≢ id → slice_get (put_moved statuses (event_of l) found) id ≡ slice_get statuses id
-stays statuses id l None apart = refl
-stays statuses id l (Some k) apart = at_other statuses l.id id (moved k (begins l.at l.call)) apart
-
--- another cache
-goes_other : (c : CacheConfig) (id : ℕ) (all rest : List Line) (l : Line) (reply : Reply) (statuses : List Status) (transcript : List Entry) → (l.id == id) ≡ false → Goes c id all (l ∷ rest) statuses transcript
-    → Goes c id all rest (after statuses l reply) (written transcript l reply)
-goes_other c id all rest l reply statuses transcript apart g =
-    let same : entries_of id (written transcript l reply) ≡ entries_of id transcript = entry_of_other id transcript (recorded_entry l reply) apart in
-    let tail : List Entry = entries_alone no_hooks c g.state (lines_of id rest) in
-    record {
-      state = g.state;
-      stands = stays statuses id l (slice_get statuses l.id) (is_other l.id id apart) ∙ g.stands;
-      entries = ap (λ (es : List Entry). es ++ tail) same ∙ ap (λ (ls : List Line). entries_of id transcript ++ entries_alone no_hooks c g.state ls) (sym (line_of_other id l rest apart)) ∙ g.entries;
-    }
-
-goes : (c : CacheConfig) (id : ℕ) (all rest : List Line) (l : Line) (reply : Reply) (statuses : List Status) (transcript : List Entry) → Goes c id all (l ∷ rest) statuses transcript
-    → replied reply ≡ answer_to statuses (event_of l) false → Goes c id all rest (after statuses l reply) (written transcript l reply)
-goes c id all rest l reply statuses transcript g answered = by (l.id == id) refl where
-  by : (b : Bool) → (l.id == id) ≡ b → Goes c id all rest (after statuses l reply) (written transcript l reply)
-  by true h =
-      let P : ℕ → Type 0 = λ i. Goes c i all (l ∷ rest) statuses transcript → Goes c i all rest (after statuses l reply) (written transcript l reply) in
-      subst P (is_same l.id id h) (λ own. goes_same c all rest l reply statuses transcript own answered) g
-  by false h = goes_other c id all rest l reply statuses transcript h g
+-- No call changes a configuration.
 
 pub configs_by : (caches : List Cache) → legal.configs_of (map status_of caches) ≡ configs_of caches
 configs_by [] = refl
 configs_by (k ∷ ks) = ap (λ (cs : List CacheConfig). k.config ∷ cs) (configs_by ks)
 
-kept_configs : (old new : Recording) (l : Line) → Replies old new l → configs_of new.caches ≡ configs_of old.caches
-kept_configs old new l r =
-    sym (configs_by new.caches) ∙ ap legal.configs_of r.statuses ∙ legal.configs_after (statuses_of old) (event_of l) (replied r.reply) ∙ configs_by old.caches
+same_configs : (statuses : List Status) (i : ℕ) (k k' : Status) → slice_get statuses i ≡ Some k → k'.config ≡ k.config → legal.configs_of (slice_set statuses i k') ≡ legal.configs_of statuses
+same_configs statuses i k k' at same =
+    map_set (λ (k : Status). k.config) statuses i k' ∙ ap (slice_set (legal.configs_of statuses) i) same ∙ same_set (legal.configs_of statuses) i k.config (slice_get-map (λ (k : Status). k.config) statuses i ∙ ap (option_map (λ (k : Status). k.config)) at)
 
-pub one_line_more : (caches : List CacheConfig) (all rest : List Line) (l : Line) (old new : Recording) → Halfway caches all (l ∷ rest) old → Replies old new l → Halfway caches all rest new
-one_line_more caches all rest l old new h r = record {
-  configs = kept_configs old new l r ∙ h.configs;
-  each = λ id c at.
-      let P : List Status → List Entry → Type 0 = Goes c id all rest in
-      let here : Goes c id all rest (after (statuses_of old) l r.reply) (written old.transcript l r.reply) = goes c id all rest l r.reply (statuses_of old) old.transcript (h.each id c at) r.outcome in
-      subst (λ (ks : List Status). P ks new.transcript) (sym r.statuses) (subst (P (after (statuses_of old) l r.reply)) (sym r.transcript) here);
-}
+module _ {L W P K : Type 0} (load_of : L → List ℕ → Loaded) (may : W → List (Request × Answer) → Type 0) (verdict_of : P → Option (List ℕ) → List ℕ → Result Verdict ProcessorFault) (state_after : K → List Notice → List ℕ) where
+  -- a line's call starts where its cache stands
+  reached_at : (c : CacheConfig) (s : State) (old new : Recording) (h h' : CacheHooks L W P K) (l : Line) (step : Step) → Reached load_of may verdict_of state_after old new h h' l step
+      → slice_get (statuses_of old) l.id ≡ Some (record { config = c; standing = idle s }) → ReachedFrom load_of may verdict_of state_after c s old new h h' l step
+  reached_at c s old new h h' l step r there =
+      let same : record { config = r.config; standing = idle r.state } ≡ record { config = c; standing = idle s } = same_Some (record { config = r.config; standing = idle r.state }) (record { config = c; standing = idle s }) (sym r.there ∙ there) in
+      let same_state : r.state ≡ s = ap (λ (k : Status). state_of k.standing) same in
+      let same_config : r.config ≡ c = ap (λ (k : Status). k.config) same in
+      subst (λ (d : CacheConfig). ReachedFrom load_of may verdict_of state_after d s old new h h' l step) same_config
+      (subst (λ (t : State). ReachedFrom load_of may verdict_of state_after r.config t old new h h' l step) same_state r.reached)
+
+  abbrev GoesHere : CacheConfig → ℕ → List Line → List Line → Option (CacheHooks L W P K) → Option (CacheHooks L W P K) → List Status → List Entry → Type 0
+  GoesHere = Goes load_of may verdict_of state_after
+
+  heard_at_more : (handed : Option (CacheHooks L W P K)) (h h' : CacheHooks L W P K) (xs ys : List (Request × Answer)) → HeardAt load_of may verdict_of state_after handed (Some h) xs → Heard load_of may verdict_of state_after h h' ys
+      → HeardAt load_of may verdict_of state_after handed (Some h') (xs ++ ys)
+  heard_at_more None h h' xs ys x y = absurd x
+  heard_at_more (Some old) h h' xs ys x y = heard_more load_of may verdict_of state_after old h h' xs ys x y
+
+  -- the line's own cache
+  module _ (c : CacheConfig) (all rest : List Line) (l : Line) (old new : Recording) (handed : Option (CacheHooks L W P K)) (h h' : CacheHooks L W P K) (reply : Reply)
+      (g : GoesHere c l.id all (l ∷ rest) handed (Some h) (statuses_of old) old.transcript) (r : ReachedFrom load_of may verdict_of state_after c g.state old new h h' l (Done reply)) where
+    abbrev run : Run
+    run = run_alone c g.state l
+
+    ends : Ends (answered run r.answers) reply
+    ends = ends_with (answered run r.answers) reply r.shows
+
+    enough_here : (more : List Answer) → Enough run r.answers more ends.finally reply
+    enough_here more = enough run r.answers more ends.finally reply r.fit ends.is
+
+    own : (l.id == l.id) ≡ true
+    own = id_is_id l.id
+
+    -- what the lines behind it add, under more answers
+    adds_entries : (more : List Answer) → entries_alone c g.state (lines_of l.id (l ∷ rest)) (r.answers ++ more) ≡ entry_by l run r.answers ∷ entries_alone c ends.finally.state (lines_of l.id rest) more
+    adds_entries more =
+        ap (λ (ls : List Line). entries_alone c g.state ls (r.answers ++ more)) (line_of_same l.id l rest own)
+        ∙ ap (λ (e : Entry). e ∷ entries_alone c (state_by run (r.answers ++ more)) (lines_of l.id rest) (unused run (r.answers ++ more))) (entry_enough l run r.answers more ends.finally reply (enough_here more) ends.is)
+        ∙ ap (λ (now : Run). entry_by l run r.answers ∷ entries_alone c (progress now).state (lines_of l.id rest) (unused run (r.answers ++ more))) (enough_here more).ends
+        ∙ ap (λ (left : List Answer). entry_by l run r.answers ∷ entries_alone c ends.finally.state (lines_of l.id rest) left) (enough_here more).left
+
+    adds_exchanges : (more : List Answer) → exchanges_alone c g.state (lines_of l.id (l ∷ rest)) (r.answers ++ more) ≡ exchanged run r.answers ++ exchanges_alone c ends.finally.state (lines_of l.id rest) more
+    adds_exchanges more =
+        ap (λ (ls : List Line). exchanges_alone c g.state ls (r.answers ++ more)) (line_of_same l.id l rest own)
+        ∙ ap (λ (xs : List (Request × Answer)). xs ++ exchanges_alone c (state_by run (r.answers ++ more)) (lines_of l.id rest) (unused run (r.answers ++ more))) (enough_here more).exchanges
+        ∙ ap (λ (now : Run). exchanged run r.answers ++ exchanges_alone c (progress now).state (lines_of l.id rest) (unused run (r.answers ++ more))) (enough_here more).ends
+        ∙ ap (λ (left : List Answer). exchanged run r.answers ++ exchanges_alone c ends.finally.state (lines_of l.id rest) left) (enough_here more).left
+
+    adds_replies : (more : List Answer) → AllReply c ends.finally.state (lines_of l.id rest) more → AllReply c g.state (lines_of l.id (l ∷ rest)) (r.answers ++ more)
+    adds_replies more rests =
+        let now : Run = answered run (r.answers ++ more) in
+        let ended_now : HasEnded now = subst HasEnded (sym (enough_here more).ends) tt in
+        let rests' : AllReply c (state_by run (r.answers ++ more)) (lines_of l.id rest) (unused run (r.answers ++ more)) =
+        subst (λ (x : Run). AllReply c (progress x).state (lines_of l.id rest) (unused run (r.answers ++ more))) (sym (enough_here more).ends)
+        (subst (λ (left : List Answer). AllReply c ends.finally.state (lines_of l.id rest) left) (sym (enough_here more).left) rests) in
+        subst (λ (ls : List Line). AllReply c g.state ls (r.answers ++ more)) (sym (line_of_same l.id l rest own)) (ended_now, rests')
+
+    regrouped : (more : List Answer) → g.answers ++ (r.answers ++ more) ≡ (g.answers ++ r.answers) ++ more
+    regrouped more = sym (append_assoc g.answers r.answers more)
+
+    pub goes_same : GoesHere c l.id all rest handed (Some h') (statuses_of new) new.transcript
+    goes_same = record {
+      state = ends.finally.state;
+      answers = g.answers ++ r.answers;
+      given = g.given ++ exchanged run r.answers;
+      stands = ap (λ (ks : List Status). slice_get ks l.id) r.statuses ∙ at_same (statuses_of old) l.id (record { config = c; standing = idle g.state }) (record { config = c; standing = standing_of (answered run r.answers) }) g.stands
+          ∙ ap (λ (now : Run). Some (record { config = c; standing = standing_of now })) ends.is;
+      entries = λ more.
+          let tail : List Entry = entries_alone c ends.finally.state (lines_of l.id rest) more in
+          let added : entries_of l.id new.transcript ≡ entries_of l.id old.transcript ++ entry_by l run r.answers ∷ [] = ap (entries_of l.id) r.transcript ∙ entry_of_same l.id old.transcript (entry_by l run r.answers) own in
+          ap (λ (es : List Entry). es ++ tail) added ∙ append_assoc (entries_of l.id old.transcript) (entry_by l run r.answers ∷ []) tail
+          ∙ ap (λ (es : List Entry). entries_of l.id old.transcript ++ es) (sym (adds_entries more)) ∙ g.entries (r.answers ++ more)
+          ∙ ap (entries_alone c first_state (lines_of l.id all)) (regrouped more);
+      exchanges = λ more.
+          append_assoc g.given (exchanged run r.answers) (exchanges_alone c ends.finally.state (lines_of l.id rest) more)
+          ∙ ap (λ (xs : List (Request × Answer)). g.given ++ xs) (sym (adds_exchanges more)) ∙ g.exchanges (r.answers ++ more)
+          ∙ ap (exchanges_alone c first_state (lines_of l.id all)) (regrouped more);
+      replies = λ more rests. subst (AllReply c first_state (lines_of l.id all)) (regrouped more) (g.replies (r.answers ++ more) (adds_replies more rests));
+      heard = heard_at_more handed h h' g.given (exchanged run r.answers) g.heard r.heard;
+    }
+
+  -- another cache
+  goes_other : (c : CacheConfig) (id : ℕ) (all rest : List Line) (l : Line) (e : Entry) (handed hooks hooks' : Option (CacheHooks L W P K)) (statuses statuses' : List Status) (transcript transcript' : List Entry) → (l.id == id) ≡ false
+      → (e.id == id) ≡ false → hooks' ≡ hooks → slice_get statuses' id ≡ slice_get statuses id → transcript' ≡ transcript ++ e ∷ [] → GoesHere c id all (l ∷ rest) handed hooks statuses transcript → GoesHere c id all rest handed hooks' statuses' transcript'
+  goes_other c id all rest l e handed hooks hooks' statuses statuses' transcript transcript' apart apart' same stays more g =
+      let lines_same : lines_of id rest ≡ lines_of id (l ∷ rest) = sym (line_of_other id l rest apart) in
+      let entries_same : entries_of id transcript' ≡ entries_of id transcript = ap (entries_of id) more ∙ entry_of_other id transcript e apart' in
+      record {
+        state = g.state;
+        answers = g.answers;
+        given = g.given;
+        stands = stays ∙ g.stands;
+        entries = λ more. ap (λ (es : List Entry). es ++ entries_alone c g.state (lines_of id rest) more) entries_same ∙ ap (λ (ls : List Line). entries_of id transcript ++ entries_alone c g.state ls more) lines_same ∙ g.entries more;
+        exchanges = λ more. ap (λ (ls : List Line). g.given ++ exchanges_alone c g.state ls more) lines_same ∙ g.exchanges more;
+        replies = λ more rests. g.replies more (subst (λ (ls : List Line). AllReply c g.state ls more) lines_same rests);
+        heard = subst (λ (o : Option (CacheHooks L W P K)). HeardAt load_of may verdict_of state_after handed o g.given) (sym same) g.heard;
+      }
+
+  module _ (caches : List CacheConfig) (handed : List (CacheHooks L W P K)) (all rest : List Line) (l : Line) (old new : Recording) (hooks hooks' : List (CacheHooks L W P K))
+      (half : Halfway load_of may verdict_of state_after caches handed all (l ∷ rest) old hooks) (r : RepliesAt load_of may verdict_of state_after old new hooks hooks' l) where
+    abbrev done : Reached load_of may verdict_of state_after old new r.before r.after l (Done r.replies.reply)
+    done = r.replies.done
+
+    abbrev entry : Entry
+    entry = entry_by l (run_alone done.config done.state l) done.reached.answers
+
+    goes : (id : ℕ) (c : CacheConfig) → GoesHere c id all (l ∷ rest) (slice_get handed id) (slice_get hooks id) (statuses_of old) old.transcript → GoesHere c id all rest (slice_get handed id) (slice_get hooks' id) (statuses_of new) new.transcript
+    goes id c g = by (l.id == id) refl
+      where
+        here : (c : CacheConfig) → GoesHere c l.id all (l ∷ rest) (slice_get handed l.id) (slice_get hooks l.id) (statuses_of old) old.transcript → GoesHere c l.id all rest (slice_get handed l.id) (slice_get hooks' l.id) (statuses_of new) new.transcript
+        here c g =
+            let there : GoesHere c l.id all (l ∷ rest) (slice_get handed l.id) (Some r.before) (statuses_of old) old.transcript =
+            subst (λ (o : Option (CacheHooks L W P K)). GoesHere c l.id all (l ∷ rest) (slice_get handed l.id) o (statuses_of old) old.transcript) r.there g in
+            let after : slice_get hooks' l.id ≡ Some r.after = ap (λ (hs : List (CacheHooks L W P K)). slice_get hs l.id) r.others ∙ at_same hooks l.id r.before r.after r.there in
+            subst (λ (o : Option (CacheHooks L W P K)). GoesHere c l.id all rest (slice_get handed l.id) o (statuses_of new) new.transcript) (sym after)
+            (goes_same c all rest l old new (slice_get handed l.id) r.before r.after r.replies.reply there (reached_at c there.state old new r.before r.after l (Done r.replies.reply) done there.stands))
+
+        by : (b : Bool) → (l.id == id) ≡ b → GoesHere c id all rest (slice_get handed id) (slice_get hooks' id) (statuses_of new) new.transcript
+        by true is =
+            let P : ℕ → Type 0 = λ i. GoesHere c i all (l ∷ rest) (slice_get handed i) (slice_get hooks i) (statuses_of old) old.transcript → GoesHere c i all rest (slice_get handed i) (slice_get hooks' i) (statuses_of new) new.transcript in
+            subst P (is_same l.id id is) (here c) g
+        by false is =
+            goes_other c id all rest l entry (slice_get handed id) (slice_get hooks id) (slice_get hooks' id) (statuses_of old) (statuses_of new) old.transcript new.transcript is is
+            (ap (λ (hs : List (CacheHooks L W P K)). slice_get hs id) r.others ∙ at_other hooks l.id id r.after (is_other l.id id is))
+            (ap (λ (ks : List Status). slice_get ks id) done.reached.statuses ∙ at_other (statuses_of old) l.id id _ (is_other l.id id is))
+            done.reached.transcript g
+
+    pub one_line_more : Halfway load_of may verdict_of state_after caches handed all rest new hooks'
+    one_line_more = record {
+      configs = sym (configs_by new.caches) ∙ ap legal.configs_of done.reached.statuses
+          ∙ same_configs (statuses_of old) l.id (record { config = done.config; standing = idle done.state }) (record { config = done.config; standing = standing_of (answered (run_alone done.config done.state l) done.reached.answers) }) done.there refl
+          ∙ configs_by old.caches ∙ half.configs;
+      closed = subst NoneOpen (sym done.reached.transcript)
+          (none_open_more old.transcript entry half.closed (over l (run_alone done.config done.state l) done.reached.answers r.replies.reply (ends_with (answered (run_alone done.config done.state l) done.reached.answers) r.replies.reply done.reached.shows)));
+      each = λ id c at. goes id c (half.each id c at);
+    }
+
+  -- the next line's call can begin
+  module _ (r : Recording) (hooks : List (CacheHooks L W P K)) (l : Line) (rest : List Line) (can : CanRun load_of may verdict_of state_after r hooks (l ∷ rest)) where
+    abbrev named : Names can.caches l
+    named = can.named.0
+
+    begins_so : (run : Run) (b : Bool) → b ≡ true → refuse_last false (if b then shown run else Refused NoSuchProcessor) ≡ Stepped (step_shown run)
+    begins_so run b has = rw has (reply_kept (shown run) ∙ shows_step run)
+
+    pub next_ready : IsReady r l
+    next_ready =
+        let c : CacheConfig = named.config in
+        let g : GoesHere c l.id can.all (l ∷ rest) (slice_get can.handed l.id) (slice_get hooks l.id) (statuses_of r) r.transcript = can.halfway.each l.id c named.there in
+        record {
+          config = c;
+          state = g.state;
+          there = g.stands;
+          moves = record {
+            step = step_shown (run_alone c g.state l);
+            outcome = ap (λ (found : Option Status). answer_of found (begins l.at l.call) false) g.stands ∙ begins_so (run_alone c g.state l) (has_processor c l.call) named.processor;
+          };
+          closed = can.halfway.closed;
+        }
+
+    pub next_there : l.id < length hooks
+    next_there =
+        let below : l.id < length can.caches = slice_get_within can.caches l.id named.config named.there in
+        omega (arith, below, can.counted)
+
+    pub can_go_on : (new : Recording) (hooks' : List (CacheHooks L W P K)) → RepliesAt load_of may verdict_of state_after r new hooks hooks' l → CanRun load_of may verdict_of state_after new hooks' rest
+    can_go_on new hooks' replied = record {
+      caches = can.caches;
+      handed = can.handed;
+      all = can.all;
+      halfway = one_line_more can.caches can.handed can.all rest l r new hooks hooks' can.halfway replied;
+      named = can.named.1;
+      counted = ap length replied.others ∙ length_set hooks l.id replied.after ∙ can.counted;
+    }
 
 pub none_left : (lines : List Line) → length lines ≡ 0 → lines ≡ []
 none_left [] e = refl

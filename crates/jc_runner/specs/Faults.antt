@@ -1,12 +1,15 @@
 -- The line that says why the program ends.
 use Rattle.std.specs.Prelude.{ℕ, List, ◌++◌, codes, decimal}
+use Rattle.jc_config.specs.declared.fault.ConfigFault.{ConfigFault}
+use Rattle.jc_config.specs.declared.fault.ConfigFault.TheVariants as config
+use Rattle.jc_config.specs.Faults.{name_of}
 use Rattle.jc_script.specs.declared.fault.ScriptFault.{ScriptFault}
 use Rattle.jc_script.specs.declared.fault.ScriptFault.TheVariants as script
 use Rattle.jc_script.specs.Line.{member_name}
 use Rattle.jc_runner.specs.declared.fault.RunFault.{RunFault}
 use Rattle.jc_runner.specs.declared.fault.RunFault.TheVariants as run
 use Rattle.jc_runner.specs.declared.fault.ProgramFault.{ProgramFault}
-use Rattle.jc_runner.specs.declared.fault.ProgramFault.TheVariants.{ConfigRead, Run}
+use Rattle.jc_runner.specs.declared.fault.ProgramFault.TheVariants.{ConfigRead, Config, Run}
 
 abbrev pub at_line : ℕ → List ℕ → List ℕ
 at_line n text = codes "script line " ++ decimal n ++ text
@@ -21,6 +24,22 @@ script_line (script.NotObject n) = at_line n (codes ": not an object\n")
 script_line (script.Bad n member) = bad_line n (member_name member)
 script_line script.OutOfMemory = codes "out of memory\n"
 
+abbrev pub at_cache : ℕ → List ℕ → List ℕ
+at_cache n text = codes "config cache " ++ decimal n ++ text
+
+abbrev pub bad_cache_line : ℕ → List ℕ → List ℕ
+bad_cache_line n member = at_cache n (codes ": bad " ++ member ++ codes "\n")
+
+abbrev pub config_line : ConfigFault → List ℕ
+config_line config.TooLong = codes "config: too long\n"
+config_line config.NotToml = codes "config: not TOML\n"
+config_line config.UnknownEntry = codes "config: unknown entry\n"
+config_line (config.Bad n member) = bad_cache_line n (name_of member)
+config_line config.TooManyCaches = codes "config: too many caches\n"
+config_line (config.DuplicateName n) = at_cache n (codes ": duplicate name\n")
+config_line config.TotalCapacity = codes "config: total capacity\n"
+config_line config.OutOfMemory = codes "out of memory\n"
+
 abbrev pub run_line : RunFault → List ℕ
 run_line run.Read = codes "script: cannot be read\n"
 run_line run.TooLong = codes "script: too long\n"
@@ -32,4 +51,5 @@ run_line run.Memory = codes "out of memory\n"
 
 abbrev pub fault_line : ProgramFault → List ℕ
 fault_line ConfigRead = codes "config: cannot be read\n"
+fault_line (Config fault) = config_line fault
 fault_line (Run fault) = run_line fault

@@ -4,6 +4,8 @@ use Rattle.std.specs.Io.KnownBytes.{Consumes, IsAtEnd, Appends}
 use Rattle.jc_script.specs.declared.fault.ScriptFault.{ScriptFault}
 use Rattle.jc_runner.specs.declared.fault.RunFault.{RunFault}
 use Rattle.jc_runner.specs.declared.fault.RunFault.TheVariants.{Read, TooLong, Script, Open, Memory}
+use Rattle.jc_runner.specs.declared.fault.ProgramFault.{ProgramFault}
+use Rattle.jc_runner.specs.declared.fault.ProgramFault.TheVariants.{ConfigRead, Config, Run}
 
 -- all that was left was read
 abbrev pub IsAll : Option (List ℕ) → Option (List ℕ) → List ℕ → Type 0
@@ -36,3 +38,9 @@ abbrev pub IsOfScript : RunFault → Type 0
 IsOfScript (Script f) = Unit {0}
 IsOfScript Memory = Unit {0}
 IsOfScript _ = ⊥
+
+-- the faults that reading a configuration can end with
+abbrev pub IsOfConfiguring : ProgramFault → Type 0
+IsOfConfiguring ConfigRead = Unit {0}
+IsOfConfiguring (Config f) = Unit {0}
+IsOfConfiguring (Run f) = f ≡ Memory

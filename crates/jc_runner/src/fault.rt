@@ -3,8 +3,9 @@ ghost use Rattle.std.specs.Prelude.{◌≡◌, OnOk};
 ghost use Rattle.std.specs.Bool.{OnTrue};
 ghost use Rattle.std.specs.Io.KnownBytes.{Appends};
 ghost use Rattle.jc_runner.specs.declared.fault.RunFault.TheVariants.{Memory};
-ghost use Rattle.jc_runner.specs.Faults.{bad_line, script_line, run_line, fault_line};
+ghost use Rattle.jc_runner.specs.Faults.{bad_line, bad_cache_line, script_line, config_line, run_line, fault_line};
 
+use jc_config::ConfigFault;
 use jc_script::ScriptFault;
 use std::alloc::{AllocError, AllocFailed};
 use std::io;
@@ -51,6 +52,8 @@ impl<T: Drop> From<AllocFailed<T>> for RunFault {
 pub enum ProgramFault {
     #[error("the configuration can't be read")]
     ConfigRead,
+    #[error("the configuration is faulty: {0:?}")]
+    Config(ConfigFault),
     #[error("the run ended: {0:?}")]
     Run(RunFault),
 }
@@ -70,6 +73,29 @@ fn write_script_fault<W: Write>(fault: ScriptFault, writer: &mut W) -> io::Resul
         ScriptFault::NotObject { line } => writeln!(writer, "script line {line}: not an object"),
         ScriptFault::Bad { line, member } => write_bad(line, member.name(), writer),
         ScriptFault::OutOfMemory => writeln!(writer, "out of memory"),
+    }
+}
+
+fn write_bad_cache<W: Write>(cache: usize, member: &str, writer: &mut W) -> io::Result<()>
+    ensures { OnOk result (Appends (W.contents writer.old) (W.contents writer.new) (bad_cache_line cache member.now)) }
+{
+    writeln!(writer, "config cache {cache}: bad {member}")
+}
+
+fn write_config_fault<W: Write>(fault: ConfigFault, writer: &mut W) -> io::Result<()>
+    ensures { OnOk result (Appends (W.contents writer.old) (W.contents writer.new) (config_line fault)) }
+{
+    match fault {
+        ConfigFault::TooLong => writeln!(writer, "config: too long"),
+        ConfigFault::NotToml => writeln!(writer, "config: not TOML"),
+        ConfigFault::UnknownEntry => writeln!(writer, "config: unknown entry"),
+        ConfigFault::Bad { cache, member } => write_bad_cache(cache, member.name(), writer),
+        ConfigFault::TooManyCaches => writeln!(writer, "config: too many caches"),
+        ConfigFault::DuplicateName { cache } => {
+            writeln!(writer, "config cache {cache}: duplicate name")
+        }
+        ConfigFault::TotalCapacity => writeln!(writer, "config: total capacity"),
+        ConfigFault::OutOfMemory => writeln!(writer, "out of memory"),
     }
 }
 
@@ -93,6 +119,7 @@ pub fn write_fault<W: Write>(fault: &ProgramFault, writer: &mut W) -> bool
 {
     let result = match fault {
         ProgramFault::ConfigRead => writeln!(writer, "config: cannot be read"),
+        ProgramFault::Config(fault) => write_config_fault(*fault, writer),
         ProgramFault::Run(fault) => write_run_fault(fault, writer),
     };
     result.is_ok()

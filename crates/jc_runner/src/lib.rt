@@ -2,6 +2,7 @@
 #![tactic(auto)]
 
 mod calls;
+mod configuring;
 mod fault;
 mod hooks;
 mod presets;
@@ -9,12 +10,18 @@ mod reading;
 mod run;
 mod writing;
 
+pub use configuring::read_configuration;
 pub use fault::{ProgramFault, RunFault, write_fault};
+pub use jc_words::{Run, read_words};
 pub use presets::demonstration;
 pub use reading::{Watched, read_bytes};
 pub use run::serial;
 pub use writing::WatchedWriter;
 
+#[cfg(test)]
+mod configuring_tests;
+#[cfg(test)]
+mod hooked;
 #[cfg(test)]
 mod tests;
 #[cfg(test)]

@@ -3,6 +3,8 @@ use crate::{
     ProgramFault, RunFault, Watched, WatchedWriter, demonstration, read_bytes, serial, write_fault,
 };
 use jc_config::Settings;
+use jc_hooks::program::{AppendProcessor, CheckWriter, EchoLoader};
+use jc_hooks::{CacheHooks, TallyListener};
 use jc_model::list::Sequence;
 use jc_script::{Member, ScriptFault};
 use std::alloc::{AllocError, Global};
@@ -163,12 +165,26 @@ fn script(alloc: Global) -> Result<Vec<u8>, AllocError> {
     Ok(text)
 }
 
+/// Callbacks of the types that a program may have.
+pub type Hooks = CacheHooks<EchoLoader, CheckWriter, AppendProcessor, TallyListener>;
+
+/// No callbacks.
+fn no_hooks(alloc: Global) -> Hooks {
+    CacheHooks {
+        loader: None,
+        writer: None,
+        processors: Vec::new(alloc),
+        listeners: Vec::new(alloc),
+    }
+}
+
 /// What a run of the demonstration's caches writes, and its fault if there is one.
 fn run(alloc: Global, script: &[u8]) -> Result<(Vec<u8>, Option<RunFault>), AllocError> {
     let settings = demonstration(alloc)?;
     let mut reader = Watched::new(script);
     let mut writer = WatchedWriter::new(Vec::new(alloc));
-    let fault = serial(alloc, settings, &mut reader, &mut writer).err();
+    let mut hooks = [no_hooks(alloc), no_hooks(alloc)];
+    let fault = serial(alloc, settings, &mut hooks, 0, &mut reader, &mut writer).err();
     Ok((writer.inner, fault))
 }
 
@@ -212,26 +228,62 @@ fn a_writer_fails_at_each_byte(rt: HostRuntime) -> Result<(), Fail> {
         let mut reader = Watched::new(script.as_slice());
         let taken = Vec::new(alloc);
         let mut writer = WatchedWriter::new(FailingWriter { left, taken });
-        let fault = serial(alloc, settings, &mut reader, &mut writer).err();
+        let mut hooks = [no_hooks(alloc), no_hooks(alloc)];
+        let fault = serial(alloc, settings, &mut hooks, 0, &mut reader, &mut writer).err();
         assert_eq!(rt; fault, Some(RunFault::Write));
         assert_eq!(rt; writer.inner.taken.as_slice(), &report[..left]);
     }
     Ok(())
 }
 
-/// One cache with a listener, and one without hooks.
-#[test]
-fn a_cache_with_a_listener_does_not_open(rt: HostRuntime) -> Result<(), Fail> {
-    let alloc = rt.alloc();
-    let mut caches = demonstration(alloc)?.into_caches();
-    if let Some(last) = caches.last_mut() {
-        last.listeners = 1;
-    }
-    let settings = Settings::new(Sequence::new(caches)).expect(&rt, "two caches");
-    let mut reader = Watched::new(b"".as_slice());
+/// The fault of a run with these callbacks. Nothing is written.
+fn fault_with(alloc: Global, hooks: &mut [Hooks], script: &[u8]) -> Result<RunFault, Fail> {
+    let settings = demonstration(alloc)?;
+    let mut reader = Watched::new(script);
     let mut writer = WatchedWriter::new(Vec::new(alloc));
-    let fault = serial(alloc, settings, &mut reader, &mut writer).err();
-    assert_eq!(rt; fault, Some(RunFault::Open));
-    assert!(rt; writer.inner.is_empty());
+    let fault = serial(alloc, settings, hooks, 0, &mut reader, &mut writer).err();
+    if !writer.inner.is_empty() {
+        return Ok(RunFault::Close);
+    }
+    match fault {
+        Some(fault) => Ok(fault),
+        None => Ok(RunFault::Close),
+    }
+}
+
+#[test]
+fn callbacks_of_other_caches_do_not_open(rt: HostRuntime) -> Result<(), Fail> {
+    let alloc = rt.alloc();
+    let script = script(alloc)?;
+    let mut one = [no_hooks(alloc)];
+    assert_eq!(rt;
+        fault_with(alloc, &mut one, script.as_slice())?,
+        RunFault::Open
+    );
+    let mut three = [no_hooks(alloc), no_hooks(alloc), no_hooks(alloc)];
+    assert_eq!(rt;
+        fault_with(alloc, &mut three, script.as_slice())?,
+        RunFault::Open
+    );
+    let json = RunFault::Script(ScriptFault::NotJson { line: 1 });
+    assert_eq!(rt; fault_with(alloc, &mut one, b"{")?, json);
+    Ok(())
+}
+
+#[test]
+fn callbacks_that_are_not_named_do_not_open(rt: HostRuntime) -> Result<(), Fail> {
+    let alloc = rt.alloc();
+    let mut loading = [no_hooks(alloc), no_hooks(alloc)];
+    loading[1].loader = Some(EchoLoader);
+    assert_eq!(rt; fault_with(alloc, &mut loading, b"")?, RunFault::Open);
+    let mut writing = [no_hooks(alloc), no_hooks(alloc)];
+    writing[0].writer = Some(CheckWriter);
+    assert_eq!(rt; fault_with(alloc, &mut writing, b"")?, RunFault::Open);
+    let mut processing = [no_hooks(alloc), no_hooks(alloc)];
+    processing[1].processors.push(AppendProcessor)?;
+    assert_eq!(rt; fault_with(alloc, &mut processing, b"")?, RunFault::Open);
+    let mut listening = [no_hooks(alloc), no_hooks(alloc)];
+    listening[0].listeners.push(TallyListener::new())?;
+    assert_eq!(rt; fault_with(alloc, &mut listening, b"")?, RunFault::Open);
     Ok(())
 }

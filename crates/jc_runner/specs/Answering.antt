@@ -1,0 +1,80 @@
+-- What the callbacks of a cache answer to its requests, and how that leaves them.
+use Rattle.std.specs.Prelude.{◌≡◌, ℕ, Bool, true, false, IsTrue, List, [], ◌∷◌, ◌++◌, map, slice_get, Option, Some, None, Result, Err, ⊤}
+use Rattle.std.specs.List.{filter, flat_map}
+use Rattle.jc_model.specs.declared.call.Answer.{Answer}
+use Rattle.jc_model.specs.declared.call.Answer.TheVariants.{LoadFailed, Processed, Told}
+use Rattle.jc_model.specs.declared.call.Notice.{Notice}
+use Rattle.jc_model.specs.declared.call.ProcessorFault.{ProcessorFault}
+use Rattle.jc_model.specs.declared.call.Request.{Request}
+use Rattle.jc_model.specs.declared.call.Request.TheVariants.{Load, Write, Delete, Process, Tell}
+use Rattle.jc_model.specs.declared.call.Verdict.{Verdict}
+use Rattle.jc_model.specs.Run.{for_write, fits, told_by}
+use Rattle.jc_hooks.specs.Answers.{load_answer_of, MayGive}
+use Rattle.jc_hooks.specs.declared.cache_hooks.CacheHooks.{CacheHooks}
+use Rattle.jc_hooks.specs.declared.loader.Loaded.{Loaded}
+
+abbrev pub is_write : Request → Bool
+is_write (Write key value) = true
+is_write (Delete key) = true
+is_write _ = false
+
+-- the writer's requests among these
+abbrev pub written_in : List (Request × Answer) → List (Request × Answer)
+written_in given = filter (λ x. is_write x.0) given
+
+-- the notices that these requests tell
+abbrev pub notices_in : List (Request × Answer) → List Notice
+notices_in given = flat_map (λ x. told_by x.0) given
+
+-- What each callback states of itself. One that is not there fails.
+
+abbrev pub load_by : {L : Type 0} → (L → List ℕ → Loaded) → Option L → List ℕ → Answer
+load_by load_of None key = LoadFailed
+load_by load_of (Some loader) key = load_answer_of (load_of loader key)
+
+abbrev pub verdict_by : {P : Type 0} → (P → Option (List ℕ) → List ℕ → Result Verdict ProcessorFault) → Option P → Option (List ℕ) → List ℕ → Answer
+verdict_by verdict_of None value argument = Processed (Err (record {}))
+verdict_by verdict_of (Some processor) value argument = Processed (verdict_of processor value argument)
+
+-- a writer that is not there states nothing
+abbrev pub MayGiveBy : {W : Type 0} → (W → List (Request × Answer) → Type 0) → Option W → List (Request × Answer) → Type 0
+MayGiveBy may None given = ⊤
+MayGiveBy may (Some writer) given = MayGive (may writer) given
+
+-- the states of all listeners
+abbrev pub states_after : {K : Type 0} → (K → List Notice → List ℕ) → List K → List Notice → List (List ℕ)
+states_after state_after listeners notices = map (λ k. state_after k notices) listeners
+
+module _ {L W P K : Type 0} (load_of : L → List ℕ → Loaded) (may : W → List (Request × Answer) → Type 0) (verdict_of : P → Option (List ℕ) → List ℕ → Result Verdict ProcessorFault) (state_after : K → List Notice → List ℕ) where
+  -- the answers of loader and processors are their functions of the request
+  abbrev pub IsStated : CacheHooks L W P K → Request → Answer → Type 0
+  IsStated h (Load key) a = a ≡ load_by load_of h.loader key
+  IsStated h (Write key value) a = IsTrue (fits for_write a)
+  IsStated h (Delete key) a = IsTrue (fits for_write a)
+  IsStated h (Process key n value argument) a = a ≡ verdict_by verdict_of (slice_get h.processors.items n) value argument
+  IsStated h (Tell notices) a = a ≡ Told
+
+  abbrev pub AllStated : CacheHooks L W P K → List (Request × Answer) → Type 0
+  AllStated h [] = ⊤
+  AllStated h (x ∷ given) = IsStated h x.0 x.1 × AllStated h given
+
+  -- the callbacks have answered these requests so, and stand as they stated before
+  pub record Served (old new : CacheHooks L W P K) (given : List (Request × Answer)) : Type 0 where
+    pub stated : AllStated old given
+    pub writes : MayGiveBy may old.writer (written_in given)
+    pub tells : (rest : List Notice) → states_after state_after new.listeners.items rest ≡ states_after state_after old.listeners.items (notices_in given ++ rest)
+
+  -- the same in the midst of a run: what they may answer and state from now on, they stated behind this
+  pub record Heard (old new : CacheHooks L W P K) (given : List (Request × Answer)) : Type 0 where
+    pub loader : new.loader ≡ old.loader
+    pub processors : new.processors.items ≡ old.processors.items
+    pub stated : AllStated old given
+    pub writes : (rest : List (Request × Answer)) → MayGiveBy may new.writer rest → MayGiveBy may old.writer (written_in given ++ rest)
+    pub tells : (rest : List Notice) → states_after state_after new.listeners.items rest ≡ states_after state_after old.listeners.items (notices_in given ++ rest)
+
+  -- of the callbacks at one place
+  abbrev pub HeardAt : Option (CacheHooks L W P K) → Option (CacheHooks L W P K) → List (Request × Answer) → Type 0
+  HeardAt None None given = ⊤
+  HeardAt None (Some new) given = ⊥
+  HeardAt (Some old) None given = ⊥
+  HeardAt (Some old) (Some new) given = Heard old new given

@@ -1,0 +1,59 @@
+//! Reading the configuration.
+ghost use Rattle.std.specs.Prelude.{◌≡◌, ◌≤◌, ◌<◌, ◌+◌, true, length, IfOk, IfErr, IfSome, OnOk, Ok, Err};
+ghost use Rattle.std.specs.Io.KnownBytes.{IsAtEnd};
+ghost use Rattle.jc_config.specs.Config.{configuration_of};
+ghost use Rattle.jc_config.specs.declared.fault.ConfigFault.{ConfigFault as TextFault};
+ghost use Rattle.jc_config.specs.declared.fault.ConfigFault.TheVariants.{TooLong};
+ghost use Rattle.jc_runner.specs.Streams.{IsAll, IsOfConfiguring};
+ghost use Rattle.jc_runner.specs.declared.fault.ProgramFault.TheVariants.{ConfigRead, Config};
+
+use crate::fault::{ProgramFault, RunFault};
+use crate::reading::{Watched, read_bytes};
+use jc_config::{ConfigFault, Configuration, read_config};
+use std::alloc::Global;
+use std::io::Read;
+
+fn text_of<R: Read>(alloc: Global, reader: &mut Watched<R>) -> Result<Vec<u8>, ProgramFault>
+    ensures all { IfOk result (λ v. IsAll (R.remaining reader.old.inner) (R.remaining reader.new.inner) v.items) }
+    ensures long { IfErr result (λ e. (f : TextFault) → e ≡ Config f → (f ≡ TooLong) × IfSome (R.remaining reader.old.inner) (λ input. 8388608 < length input)) }
+    ensures failed { result ≡ Err ConfigRead → reader.new.failed ≡ true }
+    ensures others { IfErr result IsOfConfiguring }
+    ensures reads { reader.new.reads ≤ reader.old.reads + 8388609 }
+{
+    match read_bytes(alloc, reader) {
+        Ok(bytes) => Ok(bytes),
+        Err(RunFault::Read) => Err(ProgramFault::ConfigRead),
+        Err(RunFault::TooLong) => Err(ProgramFault::Config(ConfigFault::TooLong)),
+        Err(_) => Err(ProgramFault::Run(RunFault::Memory)),
+    }
+}
+
+fn configuration_in(alloc: Global, bytes: &[u8]) -> Result<Configuration, ProgramFault>
+    ensures ok { IfOk result (λ c. configuration_of bytes.now ≡ Ok c) }
+    ensures config { (f : TextFault) → result ≡ Err (Config f) → configuration_of bytes.now ≡ Err f }
+    ensures others { IfErr result (λ e. (e ≡ ConfigRead → ⊥) × IsOfConfiguring e) }
+{
+    match read_config(alloc, bytes) {
+        Ok(configuration) => Ok(configuration),
+        Err(ConfigFault::OutOfMemory) => Err(ProgramFault::Run(RunFault::Memory)),
+        Err(fault) => Err(ProgramFault::Config(fault)),
+    }
+}
+
+/// Reads a configuration to its end.
+///
+/// `ConfigRead` where the reader failed; `Config` with the first fault; want of memory is the run's `Memory`.
+pub fn read_configuration<R: Read>(
+    alloc: Global,
+    reader: &mut Watched<R>,
+) -> Result<Configuration, ProgramFault>
+    ensures ok { IfOk result (λ c. IfSome (R.remaining reader.old.inner) (λ input. configuration_of input ≡ Ok c)) }
+    ensures end { OnOk result (IsAtEnd (R.remaining reader.new.inner)) }
+    ensures config { (f : TextFault) → result ≡ Err (Config f) → IfSome (R.remaining reader.old.inner) (λ input. configuration_of input ≡ Err f) }
+    ensures failed { result ≡ Err ConfigRead → reader.new.failed ≡ true }
+    ensures others { IfErr result IsOfConfiguring }
+    ensures reads { reader.new.reads ≤ reader.old.reads + 8388609 }
+{
+    let bytes = text_of(alloc, reader)?;
+    configuration_in(alloc, bytes.as_slice())
+}
