@@ -1,20 +1,18 @@
 //! CLOCK: which row makes room for another.
-ghost use Rattle.std.specs.Prelude.{◌≡◌, [], IfOk};
 
-use crate::trial::{Trial, Trouble};
+use crate::plain::trial_of;
+use crate::trial::{Trouble, plain_cache};
 use jc_model::config::{CacheConfig, Policy};
 use std::alloc::Global;
 
-fn of_rows(alloc: Global, capacity: u32) -> Result<CacheConfig, Trouble>
-    ensures { IfOk result (λ c. c.processors ≡ []) }
-{
-    let plain = Trial::plain(alloc, "a")?;
+fn of_rows(alloc: Global, capacity: u32) -> Result<CacheConfig, Trouble> {
+    let plain = plain_cache(alloc, "a")?;
     Ok(CacheConfig { capacity, ..plain })
 }
 
 #[test]
 fn clock_spares_the_used_row(rt: HostRuntime) -> Result<(), Trouble> {
-    let mut trial = Trial::of(rt.alloc(), of_rows(rt.alloc(), 2)?)?;
+    let mut trial = trial_of(rt.alloc(), of_rows(rt.alloc(), 2)?)?;
     trial.put(0, "x", "1")?;
     trial.put(0, "y", "2")?;
     trial.get(0, "x")?;
@@ -37,7 +35,7 @@ fn an_expired_row_makes_room_without_an_eviction(rt: HostRuntime) -> Result<(), 
         listeners: 1,
         ..config
     };
-    let mut trial = Trial::of(rt.alloc(), config)?;
+    let mut trial = trial_of(rt.alloc(), config)?;
     trial.put(0, "x", "1")?;
     trial.put(10, "y", "2")?;
     trial.stats(10)?;
@@ -49,7 +47,7 @@ fn an_expired_row_makes_room_without_an_eviction(rt: HostRuntime) -> Result<(), 
 
 #[test]
 fn where_all_rows_were_used_the_first_goes(rt: HostRuntime) -> Result<(), Trouble> {
-    let mut trial = Trial::of(rt.alloc(), of_rows(rt.alloc(), 2)?)?;
+    let mut trial = trial_of(rt.alloc(), of_rows(rt.alloc(), 2)?)?;
     trial.put(0, "x", "1")?;
     trial.put(0, "y", "2")?;
     trial.get(0, "y")?;

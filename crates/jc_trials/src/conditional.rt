@@ -1,12 +1,13 @@
 //! Conditional calls: what they count and renew.
 
-use crate::trial::{Trial, Trouble, key};
+use crate::plain::trial_of;
+use crate::trial::{Trouble, key, plain_cache};
 use jc_model::call::Call;
 use jc_model::config::{CacheConfig, Policy};
 
 #[test]
 fn each_conditional_call_in_turn(rt: HostRuntime) -> Result<(), Trouble> {
-    let mut trial = Trial::of(rt.alloc(), Trial::plain(rt.alloc(), "a")?)?;
+    let mut trial = trial_of(rt.alloc(), plain_cache(rt.alloc(), "a")?)?;
     let x = key("x")?;
     let calls = [
         Call::PutIfAbsent(x, trial.value("1")?),
@@ -46,12 +47,12 @@ fn each_conditional_call_in_turn(rt: HostRuntime) -> Result<(), Trouble> {
 
 #[test]
 fn an_unequal_replace_if_renews(rt: HostRuntime) -> Result<(), Trouble> {
-    let plain = Trial::plain(rt.alloc(), "a")?;
+    let plain = plain_cache(rt.alloc(), "a")?;
     let config = CacheConfig {
         policy: Policy::Accessed(10),
         ..plain
     };
-    let mut trial = Trial::of(rt.alloc(), config)?;
+    let mut trial = trial_of(rt.alloc(), config)?;
     trial.put(0, "x", "1")?;
     let call = Call::ReplaceIf {
         key: key("x")?,
@@ -67,12 +68,12 @@ fn an_unequal_replace_if_renews(rt: HostRuntime) -> Result<(), Trouble> {
 
 #[test]
 fn put_if_absent_renews_nothing(rt: HostRuntime) -> Result<(), Trouble> {
-    let plain = Trial::plain(rt.alloc(), "a")?;
+    let plain = plain_cache(rt.alloc(), "a")?;
     let config = CacheConfig {
         policy: Policy::Accessed(10),
         ..plain
     };
-    let mut trial = Trial::of(rt.alloc(), config)?;
+    let mut trial = trial_of(rt.alloc(), config)?;
     trial.put(0, "x", "1")?;
     let call = Call::PutIfAbsent(key("x")?, trial.value("2")?);
     trial.play(5, call)?;
@@ -84,7 +85,7 @@ fn put_if_absent_renews_nothing(rt: HostRuntime) -> Result<(), Trouble> {
 
 #[test]
 fn calls_on_an_absent_key_that_find_nothing(rt: HostRuntime) -> Result<(), Trouble> {
-    let mut trial = Trial::of(rt.alloc(), Trial::plain(rt.alloc(), "a")?)?;
+    let mut trial = trial_of(rt.alloc(), plain_cache(rt.alloc(), "a")?)?;
     let x = key("x")?;
     let calls = [
         Call::ReplaceIf {
@@ -110,12 +111,12 @@ fn calls_on_an_absent_key_that_find_nothing(rt: HostRuntime) -> Result<(), Troub
 
 #[test]
 fn an_unequal_remove_if_renews_and_removes_nothing(rt: HostRuntime) -> Result<(), Trouble> {
-    let plain = Trial::plain(rt.alloc(), "a")?;
+    let plain = plain_cache(rt.alloc(), "a")?;
     let config = CacheConfig {
         policy: Policy::Touched(10),
         ..plain
     };
-    let mut trial = Trial::of(rt.alloc(), config)?;
+    let mut trial = trial_of(rt.alloc(), config)?;
     trial.put(0, "x", "1")?;
     let call = Call::RemoveIf {
         key: key("x")?,

@@ -1,23 +1,19 @@
 //! The engine's refusals, and events on two caches that take turns.
-ghost use Rattle.std.specs.Prelude.{◌≡◌, [], IfOk};
-ghost use Rattle.jc_engine.specs.Opening.{Hookless};
 
-use crate::trial::{Trial, Trouble, key};
+use crate::trial::{Trouble, key, plain_cache, value_of};
 use jc_engine::engine::Engine;
 use jc_engine::open::OpenRefusal;
 use jc_model::call::{Answer, Call, ProcessorFault, Reply, Request};
 use jc_model::config::CacheConfig;
 use jc_model::event::{CacheId, Cause, Event, Outcome, Step};
-use jc_model::value::Value;
+use jc_model::list::Sequence;
 use jc_ring::list_ring::ListRing;
 use jc_rows::list_rows::ListRows;
 use std::alloc::Global;
 
 type Manager = Engine<ListRows, ListRing>;
 
-fn open(alloc: Global, configs: Vec<CacheConfig>) -> Result<Manager, Trouble>
-    requires { Hookless configs.items }
-{
+fn open(alloc: Global, configs: Vec<CacheConfig>) -> Result<Manager, Trouble> {
     match Engine::open(alloc, ListRows::new(alloc), configs) {
         Ok(engine) => Ok(engine),
         Err(refusal) => Err(Trouble::Opening(refusal)),
@@ -28,14 +24,10 @@ fn open(alloc: Global, configs: Vec<CacheConfig>) -> Result<Manager, Trouble>
 fn two_caches(alloc: Global) -> Result<Manager, Trouble> {
     let a = CacheConfig {
         loader: true,
-        ..Trial::plain(alloc, "a")?
+        ..plain_cache(alloc, "a")?
     };
-    let configs = Vec::from_array(alloc, [a, Trial::plain(alloc, "b")?])?;
+    let configs = Vec::from_array(alloc, [a, plain_cache(alloc, "b")?])?;
     open(alloc, configs)
-}
-
-fn value(alloc: Global, text: &str) -> Result<Value, Trouble> {
-    Ok(Value::new(alloc, text.as_bytes().to_vec(alloc)?)?)
 }
 
 #[test]
@@ -68,12 +60,12 @@ fn an_open_call_refuses_what_is_not_its_answer(rt: HostRuntime) -> Result<(), Tr
     let invoke = Call::Invoke {
         key: k,
         processor: 0,
-        argument: value(alloc, "")?,
+        argument: value_of(alloc, "")?,
     };
     let refused = engine.begin(b, 0, invoke).err();
     assert!(rt; matches!(refused, Some((Cause::NoSuchProcessor, Call::Invoke { .. }))));
-    let loaded = Answer::Loaded(Some(value(alloc, "k")?));
-    let found = Reply::Found(Some(value(alloc, "k")?));
+    let loaded = Answer::Loaded(Some(value_of(alloc, "k")?));
+    let found = Reply::Found(Some(value_of(alloc, "k")?));
     assert_eq!(rt; engine.resume(a, loaded), Ok(Step::Done(found)));
     Ok(())
 }
@@ -94,7 +86,7 @@ fn a_call_that_was_given_up_has_no_turn(rt: HostRuntime) -> Result<(), Trouble> 
         Err((Cause::NoTurn, Answer::LoadFailed))
     );
     assert!(rt; !engine.has(a, &k, 0));
-    let put = Call::Put(k, value(alloc, "1")?);
+    let put = Call::Put(k, value_of(alloc, "1")?);
     assert_eq!(rt; engine.begin(a, 0, put), Ok(Step::Done(Reply::Done)));
     assert!(rt; engine.has(a, &k, 0));
     Ok(())
@@ -110,14 +102,14 @@ fn events_of_two_caches_take_turns(rt: HostRuntime) -> Result<(), Trouble> {
         alloc,
         [
             Event::Begin(a, 0, Call::Get(k)),
-            Event::Begin(b, 0, Call::Put(x, value(alloc, "1")?)),
-            Event::Answer(a, Answer::Loaded(Some(value(alloc, "k")?))),
+            Event::Begin(b, 0, Call::Put(x, value_of(alloc, "1")?)),
+            Event::Answer(a, Answer::Loaded(Some(value_of(alloc, "k")?))),
         ],
     )?;
     let expected = [
         Outcome::Step(Step::Need(Request::Load(k))),
         Outcome::Step(Step::Done(Reply::Done)),
-        Outcome::Step(Step::Done(Reply::Found(Some(value(alloc, "k")?)))),
+        Outcome::Step(Step::Done(Reply::Found(Some(value_of(alloc, "k")?)))),
     ];
     match engine.run(events) {
         Ok(outcomes) => assert_eq!(rt; outcomes.as_slice(), expected.as_slice()),
@@ -126,12 +118,10 @@ fn events_of_two_caches_take_turns(rt: HostRuntime) -> Result<(), Trouble> {
     Ok(())
 }
 
-fn of_capacity(alloc: Global, name: &str, capacity: u32) -> Result<CacheConfig, Trouble>
-    ensures { IfOk result (λ c. c.processors ≡ []) }
-{
+fn of_capacity(alloc: Global, name: &str, capacity: u32) -> Result<CacheConfig, Trouble> {
     Ok(CacheConfig {
         capacity,
-        ..Trial::plain(alloc, name)?
+        ..plain_cache(alloc, name)?
     })
 }
 
@@ -179,13 +169,18 @@ fn refusals_at_opening_name_the_first_fault(rt: HostRuntime) -> Result<(), Troub
     Ok(())
 }
 
-/// The awaited requests, each by the call that asks it: load, write, delete, tell.
+/// The awaited requests, each by the call that asks it: load, write, delete, tell, process.
 fn asking(alloc: Global, request: usize) -> Result<Call, Trouble> {
     let k = key("k")?;
     Ok(match request {
         0 => Call::Get(k),
         2 => Call::Remove(k),
-        _ => Call::Put(k, value(alloc, "1")?),
+        4 => Call::Invoke {
+            key: k,
+            processor: 0,
+            argument: value_of(alloc, "")?,
+        },
+        _ => Call::Put(k, value_of(alloc, "1")?),
     })
 }
 
@@ -195,7 +190,8 @@ fn asked_cache(alloc: Global, request: usize) -> Result<Manager, Trouble> {
         loader: request == 0,
         writer: request == 1 || request == 2,
         listeners: if request == 3 { 1 } else { 0 },
-        ..Trial::plain(alloc, "a")?
+        processors: Sequence::new(Vec::from_array(alloc, [false])?),
+        ..plain_cache(alloc, "a")?
     };
     open(alloc, Vec::from_array(alloc, [config])?)
 }
@@ -217,6 +213,7 @@ fn awaited(request: usize) -> usize {
     match request {
         0 => 0,
         1 | 2 => 2,
+        4 => 4,
         _ => 5,
     }
 }
@@ -226,6 +223,7 @@ fn is_awaited(request: usize, answer: usize) -> bool {
     match request {
         0 => answer < 2,
         1 | 2 => answer == 2 || answer == 3,
+        4 => answer == 4,
         _ => answer == 5,
     }
 }
@@ -235,7 +233,7 @@ fn answers_of_another_kind_are_handed_back(rt: HostRuntime) -> Result<(), Troubl
     let alloc = rt.alloc();
     let a = CacheId::new(0);
     let mut refused = 0u32;
-    for request in 0..4 {
+    for request in 0..5 {
         for answer in 0..6 {
             let mut engine = asked_cache(alloc, request)?;
             let step = engine.begin(a, 0, asking(alloc, request)?);
@@ -254,6 +252,6 @@ fn answers_of_another_kind_are_handed_back(rt: HostRuntime) -> Result<(), Troubl
             }
         }
     }
-    assert_eq!(rt; refused, 17);
+    assert_eq!(rt; refused, 22);
     Ok(())
 }

@@ -1,55 +1,124 @@
-//! The hooks of a trial: those of the program, with a count of what they were asked.
+//! The hooks of a trial, and how they are asked.
 
-use jc_hooks::program::{CheckWriter, EchoLoader, PeekProcessor};
-use jc_hooks::{Loader, Processor, Writer, load_answer, process_answer, write_answer};
+use jc_hooks::program::{
+    AppendProcessor, CheckWriter, DropProcessor, EchoLoader, FailProcessor, PeekProcessor,
+};
+use jc_hooks::{
+    CacheHooks, Listener, Loader, Processor, TallyListener, Writer, load_answer, process_answer,
+    write_answer,
+};
 use jc_model::OutOfMemory;
-use jc_model::call::{Answer, Request};
+use jc_model::call::{Answer, Notice, ProcessorFault, Request, Verdict};
+use jc_model::key::Key;
+use jc_model::value::Value;
 use std::alloc::Global;
 
-/// How often each kind of hook was asked.
-#[derive(Clone, Copy, Debug, PartialEq, Eq)]
-pub struct Asked {
-    pub loads: u64,
-    pub writes: u64,
-    pub deletes: u64,
-    pub processings: u64,
-    pub tellings: u64,
+/// One of the program's processors.
+#[derive(Drop)]
+pub enum ProgramProcessor {
+    Append,
+    Fail,
+    Drop,
+    Peek,
 }
 
-impl Asked {
-    /// Nothing was asked yet.
-    pub const NOTHING: Asked = Asked {
-        loads: 0,
-        writes: 0,
-        deletes: 0,
-        processings: 0,
-        tellings: 0,
-    };
+impl Processor for ProgramProcessor {
+    ghost use Rattle.jc_trials.specs.Processors.{wants_of, verdict_by};
 
-    fn count(&mut self, request: &Request) {
-        let counter = match request {
-            Request::Load(_) => &mut self.loads,
-            Request::Write(..) => &mut self.writes,
-            Request::Delete(_) => &mut self.deletes,
-            Request::Process { .. } => &mut self.processings,
-            Request::Tell(_) => &mut self.tellings,
-        };
-        *counter = counter.saturating_add(1);
+    ghost wants = { wants_of };
+
+    ghost verdict_of = { verdict_by };
+
+    fn wants_value(&self) -> bool {
+        match self {
+            ProgramProcessor::Append => AppendProcessor.wants_value(),
+            ProgramProcessor::Fail => FailProcessor.wants_value(),
+            ProgramProcessor::Drop => DropProcessor.wants_value(),
+            ProgramProcessor::Peek => PeekProcessor.wants_value(),
+        }
+    }
+
+    fn process(
+        &self,
+        alloc: Global,
+        value: Option<&Value>,
+        argument: &Value,
+    ) -> Result<Result<Verdict, ProcessorFault>, OutOfMemory> {
+        match self {
+            ProgramProcessor::Append => AppendProcessor.process(alloc, value, argument),
+            ProgramProcessor::Fail => FailProcessor.process(alloc, value, argument),
+            ProgramProcessor::Drop => DropProcessor.process(alloc, value, argument),
+            ProgramProcessor::Peek => PeekProcessor.process(alloc, value, argument),
+        }
     }
 }
 
-/// What the hooks answer to a request: the loader echoes, the writer checks, a processor peeks.
-pub fn answer(alloc: Global, request: &Request, asked: &mut Asked) -> Result<Answer, OutOfMemory> {
-    asked.count(request);
+/// The hooks of a cache that records nothing.
+pub type PlainHooks = CacheHooks<EchoLoader, CheckWriter, ProgramProcessor, TallyListener>;
+
+/// The program's hooks: a loader that echoes, a writer that checks, the processors append, fail, drop and peek.
+pub fn plain_hooks(alloc: Global) -> Result<PlainHooks, OutOfMemory> {
+    let processors = Vec::from_array(
+        alloc,
+        [
+            ProgramProcessor::Append,
+            ProgramProcessor::Fail,
+            ProgramProcessor::Drop,
+            ProgramProcessor::Peek,
+        ],
+    )?;
+    Ok(CacheHooks {
+        loader: Some(EchoLoader),
+        writer: Some(CheckWriter),
+        processors,
+        listeners: Vec::new(alloc),
+    })
+}
+
+/// Tells each notice to all listeners before the next one.
+fn tell_all<K: Listener>(listeners: &mut Vec<K>, notices: &[Notice]) {
+    for notice in notices {
+        for listener in listeners.iter_mut() {
+            listener.tell(notice);
+        }
+    }
+}
+
+fn loaded<L: Loader>(alloc: Global, loader: &Option<L>, key: &Key) -> Result<Answer, OutOfMemory> {
+    match loader {
+        Some(loader) => Ok(load_answer(loader.load(alloc, key)?)),
+        None => Ok(Answer::LoadFailed),
+    }
+}
+
+/// What a cache's hooks answer to a request; a hook that is not there fails.
+pub fn answer<L: Loader, W: Writer, P: Processor, K: Listener>(
+    alloc: Global,
+    hooks: &mut CacheHooks<L, W, P, K>,
+    request: &Request,
+) -> Result<Answer, OutOfMemory> {
     match request {
-        Request::Load(key) => Ok(load_answer(EchoLoader.load(alloc, key)?)),
-        Request::Write(key, value) => Ok(write_answer(CheckWriter.write(alloc, key, value)?)),
-        Request::Delete(key) => Ok(write_answer(CheckWriter.delete(alloc, key)?)),
+        Request::Load(key) => loaded(alloc, &hooks.loader, key),
+        Request::Write(key, value) => match &mut hooks.writer {
+            Some(writer) => Ok(write_answer(writer.write(alloc, key, value)?)),
+            None => Ok(Answer::WriteFailed),
+        },
+        Request::Delete(key) => match &mut hooks.writer {
+            Some(writer) => Ok(write_answer(writer.delete(alloc, key)?)),
+            None => Ok(Answer::WriteFailed),
+        },
         Request::Process {
+            processor,
             value,
             argument,
             ..
-        } => Ok(process_answer(PeekProcessor.process(alloc, value.as_ref(), argument)?)),
-        Request::Tell(_) => Ok(Answer::Told),
+        } => match hooks.processors.get(*processor as usize) {
+            Some(asked) => Ok(process_answer(asked.process(alloc, value.as_ref(), argument)?)),
+            None => Ok(process_answer(Err(ProcessorFault {}))),
+        },
+        Request::Tell(notices) => {
+            tell_all(&mut hooks.listeners, notices.items());
+            Ok(Answer::Told)
+        }
     }
 }

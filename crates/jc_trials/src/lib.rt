@@ -2,10 +2,19 @@
 #![tactic(auto)]
 
 mod hooks;
+mod plain;
+mod recorded;
+mod recording;
 mod trial;
 
-pub use hooks::{Asked, answer};
-pub use trial::{Trial, Trouble};
+pub use hooks::{PlainHooks, ProgramProcessor, answer, plain_hooks};
+pub use plain::{PlainTrial, trial_of};
+pub use recorded::{RecordedTrial, Records, recorded_trial};
+pub use recording::{
+    Asked, Count, Heard, Record, RecordingListener, RecordingLoader, RecordingProcessor,
+    RecordingWriter,
+};
+pub use trial::{Trial, Trouble, plain_cache};
 
 #[cfg(test)]
 mod clock;
@@ -16,4 +25,8 @@ mod engine;
 #[cfg(test)]
 mod hooked;
 #[cfg(test)]
+mod many;
+#[cfg(test)]
 mod policies;
+#[cfg(test)]
+mod processors;

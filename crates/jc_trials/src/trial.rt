@@ -1,15 +1,15 @@
 //! One manager on trial: its calls are played to their ends, and the report tells what came of them.
-ghost use Rattle.std.specs.Prelude.{◌≡◌, [], IfOk};
-ghost use Rattle.jc_engine.specs.Opening.{Hookless};
 
-use crate::hooks::{Asked, answer};
+use crate::hooks::answer;
 use jc_engine::open::OpenRefusal;
 use jc_engine::recorded::Recorded;
+use jc_hooks::{CacheHooks, Listener, Loader, Processor, Writer};
 use jc_model::OutOfMemory;
-use jc_model::call::{Answer, Call};
+use jc_model::call::{Answer, Call, Notice, Request};
 use jc_model::config::{CacheConfig, Policy};
 use jc_model::event::{CacheId, Cause, Step};
 use jc_model::key::{Key, KeyFault};
+use jc_model::keys::ListFault;
 use jc_model::list::Sequence;
 use jc_model::value::{Value, ValueFault};
 use jc_ring::list_ring::ListRing;
@@ -17,8 +17,8 @@ use jc_rows::list_rows::ListRows;
 use jc_script::report;
 use std::alloc::{AllocFailed, Global};
 
-/// No call needs more answers than this: a load, a processing, a write and a telling.
-const MOST_ANSWERS: usize = 4;
+/// No call of a trial needs more answers than this.
+const MOST_ANSWERS: usize = 300;
 
 /// Why a trial did not go on.
 #[derive(Debug, Drop, PartialEq, Eq)]
@@ -27,9 +27,12 @@ pub enum Trouble {
     Refused(Cause),
     NoKey(KeyFault),
     NoValue(ValueFault),
+    NoList(ListFault),
     Memory,
     /// A call asked on and on.
     Endless,
+    /// A cache has no hooks to ask.
+    NoHooks,
 }
 
 impl From<OutOfMemory> for Trouble {
@@ -50,18 +53,24 @@ impl From<KeyFault> for Trouble {
     }
 }
 
+impl From<ListFault> for Trouble {
+    fn from(fault: ListFault) -> Trouble {
+        Trouble::NoList(fault)
+    }
+}
+
 impl From<ValueFault> for Trouble {
     fn from(fault: ValueFault) -> Trouble {
         Trouble::NoValue(fault)
     }
 }
 
-/// A manager on trial.
+/// A manager on trial, with the hooks of each cache.
 #[derive(Drop)]
-pub struct Trial {
+pub struct Trial<L: Loader, W: Writer, P: Processor, K: Listener> {
     alloc: Global,
     manager: Recorded<ListRows, ListRing>,
-    pub asked: Asked,
+    pub hooks: Vec<CacheHooks<L, W, P, K>>,
 }
 
 /// The key with this text.
@@ -69,48 +78,40 @@ pub fn key(text: &str) -> Result<Key, Trouble> {
     Ok(Key::from_text(text)?)
 }
 
-impl Trial {
-    /// A cache of 64 rows that never expire, without hooks.
-    pub fn plain(alloc: Global, name: &str) -> Result<CacheConfig, Trouble>
-        ensures { IfOk result (λ c. c.processors ≡ []) }
-    {
-        Ok(CacheConfig {
-            name: key(name)?,
-            capacity: 64,
-            policy: Policy::Eternal,
-            loader: false,
-            writer: false,
-            processors: Sequence::new(Vec::new(alloc)),
-            listeners: 0,
-        })
-    }
+/// The value with this text.
+pub fn value_of(alloc: Global, text: &str) -> Result<Value, Trouble> {
+    let bytes = text.as_bytes().to_vec(alloc)?;
+    Ok(Value::new(alloc, bytes)?)
+}
 
-    /// A manager of these caches.
-    pub fn open(alloc: Global, configs: Vec<CacheConfig>) -> Result<Trial, Trouble>
-        requires { Hookless configs.items }
-    {
+/// A cache of 64 rows that never expire, without hooks.
+pub fn plain_cache(alloc: Global, name: &str) -> Result<CacheConfig, Trouble> {
+    Ok(CacheConfig {
+        name: key(name)?,
+        capacity: 64,
+        policy: Policy::Eternal,
+        loader: false,
+        writer: false,
+        processors: Sequence::new(Vec::new(alloc)),
+        listeners: 0,
+    })
+}
+
+impl<L: Loader, W: Writer, P: Processor, K: Listener> Trial<L, W, P, K> {
+    /// A manager of these caches, with the hooks of each.
+    pub fn open(
+        alloc: Global,
+        configs: Vec<CacheConfig>,
+        hooks: Vec<CacheHooks<L, W, P, K>>,
+    ) -> Result<Trial<L, W, P, K>, Trouble> {
         match Recorded::open(alloc, ListRows::new(alloc), configs) {
             Ok(manager) => Ok(Trial {
                 alloc,
                 manager,
-                asked: Asked::NOTHING,
+                hooks,
             }),
             Err(refusal) => Err(Trouble::Opening(refusal)),
         }
-    }
-
-    /// A manager of one cache.
-    pub fn of(alloc: Global, config: CacheConfig) -> Result<Trial, Trouble>
-        requires { config.processors ≡ [] }
-    {
-        let configs = Vec::from_array(alloc, [config])?;
-        Trial::open(alloc, configs)
-    }
-
-    /// The value with this text.
-    pub fn value(&self, text: &str) -> Result<Value, Trouble> {
-        let bytes = text.as_bytes().to_vec(self.alloc)?;
-        Ok(Value::new(self.alloc, bytes)?)
     }
 
     /// Plays a call of session 0 on the first cache to its reply.
@@ -126,7 +127,7 @@ impl Trial {
             match step {
                 Step::Done(_) => return Ok(()),
                 Step::Need(request) => {
-                    let given = answer(self.alloc, &request, &mut self.asked)?;
+                    let given = self.ask(cache, &request)?;
                     step = self.resume(id, given)?;
                 }
             }
@@ -134,6 +135,14 @@ impl Trial {
         match step {
             Step::Done(_) => Ok(()),
             Step::Need(_) => Err(Trouble::Endless),
+        }
+    }
+
+    /// What a cache's hooks answer.
+    fn ask(&mut self, cache: u32, request: &Request) -> Result<Answer, Trouble> {
+        match self.hooks.get_mut(cache as usize) {
+            Some(hooks) => Ok(answer(self.alloc, hooks, request)?),
+            None => Err(Trouble::NoHooks),
         }
     }
 
@@ -161,34 +170,16 @@ impl Trial {
         }
     }
 
+    /// Gives the open call of a cache up.
+    pub fn give_up(&mut self, id: CacheId) -> Result<Sequence<Notice>, Trouble> {
+        match self.manager.give_up(id) {
+            Ok(left) => Ok(left),
+            Err(cause) => Err(Trouble::Refused(cause)),
+        }
+    }
+
     /// What came of all calls so far.
     pub fn report(&self) -> Result<String, Trouble> {
         Ok(report(self.alloc, self.manager.names(), self.manager.transcript())?)
-    }
-
-    // The calls of the examples, by their keys and values.
-
-    pub fn get(&mut self, now: u64, name: &str) -> Result<(), Trouble> {
-        let call = Call::Get(key(name)?);
-        self.play(now, call)
-    }
-
-    pub fn contains(&mut self, now: u64, name: &str) -> Result<(), Trouble> {
-        let call = Call::Contains(key(name)?);
-        self.play(now, call)
-    }
-
-    pub fn put(&mut self, now: u64, name: &str, text: &str) -> Result<(), Trouble> {
-        let call = Call::Put(key(name)?, self.value(text)?);
-        self.play(now, call)
-    }
-
-    pub fn remove(&mut self, now: u64, name: &str) -> Result<(), Trouble> {
-        let call = Call::Remove(key(name)?);
-        self.play(now, call)
-    }
-
-    pub fn stats(&mut self, now: u64) -> Result<(), Trouble> {
-        self.play(now, Call::Stats)
     }
 }
