@@ -1,5 +1,6 @@
 //! An equal second value: shared bytes get a further owner, lists are made anew.
 ghost use Rattle.std.specs.Prelude.{◌≡◌, IfOk};
+ghost use Rattle.jc_model.specs.declared.call.Call.TheVariants.{ReplaceIf, RemoveIf, Invoke, InvokeAll, LoadAll};
 
 use crate::OutOfMemory;
 use crate::call::{Action, Answer, By, Call, Kind, Notice, ProcessorFault, Reply, Verdict};
@@ -190,57 +191,80 @@ impl Share for Call {
                 key,
                 expected,
                 value,
-            } => {
-                let expected = expected.share()?;
-                let value = value.share()?;
-                Ok(Call::ReplaceIf {
-                    key: *key,
-                    expected,
-                    value,
-                })
-            }
+            } => share_replace_if(*key, expected, value),
             Call::GetAndReplace(key, value) => Ok(Call::GetAndReplace(*key, value.share()?)),
             Call::Remove(key) => Ok(Call::Remove(*key)),
-            Call::RemoveIf { key, expected } => Ok(Call::RemoveIf {
-                key: *key,
-                expected: expected.share()?,
-            }),
+            Call::RemoveIf { key, expected } => share_remove_if(*key, expected),
             Call::GetAndRemove(key) => Ok(Call::GetAndRemove(*key)),
             Call::Invoke {
                 key,
                 processor,
                 argument,
-            } => Ok(Call::Invoke {
-                key: *key,
-                processor: *processor,
-                argument: argument.share()?,
-            }),
+            } => share_invoke(*key, *processor, argument),
             Call::InvokeAll {
                 keys,
                 processor,
                 argument,
-            } => {
-                let keys = keys.share()?;
-                let argument = argument.share()?;
-                Ok(Call::InvokeAll {
-                    keys,
-                    processor: *processor,
-                    argument,
-                })
-            }
+            } => share_invoke_all(keys, *processor, argument),
             Call::PutAll(pairs) => Ok(Call::PutAll(pairs.share()?)),
             Call::RemoveKeys(keys) => Ok(Call::RemoveKeys(keys.share()?)),
             Call::RemoveAll => Ok(Call::RemoveAll),
             Call::Clear => Ok(Call::Clear),
-            Call::LoadAll { keys, replace } => Ok(Call::LoadAll {
-                keys: keys.share()?,
-                replace: *replace,
-            }),
+            Call::LoadAll { keys, replace } => share_load_all(keys, *replace),
             Call::Entries => Ok(Call::Entries),
             Call::Stats => Ok(Call::Stats),
             Call::ClearStats => Ok(Call::ClearStats),
         }
     }
+}
+
+fn share_replace_if(key: Key, expected: &Value, value: &Value) -> Result<Call, OutOfMemory>
+    ensures { IfOk result (λ c. c ≡ ReplaceIf key expected.now value.now) }
+{
+    let expected = expected.share()?;
+    let value = value.share()?;
+    Ok(Call::ReplaceIf {
+        key,
+        expected,
+        value,
+    })
+}
+
+fn share_remove_if(key: Key, expected: &Value) -> Result<Call, OutOfMemory>
+    ensures { IfOk result (λ c. c ≡ RemoveIf key expected.now) }
+{
+    let expected = expected.share()?;
+    Ok(Call::RemoveIf { key, expected })
+}
+
+fn share_invoke(key: Key, processor: u8, argument: &Value) -> Result<Call, OutOfMemory>
+    ensures { IfOk result (λ c. c ≡ Invoke key processor argument.now) }
+{
+    let argument = argument.share()?;
+    Ok(Call::Invoke {
+        key,
+        processor,
+        argument,
+    })
+}
+
+fn share_invoke_all(keys: &Keys, processor: u8, argument: &Value) -> Result<Call, OutOfMemory>
+    ensures { IfOk result (λ c. c ≡ InvokeAll keys.now processor argument.now) }
+{
+    let keys = keys.share()?;
+    let argument = argument.share()?;
+    Ok(Call::InvokeAll {
+        keys,
+        processor,
+        argument,
+    })
+}
+
+fn share_load_all(keys: &Keys, replace: bool) -> Result<Call, OutOfMemory>
+    ensures { IfOk result (λ c. c ≡ LoadAll keys.now replace) }
+{
+    let keys = keys.share()?;
+    Ok(Call::LoadAll { keys, replace })
 }
 
 impl Share for End {
