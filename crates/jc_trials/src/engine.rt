@@ -33,7 +33,7 @@ fn two_caches(alloc: Global) -> Result<Manager, Trouble> {
 #[test]
 fn an_open_call_refuses_what_is_not_its_answer(rt: HostRuntime) -> Result<(), Trouble> {
     let alloc = rt.alloc();
-    let (a, b) = (CacheId::new(0), CacheId::new(1));
+    let a = CacheId::new(0);
     let k = key("k")?;
     let mut engine = two_caches(alloc)?;
     assert_eq!(rt;
@@ -48,6 +48,17 @@ fn an_open_call_refuses_what_is_not_its_answer(rt: HostRuntime) -> Result<(), Tr
         engine.resume(a, Answer::Written),
         Err((Cause::WrongAnswer, Answer::Written))
     );
+    let loaded = Answer::Loaded(Some(value_of(alloc, "k")?));
+    let found = Reply::Found(Some(value_of(alloc, "k")?));
+    assert_eq!(rt; engine.resume(a, loaded), Ok(Step::Done(found)));
+    Ok(())
+}
+
+#[test]
+fn a_cache_without_an_open_call_has_no_turn(rt: HostRuntime) -> Result<(), Trouble> {
+    let alloc = rt.alloc();
+    let b = CacheId::new(1);
+    let mut engine = two_caches(alloc)?;
     assert_eq!(rt;
         engine.resume(b, Answer::Told),
         Err((Cause::NoTurn, Answer::Told))
@@ -57,16 +68,20 @@ fn an_open_call_refuses_what_is_not_its_answer(rt: HostRuntime) -> Result<(), Tr
         engine.begin(CacheId::new(7), 0, Call::Stats),
         Err((Cause::NoSuchCache, Call::Stats))
     );
+    Ok(())
+}
+
+#[test]
+fn a_processor_that_is_not_there_is_refused(rt: HostRuntime) -> Result<(), Trouble> {
+    let alloc = rt.alloc();
+    let mut engine = two_caches(alloc)?;
     let invoke = Call::Invoke {
-        key: k,
+        key: key("k")?,
         processor: 0,
         argument: value_of(alloc, "")?,
     };
-    let refused = engine.begin(b, 0, invoke).err();
+    let refused = engine.begin(CacheId::new(1), 0, invoke).err();
     assert!(rt; matches!(refused, Some((Cause::NoSuchProcessor, Call::Invoke { .. }))));
-    let loaded = Answer::Loaded(Some(value_of(alloc, "k")?));
-    let found = Reply::Found(Some(value_of(alloc, "k")?));
-    assert_eq!(rt; engine.resume(a, loaded), Ok(Step::Done(found)));
     Ok(())
 }
 

@@ -239,6 +239,14 @@ fn is_one_notice(notices: &[Notice], kind: Kind, key: &Key) -> bool {
     }
 }
 
+/// Whether the next request tells one notice, of this kind and key.
+fn tells_one(step: &Step, kind: Kind, key: &Key) -> bool {
+    match step {
+        Step::Need(Request::Tell(notices)) => is_one_notice(notices.items(), kind, key),
+        _ => false,
+    }
+}
+
 /// Puts a key with the writer's consent.
 fn put_written(trial: &mut PlainTrial, now: u64, name: &str) -> Result<(), Trouble> {
     let a = CacheId::new(0);
@@ -264,12 +272,8 @@ fn a_writer_fault_ends_remove_all_behind_an_expired_row(rt: HostRuntime) -> Resu
     put_written(&mut trial, 5, "z")?;
     let step = trial.begin(a, 10, Call::RemoveAll)?;
     assert_eq!(rt; step, Step::Need(Request::Delete(key("y")?)));
-    match trial.resume(a, Answer::WriteFailed)? {
-        Step::Need(Request::Tell(notices)) => {
-            assert!(rt; is_one_notice(notices.items(), Kind::Expired, &key("x")?));
-        }
-        _ => assert!(rt; false, "no notice was told"),
-    }
+    let step = trial.resume(a, Answer::WriteFailed)?;
+    assert!(rt; tells_one(&step, Kind::Expired, &key("x")?));
     let reply = Reply::Fault {
         by: By::Writer,
         done: Some(1),
