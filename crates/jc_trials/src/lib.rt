@@ -19,6 +19,8 @@ pub use trial::{Trial, Trouble, plain_cache};
 #[cfg(test)]
 mod clock;
 #[cfg(test)]
+mod closures;
+#[cfg(test)]
 mod conditional;
 #[cfg(test)]
 mod engine;
@@ -27,6 +29,10 @@ mod hooked;
 #[cfg(test)]
 mod many;
 #[cfg(test)]
+mod one_cache;
+#[cfg(test)]
 mod policies;
 #[cfg(test)]
 mod processors;
+#[cfg(test)]
+mod serial;

@@ -14,6 +14,7 @@ use jc_model::list::Sequence;
 use jc_model::value::{Value, ValueFault};
 use jc_ring::list_ring::ListRing;
 use jc_rows::list_rows::ListRows;
+use jc_runner::RunFault;
 use jc_script::report;
 use std::alloc::{AllocFailed, Global};
 
@@ -33,6 +34,9 @@ pub enum Trouble {
     Endless,
     /// A cache has no hooks to ask.
     NoHooks,
+    /// The caches are more than settings hold.
+    NoSettings,
+    Running(RunFault),
 }
 
 impl From<OutOfMemory> for Trouble {
@@ -44,6 +48,12 @@ impl From<OutOfMemory> for Trouble {
 impl<T: Drop> From<AllocFailed<T>> for Trouble {
     fn from(_: AllocFailed<T>) -> Trouble {
         Trouble::Memory
+    }
+}
+
+impl From<RunFault> for Trouble {
+    fn from(fault: RunFault) -> Trouble {
+        Trouble::Running(fault)
     }
 }
 

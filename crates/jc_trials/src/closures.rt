@@ -1,0 +1,45 @@
+//! The program's loader and its processors as stored closures.
+
+ghost use Rattle.std.specs.Prelude.{◌≡◌, IfOk};
+ghost use Rattle.jc_hooks.specs.Program.{echoed};
+ghost use Rattle.jc_trials.specs.Processors.{verdict_by};
+
+use crate::hooks::ProgramProcessor;
+use jc_hooks::program::EchoLoader;
+use jc_hooks::{
+    ClosureLoader, ClosureProcessor, LoadClosure, Loaded, Loader, ProcessClosure, Processor,
+};
+use jc_model::OutOfMemory;
+use jc_model::call::{ProcessorFault, Verdict};
+use jc_model::key::Key;
+use jc_model::value::Value;
+use std::alloc::Global;
+
+/// A closure that echoes.
+pub fn echo_closure(alloc: Global) -> Result<ClosureLoader, OutOfMemory> {
+    let closure: LoadClosure = Box::new(
+        alloc,
+        |alloc: Global, key: &Key| -> Result<Loaded, OutOfMemory>
+            ensures { IfOk result (λ l. l ≡ echoed key.now) }
+        { EchoLoader.load(alloc, key) },
+    )?;
+    Ok(ClosureLoader::new(closure))
+}
+
+/// A closure that processes as one of the program's processors.
+pub fn processor_closure(
+    alloc: Global,
+    processor: ProgramProcessor,
+) -> Result<ClosureProcessor, OutOfMemory> {
+    let wants_value = processor.wants_value();
+    let closure: ProcessClosure = Box::new(
+        alloc,
+        move |alloc: Global, value: Option<Value>, argument: &Value| -> Result<
+            Result<Verdict, ProcessorFault>,
+            OutOfMemory,
+        >
+            ensures { IfOk result (λ v. v ≡ verdict_by processor value argument.now) }
+        { processor.process(alloc, value.as_ref(), argument) },
+    )?;
+    Ok(ClosureProcessor::new(wants_value, closure))
+}
