@@ -24,5 +24,3 @@ mod configuring_tests;
 mod hooked;
 #[cfg(test)]
 mod tests;
-#[cfg(test)]
-mod worked;
