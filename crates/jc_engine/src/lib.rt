@@ -7,5 +7,3 @@ mod moves;
 pub mod open;
 pub mod recorded;
 mod run;
-#[cfg(test)]
-mod tests;

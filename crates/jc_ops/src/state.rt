@@ -8,8 +8,6 @@ mod removal;
 mod renewal;
 mod room;
 mod rows;
-#[cfg(test)]
-mod tests;
 mod walk;
 
 ghost use Rattle.std.specs.Prelude.{◌≡◌, ℕ, List, [], true, Some, IfOk};

@@ -166,7 +166,7 @@ fn script(alloc: Global) -> Result<Vec<u8>, AllocError> {
 }
 
 /// Callbacks of the types that a program may have.
-pub type Hooks = CacheHooks<EchoLoader, CheckWriter, AppendProcessor, TallyListener>;
+type Hooks = CacheHooks<EchoLoader, CheckWriter, AppendProcessor, TallyListener>;
 
 /// No callbacks.
 fn no_hooks(alloc: Global) -> Hooks {

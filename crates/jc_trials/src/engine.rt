@@ -3,6 +3,7 @@
 use crate::trial::{Trouble, key, plain_cache, value_of};
 use jc_engine::engine::Engine;
 use jc_engine::open::OpenRefusal;
+use jc_engine::recorded::Recorded;
 use jc_model::call::{Answer, Call, ProcessorFault, Reply, Request};
 use jc_model::config::CacheConfig;
 use jc_model::event::{CacheId, Cause, Event, Outcome, Step};
@@ -170,17 +171,31 @@ fn five_caches_of_the_greatest_capacity_are_too_many_rows(rt: HostRuntime) -> Re
     Ok(())
 }
 
+/// Why two caches of these names and capacities do not open.
+fn refusal_of_two(
+    alloc: Global,
+    first: (&str, u32),
+    second: (&str, u32),
+) -> Result<Option<Trouble>, Trouble> {
+    let mut configs = Vec::new(alloc);
+    configs.push(of_capacity(alloc, first.0, first.1)?)?;
+    configs.push(of_capacity(alloc, second.0, second.1)?)?;
+    Ok(open(alloc, configs).err())
+}
+
 #[test]
-fn refusals_at_opening_name_the_first_fault(rt: HostRuntime) -> Result<(), Trouble> {
-    let alloc = rt.alloc();
-    let none = of_capacity(alloc, "b", 0)?;
-    let configs = Vec::from_array(alloc, [of_capacity(alloc, "a", 1)?, none])?;
-    let refusal = OpenRefusal::BadCapacity { cache: 1 };
-    assert_eq!(rt; open(alloc, configs).err(), Some(Trouble::Opening(refusal)));
-    let again = of_capacity(alloc, "a", 1)?;
-    let configs = Vec::from_array(alloc, [of_capacity(alloc, "a", 1)?, again])?;
-    let refusal = OpenRefusal::DuplicateName { cache: 1 };
-    assert_eq!(rt; open(alloc, configs).err(), Some(Trouble::Opening(refusal)));
+fn a_cache_without_capacity_is_named(rt: HostRuntime) -> Result<(), Trouble> {
+    let refusal = refusal_of_two(rt.alloc(), ("a", 1), ("b", 0))?;
+    let bad = Trouble::Opening(OpenRefusal::BadCapacity { cache: 1 });
+    assert_eq!(rt; refusal, Some(bad));
+    Ok(())
+}
+
+#[test]
+fn the_second_cache_of_a_name_is_named(rt: HostRuntime) -> Result<(), Trouble> {
+    let refusal = refusal_of_two(rt.alloc(), ("a", 1), ("a", 1))?;
+    let duplicate = Trouble::Opening(OpenRefusal::DuplicateName { cache: 1 });
+    assert_eq!(rt; refusal, Some(duplicate));
     Ok(())
 }
 
@@ -268,5 +283,65 @@ fn answers_of_another_kind_are_handed_back(rt: HostRuntime) -> Result<(), Troubl
         }
     }
     assert_eq!(rt; refused, 22);
+    Ok(())
+}
+
+#[test]
+fn more_than_1024_caches_are_too_many(rt: HostRuntime) -> Result<(), Trouble> {
+    let alloc = rt.alloc();
+    let mut configs = Vec::new(alloc);
+    for place in 0..1025 {
+        let name = format!(in alloc; "{place}")?;
+        configs.push(of_capacity(alloc, name.as_str(), 1)?)?;
+    }
+    let refusal = Trouble::Opening(OpenRefusal::TooManyCaches);
+    assert_eq!(rt; open(alloc, configs).err(), Some(refusal));
+    Ok(())
+}
+
+#[test]
+fn a_run_goes_on_behind_a_refusal(rt: HostRuntime) -> Result<(), Trouble> {
+    let alloc = rt.alloc();
+    let a = CacheId::new(0);
+    let events = [
+        Event::Begin(a, 0, Call::Get(key("k")?)),
+        Event::GiveUp(a),
+        Event::GiveUp(a),
+        Event::Begin(a, 0, Call::Contains(key("k")?)),
+    ];
+    let expected = [
+        Outcome::Step(Step::Need(Request::Load(key("k")?))),
+        Outcome::GivenUp(Sequence::new(Vec::new(alloc))),
+        Outcome::Refused(Cause::NoTurn),
+        Outcome::Step(Step::Done(Reply::Truth(false))),
+    ];
+    match two_caches(alloc)?.run(Vec::from_array(alloc, events)?) {
+        Ok(outcomes) => assert_eq!(rt; outcomes.as_slice(), expected.as_slice()),
+        Err(_) => assert!(rt; false, "the run found no room"),
+    }
+    Ok(())
+}
+
+fn recorded(
+    alloc: Global,
+    configs: Vec<CacheConfig>,
+) -> Result<Recorded<ListRows, ListRing>, Trouble> {
+    match Recorded::open(alloc, ListRows::new(alloc), configs) {
+        Ok(recorded) => Ok(recorded),
+        Err(refusal) => Err(Trouble::Opening(refusal)),
+    }
+}
+
+#[test]
+fn a_reply_is_handed_out_twice(rt: HostRuntime) -> Result<(), Trouble> {
+    let alloc = rt.alloc();
+    let configs = Vec::from_array(alloc, [plain_cache(alloc, "a")?])?;
+    let mut recorded = recorded(alloc, configs)?;
+    let a = CacheId::new(0);
+    let replied = (Step::Done(Reply::Truth(false)), Some(Reply::Truth(false)));
+    let call = Call::Contains(key("k")?);
+    assert_eq!(rt; recorded.begin(4, a, 0, call), Ok(replied));
+    assert_eq!(rt; recorded.transcript().entries().len(), 1);
+    assert_eq!(rt; recorded.give_up(a).err(), Some(Cause::NoTurn));
     Ok(())
 }

@@ -53,30 +53,11 @@ impl Processor for ProgramProcessor {
     }
 }
 
-/// The hooks of a cache that records nothing.
+/// The program's hooks, of which a cache has some.
 pub type PlainHooks = CacheHooks<EchoLoader, CheckWriter, ProgramProcessor, TallyListener>;
 
-/// The program's hooks: a loader that echoes, a writer that checks, the processors append, fail, drop and peek.
-pub fn plain_hooks(alloc: Global) -> Result<PlainHooks, OutOfMemory> {
-    let processors = Vec::from_array(
-        alloc,
-        [
-            ProgramProcessor::Append,
-            ProgramProcessor::Fail,
-            ProgramProcessor::Drop,
-            ProgramProcessor::Peek,
-        ],
-    )?;
-    Ok(CacheHooks {
-        loader: Some(EchoLoader),
-        writer: Some(CheckWriter),
-        processors,
-        listeners: Vec::new(alloc),
-    })
-}
-
 /// Tells each notice to all listeners before the next one.
-fn tell_all<K: Listener>(listeners: &mut Vec<K>, notices: &[Notice]) {
+fn tell_all(listeners: &mut Vec<TallyListener>, notices: &[Notice]) {
     for notice in notices {
         for listener in listeners.iter_mut() {
             listener.tell(notice);
@@ -84,7 +65,7 @@ fn tell_all<K: Listener>(listeners: &mut Vec<K>, notices: &[Notice]) {
     }
 }
 
-fn loaded<L: Loader>(alloc: Global, loader: &Option<L>, key: &Key) -> Result<Answer, OutOfMemory> {
+fn loaded(alloc: Global, loader: &Option<EchoLoader>, key: &Key) -> Result<Answer, OutOfMemory> {
     match loader {
         Some(loader) => Ok(load_answer(loader.load(alloc, key)?)),
         None => Ok(Answer::LoadFailed),
@@ -92,9 +73,9 @@ fn loaded<L: Loader>(alloc: Global, loader: &Option<L>, key: &Key) -> Result<Ans
 }
 
 /// What a cache's hooks answer to a request; a hook that is not there fails.
-pub fn answer<L: Loader, W: Writer, P: Processor, K: Listener>(
+pub fn answer(
     alloc: Global,
-    hooks: &mut CacheHooks<L, W, P, K>,
+    hooks: &mut PlainHooks,
     request: &Request,
 ) -> Result<Answer, OutOfMemory> {
     match request {

@@ -211,15 +211,49 @@ fn each_processor_of_a_script_is_asked_in_its_turn(rt: HostRuntime) -> Result<()
     Ok(())
 }
 
+/// A listener that shares what it hears.
+fn listening(heard: &Heard) -> Result<RecordingListener, Trouble> {
+    Ok(RecordingListener {
+        heard: heard.share()?,
+    })
+}
+
+#[test]
+fn each_notice_is_told_to_all_listeners_before_the_next(rt: HostRuntime) -> Result<(), Trouble> {
+    let alloc = rt.alloc();
+    let heard = Heard::new(alloc, 6)?;
+    let hooks = CacheHooks {
+        listeners: Vec::from_array(alloc, [listening(&heard)?, listening(&heard)?])?,
+        ..no_hooks(alloc)
+    };
+    let config = CacheConfig {
+        capacity: 1,
+        policy: Policy::Created(10),
+        listeners: 2,
+        ..plain_cache(alloc, "a")?
+    };
+    let script = r#"
+{"s":0,"c":"a","at":0,"op":"put","k":"x","v":"1"}
+{"s":0,"c":"a","at":10,"op":"put","k":"y","v":"2"}
+"#;
+    let report = reported(alloc, config, hooks, script)?;
+    let expected =
+        "cache a\n0 event created \"x\"\n0 put ok\n0 event expired \"x\"\n0 event created \"y\"\n0 put ok\n";
+    assert_eq!(rt; report.as_slice(), expected.as_bytes());
+    let (x, y) = (key("x")?, key("y")?);
+    assert!(rt; heard.is(0, Kind::Created, &x) && heard.is(1, Kind::Created, &x));
+    assert!(rt; heard.is(2, Kind::Expired, &x) && heard.is(3, Kind::Expired, &x));
+    assert!(rt; heard.is(4, Kind::Created, &y) && heard.is(5, Kind::Created, &y));
+    assert_eq!(rt; heard.len(), 6);
+    Ok(())
+}
+
 #[test]
 fn a_script_tells_its_notices_in_ring_order(rt: HostRuntime) -> Result<(), Trouble> {
     let alloc = rt.alloc();
     let heard = Heard::new(alloc, 6)?;
-    let listener = RecordingListener {
-        heard: heard.share()?,
-    };
     let hooks = CacheHooks {
-        listeners: Vec::from_array(alloc, [listener])?,
+        listeners: Vec::from_array(alloc, [listening(&heard)?])?,
         ..no_hooks(alloc)
     };
     let config = CacheConfig {

@@ -1,9 +1,10 @@
-//! One manager on trial: its calls are played to their ends, and the report tells what came of them.
+//! One manager on trial, with the program's callbacks: its calls are played to their ends, and the report tells what
+//! came of them.
 
-use crate::hooks::answer;
+use crate::hooks::{PlainHooks, answer};
+use jc_config::ConfigFault;
 use jc_engine::open::OpenRefusal;
 use jc_engine::recorded::Recorded;
-use jc_hooks::{CacheHooks, Listener, Loader, Processor, Writer};
 use jc_model::OutOfMemory;
 use jc_model::call::{Answer, Call, Notice, Request};
 use jc_model::config::{CacheConfig, Policy};
@@ -15,7 +16,7 @@ use jc_model::value::{Value, ValueFault};
 use jc_ring::list_ring::ListRing;
 use jc_rows::list_rows::ListRows;
 use jc_runner::RunFault;
-use jc_script::report;
+use jc_script::{ScriptFault, report};
 use std::alloc::{AllocFailed, Global};
 
 /// No call of a trial needs more answers than this.
@@ -36,6 +37,8 @@ pub enum Trouble {
     NoHooks,
     /// The caches are more than settings hold.
     NoSettings,
+    NoConfig(ConfigFault),
+    NoScript(ScriptFault),
     Running(RunFault),
 }
 
@@ -48,6 +51,18 @@ impl From<OutOfMemory> for Trouble {
 impl<T: Drop> From<AllocFailed<T>> for Trouble {
     fn from(_: AllocFailed<T>) -> Trouble {
         Trouble::Memory
+    }
+}
+
+impl From<ConfigFault> for Trouble {
+    fn from(fault: ConfigFault) -> Trouble {
+        Trouble::NoConfig(fault)
+    }
+}
+
+impl From<ScriptFault> for Trouble {
+    fn from(fault: ScriptFault) -> Trouble {
+        Trouble::NoScript(fault)
     }
 }
 
@@ -77,10 +92,10 @@ impl From<ValueFault> for Trouble {
 
 /// A manager on trial, with the hooks of each cache.
 #[derive(Drop)]
-pub struct Trial<L: Loader, W: Writer, P: Processor, K: Listener> {
+pub struct Trial {
     alloc: Global,
     manager: Recorded<ListRows, ListRing>,
-    pub hooks: Vec<CacheHooks<L, W, P, K>>,
+    hooks: Vec<PlainHooks>,
 }
 
 /// The key with this text.
@@ -107,13 +122,13 @@ pub fn plain_cache(alloc: Global, name: &str) -> Result<CacheConfig, Trouble> {
     })
 }
 
-impl<L: Loader, W: Writer, P: Processor, K: Listener> Trial<L, W, P, K> {
+impl Trial {
     /// A manager of these caches, with the hooks of each.
     pub fn open(
         alloc: Global,
         configs: Vec<CacheConfig>,
-        hooks: Vec<CacheHooks<L, W, P, K>>,
-    ) -> Result<Trial<L, W, P, K>, Trouble> {
+        hooks: Vec<PlainHooks>,
+    ) -> Result<Trial, Trouble> {
         match Recorded::open(alloc, ListRows::new(alloc), configs) {
             Ok(manager) => Ok(Trial {
                 alloc,
@@ -124,20 +139,14 @@ impl<L: Loader, W: Writer, P: Processor, K: Listener> Trial<L, W, P, K> {
         }
     }
 
-    /// Plays a call of session 0 on the first cache to its reply.
-    pub fn play(&mut self, now: u64, call: Call) -> Result<(), Trouble> {
-        self.play_on(0, now, call)
-    }
-
     /// Plays a call of session 0 on a cache to its reply.
-    pub fn play_on(&mut self, cache: u32, now: u64, call: Call) -> Result<(), Trouble> {
-        let id = CacheId::new(cache);
+    pub fn play(&mut self, id: CacheId, now: u64, call: Call) -> Result<(), Trouble> {
         let mut step = self.begin(id, now, call)?;
         for _ in 0..MOST_ANSWERS {
             match step {
                 Step::Done(_) => return Ok(()),
                 Step::Need(request) => {
-                    let given = self.ask(cache, &request)?;
+                    let given = self.ask(id, &request)?;
                     step = self.resume(id, given)?;
                 }
             }
@@ -149,8 +158,8 @@ impl<L: Loader, W: Writer, P: Processor, K: Listener> Trial<L, W, P, K> {
     }
 
     /// What a cache's hooks answer.
-    fn ask(&mut self, cache: u32, request: &Request) -> Result<Answer, Trouble> {
-        match self.hooks.get_mut(cache as usize) {
+    fn ask(&mut self, id: CacheId, request: &Request) -> Result<Answer, Trouble> {
+        match self.hooks.get_mut(id.number() as usize) {
             Some(hooks) => Ok(answer(self.alloc, hooks, request)?),
             None => Err(Trouble::NoHooks),
         }
