@@ -214,6 +214,37 @@ cache prices
 2 stats 3 1 3 0 1
 "##;
 
+/// The demonstration's caches, which are there without words.
+const TWO_CACHES: &str = r##"[[cache]]
+name = "a"
+capacity = 2
+
+[[cache]]
+name = "b"
+capacity = 1
+expiry = "created"
+duration = 100
+"##;
+
+/// The stored run.
+const STORED_CALLS: &str = r##"{"s":0,"c":"a","at":0,"op":"put","k":"x","v":"1"}
+{"s":0,"c":"a","at":1,"op":"get","k":"x"}
+{"s":0,"c":"a","at":1,"op":"stats"}
+{"s":1,"c":"b","at":0,"op":"put","k":"x","v":"9"}
+{"s":1,"c":"b","at":100,"op":"get","k":"x"}
+{"s":1,"c":"b","at":100,"op":"stats"}
+"##;
+
+const STORED_REPORT: &str = r##"cache a
+0 put ok
+0 get some "1"
+0 stats 1 0 1 0 0
+cache b
+1 put ok
+1 get none
+1 stats 0 1 1 0 0
+"##;
+
 /// The report of the calls on the caches that the configuration names.
 fn reported(alloc: Global, caches: &str, calls: &str) -> Result<Vec<u8>, ProgramFault> {
     let mut config = Watched::new(caches.as_bytes());
@@ -237,5 +268,12 @@ fn the_demonstration_has_its_report(rt: HostRuntime) -> Result<(), Fail> {
 fn the_example_of_the_formats_has_its_report(rt: HostRuntime) -> Result<(), Fail> {
     let report = reported(rt.alloc(), EXAMPLE_CACHES, EXAMPLE_CALLS)?;
     assert_eq!(rt; report.as_slice(), EXAMPLE_REPORT.as_bytes());
+    Ok(())
+}
+
+#[test]
+fn the_stored_run_has_its_report_from_files(rt: HostRuntime) -> Result<(), Fail> {
+    let report = reported(rt.alloc(), TWO_CACHES, STORED_CALLS)?;
+    assert_eq!(rt; report.as_slice(), STORED_REPORT.as_bytes());
     Ok(())
 }
