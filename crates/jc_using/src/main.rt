@@ -47,7 +47,7 @@ fn answer(alloc: Global, request: Request) -> Answer {
 }
 
 /// Makes a call on the one cache at a moment, in milliseconds.
-fn call(alloc: Global, manager: &mut Manager, now: u64, call: Call) -> Result<Step, Cause> {
+fn make(alloc: Global, manager: &mut Manager, now: u64, call: Call) -> Result<Step, Cause> {
     let cache = CacheId::new(0);
     match manager.begin(cache, now, call) {
         Ok(Step::Need(request)) => {
@@ -59,23 +59,21 @@ fn call(alloc: Global, manager: &mut Manager, now: u64, call: Call) -> Result<St
     }
 }
 
-/// Gets one name at three moments, and prints each reply; nothing where something is refused.
+/// Gets one name at three moments and then the counters, and prints each reply; nothing where something is refused.
 fn greet(rt: &HostRuntime) -> Option<()> {
     let alloc = rt.alloc();
     let caches = one_cache(alloc, Key::from_text("greetings").ok()?).ok()?;
     let mut manager: Manager = Engine::open(alloc, ListRows::new(alloc), caches).ok()?;
     let ann = Key::from_text("ann").ok()?;
-    for now in [0, 59_999, 60_000] {
-        if let Step::Done(reply) = call(alloc, &mut manager, now, Call::Get(ann)).ok()? {
+    for (now, call) in [
+        (0, Call::Get(ann)),
+        (59_999, Call::Get(ann)),
+        (60_000, Call::Get(ann)),
+        (60_000, Call::Stats),
+    ] {
+        if let Step::Done(reply) = make(alloc, &mut manager, now, call).ok()? {
             println!(rt; "{now}: {}", reply_text(alloc, &reply).ok()?).ok()?;
         }
-    }
-    if let Step::Done(counts) = call(alloc, &mut manager, 60_000, Call::Stats).ok()? {
-        println!(rt;
-            "hits, misses, puts, removals, evictions: {}",
-            reply_text(alloc, &counts).ok()?
-        )
-        .ok()?;
     }
     Some(())
 }
