@@ -20,12 +20,13 @@ pub trait Placer: Copy {
     /// The place of a key, by the cache's id and the key's bytes.
     ghost placing: { Self → ℕ → List ℕ → Place };
 
+    /// The place of a key of a cache.
     fn place(&self, id: CacheId, key: &Key) -> Place
         ensures same { result ≡ placing self.now id key.now }
         ensures tag { 1 ≤ result.tag };
 }
 
-/// Spreads a tag over 32 bits, so that keys of one bucket part.
+/// Spreads a tag over 32 bits, so that tags that differ by little lead to buckets that lie apart.
 fn mix(tag: u8) -> u32
     ensures { result ≡ mix_of tag }
 {
