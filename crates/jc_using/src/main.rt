@@ -1,9 +1,12 @@
 //! A cache whose loader is ours: the first `get` of a name loads its greeting, the next ones find it.
 #![tactic(auto)]
 
+ghost use Rattle.std.specs.Prelude.{◌≡◌, true};
+ghost use Rattle.jc_model.specs.Run.{is_answer_to};
+
 use jc_engine::engine::Engine;
 use jc_model::OutOfMemory;
-use jc_model::call::{Answer, Call, Request};
+use jc_model::call::{Answer, Call, ProcessorFault, Request};
 use jc_model::config::{CacheConfig, Policy};
 use jc_model::event::{CacheId, Cause, Step};
 use jc_model::key::Key;
@@ -31,18 +34,24 @@ fn one_cache(alloc: Global, name: Key) -> Result<Vec<CacheConfig>, OutOfMemory> 
     Ok(vec![in alloc; cache]?)
 }
 
-/// Our loader: a greeting for each name.
-fn greeting(alloc: Global, name: &Key) -> Result<Answer, OutOfMemory> {
-    let text = format!(in alloc; "Hello, {}!", name.text())?;
-    let value = Value::new(alloc, text.into_bytes());
-    Ok(Answer::Loaded(value.ok()))
+/// Our loader: a greeting for each name; nothing where it finds no memory.
+fn greeting(alloc: Global, name: &Key) -> Option<Value> {
+    let text = format!(in alloc; "Hello, {}!", name.text()).ok()?;
+    Value::new(alloc, text.into_bytes()).ok()
 }
 
-/// What the cache is answered: it has a loader and nothing else to ask.
-fn answer(alloc: Global, request: Request) -> Answer {
+/// What the cache is answered. It is always of the kind that the request awaits, so `resume` never refuses it for that.
+fn answer(alloc: Global, request: Request) -> Answer
+    ensures { is_answer_to request result ≡ true }
+{
     match request {
-        Request::Load(name) => greeting(alloc, &name).unwrap_or(Answer::LoadFailed),
-        _ => Answer::LoadFailed,
+        Request::Load(name) => match greeting(alloc, &name) {
+            Some(greeting) => Answer::Loaded(Some(greeting)),
+            None => Answer::LoadFailed,
+        },
+        Request::Write(_, _) | Request::Delete(_) => Answer::WriteFailed,
+        Request::Process { .. } => Answer::Processed(Err(ProcessorFault {})),
+        Request::Tell(_) => Answer::Told,
     }
 }
 
