@@ -1,0 +1,93 @@
+//! The table.
+ghost use Rattle.std.specs.Prelude.{◌≡◌, ◌+◌, ◌-◌, ◌*◌, ◌/◌, ◌<◌, None, IfOk, min, IfSome, replicate};
+ghost use Rattle.std.specs.FinMap as map;
+ghost use Rattle.jc_place.specs.Place.{IsTableSize};
+ghost use Rattle.jc_cuckoo.specs.Cells.{rows_in};
+ghost use Rattle.jc_cuckoo.specs.Images.{image_of};
+ghost use Rattle.jc_cuckoo.specs.Table.{longest, IsMirrored};
+
+use crate::held::{Held, Work};
+use crate::mirror::Mirror;
+use jc_model::OutOfMemory;
+use jc_place::place::Placer;
+use jc_rows::rows::Rows;
+use std::alloc::Global;
+use std::marker::Model;
+
+/// Rows in buckets of four slots, each in one of its two buckets or in the stash.
+#[derive(Drop)]
+pub struct Cuckoo<P: Placer + Drop, M: Mirror> {
+    pub(crate) placer: P,
+    pub(crate) mirror: M,
+    pub(crate) buckets: u32,
+    /// Of each slot that holds a row the key's tag, else 0.
+    pub(crate) tags: Vec<u8>,
+    /// The slots, four to a bucket, and behind them the stash.
+    pub(crate) cells: Vec<Option<Held>>,
+    pub(crate) held: usize,
+    pub(crate) work: Work,
+}
+
+impl<P: Placer + Drop, M: Mirror> Model for Cuckoo<P, M> {
+    ghost use Rattle.std.specs.Prelude.{◌-◌, min};
+    ghost use Rattle.std.specs.Vec.{vec_capacity, vec_len};
+    ghost use Rattle.jc_cuckoo.specs.Table.{Table, IsTable, longest};
+
+    ghost Value = { Table P M };
+
+    ghost view = { λ t. record { placer = t.placer; mirror = t.mirror; buckets = t.buckets; cells = t.cells.items; room = min (vec_capacity t.cells) longest - vec_len t.cells; work = t.work } };
+
+    ghost invariant = { λ t. IsTable (P.placing t.placer) (M.placing t.mirror) (M.images t.mirror) t.buckets t.tags.items t.cells.items t.held };
+}
+
+/// So many empty slots.
+fn empty_cells(alloc: Global, slots: usize) -> Result<Vec<Option<Held>>, OutOfMemory>
+    ensures { IfOk result (λ cells. cells.items ≡ replicate slots None) }
+{
+    let mut cells = Vec::with_capacity(alloc, slots)?;
+    let mut at = 0;
+    'cells: while at < slots {
+        cells.push_reserved(None);
+        at += 1;
+    }
+    Ok(cells)
+}
+
+impl<P: Placer + Drop, M: Mirror> Cuckoo<P, M> {
+    /// A table without rows.
+    pub fn new(
+        alloc: Global,
+        placer: P,
+        mirror: M,
+        buckets: u32,
+    ) -> Result<Cuckoo<P, M>, OutOfMemory>
+        requires size { IsTableSize buckets }
+        requires mirror { IfSome (M.images mirror) (λ is. IsMirrored (P.placing placer) (M.placing mirror) is (image_of buckets (replicate (4 * buckets) None))) }
+        ensures empty { IfOk result (λ table. rows_in table.cells ≡ map.empty) }
+        ensures parts { IfOk result (λ table. (table.placer ≡ placer) × (table.mirror ≡ mirror) × (table.buckets ≡ buckets)) }
+    {
+        let slots = 4 * buckets as usize;
+        let tags = vec![in alloc; 0; slots]?;
+        let cells = empty_cells(alloc, slots)?;
+        Ok(Cuckoo {
+            placer,
+            mirror,
+            buckets,
+            tags,
+            cells,
+            held: 0,
+            work: Work {
+                searches: 0,
+                looked: 0,
+                moves: 0,
+            },
+        })
+    }
+
+    /// How many slots it has.
+    pub(crate) fn slots(&self) -> usize
+        ensures { result ≡ 4 * self.now.buckets }
+    {
+        4 * self.buckets as usize
+    }
+}

@@ -1,0 +1,109 @@
+//! Paths: rows that move, each to its other bucket, until the last one finds an empty slot (MemC3, section 3).
+ghost use Rattle.std.specs.Prelude.{◌≡◌, ◌≢◌, ◌⊎◌, ◌+◌, ◌-◌, ◌*◌, ◌/◌, ◌≤◌, ◌<◌, None, Some, MatchOption, length};
+ghost use Rattle.jc_cuckoo.specs.Cells.{cell, rows_in};
+ghost use Rattle.jc_cuckoo.specs.Images.{Covers, Extends, image_of};
+ghost use Rattle.jc_cuckoo.specs.Search.{IsQueue, IsSearched, IsLastResort, Grows, IsEnd, bucket_at, looked_slot};
+
+use crate::cuckoo::Cuckoo;
+use crate::held::Held;
+use crate::mirror::Mirror;
+use crate::queue::Queue;
+use jc_place::place::{Placer, alternate};
+
+impl<P: Placer + Drop, M: Mirror> Cuckoo<P, M> {
+    /// Adds the bucket that a row could move into, where it is near and new and there is room for it. The row stands in
+    /// the slot that the search comes to after so many.
+    pub(crate) fn reach(&self, queue: &mut Queue, looked: usize)
+        requires queue { IsQueue (P.placing self.now.placer) self.now.buckets self.now.cells queue.old }
+        requires searched { IsSearched (P.placing self.now.placer) self.now.buckets self.now.cells queue.old looked }
+        requires looked { looked < 4 * queue.old.count }
+        requires row { cell self.now.cells (looked_slot queue.old looked) ≢ None }
+        ensures queue { IsQueue (P.placing self.now.placer) self.now.buckets self.now.cells queue.new }
+        ensures searched { IsSearched (P.placing self.now.placer) self.now.buckets self.now.cells queue.new (looked + 1) }
+        ensures grows { Grows queue.old queue.new }
+    {
+        let head = looked / 4;
+        if queue.depths[head] >= 5 {
+            return;
+        }
+        if queue.count >= 64 {
+            return;
+        }
+        let bucket = queue.buckets[head];
+        let at = 4 * bucket as usize + looked % 4;
+        let tag = self.tags[at];
+        let other = alternate(bucket, tag, self.buckets);
+        if queue.has(other) {
+            return;
+        }
+        queue.push(other, at, tag, head);
+    }
+
+    /// Looks for a path, 256 slots at most: the bucket of the queue in which it ends, and that bucket's empty slot.
+    pub(crate) fn search(&self, queue: &mut Queue) -> (Option<(usize, usize)>, u32)
+        requires queue { IsQueue (P.placing self.now.placer) self.now.buckets self.now.cells queue.old }
+        requires start { queue.old.count ≡ 2 }
+        ensures queue { IsQueue (P.placing self.now.placer) self.now.buckets self.now.cells queue.new }
+        ensures buckets { (bucket_at queue.new 0 ≡ bucket_at queue.old 0) × (bucket_at queue.new 1 ≡ bucket_at queue.old 1) }
+        ensures looked { result.1 ≤ 256 }
+        ensures found { MatchOption result.0 (IsLastResort (P.placing self.now.placer) self.now.buckets self.now.cells (bucket_at queue.old 0) (bucket_at queue.old 1)) (λ found. IsEnd self.now.cells queue.new found) }
+    {
+        let mut looked = 0;
+        'slots: while looked < 4 * queue.count {
+            let head = looked / 4;
+            let at = 4 * queue.buckets[head] as usize + looked % 4;
+            if self.cells[at].is_none() {
+                return (Some((head, at)), looked as u32 + 1);
+            }
+            self.reach(queue, looked);
+            looked += 1;
+        }
+        (None, looked as u32)
+    }
+
+    /// The row in a slot.
+    pub(crate) fn row_in(&self, at: usize) -> Option<Held>
+        requires { at < 4 * self.now.buckets }
+        ensures { result ≡ cell self.now.cells at }
+    {
+        match &self.cells[at] {
+            Some(held) => Some(held.same()),
+            None => None,
+        }
+    }
+
+    /// Moves the rows on a path, each into the slot that the one before it left, the last one first. It returns the
+    /// slot that is empty then, and how many rows it moved.
+    pub(crate) fn displace(&mut self, queue: &Queue, end: usize, empty: usize) -> (usize, u32)
+        requires queue { IsQueue (P.placing self.old.placer) self.old.buckets self.old.cells queue.now }
+        requires end { IsEnd self.old.cells queue.now (end, empty) }
+        ensures rows { rows_in self.new.cells ≡ rows_in self.old.cells }
+        ensures slot { result.0 < 4 * self.old.buckets }
+        ensures empty { cell self.new.cells result.0 ≡ None }
+        ensures bucket { (result.0 / 4 ≡ bucket_at queue.now 0) ⊎ (result.0 / 4 ≡ bucket_at queue.now 1) }
+        ensures placer { (self.new.placer ≡ self.old.placer) × (self.new.buckets ≡ self.old.buckets) }
+        ensures room { self.new.room ≡ self.old.room }
+        ensures moves { result.1 ≤ 5 }
+        ensures work { self.new.work ≡ self.old.work }
+        ensures length { length self.new.cells ≡ length self.old.cells }
+        ensures images { Extends (M.images self.old.mirror) (M.images self.new.mirror) (image_of self.old.buckets self.old.cells) result.1 }
+        ensures covers { Covers (image_of self.old.buckets self.old.cells) (image_of self.new.buckets self.new.cells) }
+    {
+        let mut node = end;
+        let mut gap = empty;
+        let mut moves = 0;
+        'moves: while node >= 2 {
+            let from = queue.slots[node];
+            match self.row_in(from) {
+                Some(held) => {
+                    self.shift(from, gap, queue.tags[node], held);
+                    gap = from;
+                    node = queue.parents[node];
+                    moves += 1;
+                }
+                None => return (gap, moves),
+            }
+        }
+        (gap, moves)
+    }
+}
