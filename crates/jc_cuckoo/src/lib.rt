@@ -3,6 +3,7 @@
 
 pub mod change;
 pub mod cuckoo;
+pub mod double;
 pub mod held;
 pub mod lookup;
 pub mod mirror;
