@@ -55,6 +55,14 @@ pub record IsDoubled {P M N : Type 0} (table : Table P M) (twice : Table P N) : 
   pub room : table.room ≤ twice.room
   pub covers : Covers (image_of table.buckets table.cells) (image_of twice.buckets twice.cells)
 
+-- nothing changed, and no image was told
+pub record IsLeft {P M : Type 0} (told : M → Option (List Image)) (before after : Table P M) : Type 0 where
+  pub placer : after.placer ≡ before.placer
+  pub buckets : after.buckets ≡ before.buckets
+  pub cells : after.cells ≡ before.cells
+  pub room : after.room ≡ before.room
+  pub images : told after.mirror ≡ told before.mirror
+
 -- buckets double only where there are fewer than 65,536, and rows for half of their slots
 pub record MayDouble {P M : Type 0} (table : Table P M) : Type 0 where
   pub below : table.buckets < 65536

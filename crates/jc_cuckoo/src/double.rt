@@ -1,9 +1,10 @@
 //! Doubling: a table of twice as many buckets is filled with the rows, and takes the place of the old one.
-ghost use Rattle.std.specs.Prelude.{◌≡◌, ◌+◌, ◌*◌, ◌/◌, ◌≤◌, ◌<◌, None, Some, IfOk, length, true, false, replicate};
+ghost use Rattle.std.specs.Prelude.{◌≡◌, ◌+◌, ◌*◌, ◌/◌, ◌≤◌, ◌<◌, None, Some, [], ◌∷◌, ◌++◌, IfOk, length, true, false, option_map, replicate};
 ghost use Rattle.std.specs.FinMap as map;
 ghost use Rattle.jc_place.specs.Place.{IsTableSize};
 ghost use Rattle.jc_cuckoo.specs.Cells.{cell, rows_in, place_of, row_of, IsBucketOf, IsFull};
-ghost use Rattle.jc_cuckoo.specs.Double.{IsAdded, IsBlank, IsDoubled, IsFilled, HasSlots, HasStash};
+ghost use Rattle.jc_cuckoo.specs.Double.{IsAdded, IsBlank, IsDoubled, IsFilled, IsLeft, HasSlots, HasStash, MayDouble};
+ghost use Rattle.jc_cuckoo.specs.Images.{image_of};
 
 use crate::change::stashed;
 use crate::cuckoo::Cuckoo;
@@ -152,5 +153,43 @@ impl<P: Placer + Drop, M: Mirror> Cuckoo<P, M> {
         self.bring_slots(&mut twice);
         self.bring_stash(&mut twice);
         Ok(twice)
+    }
+    /// Takes the place of the rows over from a table of twice as many buckets, unless the mirror finds no memory for it.
+    fn take_over(&mut self, twice: Cuckoo<P, NoMirror>) -> bool
+        requires few { 2 * self.old.buckets ≤ 65536 }
+        requires doubled { IsDoubled self.old twice }
+        ensures doubled { result ≡ true → IsDoubled self.old self.new }
+        ensures told { result ≡ true → M.images self.new.mirror ≡ option_map (λ is. is ++ image_of self.new.buckets self.new.cells ∷ []) (M.images self.old.mirror) }
+        ensures refused { result ≡ false → IsLeft M.images self.old self.new }
+        ensures work { self.new.work ≡ self.old.work }
+    {
+        let slots = twice.slots();
+        let stash = stashed(&twice.tags, &twice.cells);
+        match self.mirror.grow(&twice.cells.as_slice()[..slots], stash) {
+            Ok(()) => {
+                self.buckets = twice.buckets;
+                self.tags = twice.tags;
+                self.cells = twice.cells;
+                true
+            }
+            Err(_) => false,
+        }
+    }
+
+    /// Doubles the buckets where rows for half of their slots are held, memory is found, and there are not too many.
+    pub(crate) fn double(&mut self) -> bool
+        ensures allowed { result ≡ true → MayDouble self.old }
+        ensures doubled { result ≡ true → IsDoubled self.old self.new }
+        ensures told { result ≡ true → M.images self.new.mirror ≡ option_map (λ is. is ++ image_of self.new.buckets self.new.cells ∷ []) (M.images self.old.mirror) }
+        ensures refused { result ≡ false → IsLeft M.images self.old self.new }
+        ensures work { self.new.work ≡ self.old.work }
+    {
+        if self.buckets >= 65_536 || self.held < 2 * self.buckets as usize {
+            return false;
+        }
+        match self.doubled() {
+            Ok(twice) => self.take_over(twice),
+            Err(_) => false,
+        }
     }
 }
