@@ -6,7 +6,7 @@ use Rattle.jc_place.specs.Place.{alternate_of}
 use Rattle.jc_cuckoo.specs.declared.held.Held.{Held}
 use Rattle.jc_cuckoo.specs.declared.queue.Queue.{Queue}
 use Rattle.jc_cuckoo.specs.Cells.{cell, IsFull}
-use Rattle.jc_cuckoo.specs.Search.{IsQueue, IsClosed, IsIn, IsAmong, IsLastResort, IsMove, Reaches, looked_slot, bucket_at, slot_at, parent_at, depth_at}
+use Rattle.jc_cuckoo.specs.Search.{IsQueue, IsClosed, IsIn, IsAmong, IsExhausted, IsMove, Reaches, looked_slot, bucket_at, slot_at, parent_at, depth_at}
 
 -- reached by so many moves, or 64 buckets are as near
 Arrives : Queue → ℕ → ℕ → Type 0
@@ -77,7 +77,7 @@ reached p n cells q (suc fuel) m less queue low = elim (cases_lt m 2) [
     start (suc zero) root = by_then p n cells (bucket_at q 0) (bucket_at q 1) 0 (depth_at q 1) (bucket_at q 1) (omega arith) (inr refl)
     start (suc (suc m)) root = absurd (omega arith)
 
-pub last_resort : (p : ℕ → List ℕ → Place) (n : ℕ) (cells : List (Option Held)) (q : Queue) (looked : ℕ) → IsQueue p n cells q → IsClosed p n cells q looked → 4 * q.count ≤ looked → ((k : ℕ) → k < q.count → IsFull cells (bucket_at q k)) → IsLastResort p n cells (bucket_at q 0) (bucket_at q 1)
+pub last_resort : (p : ℕ → List ℕ → Place) (n : ℕ) (cells : List (Option Held)) (q : Queue) (looked : ℕ) → IsQueue p n cells q → IsClosed p n cells q looked → 4 * q.count ≤ looked → ((k : ℕ) → k < q.count → IsFull cells (bucket_at q k)) → IsExhausted p n cells (bucket_at q 0) (bucket_at q 1)
 unfolding Arrives
 last_resort p n cells q looked queue closed all full = record {
   first = let some = queue.some in full 0 (omega arith);
@@ -119,7 +119,7 @@ reaches_alike p n cs ds one two zero b alike r = r
 reaches_alike p n cs ds one two (suc k) b alike (inl r) = inl (reaches_alike p n cs ds one two k b alike r)
 reaches_alike p n cs ds one two (suc k) b alike (inr s) = let m = s.2 in inr (s.0, reaches_alike p n cs ds one two k s.0 alike s.1, (m.0, m.1, m.2, m.3, alike m.0 m.2 ∙ m.4, m.5))
 
-pub last_resort_alike : (p : ℕ → List ℕ → Place) (n : ℕ) (cs ds : List (Option Held)) (one two : ℕ) → ((i : ℕ) → i < 4 * n → cell ds i ≡ cell cs i) → ((b : ℕ) → IsFull cs b → IsFull ds b) → IsLastResort p n cs one two → IsLastResort p n ds one two
+pub last_resort_alike : (p : ℕ → List ℕ → Place) (n : ℕ) (cs ds : List (Option Held)) (one two : ℕ) → ((i : ℕ) → i < 4 * n → cell ds i ≡ cell cs i) → ((b : ℕ) → IsFull cs b → IsFull ds b) → IsExhausted p n cs one two → IsExhausted p n ds one two
 last_resort_alike p n cs ds one two alike full last = record {
   first = full one last.first;
   second = full two last.second;

@@ -4,7 +4,7 @@ use Rattle.jc_place.specs.declared.place.Place.{Place}
 use Rattle.jc_place.specs.Place.{alternate_of}
 use Rattle.jc_cuckoo.specs.declared.held.Held.{Held}
 use Rattle.jc_cuckoo.specs.declared.queue.Queue.{Queue}
-use Rattle.jc_cuckoo.specs.Cells.{place_of, cell, IsBucketOf, IsFull, IsVacant}
+use Rattle.jc_cuckoo.specs.Cells.{place_of, cell, first_bucket, second_bucket, IsBucketOf, IsFull, IsVacant}
 
 abbrev pub bucket_at : Queue → ℕ → ℕ
 bucket_at q j = slice_index_or q.buckets j 0
@@ -86,11 +86,15 @@ pub record IsWide (p : ℕ → List ℕ → Place) (n : ℕ) (cells : List (Opti
   pub full : (b : ℕ) → IsAmong bs b → IsFull cells b
   pub nearest : (b a k : ℕ) → IsAmong bs b → Reaches p n cells one two k a → (Reaches p n cells one two k b → ⊥) → IsAmong bs a
 
--- when a row may go to the stash: both its buckets are full, and so is every bucket within five moves, or sixty-four of the nearest
-pub record IsLastResort (p : ℕ → List ℕ → Place) (n : ℕ) (cells : List (Option Held)) (one two : ℕ) : Type 0 where
+-- no empty slot is near two buckets: both are full, and so is every bucket within five moves, or sixty-four of the nearest
+pub record IsExhausted (p : ℕ → List ℕ → Place) (n : ℕ) (cells : List (Option Held)) (one two : ℕ) : Type 0 where
   pub first : IsFull cells one
   pub second : IsFull cells two
   pub far : ((b : ℕ) → Reaches p n cells one two 5 b → IsFull cells b) ⊎ ((bs : List ℕ) × IsWide p n cells one two bs)
+
+-- when a row may go to the stash: no empty slot is near its two buckets
+abbrev pub IsLastResort : (ℕ → List ℕ → Place) → ℕ → List (Option Held) → ℕ × List ℕ → Type 0
+IsLastResort p n cells place = IsExhausted p n cells (first_bucket p n place) (second_bucket p n place)
 
 -- a bucket was reached, by no more than so many moves
 abbrev pub IsIn : Queue → ℕ → ℕ → Type 0

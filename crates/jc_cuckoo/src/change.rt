@@ -3,8 +3,8 @@ ghost use Rattle.std.specs.Prelude.{◌≡◌, ◌+◌, ◌-◌, ◌*◌, ◌/�
 ghost use Rattle.std.specs.List.{remove};
 ghost use Rattle.std.specs.FinMap as map;
 ghost use Rattle.jc_cuckoo.specs.Cells.{cell, rows_in, IsBucketOf, place_of, row_of};
-ghost use Rattle.jc_cuckoo.specs.Images.{Covers, image_of};
-ghost use Rattle.jc_cuckoo.specs.Table.{longest, Follows};
+ghost use Rattle.jc_cuckoo.specs.Images.{Covers};
+ghost use Rattle.jc_cuckoo.specs.Table.{longest, Follows, Touches, image};
 
 use crate::cuckoo::Cuckoo;
 use crate::held::Held;
@@ -32,7 +32,7 @@ impl<P: Placer + Drop, M: Mirror> Cuckoo<P, M> {
         ensures rows { rows_in self.new.cells ≡ map.insert (rows_in self.old.cells) (place_of held) (row_of held) }
         ensures room { self.new.room ≡ self.old.room }
         ensures follows { Follows M.images self.old self.new }
-        ensures covers { Covers (image_of self.old.buckets self.old.cells) (image_of self.new.buckets self.new.cells) }
+        ensures covers { Covers (image self.old) (image self.new) }
     {
         self.cells[at] = Some(held.same());
         let writes = [(at as u32, Some(held))];
@@ -50,7 +50,7 @@ impl<P: Placer + Drop, M: Mirror> Cuckoo<P, M> {
         ensures rows { rows_in self.new.cells ≡ map.insert (rows_in self.old.cells) (place_of held) (row_of held) }
         ensures room { self.new.room + 1 ≡ self.old.room }
         ensures follows { Follows M.images self.old self.new }
-        ensures covers { Covers (image_of self.old.buckets self.old.cells) (image_of self.new.buckets self.new.cells) }
+        ensures covers { Covers (image self.old) (image self.new) }
     {
         self.cells.push_reserved(Some(held));
         self.held += 1;
@@ -70,7 +70,7 @@ impl<P: Placer + Drop, M: Mirror> Cuckoo<P, M> {
         ensures rows { rows_in self.new.cells ≡ rows_in self.old.cells }
         ensures room { self.new.room ≡ self.old.room }
         ensures follows { Follows M.images self.old self.new }
-        ensures covers { Covers (image_of self.old.buckets self.old.cells) (image_of self.new.buckets self.new.cells) }
+        ensures covers { Covers (image self.old) (image self.new) }
     {
         self.cells[from] = None;
         self.tags[from] = 0;
@@ -85,10 +85,9 @@ impl<P: Placer + Drop, M: Mirror> Cuckoo<P, M> {
     pub(crate) fn clear(&mut self, at: usize, held: Held)
         requires slot { at < 4 * self.old.buckets }
         requires held { cell self.old.cells at ≡ Some held }
-        ensures cells { self.new.cells ≡ slice_set self.old.cells at None }
         ensures rows { rows_in self.new.cells ≡ map.remove (rows_in self.old.cells) (place_of held) }
         ensures room { self.new.room ≡ self.old.room }
-        ensures follows { Follows M.images self.old self.new }
+        ensures touches { Touches M.images self.old self.new (place_of held) None }
     {
         self.cells[at] = None;
         self.tags[at] = 0;
@@ -101,10 +100,9 @@ impl<P: Placer + Drop, M: Mirror> Cuckoo<P, M> {
     pub(crate) fn pull(&mut self, at: usize, held: Held)
         requires stash { 4 * self.old.buckets ≤ at }
         requires held { cell self.old.cells at ≡ Some held }
-        ensures cells { self.new.cells ≡ remove self.old.cells at }
         ensures rows { rows_in self.new.cells ≡ map.remove (rows_in self.old.cells) (place_of held) }
         ensures room { self.new.room ≡ self.old.room + 1 }
-        ensures follows { Follows M.images self.old self.new }
+        ensures touches { Touches M.images self.old self.new (place_of held) None }
     {
         let _ = self.cells.remove(at);
         self.held -= 1;
@@ -116,10 +114,9 @@ impl<P: Placer + Drop, M: Mirror> Cuckoo<P, M> {
     pub(crate) fn renew(&mut self, at: usize, held: Held, expiry: Expiry)
         requires slot { at < 4 * self.old.buckets }
         requires held { cell self.old.cells at ≡ Some held }
-        ensures cells { self.new.cells ≡ slice_set self.old.cells at (Some record { id = held.id; key = held.key; row = held.row; expiry = expiry }) }
         ensures rows { rows_in self.new.cells ≡ map.insert (rows_in self.old.cells) (place_of held) (held.row, expiry) }
         ensures room { self.new.room ≡ self.old.room }
-        ensures follows { Follows M.images self.old self.new }
+        ensures touches { Touches M.images self.old self.new (place_of held) (Some (place_of held, expiry)) }
     {
         let renewed = Held {
             id: held.id,
@@ -137,10 +134,9 @@ impl<P: Placer + Drop, M: Mirror> Cuckoo<P, M> {
     pub(crate) fn renew_stashed(&mut self, at: usize, held: Held, expiry: Expiry)
         requires stash { 4 * self.old.buckets ≤ at }
         requires held { cell self.old.cells at ≡ Some held }
-        ensures cells { self.new.cells ≡ slice_set self.old.cells at (Some record { id = held.id; key = held.key; row = held.row; expiry = expiry }) }
         ensures rows { rows_in self.new.cells ≡ map.insert (rows_in self.old.cells) (place_of held) (held.row, expiry) }
         ensures room { self.new.room ≡ self.old.room }
-        ensures same { (self.new.mirror ≡ self.old.mirror) × (self.new.placer ≡ self.old.placer) × (self.new.buckets ≡ self.old.buckets) × (self.new.work ≡ self.old.work) }
+        ensures touches { Touches M.images self.old self.new (place_of held) (Some (place_of held, expiry)) }
     {
         self.cells[at] = Some(Held {
             id: held.id,

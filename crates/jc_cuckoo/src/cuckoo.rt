@@ -4,8 +4,8 @@ ghost use Rattle.std.specs.Vec.{vec_capacity};
 ghost use Rattle.std.specs.FinMap as map;
 ghost use Rattle.jc_place.specs.Place.{IsTableSize};
 ghost use Rattle.jc_cuckoo.specs.Cells.{rows_in};
-ghost use Rattle.jc_cuckoo.specs.Images.{image_of};
-ghost use Rattle.jc_cuckoo.specs.Table.{longest, IsMirrored};
+ghost use Rattle.jc_cuckoo.specs.Images.{Shows, image_of};
+ghost use Rattle.jc_cuckoo.specs.Table.{longest, IsMirrored, image};
 
 use crate::held::{Held, Work};
 use crate::mirror::Mirror;
@@ -111,7 +111,8 @@ impl<P: Placer + Drop, M: Mirror> Cuckoo<P, M> {
 
     /// How many slots it has.
     pub(crate) fn slots(&self) -> usize
-        ensures { result ≡ 4 * self.now.buckets }
+        ensures slots { result ≡ 4 * self.now.buckets }
+        ensures shows { Shows (rows_in self.now.cells) (image self.now) }
     {
         4 * self.buckets as usize
     }

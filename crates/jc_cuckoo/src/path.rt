@@ -1,8 +1,10 @@
 //! Paths: rows that move, each to its other bucket, until the last one finds an empty slot (MemC3, section 3).
-ghost use Rattle.std.specs.Prelude.{◌≡◌, ◌≢◌, ◌⊎◌, ◌+◌, ◌-◌, ◌*◌, ◌/◌, ◌≤◌, ◌<◌, None, Some, MatchOption, length};
-ghost use Rattle.jc_cuckoo.specs.Cells.{cell, rows_in};
-ghost use Rattle.jc_cuckoo.specs.Images.{Covers, Extends, image_of};
-ghost use Rattle.jc_cuckoo.specs.Search.{IsQueue, IsSearched, IsLastResort, Grows, IsEnd, bucket_at, looked_slot};
+ghost use Rattle.std.specs.Prelude.{◌≡◌, ◌≢◌, ◌⊎◌, ◌+◌, ◌-◌, ◌*◌, ◌/◌, ◌≤◌, ◌<◌, None, Some, true, false, MatchOption, length};
+ghost use Rattle.std.specs.FinMap as map;
+ghost use Rattle.jc_cuckoo.specs.Cells.{cell, rows_in, place_of};
+ghost use Rattle.jc_cuckoo.specs.Images.{Covers};
+ghost use Rattle.jc_cuckoo.specs.Table.{Extends, Settles, Stays, image};
+ghost use Rattle.jc_cuckoo.specs.Search.{IsQueue, IsSearched, IsExhausted, Grows, IsEnd, bucket_at, looked_slot};
 
 use crate::cuckoo::Cuckoo;
 use crate::held::Held;
@@ -46,7 +48,7 @@ impl<P: Placer + Drop, M: Mirror> Cuckoo<P, M> {
         ensures queue { IsQueue (P.placing self.now.placer) self.now.buckets self.now.cells queue.new }
         ensures buckets { (bucket_at queue.new 0 ≡ bucket_at queue.old 0) × (bucket_at queue.new 1 ≡ bucket_at queue.old 1) }
         ensures looked { result.1 ≤ 256 }
-        ensures found { MatchOption result.0 (IsLastResort (P.placing self.now.placer) self.now.buckets self.now.cells (bucket_at queue.old 0) (bucket_at queue.old 1)) (λ found. IsEnd self.now.cells queue.new found) }
+        ensures found { MatchOption result.0 (IsExhausted (P.placing self.now.placer) self.now.buckets self.now.cells (bucket_at queue.old 0) (bucket_at queue.old 1)) (λ found. IsEnd self.now.cells queue.new found) }
     {
         let mut looked = 0;
         'slots: while looked < 4 * queue.count {
@@ -86,8 +88,8 @@ impl<P: Placer + Drop, M: Mirror> Cuckoo<P, M> {
         ensures moves { result.1 ≤ 5 }
         ensures work { self.new.work ≡ self.old.work }
         ensures length { length self.new.cells ≡ length self.old.cells }
-        ensures images { Extends (M.images self.old.mirror) (M.images self.new.mirror) (image_of self.old.buckets self.old.cells) result.1 }
-        ensures covers { Covers (image_of self.old.buckets self.old.cells) (image_of self.new.buckets self.new.cells) }
+        ensures images { Extends M.images self.old self.new result.1 }
+        ensures covers { Covers (image self.old) (image self.new) }
     {
         let mut node = end;
         let mut gap = empty;
@@ -105,5 +107,32 @@ impl<P: Placer + Drop, M: Mirror> Cuckoo<P, M> {
             }
         }
         (gap, moves)
+    }
+
+    /// Puts a row into a slot where a path leads to one, and says whether one did. Where none did, only `work` changes.
+    pub(crate) fn settle(&mut self, held: Held) -> bool
+        requires absent { map.get (rows_in self.old.cells) (place_of held) ≡ None }
+        requires work { (self.old.work.searches ≤ 1) × (self.old.work.looked ≤ 256) × (self.old.work.moves ≡ 0) }
+        ensures settled { result ≡ true → Settles M.images self.old self.new held }
+        ensures stays { result ≡ false → Stays (P.placing self.old.placer) self.old self.new (place_of held) }
+        ensures searches { self.new.work.searches ≡ self.old.work.searches + 1 }
+        ensures looked { self.new.work.looked ≤ self.old.work.looked + 256 }
+    {
+        let place = self.placer.place(held.id, &held.key);
+        let first = place.first % self.buckets;
+        let second = alternate(first, place.tag, self.buckets);
+        let mut queue = Queue::new(first, second);
+        let (path, looked) = self.search(&mut queue);
+        self.work.searches += 1;
+        self.work.looked += looked;
+        match path {
+            Some((end, empty)) => {
+                let (gap, moves) = self.displace(&queue, end, empty);
+                self.work.moves = moves;
+                self.fill(gap, place.tag, held);
+                true
+            }
+            None => false,
+        }
     }
 }

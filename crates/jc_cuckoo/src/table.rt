@@ -1,20 +1,19 @@
 //! The table as the rows of all caches.
-ghost use Rattle.std.specs.Prelude.{◌≡◌, ◌⊎◌, ◌+◌, ◌-◌, ◌/◌, ◌≤◌, ◌<◌, None, Some, length};
-ghost use Rattle.std.specs.List.{remove};
+ghost use Rattle.std.specs.Prelude.{◌≡◌, ◌⊎◌, ◌+◌, ◌-◌, ◌/◌, ◌≤◌, ◌<◌, None, Some, IsSome, option_map};
 ghost use Rattle.std.specs.FinMap as map;
-ghost use Rattle.jc_cuckoo.specs.Cells.{rows_in, first_bucket, second_bucket};
-ghost use Rattle.jc_cuckoo.specs.Images.{Extends, image_of};
+ghost use Rattle.jc_rows.specs.Rows.{with_expiry};
+ghost use Rattle.jc_cuckoo.specs.Cells.{rows_in, IsPlaced};
+ghost use Rattle.jc_cuckoo.specs.Table.{Tells, Touches};
 ghost use Rattle.jc_cuckoo.specs.Search.{IsLastResort};
 
 use crate::cuckoo::Cuckoo;
 use crate::held::{Held, Work};
 use crate::mirror::Mirror;
-use crate::queue::Queue;
 use jc_model::OutOfMemory;
 use jc_model::config::Expiry;
 use jc_model::event::CacheId;
 use jc_model::key::Key;
-use jc_place::place::{Placer, alternate};
+use jc_place::place::Placer;
 use jc_rows::rows::Rows;
 use std::alloc::AllocError;
 
@@ -54,50 +53,40 @@ impl<P: Placer + Drop, M: Mirror> Rows for Cuckoo<P, M> {
         ensures put { rows_in self.new.cells ≡ map.insert (rows_in self.old.cells) (id, key) (row, expiry) }
         ensures kept { self.old.room ≤ self.new.room + 1 }
 
-        // Each image that is told in addition shows every row that was placed before.
-        ensures images { Extends (M.images self.old.mirror) (M.images self.new.mirror) (image_of self.old.buckets self.old.cells) (self.new.work.moves + 1) }
+        // As many images on the way as rows were moved, none of which has the new row, and the last one.
+        ensures images { Tells M.images self.old self.new self.new.work.moves }
         ensures work { (self.new.work.searches ≡ 1) × (self.new.work.looked ≤ 256) × (self.new.work.moves ≤ 5) }
-
-        // The stash is the last resort.
-        ensures stash { length self.new.cells ≡ length self.old.cells ⊎ IsLastResort (P.placing self.old.placer) self.old.buckets self.new.cells (first_bucket (P.placing self.old.placer) self.old.buckets (id, key)) (second_bucket (P.placing self.old.placer) self.old.buckets (id, key)) }
+        ensures stash { IsPlaced self.new.buckets self.new.cells (id, key) ⊎ IsLastResort (P.placing self.new.placer) self.new.buckets self.new.cells (id, key) }
+        ensures same { (self.new.placer ≡ self.old.placer) × (self.new.buckets ≡ self.old.buckets) }
     {
-        let place = self.placer.place(id, &key);
         let held = Held {
             id,
             key,
             row,
             expiry,
         };
-        let first = place.first % self.buckets;
-        let second = alternate(first, place.tag, self.buckets);
-        let mut queue = Queue::new(first, second);
-        let (path, looked) = self.search(&mut queue);
-        match path {
-            Some((end, empty)) => {
-                let (gap, moves) = self.displace(&queue, end, empty);
-                self.work = Work {
-                    searches: 1,
-                    looked,
-                    moves,
-                };
-                self.fill(gap, place.tag, held);
-            }
-            None => {
-                self.work = Work {
-                    searches: 1,
-                    looked,
-                    moves: 0,
-                };
-                self.stow(held);
-            }
+        self.work = Work {
+            searches: 0,
+            looked: 0,
+            moves: 0,
+        };
+        if self.settle(held.same()) {
+            return;
         }
+        self.stow(held);
     }
 
-    fn remove(&mut self, id: CacheId, key: &Key) -> Option<u32> {
+    fn remove(&mut self, id: CacheId, key: &Key) -> Option<u32>
+        ensures found { result ≡ option_map (λ row. row.0) (map.get (rows_in self.old.cells) (id, key.now)) }
+        ensures removed { rows_in self.new.cells ≡ map.remove (rows_in self.old.cells) (id, key.now) }
+        ensures kept { self.old.room ≤ self.new.room }
+        ensures touches { Touches M.images self.old self.new (id, key.now) None }
+    {
+        let slots = self.slots();
         match self.seek_row(id, key) {
             Some((at, held)) => {
                 let row = held.row;
-                if at < self.slots() {
+                if at < slots {
                     self.clear(at, held);
                     return Some(row);
                 }
@@ -108,9 +97,18 @@ impl<P: Placer + Drop, M: Mirror> Rows for Cuckoo<P, M> {
         }
     }
 
-    fn set_expiry(&mut self, id: CacheId, key: &Key, expiry: Expiry) {
+    fn set_expiry(&mut self, id: CacheId, key: &Key, expiry: Expiry)
+        requires { IsSome (map.get (rows_in self.old.cells) (id, key.now)) }
+        ensures set { rows_in self.new.cells ≡ with_expiry (rows_in self.old.cells) (id, key.now) expiry }
+        ensures kept { self.old.room ≤ self.new.room }
+        ensures touches { Touches M.images self.old self.new (id, key.now) (Some ((id, key.now), expiry)) }
+    {
+        let slots = self.slots();
         if let Some((at, held)) = self.seek_row(id, key) {
-            if at < self.slots() {
+            if held.expiry == expiry {
+                return;
+            }
+            if at < slots {
                 self.renew(at, held, expiry);
                 return;
             }
