@@ -6,7 +6,7 @@ use Rattle.std.proofs.lemmas.List.{get_or-take, length-replicate}
 use Rattle.jc_model.specs.declared.config.Expiry.{Expiry}
 use Rattle.jc_cuckoo.specs.declared.held.Held.{Held}
 use Rattle.jc_cuckoo.specs.Cells.{place_of, row_of, cell, rows_in}
-use Rattle.jc_cuckoo.specs.Images.{Shown, Covers, image_of, shown}
+use Rattle.jc_cuckoo.specs.Images.{Shown, Covers, image_of, shown, slot}
 use Rattle.jc_cuckoo.specs.Table.{Table}
 use Rattle.jc_cuckoo.specs.Double.{IsAdded, IsBlank, IsDoubled, HasSlots, HasStash}
 use Rattle.jc_cuckoo.proofs.Blank.{blank_on}
@@ -82,17 +82,20 @@ slots_first t u placer buckets empty = let first = no_slots t.buckets 0 t.cells 
 }
 
 -- each row of the first cells stands somewhere
+
+shown_again : (m : ℕ) (ds : List (Option Held)) (h : Held) (s : Shown) → length ds ≡ 4 * m → shown h ≡ s → Found ds (place_of h) (row_of h) → (j : ℕ) × (slot (image_of m ds) j ≡ Some s)
+shown_again m ds h s long shows f =
+    let below = inside ds f.stands.at f.held f.stands.is in
+    let same : shown f.held ≡ s = ap₂ (λ (x : ℕ × List ℕ) (y : ℕ × Expiry). (x, y.1)) f.at f.gives ∙ shows in
+    (f.stands.at, slot_is m ds f.stands.at (omega arith) (omega arith) ∙ (ap (option_map shown) f.stands.is ∙ ap (λ (x : Shown). Some x) same))
+
 covers_slots : (n : ℕ) (cs ds : List (Option Held)) → Once cs → 4 * n ≤ length cs → rows_in ds ≡ rows_in (take (4 * n) cs) → length ds ≡ 8 * n → Covers (image_of n cs) (image_of (2 * n) ds)
 covers_slots n cs ds once wide rows slots = record {
   kept = λ i s is. (
       let b = behind n cs i s wide is in
       let taken : cell (take (4 * n) cs) i ≡ Some b.held = get_or-take (4 * n) cs i None b.below ∙ b.is in
       let held : map.get (rows_in ds) (place_of b.held) ≡ Some (row_of b.held) = ap (λ m. map.get m (place_of b.held)) rows ∙ get_some (take (4 * n) cs) i b.held (once_taken cs (4 * n) wide once) taken in
-      let f = get_found ds (place_of b.held) (row_of b.held) held in
-      let low : f.stands.at < 4 * (2 * n) = (let l = inside ds f.stands.at f.held f.stands.is in omega arith) in
-      let long : 4 * (2 * n) ≤ length ds = omega arith in
-      let same : shown f.held ≡ s = ap₂ (λ (x : ℕ × List ℕ) (y : ℕ × Expiry). (x, y.1)) f.at f.gives ∙ b.shows in
-      (f.stands.at, slot_is (2 * n) ds f.stands.at long low ∙ (ap (option_map shown) f.stands.is ∙ ap (λ (x : Shown). Some x) same)));
+      shown_again (2 * n) ds b.held s (omega arith) b.shows (get_found ds (place_of b.held) (row_of b.held) held));
 }
 
 pub slots_all : {P M N : Type 0} (t : Table P M) (at : ℕ) (u : Table P N) → Once t.cells → 4 * t.buckets ≤ length t.cells → at ≡ 4 * t.buckets → HasSlots t at u → HasStash t (4 * t.buckets) u

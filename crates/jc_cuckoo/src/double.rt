@@ -4,7 +4,8 @@ ghost use Rattle.std.specs.FinMap as map;
 ghost use Rattle.jc_place.specs.Place.{IsTableSize};
 ghost use Rattle.jc_cuckoo.specs.Cells.{cell, rows_in, place_of, row_of, IsBucketOf, IsFull};
 ghost use Rattle.jc_cuckoo.specs.Double.{IsAdded, IsBlank, IsDoubled, IsFilled, IsLeft, HasSlots, HasStash, Doubles};
-ghost use Rattle.jc_cuckoo.specs.Table.{Extends};
+ghost use Rattle.jc_cuckoo.specs.Table.{Extends, image};
+ghost use Rattle.jc_cuckoo.specs.Images.{grown};
 
 use crate::change::stashed;
 use crate::cuckoo::Cuckoo;
@@ -51,6 +52,7 @@ impl<P: Placer + Drop, M: Mirror> Cuckoo<P, M> {
         ensures slots { length self.new.cells ≡ 8 * half }
         ensures blank { IsBlank half self.new.cells (at + 1) }
     {
+        // At most four rows come to a bucket, so it has an empty slot.
         let place = self.placer.place(held.id, &held.key);
         let first = place.first % self.buckets;
         if first % half == (at / 4) as u32 {
@@ -154,6 +156,15 @@ impl<P: Placer + Drop, M: Mirror> Cuckoo<P, M> {
         self.bring_stash(&mut twice);
         Ok(twice)
     }
+    /// The slots, and how many rows the stash holds: what an image tells.
+    fn told(&self) -> (&[Option<Held>], u32)
+        ensures image { grown result.0.now result.1 ≡ image self.now }
+        ensures slots { length result.0.now ≡ 4 * self.now.buckets }
+    {
+        let stash = stashed(&self.tags, &self.cells);
+        (&self.cells.as_slice()[..self.slots()], stash)
+    }
+
     /// Takes the place of the rows over from a table of twice as many buckets, unless the mirror finds no memory for it.
     fn take_over(&mut self, twice: Cuckoo<P, NoMirror>) -> bool
         requires few { 2 * self.old.buckets ≤ 65536 }
@@ -164,9 +175,8 @@ impl<P: Placer + Drop, M: Mirror> Cuckoo<P, M> {
         ensures work { self.new.work ≡ self.old.work }
         ensures wide { 4 * self.new.buckets ≤ length self.new.cells }
     {
-        let slots = twice.slots();
-        let stash = stashed(&twice.tags, &twice.cells);
-        match self.mirror.grow(&twice.cells.as_slice()[..slots], stash) {
+        let (slots, stash) = twice.told();
+        match self.mirror.grow(slots, stash) {
             Ok(()) => {
                 self.buckets = twice.buckets;
                 self.tags = twice.tags;
