@@ -86,6 +86,7 @@ impl<P: Placer + Drop, M: Mirror> Rows for Cuckoo<P, M> {
         match self.seek_row(id, key) {
             Some((at, held)) => {
                 let row = held.row;
+                let held = held.same();
                 if at < slots {
                     self.clear(at, held);
                     return Some(row);
@@ -108,6 +109,7 @@ impl<P: Placer + Drop, M: Mirror> Rows for Cuckoo<P, M> {
             if held.expiry == expiry {
                 return;
             }
+            let held = held.same();
             if at < slots {
                 self.renew(at, held, expiry);
                 return;
