@@ -15,7 +15,7 @@ use Rattle.jc_cuckoo.specs.Table.{IsTable, IsMirrored}
 abbrev pub no_rows : ℕ → List (Option Held)
 no_rows m = replicate m None
 
-none_there : (m i : ℕ) → cell (no_rows m) i ≡ None
+pub none_there : (m i : ℕ) → cell (no_rows m) i ≡ None
 none_there zero i = refl
 none_there (suc m) zero = refl
 none_there (suc m) (suc i) = none_there m i

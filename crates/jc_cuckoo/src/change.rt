@@ -13,7 +13,7 @@ use jc_model::config::Expiry;
 use jc_place::place::Placer;
 
 /// How many cells stand behind the slots.
-fn stashed(tags: &[u8], cells: &[Option<Held>]) -> u32
+pub(crate) fn stashed(tags: &[u8], cells: &[Option<Held>]) -> u32
     requires { (length tags.now ≤ length cells.now) × (length cells.now ≤ longest) }
     ensures { result ≡ length cells.now - length tags.now }
 {

@@ -1,5 +1,6 @@
 //! The table.
-ghost use Rattle.std.specs.Prelude.{◌≡◌, ◌+◌, ◌-◌, ◌*◌, ◌/◌, ◌<◌, None, IfOk, min, IfSome, replicate};
+ghost use Rattle.std.specs.Prelude.{◌≡◌, ◌+◌, ◌-◌, ◌*◌, ◌/◌, ◌<◌, ◌≤◌, None, IfOk, min, IfSome, replicate};
+ghost use Rattle.std.specs.Vec.{vec_capacity};
 ghost use Rattle.std.specs.FinMap as map;
 ghost use Rattle.jc_place.specs.Place.{IsTableSize};
 ghost use Rattle.jc_cuckoo.specs.Cells.{rows_in};
@@ -40,11 +41,17 @@ impl<P: Placer + Drop, M: Mirror> Model for Cuckoo<P, M> {
     ghost invariant = { λ t. IsTable (P.placing t.placer) (M.placing t.mirror) (M.images t.mirror) t.buckets t.tags.items t.cells.items t.held };
 }
 
-/// So many empty slots.
-fn empty_cells(alloc: Global, slots: usize) -> Result<Vec<Option<Held>>, OutOfMemory>
-    ensures { IfOk result (λ cells. cells.items ≡ replicate slots None) }
+/// So many empty slots, in memory for so many cells.
+fn empty_cells(
+    alloc: Global,
+    slots: usize,
+    capacity: usize,
+) -> Result<Vec<Option<Held>>, OutOfMemory>
+    requires { slots ≤ capacity }
+    ensures cells { IfOk result (λ cells. cells.items ≡ replicate slots None) }
+    ensures capacity { IfOk result (λ cells. vec_capacity cells ≡ capacity) }
 {
-    let mut cells = Vec::with_capacity(alloc, slots)?;
+    let mut cells = Vec::with_capacity(alloc, capacity)?;
     let mut at = 0;
     'cells: while at < slots {
         cells.push_reserved(None);
@@ -66,9 +73,27 @@ impl<P: Placer + Drop, M: Mirror> Cuckoo<P, M> {
         ensures empty { IfOk result (λ table. rows_in table.cells ≡ map.empty) }
         ensures parts { IfOk result (λ table. (table.placer ≡ placer) × (table.mirror ≡ mirror) × (table.buckets ≡ buckets)) }
     {
+        Cuckoo::with_capacity(alloc, placer, mirror, buckets, 4 * buckets as usize)
+    }
+
+    /// A table without rows, in memory for so many cells.
+    pub(crate) fn with_capacity(
+        alloc: Global,
+        placer: P,
+        mirror: M,
+        buckets: u32,
+        capacity: usize,
+    ) -> Result<Cuckoo<P, M>, OutOfMemory>
+        requires size { IsTableSize buckets }
+        requires mirror { IfSome (M.images mirror) (λ is. IsMirrored (P.placing placer) (M.placing mirror) is (image_of buckets (replicate (4 * buckets) None))) }
+        requires capacity { (4 * buckets ≤ capacity) × (capacity ≤ longest) }
+        ensures empty { IfOk result (λ table. table.cells ≡ replicate (4 * buckets) None) }
+        ensures parts { IfOk result (λ table. (table.placer ≡ placer) × (table.mirror ≡ mirror) × (table.buckets ≡ buckets)) }
+        ensures room { IfOk result (λ table. table.room + 4 * buckets ≡ capacity) }
+    {
         let slots = 4 * buckets as usize;
         let tags = vec![in alloc; 0; slots]?;
-        let cells = empty_cells(alloc, slots)?;
+        let cells = empty_cells(alloc, slots, capacity)?;
         Ok(Cuckoo {
             placer,
             mirror,

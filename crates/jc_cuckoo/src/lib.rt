@@ -4,6 +4,7 @@
 pub mod change;
 pub mod counts;
 pub mod cuckoo;
+pub mod double;
 pub mod held;
 pub mod lookup;
 pub mod mirror;

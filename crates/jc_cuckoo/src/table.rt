@@ -18,7 +18,7 @@ use jc_rows::rows::Rows;
 use std::alloc::AllocError;
 
 /// So many cells and no more: the stash's count is kept in 32 bits.
-const LONGEST: usize = 4_294_967_295;
+pub(crate) const LONGEST: usize = 4_294_967_295;
 
 impl<P: Placer + Drop, M: Mirror> Rows for Cuckoo<P, M> {
     ghost contents = { λ t. rows_in t.cells };
