@@ -63,7 +63,8 @@ pub record IsLeft {P M : Type 0} (told : M → Option (List Image)) (before afte
   pub room : after.room ≡ before.room
   pub images : told after.mirror ≡ told before.mirror
 
--- buckets double only where there are fewer than 65,536, and rows for half of their slots
-pub record MayDouble {P M : Type 0} (table : Table P M) : Type 0 where
-  pub below : table.buckets < 65536
-  pub half : 2 * table.buckets ≤ map.len (rows_in table.cells)
+-- the buckets became twice as many: only where there were fewer than 65,536, and rows for half of their slots
+pub record Doubles {P M : Type 0} (before after : Table P M) : Type 0 where
+  pub twice : after.buckets ≡ 2 * before.buckets
+  pub below : before.buckets < 65536
+  pub half : 2 * before.buckets ≤ map.len (rows_in before.cells)

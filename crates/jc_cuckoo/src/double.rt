@@ -1,10 +1,10 @@
 //! Doubling: a table of twice as many buckets is filled with the rows, and takes the place of the old one.
-ghost use Rattle.std.specs.Prelude.{◌≡◌, ◌+◌, ◌*◌, ◌/◌, ◌≤◌, ◌<◌, None, Some, [], ◌∷◌, ◌++◌, IfOk, length, true, false, option_map, replicate};
+ghost use Rattle.std.specs.Prelude.{◌≡◌, ◌+◌, ◌*◌, ◌/◌, ◌≤◌, ◌<◌, None, Some, IfOk, length, true, false, replicate};
 ghost use Rattle.std.specs.FinMap as map;
 ghost use Rattle.jc_place.specs.Place.{IsTableSize};
 ghost use Rattle.jc_cuckoo.specs.Cells.{cell, rows_in, place_of, row_of, IsBucketOf, IsFull};
-ghost use Rattle.jc_cuckoo.specs.Double.{IsAdded, IsBlank, IsDoubled, IsFilled, IsLeft, HasSlots, HasStash, MayDouble};
-ghost use Rattle.jc_cuckoo.specs.Images.{image_of};
+ghost use Rattle.jc_cuckoo.specs.Double.{IsAdded, IsBlank, IsDoubled, IsFilled, IsLeft, HasSlots, HasStash, Doubles};
+ghost use Rattle.jc_cuckoo.specs.Table.{Extends};
 
 use crate::change::stashed;
 use crate::cuckoo::Cuckoo;
@@ -159,9 +159,10 @@ impl<P: Placer + Drop, M: Mirror> Cuckoo<P, M> {
         requires few { 2 * self.old.buckets ≤ 65536 }
         requires doubled { IsDoubled self.old twice }
         ensures doubled { result ≡ true → IsDoubled self.old self.new }
-        ensures told { result ≡ true → M.images self.new.mirror ≡ option_map (λ is. is ++ image_of self.new.buckets self.new.cells ∷ []) (M.images self.old.mirror) }
+        ensures images { result ≡ true → Extends M.images self.old self.new 1 }
         ensures refused { result ≡ false → IsLeft M.images self.old self.new }
         ensures work { self.new.work ≡ self.old.work }
+        ensures wide { 4 * self.new.buckets ≤ length self.new.cells }
     {
         let slots = twice.slots();
         let stash = stashed(&twice.tags, &twice.cells);
@@ -178,11 +179,12 @@ impl<P: Placer + Drop, M: Mirror> Cuckoo<P, M> {
 
     /// Doubles the buckets where rows for half of their slots are held, memory is found, and there are not too many.
     pub(crate) fn double(&mut self) -> bool
-        ensures allowed { result ≡ true → MayDouble self.old }
+        ensures allowed { result ≡ true → Doubles self.old self.new }
         ensures doubled { result ≡ true → IsDoubled self.old self.new }
-        ensures told { result ≡ true → M.images self.new.mirror ≡ option_map (λ is. is ++ image_of self.new.buckets self.new.cells ∷ []) (M.images self.old.mirror) }
+        ensures images { result ≡ true → Extends M.images self.old self.new 1 }
         ensures refused { result ≡ false → IsLeft M.images self.old self.new }
         ensures work { self.new.work ≡ self.old.work }
+        ensures wide { 4 * self.new.buckets ≤ length self.new.cells }
     {
         if self.buckets >= 65_536 || self.held < 2 * self.buckets as usize {
             return false;

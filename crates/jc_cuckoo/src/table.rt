@@ -1,9 +1,10 @@
 //! The table as the rows of all caches.
-ghost use Rattle.std.specs.Prelude.{◌≡◌, ◌⊎◌, ◌+◌, ◌-◌, ◌/◌, ◌≤◌, ◌<◌, None, Some, IsSome, option_map};
+ghost use Rattle.std.specs.Prelude.{◌≡◌, ◌⊎◌, ◌+◌, ◌-◌, ◌*◌, ◌/◌, ◌≤◌, ◌<◌, None, Some, IsSome, option_map};
 ghost use Rattle.std.specs.FinMap as map;
 ghost use Rattle.jc_rows.specs.Rows.{with_expiry};
 ghost use Rattle.jc_cuckoo.specs.Cells.{rows_in, IsPlaced};
 ghost use Rattle.jc_cuckoo.specs.Table.{Tells, Touches};
+ghost use Rattle.jc_cuckoo.specs.Double.{Doubles};
 ghost use Rattle.jc_cuckoo.specs.Search.{IsLastResort};
 
 use crate::cuckoo::Cuckoo;
@@ -53,11 +54,12 @@ impl<P: Placer + Drop, M: Mirror> Rows for Cuckoo<P, M> {
         ensures put { rows_in self.new.cells ≡ map.insert (rows_in self.old.cells) (id, key) (row, expiry) }
         ensures kept { self.old.room ≤ self.new.room + 1 }
 
-        // As many images on the way as rows were moved, none of which has the new row, and the last one.
-        ensures images { Tells M.images self.old self.new self.new.work.moves }
-        ensures work { (self.new.work.searches ≡ 1) × (self.new.work.looked ≤ 256) × (self.new.work.moves ≤ 5) }
+        // As many images on the way as rows were moved, and one more where the buckets doubled; none of them has the new
+        // row. Then the last one.
+        ensures images { ((self.new.buckets ≡ self.old.buckets) × Tells M.images self.old self.new self.new.work.moves) ⊎ (Doubles self.old self.new × Tells M.images self.old self.new (1 + self.new.work.moves)) }
+        ensures work { (self.new.work.searches ≤ 2) × (self.new.work.looked ≤ 256 * self.new.work.searches) × (self.new.work.moves ≤ 5) }
         ensures stash { IsPlaced self.new.buckets self.new.cells (id, key) ⊎ IsLastResort (P.placing self.new.placer) self.new.buckets self.new.cells (id, key) }
-        ensures same { (self.new.placer ≡ self.old.placer) × (self.new.buckets ≡ self.old.buckets) }
+        ensures placer { self.new.placer ≡ self.old.placer }
     {
         let held = Held {
             id,
@@ -70,6 +72,13 @@ impl<P: Placer + Drop, M: Mirror> Rows for Cuckoo<P, M> {
             looked: 0,
             moves: 0,
         };
+        if self.settle(held.same()) {
+            return;
+        }
+        if !self.double() {
+            self.stow(held);
+            return;
+        }
         if self.settle(held.same()) {
             return;
         }

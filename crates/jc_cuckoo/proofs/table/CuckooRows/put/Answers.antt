@@ -1,23 +1,28 @@
-use Rattle.std.proofs.Common.{ℕ, ◌∷◌, [], ◌++◌, List, Option, Some, None, sym, ap, ◌∙◌, subst, inr, arith}
-use Rattle.std.proofs.lemmas.List.{get_or_append_left}
-use Rattle.jc_place.specs.declared.place.Place.{Place}
+use Rattle.std.proofs.Common.{◌≡◌, ℕ, ◌∷◌, [], ◌++◌, Some, List, Option, sym, ap, ap₂, ◌∙◌, inl, inr}
 use Rattle.jc_cuckoo.specs.declared.held.Held.{Held}
-use Rattle.jc_cuckoo.specs.Cells.{place_of, first_bucket, second_bucket}
-use Rattle.jc_cuckoo.specs.Search.{IsLastResort}
-use Rattle.jc_cuckoo.proofs.LastResort.{last_resort_alike}
-use Rattle.jc_cuckoo.proofs.Queues.{full_pushed}
+use Rattle.jc_cuckoo.specs.declared.held.Work.{Work}
+use Rattle.jc_cuckoo.specs.Cells.{place_of}
+use Rattle.jc_cuckoo.proofs.Crowded.{put_doubled, put_stowed, resort_stowed}
 use Rattle.jc_cuckoo.proofs.table.CuckooRows.put.Goals as goal
+
+pub returns-then-not-double-clause-stash : goal.returns-then-not-double-clause-stash
+returns-then-not-double-clause-stash g c =
+    let s = c.settle.ensures.stays c.if-settle.false in let l = c.double.ensures.refused c.if-not-double.true in let f = c.stow.ensures.follows in
+    inr (resort_stowed (g.P.Placer.placing c.self.inside.placer) (g.P.Placer.placing c.stow.new.self.placer) c.self.inside.buckets c.stow.new.self.buckets c.self.inside.cells.items c.stow.new.self.cells _ (place_of c.same.result) (c.args.id, c.args.key) c.self.invariant.sound.wide s.full
+    (ap g.P.Placer.placing (f.placer ∙ (l.placer ∙ s.placer))) (f.buckets ∙ (l.buckets ∙ s.buckets)) (c.stow.ensures.cells ∙ ap₂ (λ (a : List (Option Held)) (h : Held). a ++ Some h ∷ []) (l.cells ∙ s.cells) (sym c.same.ensures)) (sym (ap place_of c.same.ensures)))
+
+pub returns-then-settle-2-clause-images : goal.returns-then-settle-2-clause-images
+returns-then-settle-2-clause-images g c =
+    let s = c.settle.ensures.stays c.if-settle.false in let d = c.double.ensures in let t = c.if-not-double.false in
+    rw (← c.self.view_is) (inr (put_doubled g.M.Mirror.images _ c.settle.new.self c.double.new.self c.settle-2.new.self c.same-2.result record { cells = s.cells; mirror = s.mirror; buckets = s.buckets } (d.doubled t) (d.allowed t) (d.images t) (c.settle-2.ensures.settled c.if-settle-2.true)))
+
+pub returns-clause-images : goal.returns-clause-images
+returns-clause-images g c =
+    let s = c.settle.ensures.stays c.if-settle.false in let d = c.double.ensures in let t = c.if-not-double.false in
+    rw (← c.self.view_is) (inr (put_stowed g.M.Mirror.images _ _ c.settle.new.self c.double.new.self c.settle-2.new.self c.stow-2.new.self (place_of c.same-2.result) record { cells = s.cells; mirror = s.mirror; buckets = s.buckets } (d.doubled t) (d.allowed t) (d.images t) (ap (λ (w : Work). w.moves) d.work ∙ s.moves) (c.settle-2.ensures.stays c.if-settle-2.false) c.stow-2.ensures.follows c.stow-2.ensures.covers))
 
 pub returns-clause-stash : goal.returns-clause-stash
 returns-clause-stash g c =
-    let s = c.settle.ensures.stays c.if-settle.false in
-    let n : ℕ = c.self.inside.buckets in let p = g.P.Placer.placing c.self.inside.placer in let x : ℕ × List ℕ = (c.args.id, c.args.key) in
-    let cs : List (Option Held) = c.self.inside.cells.items in
-    let held : Held = record { id = c.args.id; key = c.args.key; row = c.args.row; expiry = c.args.expiry } in
-    let wide = c.self.invariant.sound.wide in
-    let full = subst (λ (h : Held). IsLastResort p n cs (place_of h)) c.same.ensures s.full in
-    let pushed : IsLastResort p n (cs ++ Some held ∷ []) x = last_resort_alike p n cs (cs ++ Some held ∷ []) (first_bucket p n x) (second_bucket p n x) (λ i low. get_or_append_left cs (Some held ∷ []) None i (omega arith)) (λ b f. full_pushed cs held b f) full in
-    inr (
-    subst (λ (f : ℕ → List ℕ → Place). IsLastResort f c.stow.new.self.buckets c.stow.new.self.cells x) (sym (ap g.P.Placer.placing (c.stow.ensures.follows.placer ∙ s.placer)))
-    (subst (λ (m : ℕ). IsLastResort p m c.stow.new.self.cells x) (sym (c.stow.ensures.follows.buckets ∙ s.buckets))
-    (subst (λ (l : List (Option Held)). IsLastResort p n l x) (sym (c.stow.ensures.cells ∙ ap (λ (l : List (Option Held)). l ++ Some held ∷ []) s.cells)) pushed)))
+    let s = c.settle-2.ensures.stays c.if-settle-2.false in let f = c.stow-2.ensures.follows in
+    inr (resort_stowed (g.P.Placer.placing c.double.new.self.placer) (g.P.Placer.placing c.stow-2.new.self.placer) c.double.new.self.buckets c.stow-2.new.self.buckets c.double.new.self.cells c.stow-2.new.self.cells _ (place_of c.same-2.result) (c.args.id, c.args.key) c.double.ensures.wide s.full
+    (ap g.P.Placer.placing (f.placer ∙ s.placer)) (f.buckets ∙ s.buckets) (c.stow-2.ensures.cells ∙ ap₂ (λ (a : List (Option Held)) (h : Held). a ++ Some h ∷ []) s.cells (sym c.same-2.ensures)) (sym (ap place_of c.same-2.ensures)))
