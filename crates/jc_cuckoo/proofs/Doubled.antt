@@ -1,5 +1,5 @@
 -- A table of twice as many buckets has the rows that were brought into it.
-use Rattle.std.proofs.Common.{◌≡◌, ℕ, zero, suc, ◌+◌, ◌-◌, ◌*◌, ◌/◌, ◌<◌, ◌≤◌, List, length, take, replicate, Option, Some, None, refl, sym, ap, ap₂, ◌∙◌, subst, arith, inl, inr}
+use Rattle.std.proofs.Common.{◌≡◌, ℕ, ◌+◌, ◌*◌, ◌<◌, ◌≤◌, List, length, take, replicate, Option, Some, None, sym, ap, ap₂, ◌∙◌, subst, arith}
 use Rattle.std.specs.FinMap as map
 use Rattle.std.specs.Option.{option_map}
 use Rattle.std.proofs.lemmas.List.{get_or-take, length-replicate}
@@ -10,7 +10,7 @@ use Rattle.jc_cuckoo.specs.Images.{Shown, Covers, image_of, shown}
 use Rattle.jc_cuckoo.specs.Table.{Table}
 use Rattle.jc_cuckoo.specs.Double.{IsAdded, IsBlank, IsDoubled, HasSlots, HasStash}
 use Rattle.jc_cuckoo.proofs.Blank.{blank_on}
-use Rattle.jc_cuckoo.proofs.Cells.{Once, Found, get_some, get_found}
+use Rattle.jc_cuckoo.proofs.Cells.{Once, get_some, get_found}
 use Rattle.jc_cuckoo.proofs.Changes.{inside}
 use Rattle.jc_cuckoo.proofs.Covers.{covers_more}
 use Rattle.jc_cuckoo.proofs.Empty.{rows_none, none_there}

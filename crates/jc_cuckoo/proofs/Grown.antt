@@ -1,11 +1,11 @@
 -- The image of a doubled table is the next one.
-use Rattle.std.proofs.Common.{◌≡◌, ℕ, ◌-◌, ◌*◌, ◌/◌, ◌≤◌, List, [], ◌∷◌, ◌++◌, length, take, map, Option, Some, None, refl, sym, ap, ap₂, ◌∙◌, subst, arith}
+use Rattle.std.proofs.Common.{◌≡◌, ℕ, ◌-◌, ◌*◌, ◌/◌, ◌≤◌, List, [], ◌∷◌, ◌++◌, length, take, map, Option, Some, None, sym, ap, ap₂, ◌∙◌, subst, arith}
 use Rattle.std.specs.Option.{IfSome, option_map}
 use Rattle.std.proofs.lemmas.List.{length-take-le}
 use Rattle.jc_place.specs.declared.place.Place.{Place}
 use Rattle.jc_cuckoo.specs.declared.held.Held.{Held}
 use Rattle.jc_cuckoo.specs.Cells.{IsSound, rows_in}
-use Rattle.jc_cuckoo.specs.Images.{Image, Shown, IsImage, IsGrowth, grown, image_of, last_image, shown}
+use Rattle.jc_cuckoo.specs.Images.{Image, IsImage, IsGrowth, grown, image_of, last_image, shown}
 use Rattle.jc_cuckoo.specs.Table.{IsTable, IsMirrored}
 use Rattle.jc_cuckoo.proofs.Told.{is_image, mirrored_next}
 use Rattle.std.specs.FinMap as maps

@@ -1,12 +1,11 @@
 -- The test of a number of buckets.
-use Rattle.std.proofs.Common.{◌≡◌, ℕ, zero, suc, ◌+◌, ◌*◌, ◌/◌, ◌%◌, ◌^◌, ◌<◌, ◌≤◌, Bool, true, false, nat_eq, refl, sym, ap, ◌∙◌, subst, arith, inl, inr}
+use Rattle.std.proofs.Common.{◌≡◌, ℕ, zero, suc, ◌+◌, ◌*◌, ◌/◌, ◌%◌, ◌^◌, ◌<◌, ◌≤◌, true, refl, sym, ap, ◌∙◌, arith, inl, inr}
 use Rattle.std.specs.Int.{is_power_of_two, IsPowerOfTwo}
 use Rattle.std.specs.Int.RustNames.{count_ones}
 use Rattle.std.proofs.lemmas.Bool.{cases_lt, eqb-true, eq-eqb}
 use Rattle.std.proofs.Math.Nat.{pow-suc}
-use Rattle.std.proofs.lemmas.Nat.{ones_cat, zero_from_ones, pow_below, pow_pos}
+use Rattle.std.proofs.lemmas.Nat.{ones_cat, zero_from_ones, pow_below}
 use Rattle.jc_place.specs.Place.{IsTableSize}
-use Rattle.jc_place.proofs.Other.{size_most}
 
 -- one digit more
 half_ones : (n : ℕ) → count_ones n ≡ count_ones (n / 2) + count_ones (n % 2)

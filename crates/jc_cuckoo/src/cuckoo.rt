@@ -3,6 +3,7 @@ ghost use Rattle.std.specs.Prelude.{◌≡◌, ◌+◌, ◌-◌, ◌*◌, ◌/�
 ghost use Rattle.std.specs.Vec.{vec_capacity};
 ghost use Rattle.std.specs.FinMap as map;
 ghost use Rattle.jc_place.specs.Place.{IsTableSize};
+ghost use Rattle.jc_cuckoo.specs.declared.cuckoo.TableRefusal.TheVariants.{BadBuckets};
 ghost use Rattle.jc_cuckoo.specs.Cells.{rows_in};
 ghost use Rattle.jc_cuckoo.specs.Images.{Shows, image_of};
 ghost use Rattle.jc_cuckoo.specs.Table.{longest, no_work, IsMirrored, image};
@@ -41,6 +42,9 @@ impl<P: Placer + Drop, M: Mirror> Model for Cuckoo<P, M> {
     ghost invariant = { λ t. IsTable (P.placing t.placer) (M.placing t.mirror) (M.images t.mirror) t.buckets t.tags.items t.cells.items t.held };
 }
 
+/// The most buckets of a table.
+pub const MOST_BUCKETS: u32 = 65_536;
+
 /// Why there is no table.
 #[derive(Clone, Copy, Debug, PartialEq, Eq)]
 pub enum TableRefusal {
@@ -54,7 +58,13 @@ fn is_size(buckets: u32) -> bool
     ensures size { result ≡ true → IsTableSize buckets }
     ensures none { result ≡ false → IsTableSize buckets → ⊥ }
 {
-    buckets.is_power_of_two() && 2 <= buckets && buckets <= 65_536
+    if buckets < 2 {
+        return false;
+    }
+    if buckets > MOST_BUCKETS {
+        return false;
+    }
+    buckets.is_power_of_two()
 }
 
 /// So many empty slots, in memory for so many cells.
