@@ -1,5 +1,5 @@
 -- No bucket overflows where the rows of one go to two.
-use Rattle.std.proofs.Common.{◌≡◌, ℕ, ◌+◌, ◌-◌, ◌*◌, ◌%◌, ◌/◌, ◌<◌, ◌≤◌, Bool, true, false, List, length, set, Option, Some, None, ◌⊎◌, refl, sym, ap, ◌∙◌, subst, arith, inl, inr}
+use Rattle.std.proofs.Common.{◌≡◌, ℕ, ◌+◌, ◌-◌, ◌*◌, ◌%◌, ◌/◌, ◌<◌, ◌≤◌, Bool, true, false, List, length, Option, Some, None, ◌⊎◌, refl, sym, ap, ◌∙◌, subst, arith, inl, inr}
 use Rattle.std.proofs.Math.Nat.{mod-eq_of_lt, add-mod_left}
 use Rattle.std.proofs.lemmas.Bool.{cases_lt}
 use Rattle.std.proofs.lemmas.Nat.{mod_below}
@@ -9,7 +9,7 @@ use Rattle.jc_place.specs.Place.{IsTableSize, alternate_of}
 use Rattle.jc_place.proofs.Other.{size_positive}
 use Rattle.jc_cuckoo.specs.declared.held.Held.{Held}
 use Rattle.jc_cuckoo.specs.Cells.{cell, IsBucketOf, IsFull, first_bucket, second_bucket}
-use Rattle.jc_cuckoo.specs.Double.{IsBlank, IsFilled, IsFirstVacant}
+use Rattle.jc_cuckoo.specs.Double.{IsBlank, IsFilled}
 use Rattle.jc_cuckoo.proofs.Twice.{first_half, second_half}
 
 -- a slot's bucket became part of this one, of twice as many

@@ -1,11 +1,11 @@
 -- The buckets of a key where there are twice as many.
-use Rattle.std.proofs.Common.{◌≡◌, ℕ, ◌+◌, ◌*◌, ◌^◌, ◌%◌, ◌/◌, ◌<◌, ◌≤◌, List, refl, sym, ap, ap₂, ◌∙◌, subst, arith, inl, inr}
+use Rattle.std.proofs.Common.{◌≡◌, ℕ, ◌+◌, ◌*◌, ◌^◌, ◌%◌, ◌/◌, ◌<◌, List, sym, ap, ap₂, ◌∙◌, arith, inl, inr}
 use Rattle.std.specs.Int.Bits.{bit_xor, bit_or}
 use Rattle.std.proofs.lemmas.Nat.{xor_mod, mod_below, mod_low, pow_pos, pow-add, mod-pow-add}
 use Rattle.std.proofs.lemmas.Bool.{cases_lt}
 use Rattle.jc_place.specs.declared.place.Place.{Place}
 use Rattle.jc_place.specs.Place.{IsTableSize, alternate_of, apart_by, mix_of}
-use Rattle.jc_cuckoo.specs.Cells.{IsBucketOf, first_bucket, second_bucket}
+use Rattle.jc_cuckoo.specs.Cells.{first_bucket, second_bucket}
 
 pub size_twice : (n : ℕ) → IsTableSize n → n < 65536 → IsTableSize (2 * n)
 size_twice n size below = record {

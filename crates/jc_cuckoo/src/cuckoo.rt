@@ -1,11 +1,12 @@
 //! The table.
-ghost use Rattle.std.specs.Prelude.{◌≡◌, ◌+◌, ◌-◌, ◌*◌, ◌/◌, ◌<◌, ◌≤◌, None, IfOk, min, IfSome, replicate};
+ghost use Rattle.std.specs.Prelude.{◌≡◌, ◌+◌, ◌-◌, ◌*◌, ◌/◌, ◌<◌, ◌≤◌, None, true, false, IfOk, IfErr, ◌↔◌, min, IfSome, replicate};
 ghost use Rattle.std.specs.Vec.{vec_capacity};
 ghost use Rattle.std.specs.FinMap as map;
 ghost use Rattle.jc_place.specs.Place.{IsTableSize};
+ghost use Rattle.jc_cuckoo.specs.declared.cuckoo.TableRefusal.TheVariants.{BadBuckets};
 ghost use Rattle.jc_cuckoo.specs.Cells.{rows_in};
 ghost use Rattle.jc_cuckoo.specs.Images.{Shows, image_of};
-ghost use Rattle.jc_cuckoo.specs.Table.{longest, IsMirrored, image};
+ghost use Rattle.jc_cuckoo.specs.Table.{longest, no_work, IsMirrored, image};
 
 use crate::held::{Held, Work};
 use crate::mirror::Mirror;
@@ -41,6 +42,31 @@ impl<P: Placer + Drop, M: Mirror> Model for Cuckoo<P, M> {
     ghost invariant = { λ t. IsTable (P.placing t.placer) (M.placing t.mirror) (M.images t.mirror) t.buckets t.tags.items t.cells.items t.held };
 }
 
+/// The most buckets of a table.
+pub const MOST_BUCKETS: u32 = 65_536;
+
+/// Why there is no table.
+#[derive(Clone, Copy, Debug, PartialEq, Eq)]
+pub enum TableRefusal {
+    /// The number of buckets is no power of two from 2 to 65,536.
+    BadBuckets,
+    OutOfMemory,
+}
+
+/// Whether a table can have so many buckets.
+fn is_size(buckets: u32) -> bool
+    ensures size { result ≡ true → IsTableSize buckets }
+    ensures none { result ≡ false → IsTableSize buckets → ⊥ }
+{
+    if buckets < 2 {
+        return false;
+    }
+    if buckets > MOST_BUCKETS {
+        return false;
+    }
+    buckets.is_power_of_two()
+}
+
 /// So many empty slots, in memory for so many cells.
 fn empty_cells(
     alloc: Global,
@@ -61,19 +87,27 @@ fn empty_cells(
 }
 
 impl<P: Placer + Drop, M: Mirror> Cuckoo<P, M> {
-    /// A table without rows.
+    /// A table without rows, with a power of two buckets, from 2 to 65,536.
     pub fn new(
         alloc: Global,
         placer: P,
         mirror: M,
         buckets: u32,
-    ) -> Result<Cuckoo<P, M>, OutOfMemory>
-        requires size { IsTableSize buckets }
+    ) -> Result<Cuckoo<P, M>, TableRefusal>
         requires mirror { IfSome (M.images mirror) (λ is. IsMirrored (P.placing placer) (M.placing mirror) is (image_of buckets (replicate (4 * buckets) None))) }
         ensures empty { IfOk result (λ table. rows_in table.cells ≡ map.empty) }
         ensures parts { IfOk result (λ table. (table.placer ≡ placer) × (table.mirror ≡ mirror) × (table.buckets ≡ buckets)) }
+        ensures work { IfOk result (λ table. table.work ≡ no_work) }
+        ensures size { IfOk result (λ table. IsTableSize buckets) }
+        ensures refused { IfErr result (λ refusal. refusal ≡ BadBuckets ↔ (IsTableSize buckets → ⊥)) }
     {
-        Cuckoo::with_capacity(alloc, placer, mirror, buckets, 4 * buckets as usize)
+        if !is_size(buckets) {
+            return Err(TableRefusal::BadBuckets);
+        }
+        match Cuckoo::with_capacity(alloc, placer, mirror, buckets, 4 * buckets as usize) {
+            Ok(table) => Ok(table),
+            Err(_) => Err(TableRefusal::OutOfMemory),
+        }
     }
 
     /// A table without rows, in memory for so many cells.
@@ -90,6 +124,7 @@ impl<P: Placer + Drop, M: Mirror> Cuckoo<P, M> {
         ensures empty { IfOk result (λ table. table.cells ≡ replicate (4 * buckets) None) }
         ensures parts { IfOk result (λ table. (table.placer ≡ placer) × (table.mirror ≡ mirror) × (table.buckets ≡ buckets)) }
         ensures room { IfOk result (λ table. table.room + 4 * buckets ≡ capacity) }
+        ensures work { IfOk result (λ table. table.work ≡ no_work) }
     {
         let slots = 4 * buckets as usize;
         let tags = vec![in alloc; 0; slots]?;

@@ -2,6 +2,7 @@
 #![tactic(auto)]
 
 pub mod change;
+pub mod counts;
 pub mod cuckoo;
 pub mod double;
 pub mod held;

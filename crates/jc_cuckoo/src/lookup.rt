@@ -29,12 +29,12 @@ impl<P: Placer + Drop, M: Mirror> Cuckoo<P, M> {
     }
 
     /// A key's row, and the cell in which it stands.
-    pub(crate) fn seek_row(&self, id: CacheId, key: &Key) -> Option<(usize, Held)>
-        ensures { MatchOption result (map.get (rows_in self.now.cells) (id, key.now) ≡ None) (λ found. RowAt self.now.cells (id, key.now) found) }
+    pub(crate) fn seek_row(&self, id: CacheId, key: &Key) -> Option<(usize, &Held)>
+        ensures { MatchOption result (map.get (rows_in self.now.cells) (id, key.now) ≡ None) (λ found. RowAt self.now.cells (id, key.now) (found.0, found.1.now)) }
     {
         match self.seek(id, key) {
             Some(at) => match &self.cells[at] {
-                Some(held) => Some((at, held.same())),
+                Some(held) => Some((at, held)),
                 None => None,
             },
             None => None,

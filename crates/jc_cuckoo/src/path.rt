@@ -38,7 +38,7 @@ impl<P: Placer + Drop, M: Mirror> Cuckoo<P, M> {
         if queue.has(other) {
             return;
         }
-        queue.push(other, at, tag, head);
+        queue.push(other, at as u32, tag, head as u8);
     }
 
     /// Looks for a path, 256 slots at most: the bucket of the queue in which it ends, and that bucket's empty slot.
@@ -47,7 +47,8 @@ impl<P: Placer + Drop, M: Mirror> Cuckoo<P, M> {
         requires start { queue.old.count ≡ 2 }
         ensures queue { IsQueue (P.placing self.now.placer) self.now.buckets self.now.cells queue.new }
         ensures buckets { (bucket_at queue.new 0 ≡ bucket_at queue.old 0) × (bucket_at queue.new 1 ≡ bucket_at queue.old 1) }
-        ensures looked { result.1 ≤ 256 }
+        ensures looked { (1 ≤ result.1) × (result.1 ≤ 256) }
+        ensures counted { MatchOption result.0 (result.1 ≡ 4 * queue.new.count) (λ found. found.1 ≡ looked_slot queue.new (result.1 - 1)) }
         ensures found { MatchOption result.0 (IsExhausted (P.placing self.now.placer) self.now.buckets self.now.cells (bucket_at queue.old 0) (bucket_at queue.old 1)) (λ found. IsEnd self.now.cells queue.new found) }
     {
         let mut looked = 0;
@@ -95,12 +96,12 @@ impl<P: Placer + Drop, M: Mirror> Cuckoo<P, M> {
         let mut gap = empty;
         let mut moves = 0;
         'moves: while node >= 2 {
-            let from = queue.slots[node];
+            let from = queue.slots[node] as usize;
             match self.row_in(from) {
                 Some(held) => {
                     self.shift(from, gap, queue.tags[node], held);
                     gap = from;
-                    node = queue.parents[node];
+                    node = queue.parents[node] as usize;
                     moves += 1;
                 }
                 None => return (gap, moves),
@@ -116,7 +117,7 @@ impl<P: Placer + Drop, M: Mirror> Cuckoo<P, M> {
         ensures settled { result ≡ true → Settles M.images self.old self.new held }
         ensures stays { result ≡ false → Stays (P.placing self.old.placer) self.old self.new (place_of held) }
         ensures searches { self.new.work.searches ≡ self.old.work.searches + 1 }
-        ensures looked { self.new.work.looked ≤ self.old.work.looked + 256 }
+        ensures looked { (self.old.work.looked < self.new.work.looked) × (self.new.work.looked ≤ self.old.work.looked + 256) }
     {
         let place = self.placer.place(held.id, &held.key);
         let first = place.first % self.buckets;

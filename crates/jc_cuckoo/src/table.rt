@@ -56,8 +56,8 @@ impl<P: Placer + Drop, M: Mirror> Rows for Cuckoo<P, M> {
 
         // As many images on the way as rows were moved, and one more where the buckets doubled; none of them has the new
         // row. Then the last one.
-        ensures images { ((self.new.buckets ≡ self.old.buckets) × Tells M.images self.old self.new self.new.work.moves) ⊎ (Doubles self.old self.new × Tells M.images self.old self.new (1 + self.new.work.moves)) }
-        ensures work { (self.new.work.searches ≤ 2) × (self.new.work.looked ≤ 256 * self.new.work.searches) × (self.new.work.moves ≤ 5) }
+        ensures images { ((self.new.buckets ≡ self.old.buckets) × (self.new.work.searches ≡ 1) × Tells M.images self.old self.new self.new.work.moves) ⊎ (Doubles self.old self.new × (self.new.work.searches ≡ 2) × Tells M.images self.old self.new (1 + self.new.work.moves)) }
+        ensures work { (self.new.work.searches ≤ self.new.work.looked) × (self.new.work.looked ≤ 256 * self.new.work.searches) × (self.new.work.moves ≤ 5) }
         ensures stash { IsPlaced self.new.buckets self.new.cells (id, key) ⊎ IsLastResort (P.placing self.new.placer) self.new.buckets self.new.cells (id, key) }
         ensures placer { self.new.placer ≡ self.old.placer }
     {
@@ -95,6 +95,7 @@ impl<P: Placer + Drop, M: Mirror> Rows for Cuckoo<P, M> {
         match self.seek_row(id, key) {
             Some((at, held)) => {
                 let row = held.row;
+                let held = held.same();
                 if at < slots {
                     self.clear(at, held);
                     return Some(row);
@@ -117,6 +118,7 @@ impl<P: Placer + Drop, M: Mirror> Rows for Cuckoo<P, M> {
             if held.expiry == expiry {
                 return;
             }
+            let held = held.same();
             if at < slots {
                 self.renew(at, held, expiry);
                 return;

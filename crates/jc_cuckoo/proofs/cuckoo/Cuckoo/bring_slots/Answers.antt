@@ -1,5 +1,4 @@
-use Rattle.std.proofs.Common.{◌≡◌, ℕ, ◌*◌, refl, subst, arith}
-use Rattle.jc_cuckoo.specs.Double.{HasSlots}
+use Rattle.std.proofs.Common.{refl, arith}
 use Rattle.jc_cuckoo.proofs.Doubled.{slots_first}
 use Rattle.jc_cuckoo.proofs.cuckoo.Cuckoo.bring_slots.Goals as goal
 

@@ -1,4 +1,4 @@
-use Rattle.std.proofs.Common.{◌≡◌, ◌-◌, ◌*◌, ◌≤◌, length}
+use Rattle.std.proofs.Common.{◌≡◌, ◌-◌, ◌*◌, ◌≤◌}
 use Rattle.jc_cuckoo.specs.Double.{HasSlots}
 use Rattle.jc_cuckoo.proofs.cuckoo.Cuckoo.bring_slots.Given as goal
 

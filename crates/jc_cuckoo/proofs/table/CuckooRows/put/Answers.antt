@@ -1,4 +1,4 @@
-use Rattle.std.proofs.Common.{◌≡◌, ℕ, ◌∷◌, [], ◌++◌, Some, List, Option, sym, ap, ap₂, ◌∙◌, inl, inr}
+use Rattle.std.proofs.Common.{◌∷◌, [], ◌++◌, Some, List, Option, sym, ap, ap₂, ◌∙◌, inr, arith}
 use Rattle.jc_cuckoo.specs.declared.held.Held.{Held}
 use Rattle.jc_cuckoo.specs.declared.held.Work.{Work}
 use Rattle.jc_cuckoo.specs.Cells.{place_of}
@@ -14,12 +14,16 @@ returns-then-not-double-clause-stash g c =
 pub returns-then-settle-2-clause-images : goal.returns-then-settle-2-clause-images
 returns-then-settle-2-clause-images g c =
     let s = c.settle.ensures.stays c.if-settle.false in let d = c.double.ensures in let t = c.if-not-double.false in
-    rw (← c.self.view_is) (inr (put_doubled g.M.Mirror.images _ c.settle.new.self c.double.new.self c.settle-2.new.self c.same-2.result record { cells = s.cells; mirror = s.mirror; buckets = s.buckets } (d.doubled t) (d.allowed t) (d.images t) (c.settle-2.ensures.settled c.if-settle-2.true)))
+    let p = put_doubled g.M.Mirror.images _ c.settle.new.self c.double.new.self c.settle-2.new.self c.same-2.result record { cells = s.cells; mirror = s.mirror; buckets = s.buckets } (d.doubled t) (d.allowed t) (d.images t) (c.settle-2.ensures.settled c.if-settle-2.true) in
+    let first = c.settle.ensures.searches in let kept = ap (λ (w : Work). w.searches) d.work in let second = c.settle-2.ensures.searches in
+    rw (← c.self.view_is) (inr (p.0, omega arith, p.1))
 
 pub returns-clause-images : goal.returns-clause-images
 returns-clause-images g c =
     let s = c.settle.ensures.stays c.if-settle.false in let d = c.double.ensures in let t = c.if-not-double.false in
-    rw (← c.self.view_is) (inr (put_stowed g.M.Mirror.images _ _ c.settle.new.self c.double.new.self c.settle-2.new.self c.stow-2.new.self (place_of c.same-2.result) record { cells = s.cells; mirror = s.mirror; buckets = s.buckets } (d.doubled t) (d.allowed t) (d.images t) (ap (λ (w : Work). w.moves) d.work ∙ s.moves) (c.settle-2.ensures.stays c.if-settle-2.false) c.stow-2.ensures.follows c.stow-2.ensures.covers))
+    let p = put_stowed g.M.Mirror.images _ _ c.settle.new.self c.double.new.self c.settle-2.new.self c.stow-2.new.self (place_of c.same-2.result) record { cells = s.cells; mirror = s.mirror; buckets = s.buckets } (d.doubled t) (d.allowed t) (d.images t) (ap (λ (w : Work). w.moves) d.work ∙ s.moves) (c.settle-2.ensures.stays c.if-settle-2.false) c.stow-2.ensures.follows c.stow-2.ensures.covers in
+    let first = c.settle.ensures.searches in let kept = ap (λ (w : Work). w.searches) d.work in let second = c.settle-2.ensures.searches in let last = ap (λ (w : Work). w.searches) c.stow-2.ensures.follows.work in
+    rw (← c.self.view_is) (inr (p.0, omega arith, p.1))
 
 pub returns-clause-stash : goal.returns-clause-stash
 returns-clause-stash g c =
