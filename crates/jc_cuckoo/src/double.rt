@@ -8,7 +8,7 @@ ghost use Rattle.jc_cuckoo.specs.Table.{Extends, image};
 ghost use Rattle.jc_cuckoo.specs.Images.{grown};
 
 use crate::change::stashed;
-use crate::cuckoo::Cuckoo;
+use crate::cuckoo::{Cuckoo, MOST_BUCKETS};
 use crate::held::Held;
 use crate::mirror::{Mirror, NoMirror};
 use crate::scan::first_empty;
@@ -196,7 +196,7 @@ impl<P: Placer + Drop, M: Mirror> Cuckoo<P, M> {
         ensures work { self.new.work ≡ self.old.work }
         ensures wide { 4 * self.new.buckets ≤ length self.new.cells }
     {
-        if self.buckets >= 65_536 || self.held < 2 * self.buckets as usize {
+        if self.buckets >= MOST_BUCKETS || self.held < 2 * self.buckets as usize {
             return false;
         }
         match self.doubled() {
