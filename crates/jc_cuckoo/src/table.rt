@@ -1,9 +1,9 @@
 //! The table as the rows of all caches.
-ghost use Rattle.std.specs.Prelude.{◌≡◌, ◌⊎◌, ◌+◌, ◌-◌, ◌*◌, ◌/◌, ◌≤◌, ◌<◌, None, Some, IsSome, option_map};
+ghost use Rattle.std.specs.Prelude.{◌≡◌, ◌⊎◌, ◌+◌, ◌-◌, ◌*◌, ◌/◌, ◌≤◌, ◌<◌, None, Some, IsSome, IsOk, OnOk, option_map};
 ghost use Rattle.std.specs.FinMap as map;
 ghost use Rattle.jc_rows.specs.Rows.{with_expiry};
 ghost use Rattle.jc_cuckoo.specs.Cells.{rows_in, IsPlaced};
-ghost use Rattle.jc_cuckoo.specs.Table.{Tells, Touches};
+ghost use Rattle.jc_cuckoo.specs.Table.{IsStill, Tells, Touches};
 ghost use Rattle.jc_cuckoo.specs.Double.{Doubles};
 ghost use Rattle.jc_cuckoo.specs.Search.{IsLastResort};
 
@@ -30,7 +30,13 @@ impl<P: Placer + Drop, M: Mirror> Rows for Cuckoo<P, M> {
         self.held
     }
 
-    fn make_room(&mut self, n: usize) -> Result<(), OutOfMemory> {
+    fn make_room(&mut self, n: usize) -> Result<(), OutOfMemory>
+        ensures same { rows_in self.new.cells ≡ rows_in self.old.cells }
+        ensures ok { OnOk result (n ≤ map.len (rows_in self.new.cells) + self.new.room) }
+        ensures succeeds { n ≤ map.len (rows_in self.old.cells) + self.old.room → IsOk result }
+        ensures kept { self.old.room ≤ self.new.room }
+        ensures still { IsStill self.old self.new }
+    {
         if n <= self.held {
             return Ok(());
         }
