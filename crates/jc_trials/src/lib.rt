@@ -22,5 +22,3 @@ mod engine;
 mod one_cache;
 #[cfg(test)]
 mod serial;
-#[cfg(test)]
-mod worked;
