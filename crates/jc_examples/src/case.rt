@@ -1,5 +1,6 @@
 //! One line of the list of examples.
 
+use crate::events::play_events;
 use crate::run::{run_demonstration, run_each_configuration, run_each_script, run_words};
 use std::io;
 
@@ -20,6 +21,7 @@ pub fn play_case(rt: &HostRuntime, line: &str) -> io::Result<()> {
         ["<", script] => run_demonstration(rt, script),
         ["each", "script", "of", scripts, "on", config] => run_each_script(rt, scripts, config),
         ["each", "configuration", "of", configs] => run_each_configuration(rt, configs),
+        ["events", "of", events, "on", config] => play_events(rt, config, events),
         words => run_words(rt, words),
     }
 }
