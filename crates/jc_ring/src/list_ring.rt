@@ -1,5 +1,5 @@
 //! The plain reference body of the ring: a queue that starts at the hand.
-ghost use Rattle.std.specs.Prelude.{◌≡◌, ◌<◌, ◌≤◌, [], ◌∷◌, length, true, false, slice_index_or, IfOk};
+ghost use Rattle.std.specs.Prelude.{◌≡◌, ◌<◌, ◌≤◌, length, true, false, slice_index_or};
 ghost use Rattle.std.specs.VecDeque.{deque_capacity};
 ghost use Rattle.jc_ring.specs.Ring.{on_ring, rows_apart};
 
@@ -76,38 +76,5 @@ impl Ring for ListRing {
             Some(item) => Some(item.0),
             None => None,
         }
-    }
-}
-
-#[cfg(test)]
-mod tests {
-    use super::*;
-
-    /// A ring of three rows, as they were pushed.
-    fn three(alloc: Global) -> Result<ListRing, OutOfMemory>
-        ensures { IfOk result (λ ring. ring.items.items ≡ (0, false) ∷ (1, false) ∷ (2, false) ∷ []) }
-    {
-        let mut ring = ListRing::with_capacity(alloc, 3)?;
-        ring.push(0);
-        ring.push(1);
-        ring.push(2);
-        Ok(ring)
-    }
-
-    #[test]
-    #[tactic(auto, using(crate::proofs::Laws::ring_laws))]
-    fn a_touched_row_is_spared_once(rt: HostRuntime) -> Result<(), OutOfMemory> {
-        let mut ring = three(rt.alloc())?;
-        ring.touch(1);
-        ring.drop_one(0);
-        assert!(rt; ring.head() == Some((1, true)));
-        assert!(rt; ring.after(1) == Some(2));
-        ring.turn();
-        assert!(rt; ring.head() == Some((2, false)));
-        assert!(rt; ring.after(2) == Some(1));
-        assert!(rt; ring.after(1).is_none());
-        ring.turn();
-        assert!(rt; ring.head() == Some((1, false)));
-        Ok(())
     }
 }

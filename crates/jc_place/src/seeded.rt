@@ -1,0 +1,61 @@
+//! Places by a hash under a seed, which a user picks.
+ghost use Rattle.std.specs.Prelude.{◌≡◌, fold};
+ghost use Rattle.jc_place.specs.Seeded.{fnv_step, seeded_place};
+
+use crate::place::{Place, Placer};
+use jc_model::event::CacheId;
+use jc_model::key::Key;
+use std::marker::Model;
+
+const OFFSET: u64 = 0xcbf2_9ce4_8422_2325;
+
+const PRIME: u64 = 0x100_0000_01b3;
+
+/// Places by FNV-1a of 64 bits, over the cache's id and the key, from a start that the seed changes.
+#[derive(Clone, Copy, Debug, PartialEq, Eq)]
+pub struct SeededPlacer {
+    seed: u64,
+}
+
+impl Model for SeededPlacer {
+    ghost use Rattle.std.specs.Prelude.{ℕ};
+
+    ghost Value = { ℕ };
+
+    ghost view = { λ placer. placer.seed };
+
+    ghost inverse = { λ n. record { seed = n } };
+}
+
+impl SeededPlacer {
+    /// The placer of this seed: any number serves.
+    pub fn new(seed: u64) -> SeededPlacer
+        ensures { result ≡ seed }
+    {
+        SeededPlacer { seed }
+    }
+}
+
+/// FNV-1a from this hash on, over further bytes.
+fn walk(hash: u64, bytes: &[u8]) -> u64
+    ensures { result ≡ fold fnv_step hash bytes.now }
+{
+    let mut walked = hash;
+    for byte in bytes {
+        walked = (walked ^ u64::from(*byte)).wrapping_mul(PRIME);
+    }
+    walked
+}
+
+impl Placer for SeededPlacer {
+    ghost placing = { seeded_place };
+
+    fn place(&self, id: CacheId, key: &Key) -> Place {
+        let of_id = walk(OFFSET ^ self.seed, &id.number().to_le_bytes());
+        let hash = walk(of_id, key.text().as_bytes());
+        Place {
+            first: (hash & 0xffff_ffff) as u32,
+            tag: 1 + ((hash >> 32) % 255) as u8,
+        }
+    }
+}
