@@ -21,6 +21,10 @@ mod large;
 #[cfg(test)]
 mod manager;
 #[cfg(test)]
+mod places;
+#[cfg(test)]
+mod rings;
+#[cfg(test)]
 mod streams;
 #[cfg(test)]
 mod tables;
