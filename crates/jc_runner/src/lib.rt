@@ -17,10 +17,3 @@ pub use presets::demonstration;
 pub use reading::{Watched, read_bytes};
 pub use run::serial;
 pub use writing::WatchedWriter;
-
-#[cfg(test)]
-mod configuring_tests;
-#[cfg(test)]
-mod hooked;
-#[cfg(test)]
-mod tests;

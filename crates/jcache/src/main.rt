@@ -7,9 +7,6 @@ ghost use Rattle.std.specs.Prelude.{◌≡◌, ◌≢◌, OnOk, OnErr};
 ghost use Rattle.std.specs.Process.{exit_status};
 ghost use Rattle.clap.specs.Words.{kind_of};
 
-#[cfg(test)]
-mod demo;
-
 use clap::Error;
 use clap::error::ErrorKind as Cause;
 use jc_config::{Configuration, HookKinds, LoaderKind, ProcessorKind, Settings, WriterKind};
