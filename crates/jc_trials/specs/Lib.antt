@@ -1,1 +1,2 @@
 pub mod Processors
+pub mod Places

@@ -4,12 +4,14 @@
 
 mod fakes;
 mod log;
+mod placers;
 mod trouble;
 
 pub use fakes::{
     NotedListener, NotedLoader, NotedProcessor, NotedWriter, PoorLoader, ProgramProcessor,
 };
 pub use log::{Log, Text};
+pub use placers::{ConstantPlacer, RefusingMirror, TablePlacer};
 pub use trouble::{Trouble, key, no_hooks, plain_cache, value_of};
 
 #[cfg(test)]
@@ -24,6 +26,8 @@ mod manager;
 mod places;
 #[cfg(test)]
 mod rings;
+#[cfg(test)]
+mod shapes;
 #[cfg(test)]
 mod streams;
 #[cfg(test)]

@@ -1,6 +1,7 @@
 //! Why a trial did not go on, and what all trials make.
 
 use jc_config::ConfigFault;
+use jc_cuckoo::cuckoo::TableRefusal;
 use jc_engine::open::OpenRefusal;
 use jc_hooks::CacheHooks;
 use jc_model::OutOfMemory;
@@ -20,6 +21,7 @@ pub enum Trouble {
     NoKey(KeyFault),
     NoValue(ValueFault),
     NoList(ListFault),
+    NoTable(TableRefusal),
     Program(ProgramFault),
     Running(RunFault),
 }
@@ -63,6 +65,12 @@ impl From<ValueFault> for Trouble {
 impl From<ListFault> for Trouble {
     fn from(fault: ListFault) -> Trouble {
         Trouble::NoList(fault)
+    }
+}
+
+impl From<TableRefusal> for Trouble {
+    fn from(refusal: TableRefusal) -> Trouble {
+        Trouble::NoTable(refusal)
     }
 }
 
