@@ -1,3 +1,4 @@
+pub mod Meters
 pub mod Streams
 pub mod Faults
 pub mod Demonstration

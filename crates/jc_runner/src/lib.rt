@@ -8,19 +8,14 @@ mod hooks;
 mod presets;
 mod reading;
 mod run;
+mod telling;
+mod watched;
 mod writing;
 
 pub use configuring::read_configuration;
 pub use fault::{ProgramFault, RunFault, write_fault};
 pub use jc_words::{Run, read_words};
 pub use presets::demonstration;
-pub use reading::{Watched, read_bytes};
+pub use reading::read_bytes;
 pub use run::serial;
-pub use writing::WatchedWriter;
-
-#[cfg(test)]
-mod configuring_tests;
-#[cfg(test)]
-mod hooked;
-#[cfg(test)]
-mod tests;
+pub use watched::{Watched, WatchedWriter};

@@ -1,5 +1,5 @@
 //! One run: a script in, a report out.
-ghost use Rattle.std.specs.Prelude.{◌≡◌, ◌≤◌, ◌<◌, ◌+◌, ◌≢◌, List, IsTrue, true, IfOk, IfErr, IfSome, IsSome, OnOk, IsOk, Ok, Err, [], length, map, string_bytes};
+ghost use Rattle.std.specs.Prelude.{◌≡◌, ◌<◌, ◌≢◌, List, true, IfOk, IfErr, IfSome, IsSome, OnOk, IsOk, Ok, Err, [], length, map, string_bytes};
 ghost use Rattle.std.specs.Io.KnownBytes.{Appends, IsAtEnd, Keeps};
 ghost use Rattle.jc_script.specs.Script.{lines};
 ghost use Rattle.jc_script.specs.declared.fault.ScriptFault.{ScriptFault as TextFault};
@@ -11,14 +11,16 @@ ghost use Rattle.jc_model.specs.Solo.{opened};
 ghost use Rattle.jc_runner.specs.Halfway.{statuses_of};
 ghost use Rattle.jc_runner.specs.Hooks.{AllSuit, CannotOpen};
 ghost use Rattle.jc_runner.specs.Reports.{Reports, ReportsOf};
-ghost use Rattle.jc_runner.specs.Streams.{WritesFront, IsOfRunning, IsOfScript};
+ghost use Rattle.jc_runner.specs.Meters.{next, AddsAtMost};
+ghost use Rattle.jc_runner.specs.Streams.{WritesFront, IsOfRunning, IsOfScript, IsBeforeCalls, HasRun};
 ghost use Rattle.jc_runner.specs.declared.fault.RunFault.TheVariants as faults;
 
 use crate::calls::run_all;
 use crate::fault::RunFault;
 use crate::hooks::all_suit;
-use crate::reading::{Watched, read_bytes};
-use crate::writing::{WatchedWriter, write_text};
+use crate::reading::read_bytes;
+use crate::watched::{Watched, WatchedWriter};
+use crate::writing::write_text;
 use jc_config::Settings;
 use jc_engine::open::OpenRefusal;
 use jc_engine::recorded::Recorded;
@@ -95,14 +97,15 @@ pub fn serial<L: Loader, W: Writer, P: Processor, K: Listener, R: Read, O: Write
     ensures long { result ≡ Err faults.TooLong → IfSome (R.remaining reader.old.inner) (λ input. 8388608 < length input) }
     ensures open { result ≡ Err faults.Open → CannotOpen P.wants settings hooks.old }
     ensures good { result ≡ Err faults.Open → IfSome (R.remaining reader.old.inner) (λ input. IsOk (lines settings input)) }
-    ensures untouched { result ≡ Err faults.Open → hooks.new ≡ hooks.old }
-    ensures suit { OnOk result (AllSuit P.wants settings hooks.old) }
+    ensures untouched { IfErr result (λ e. IsBeforeCalls e → hooks.new ≡ hooks.old) }
+    ensures suit { HasRun result → AllSuit P.wants settings hooks.old }
+    ensures flushed { OnOk result (writer.new.flushed ≡ true) }
     ensures closed { result ≢ Err faults.Close }
     ensures front { result ≡ Err faults.Write → IfSome (R.remaining reader.old.inner) (λ input. ReportsOf L.load_of W.may P.verdict_of K.state_after settings input hooks.old hooks.new (λ text. WritesFront (O.contents writer.old.inner) (O.contents writer.new.inner) text)) }
     ensures nothing { IfErr result (λ e. e ≢ faults.Write → Keeps (O.contents writer.old.inner) (O.contents writer.new.inner)) }
-    ensures read_failed { result ≡ Err faults.Read → reader.new.failed ≡ true }
-    ensures write_failed { result ≡ Err faults.Write → writer.new.failed ≡ true }
-    ensures reads { reader.new.reads ≤ reader.old.reads + 8388609 }
+    ensures read_failed { result ≡ Err faults.Read → reader.new.failures ≡ next reader.old.failures }
+    ensures write_failed { result ≡ Err faults.Write → writer.new.failures ≡ next writer.old.failures }
+    ensures reads { AddsAtMost 8388609 reader.old.reads reader.new.reads }
 {
     let bytes = read_bytes(alloc, reader)?;
     let lines = lines_of(alloc, bytes.as_slice(), &settings)?;

@@ -2,7 +2,7 @@
 
 ghost use Rattle.std.specs.Prelude.{◌≡◌, IfOk};
 ghost use Rattle.jc_hooks.specs.Program.{echoed};
-ghost use Rattle.jc_trials.specs.Processors.{verdict_by};
+ghost use Rattle.jc_hooks.specs.Processors.{verdict_by};
 
 use crate::hooks::ProgramProcessor;
 use jc_hooks::program::EchoLoader;

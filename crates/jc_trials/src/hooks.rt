@@ -1,8 +1,7 @@
 //! The hooks of a trial, and how they are asked.
 
-use jc_hooks::program::{
-    AppendProcessor, CheckWriter, DropProcessor, EchoLoader, FailProcessor, PeekProcessor,
-};
+pub use jc_hooks::program::ProgramProcessor;
+use jc_hooks::program::{CheckWriter, EchoLoader};
 use jc_hooks::{
     CacheHooks, Listener, Loader, Processor, TallyListener, Writer, load_answer, process_answer,
     write_answer,
@@ -12,46 +11,6 @@ use jc_model::call::{Answer, Notice, ProcessorFault, Request, Verdict};
 use jc_model::key::Key;
 use jc_model::value::Value;
 use std::alloc::Global;
-
-/// One of the program's processors.
-#[derive(Drop)]
-pub enum ProgramProcessor {
-    Append,
-    Fail,
-    Drop,
-    Peek,
-}
-
-impl Processor for ProgramProcessor {
-    ghost use Rattle.jc_trials.specs.Processors.{wants_of, verdict_by};
-
-    ghost wants = { wants_of };
-
-    ghost verdict_of = { verdict_by };
-
-    fn wants_value(&self) -> bool {
-        match self {
-            ProgramProcessor::Append => AppendProcessor.wants_value(),
-            ProgramProcessor::Fail => FailProcessor.wants_value(),
-            ProgramProcessor::Drop => DropProcessor.wants_value(),
-            ProgramProcessor::Peek => PeekProcessor.wants_value(),
-        }
-    }
-
-    fn process(
-        &self,
-        alloc: Global,
-        value: Option<&Value>,
-        argument: &Value,
-    ) -> Result<Result<Verdict, ProcessorFault>, OutOfMemory> {
-        match self {
-            ProgramProcessor::Append => AppendProcessor.process(alloc, value, argument),
-            ProgramProcessor::Fail => FailProcessor.process(alloc, value, argument),
-            ProgramProcessor::Drop => DropProcessor.process(alloc, value, argument),
-            ProgramProcessor::Peek => PeekProcessor.process(alloc, value, argument),
-        }
-    }
-}
 
 /// The program's hooks, of which a cache has some.
 pub type PlainHooks = CacheHooks<EchoLoader, CheckWriter, ProgramProcessor, TallyListener>;

@@ -88,7 +88,7 @@ fn reported(
     let mut reader = Watched::new(script.as_bytes());
     let mut writer = WatchedWriter::new(Vec::new(alloc));
     serial(alloc, settings, &mut hooks, 0, &mut reader, &mut writer)?;
-    Ok(writer.inner)
+    Ok(writer.into_inner())
 }
 
 #[test]

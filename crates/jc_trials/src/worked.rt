@@ -80,7 +80,7 @@ fn reported(alloc: Global, example: &Example) -> Result<Vec<u8>, Trouble> {
     let mut reader = Watched::new(example.calls.as_bytes());
     let mut writer = WatchedWriter::new(Vec::new(alloc));
     serial(alloc, settings, hooks, 0, &mut reader, &mut writer)?;
-    Ok(writer.inner)
+    Ok(writer.into_inner())
 }
 
 #[test]
