@@ -5,6 +5,7 @@ ghost use Rattle.jc_config.specs.Config.{configuration_of};
 ghost use Rattle.jc_config.specs.declared.fault.ConfigFault.{ConfigFault as TextFault};
 ghost use Rattle.jc_config.specs.declared.fault.ConfigFault.TheVariants.{TooLong};
 ghost use Rattle.jc_runner.specs.Meters.{next, AddsAtMost};
+ghost use Rattle.jc_runner.specs.Opens.{Opens};
 ghost use Rattle.jc_runner.specs.Streams.{IsAll, IsOfConfiguring};
 ghost use Rattle.jc_runner.specs.declared.fault.ProgramFault.TheVariants.{ConfigRead, Config};
 
@@ -32,6 +33,7 @@ fn text_of<R: Read>(alloc: Global, reader: &mut Watched<R>) -> Result<Vec<u8>, P
 
 fn configuration_in(alloc: Global, bytes: &[u8]) -> Result<Configuration, ProgramFault>
     ensures ok { IfOk result (λ c. configuration_of bytes.now ≡ Ok c) }
+    ensures opens { IfOk result Opens }
     ensures config { (f : TextFault) → result ≡ Err (Config f) → configuration_of bytes.now ≡ Err f }
     ensures others { IfErr result (λ e. (e ≡ ConfigRead → ⊥) × IsOfConfiguring e) }
 {
@@ -50,6 +52,7 @@ pub fn read_configuration<R: Read>(
     reader: &mut Watched<R>,
 ) -> Result<Configuration, ProgramFault>
     ensures ok { IfOk result (λ c. IfSome (R.remaining reader.old.inner) (λ input. configuration_of input ≡ Ok c)) }
+    ensures opens { IfOk result Opens }
     ensures end { OnOk result (IsAtEnd (R.remaining reader.new.inner)) }
     ensures config { (f : TextFault) → result ≡ Err (Config f) → IfSome (R.remaining reader.old.inner) (λ input. configuration_of input ≡ Err f) }
     ensures failed { result ≡ Err ConfigRead → reader.new.failures ≡ next reader.old.failures }

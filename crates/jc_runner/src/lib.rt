@@ -3,19 +3,31 @@
 
 mod calls;
 mod configuring;
+mod disk;
+mod ending;
 mod fault;
+mod files;
 mod hooks;
+mod naming;
+mod obeying;
 mod presets;
 mod reading;
 mod run;
+mod saying;
+mod streams;
 mod telling;
 mod watched;
 mod writing;
 
 pub use configuring::read_configuration;
+pub use disk::{Disk, HostDisk, OpenFault};
+pub use ending::{Ended, Ending, WordsFault};
 pub use fault::{ProgramFault, RunFault, write_fault};
+pub use files::run_files;
 pub use jc_words::{Run, read_words};
+pub use obeying::program;
 pub use presets::demonstration;
 pub use reading::read_bytes;
 pub use run::serial;
+pub use streams::{Opened, Standard};
 pub use watched::{Watched, WatchedWriter};

@@ -99,7 +99,7 @@ pub fn serial<L: Loader, W: Writer, P: Processor, K: Listener, R: Read, O: Write
     ensures good { result ≡ Err faults.Open → IfSome (R.remaining reader.old.inner) (λ input. IsOk (lines settings input)) }
     ensures untouched { IfErr result (λ e. IsBeforeCalls e → hooks.new ≡ hooks.old) }
     ensures suit { HasRun result → AllSuit P.wants settings hooks.old }
-    ensures flushed { OnOk result (writer.new.flushed ≡ true) }
+    ensures flushed { OnOk result ((writer.new.flushed ≡ true) × (writer.new.failures ≡ writer.old.failures)) }
     ensures closed { result ≢ Err faults.Close }
     ensures front { result ≡ Err faults.Write → IfSome (R.remaining reader.old.inner) (λ input. ReportsOf L.load_of W.may P.verdict_of K.state_after settings input hooks.old hooks.new (λ text. WritesFront (O.contents writer.old.inner) (O.contents writer.new.inner) text)) }
     ensures nothing { IfErr result (λ e. e ≢ faults.Write → Keeps (O.contents writer.old.inner) (O.contents writer.new.inner)) }

@@ -5,6 +5,7 @@ ghost use Rattle.std.specs.Io.KnownBytes.{ReadConsumes, WriteAppends, Keeps};
 ghost use Rattle.jc_runner.specs.Meters.{next, next_if};
 ghost use Rattle.jc_runner.specs.Streams.{takes_nothing};
 
+use std::fmt::Display;
 use std::io;
 use std::io::{Read, Write};
 
@@ -95,6 +96,14 @@ impl<W: Write> WatchedWriter<W> {
     {
         let WatchedWriter { inner, .. } = self;
         inner
+    }
+
+    /// Writes what is shown so; false where the writer failed.
+    pub(crate) fn print<T: Display>(&mut self, shown: &T) -> bool {
+        let printed = write!(self.inner, "{shown}").is_ok();
+        self.failures = next_if(!printed, self.failures);
+        self.flushed = false;
+        printed
     }
 
     pub(crate) fn write(&mut self, buf: &[u8]) -> io::Result<usize>
