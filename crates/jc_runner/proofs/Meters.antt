@@ -1,7 +1,7 @@
 -- Counting on.
-use Rattle.std.proofs.Common.{◌≡◌, ℕ, zero, suc, ◌+◌, ◌<◌, ◌≤◌, ◌==◌, Bool, true, false, refl, ap, ◌∙◌, arith}
+use Rattle.std.proofs.Common.{◌≡◌, ℕ, suc, ◌<◌, ◌==◌, Bool, true, false, refl, ap, ◌∙◌, arith}
 use Rattle.std.proofs.lemmas.Bool.Decides.{nat_tests}
-use Rattle.jc_runner.specs.Meters.{next, next_if, later, AddsAtMost}
+use Rattle.jc_runner.specs.Meters.{next, next_if, AddsAtMost}
 
 pub none_added : (most n : ℕ) → AddsAtMost most n n
 none_added most n = (0, omega arith, refl)

@@ -1,5 +1,5 @@
 -- A configuration that was read opens a manager, and the callbacks that it names are those that its caches are to have.
-use Rattle.std.proofs.Common.{◌≡◌, ℕ, ◌+◌, ◌<◌, ◌≤◌, Bool, true, false, List, [], ◌∷◌, ◌++◌, length, map, replicate, Option, Some, None, option_map, Result, Ok, Err, refl, sym, ap, ◌∙◌, subst, arith, nat_le, add-one}
+use Rattle.std.proofs.Common.{◌≡◌, ℕ, ◌+◌, ◌≤◌, Bool, true, false, List, [], ◌∷◌, ◌++◌, length, map, Option, Some, None, option_map, Result, Ok, Err, refl, sym, ap, ◌∙◌, subst, arith, nat_le, add-one}
 use Rattle.std.specs.Prelude.{◌||◌, ◌&&◌, ltb, if◌then◌else◌, is_some, sum, option_and_then, ⊤}
 use Rattle.std.specs.Option.{ok_or}
 use Rattle.std.specs.List.{list_any, fold}
@@ -11,7 +11,6 @@ use Rattle.jc_config.specs.Config.{document_of, tables_of, cache_of, caches_of, 
 use Rattle.jc_config.specs.Faults.{◌>>=◌, name_of}
 use Rattle.jc_config.specs.Kinds.{loader_of, writer_of, processor_of, wants_value_of}
 use Rattle.jc_config.specs.Members.{whole, number, name_text, text_kind, kinds_of, count_of, few_kinds, processor_list, needed, found_or, optional, policy_of, no_other_entry}
-use Rattle.jc_config.specs.declared.fault.Member.{Member}
 use Rattle.jc_config.specs.declared.fault.Member.TheVariants as members
 use Rattle.jc_config.specs.declared.fault.ConfigFault.{ConfigFault}
 use Rattle.jc_config.specs.declared.fault.ConfigFault.TheVariants.{NotToml}
@@ -24,7 +23,7 @@ use Rattle.jc_config.specs.declared.kinds.WriterKind.{WriterKind}
 use Rattle.jc_config.specs.declared.kinds.WriterKind.TheVariants.{Check}
 use Rattle.jc_config.specs.declared.kinds.ProcessorKind.{ProcessorKind}
 use Rattle.jc_config.specs.declared.kinds.ProcessorKind.TheVariants as kind
-use Rattle.jc_engine.specs.Opening.{or_else, is_taken, limit_refusal, refusal_at, refusal_from, capacities, open_refusal}
+use Rattle.jc_engine.specs.Opening.{is_taken, limit_refusal, refusal_from, capacities, open_refusal}
 use Rattle.jc_hooks.specs.Processors.{wants_of}
 use Rattle.jc_hooks.specs.Tallies.{no_notices}
 use Rattle.jc_model.specs.declared.config.CacheConfig.{CacheConfig}

@@ -3,7 +3,7 @@ use Rattle.std.proofs.Common.{◌≡◌, ◌≢◌, ℕ, ◌<◌, true, List, le
 use Rattle.std.specs.Prelude.{IfSome, IfErr, OnOk, IsSome}
 use Rattle.std.specs.Io.KnownBytes.{Appends, Keeps}
 use Rattle.std.proofs.lemmas.Bool.{false≢true}
-use mathlib.Core.Logic.{◌⊎◌, inl, inr}
+use mathlib.Core.Logic.{inl, inr}
 use Rattle.jc_config.specs.declared.kinds.Configuration.{Configuration}
 use Rattle.jc_config.specs.declared.kinds.HookKinds.{HookKinds}
 use Rattle.jc_model.specs.declared.config.CacheConfig.{CacheConfig}
@@ -14,7 +14,7 @@ use Rattle.jc_hooks.specs.Program.{echoed, AllChecked}
 use Rattle.jc_hooks.specs.Tallies.{numbers, tallied}
 use Rattle.jc_script.specs.Script.{lines}
 use Rattle.jc_script.specs.declared.fault.ScriptFault.{ScriptFault}
-use Rattle.jc_runner.specs.Hooks.{AllSuit, CannotOpen}
+use Rattle.jc_runner.specs.Hooks.{CannotOpen}
 use Rattle.jc_runner.specs.Meters.{next}
 use Rattle.jc_runner.specs.Naming.{ProgramHooks, AllNamed}
 use Rattle.jc_runner.specs.Opens.{Opens}

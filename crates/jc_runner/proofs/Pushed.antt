@@ -1,5 +1,5 @@
 -- Lists that are made by one push after the other.
-use Rattle.std.proofs.Common.{◌≡◌, ℕ, ◌+◌, ◌<◌, ◌≤◌, List, [], ◌∷◌, ◌++◌, length, map, take, drop, get_or, replicate, refl, sym, ap, ◌∙◌, subst, append_assoc, append-nil, arith, Option, Some, None, Result, Ok, Err}
+use Rattle.std.proofs.Common.{◌≡◌, ℕ, ◌+◌, ◌<◌, ◌≤◌, List, [], ◌∷◌, ◌++◌, length, map, take, drop, get_or, replicate, sym, ap, ◌∙◌, subst, append_assoc, append-nil, Option, Some, Result, Ok, Err}
 use Rattle.std.specs.Prelude.{IfSome, IfOk, IfErr}
 use Rattle.std.proofs.lemmas.List.{take_all, take_more, drop_all, drop_more, map_push, replicate_more}
 use Rattle.jc_config.specs.declared.kinds.HookKinds.{HookKinds}

@@ -1,5 +1,5 @@
 -- The callbacks that a configuration names.
-use Rattle.std.specs.Prelude.{◌≡◌, ℕ, Option, Some, None, List, [], ◌∷◌, map, replicate, ⊤}
+use Rattle.std.specs.Prelude.{◌≡◌, Option, Some, None, List, [], ◌∷◌, map, replicate, ⊤}
 use Rattle.jc_config.specs.declared.kinds.HookKinds.{HookKinds}
 use Rattle.jc_config.specs.declared.kinds.LoaderKind.{LoaderKind}
 use Rattle.jc_config.specs.declared.kinds.LoaderKind.TheVariants.{Echo}

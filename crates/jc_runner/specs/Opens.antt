@@ -1,5 +1,5 @@
 -- A configuration with which a manager opens, and whose callbacks are those that its caches are to have.
-use Rattle.std.specs.Prelude.{◌≡◌, ◌≤◌, List, [], ◌∷◌, Option, None, is_some, map, ⊤}
+use Rattle.std.specs.Prelude.{◌≡◌, List, [], ◌∷◌, None, is_some, map, ⊤}
 use Rattle.jc_config.specs.Kinds.{wants_value_of}
 use Rattle.jc_config.specs.declared.kinds.Configuration.{Configuration}
 use Rattle.jc_config.specs.declared.kinds.HookKinds.{HookKinds}

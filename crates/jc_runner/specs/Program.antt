@@ -1,15 +1,14 @@
 -- What the program does with its words, its files and its streams.
-use Rattle.std.specs.Prelude.{true, ◌≡◌, ◌≢◌, ◌⊎◌, ℕ, ◌<◌, List, [], ◌∷◌, length, Option, Some, None, IfSome, Result, Ok, Err, string_bytes, ⊤}
+use Rattle.std.specs.Prelude.{true, ◌≡◌, ◌≢◌, ◌⊎◌, ℕ, ◌<◌, List, [], ◌∷◌, length, Option, Some, None, IfSome, Result, Ok, Err, string_bytes}
 use Rattle.std.specs.Bool.{OnTrue}
-use Rattle.std.specs.Io.KnownBytes.{Appends, IsAtEnd, Keeps}
+use Rattle.std.specs.Io.KnownBytes.{Appends, Keeps}
 use Rattle.clap.specs.Words.{Text, kind_of}
 use Rattle.clap.specs.declared.error.Error.{Error}
 use Rattle.clap.specs.declared.error.kind.ErrorKind.TheVariants.{OutOfMemory}
 use Rattle.jc_config.specs.Config.{configuration_of}
 use Rattle.jc_config.specs.declared.kinds.Configuration.{Configuration}
 use Rattle.jc_config.specs.declared.kinds.HookKinds.{HookKinds}
-use Rattle.jc_engine.specs.Opening.{open_refusal}
-use Rattle.jc_hooks.specs.Processors.{verdict_by, wants_of}
+use Rattle.jc_hooks.specs.Processors.{verdict_by}
 use Rattle.jc_hooks.specs.Program.{echoed, AllChecked}
 use Rattle.jc_hooks.specs.Tallies.{numbers, tallied}
 use Rattle.jc_script.specs.Script.{lines}

@@ -1,7 +1,6 @@
 -- What is read from a reader and written to a writer.
 use Rattle.std.specs.Prelude.{◌≡◌, ℕ, ◌==◌, List, ◌++◌, Bool, true, Option, Result, Ok, Err}
 use Rattle.std.specs.Io.KnownBytes.{Consumes, IsAtEnd, Appends}
-use Rattle.jc_script.specs.declared.fault.ScriptFault.{ScriptFault}
 use Rattle.jc_runner.specs.declared.fault.RunFault.{RunFault}
 use Rattle.jc_runner.specs.declared.fault.RunFault.TheVariants.{Read, TooLong, Script, Open, Write, Memory}
 use Rattle.jc_runner.specs.declared.fault.ProgramFault.{ProgramFault}

@@ -31,6 +31,12 @@ use jc_script::{Line, ScriptFault, read_script, report};
 use std::alloc::Global;
 use std::io::{Read, Write};
 
+/// The table that all caches of a run share.
+type Table = ListRows;
+
+/// The ring of each cache.
+type CacheRing = ListRing;
+
 fn lines_of(alloc: Global, bytes: &[u8], settings: &Settings) -> Result<Vec<Line>, RunFault>
     ensures ok { IfOk result (λ v. lines settings.now bytes.now ≡ Ok v.items) }
     ensures script { (f : TextFault) → result ≡ Err (faults.Script f) → lines settings.now bytes.now ≡ Err f }
@@ -44,13 +50,13 @@ fn lines_of(alloc: Global, bytes: &[u8], settings: &Settings) -> Result<Vec<Line
     }
 }
 
-fn opened(alloc: Global, settings: Settings) -> Result<Recorded<ListRows, ListRing>, RunFault>
+fn opened(alloc: Global, settings: Settings) -> Result<Recorded<Table, CacheRing>, RunFault>
     ensures fresh { IfOk result (λ r. statuses_of r ≡ map opened settings) }
     ensures unrecorded { IfOk result (λ r. r.transcript ≡ []) }
     ensures faults { IfErr result IsOfRunning }
     ensures refused { result ≡ Err faults.Open → IsSome (open_refusal settings) }
 {
-    match Recorded::open(alloc, ListRows::new(alloc), settings.into_caches()) {
+    match Recorded::open(alloc, Table::new(alloc), settings.into_caches()) {
         Ok(recorded) => Ok(recorded),
         Err(OpenRefusal::OutOfMemory) => Err(RunFault::Memory),
         Err(_) => Err(RunFault::Open),

@@ -1,7 +1,7 @@
-use Rattle.std.proofs.Common.{◌∙◌, ap, sym, arith, replicate}
+use Rattle.std.proofs.Common.{◌∙◌, ap, arith, replicate}
 use Rattle.jc_hooks.specs.Tallies.{no_notices}
 use Rattle.jc_hooks.specs.declared.tally.Tally.{Tally}
-use Rattle.std.proofs.Common.{List, ◌++◌, ◌∷◌, []}
+use Rattle.std.proofs.Common.{◌++◌, ◌∷◌, []}
 use Rattle.jc_runner.proofs.Pushed.{more_copies}
 use Rattle.jc_runner.proofs.naming.listeners_of.Goals as goal
 

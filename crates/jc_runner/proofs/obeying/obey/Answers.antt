@@ -1,4 +1,4 @@
-use Rattle.std.proofs.Common.{◌≡◌, ◌∙◌, sym, ap, subst, refl, map, string_bytes, Bor, List, ℕ, Result, rules}
+use Rattle.std.proofs.Common.{◌∙◌, sym, ap, subst, refl, map, Bor, List, ℕ, Result}
 use Rattle.std.proofs.lemmas.Bool.{false≢true}
 use Rattle.jc_runner.proofs.Pushed.{of_some}
 use Rattle.jc_words.specs.Program.{AsksFor, MayRefuse}

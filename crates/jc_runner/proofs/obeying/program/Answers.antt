@@ -1,4 +1,3 @@
-use Rattle.std.proofs.Common.{rules}
 use Rattle.jc_runner.proofs.Pushed.{if_ok_weaker, if_err_weaker}
 use Rattle.jc_runner.proofs.obeying.program.Goals as goal
 

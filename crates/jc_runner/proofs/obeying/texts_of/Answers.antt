@@ -1,4 +1,4 @@
-use Rattle.std.proofs.Common.{◌∙◌, ap, List, ℕ, arith, map, Bor, string_bytes, take, ◌++◌, ◌∷◌, []}
+use Rattle.std.proofs.Common.{◌∙◌, ap, List, ℕ, arith, map, Bor, string_bytes}
 use Rattle.std.proofs.lemmas.List.{map_push}
 use Rattle.jc_runner.proofs.Pushed.{more_mapped, all_mapped}
 use Rattle.jc_runner.proofs.obeying.texts_of.Goals as goal

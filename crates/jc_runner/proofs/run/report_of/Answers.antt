@@ -18,4 +18,4 @@ returns-clause-text g c =
     let same : string_bytes c.in_ok-text.text ≡ text (names_of last.caches) last.transcript =
     c.in_ok-text.ensures ∙ ap (λ (names : List (List ℕ)). text names c.transcript.result.now) c.names.ensures ∙ ap (text (names_of last.caches)) c.transcript.ensures.value in
     subst (λ (bytes : List ℕ). Reports g.L.Loader.load_of g.W.Writer.may g.P.Processor.verdict_of g.K.Listener.state_after c.args.settings c.args.lines.items c.args.hooks.now c.run_all.new.hooks bytes) (sym same)
-    (last_moment g.L.Loader.load_of g.W.Writer.may g.P.Processor.verdict_of g.K.Listener.state_after c.args.settings c.args.hooks.now c.args.lines.items last c.run_all.new.hooks told)
+    (last_moment g.L.Loader.load_of g.W.Writer.may g.P.Processor.verdict_of g.K.Listener.state_after c.args.settings c.args.hooks.now c.args.lines.items last c.run_all.new.hooks told c.transcript.ensures.legal)
