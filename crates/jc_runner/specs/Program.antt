@@ -1,6 +1,5 @@
 -- What the program does with its words, its files and its streams.
 use Rattle.std.specs.Prelude.{true, ◌≡◌, ◌≢◌, ◌⊎◌, ℕ, ◌<◌, List, [], ◌∷◌, length, Option, Some, None, IfSome, Result, Ok, Err, string_bytes}
-use Rattle.std.specs.Bool.{OnTrue}
 use Rattle.std.specs.Io.KnownBytes.{Appends, Keeps}
 use Rattle.clap.specs.Words.{Text, kind_of}
 use Rattle.clap.specs.declared.error.Error.{Error}
@@ -113,7 +112,7 @@ module _ {F I O : Type 0} (of_file : F → Option (List ℕ)) (of_input : I → 
     pub data WordsEnd : Type 0 where
       plays : words ≡ [] → (ran : Result (Unit {0}) RunFault) → RunEnds of_input contents demonstration input input' writer writer' ran → ending ≡ ending_of (as_program ran) → WordsEnd
       runs : (run : Run) → AsksFor words run → (ran : Result (Unit {0}) ProgramFault) → FilesEnd of_file contents holds asked asked' run config script writer writer' ran → ending ≡ ending_of ran → WordsEnd
-      refuses : (e : Error) → MayRefuse words e → kind_of e ≢ OutOfMemory → ending ≡ Refused e → WordsEnd
+      refuses : (e : Error) → MayRefuse words e → kind_of e ≢ OutOfMemory → ending ≡ Refused e → writer' ≡ writer → WordsEnd
       lacks_memory : ending ≡ no_memory → writer' ≡ writer → WordsEnd
 
   abbrev pub Obeys : Result (List Text) WordsFault → Ending → Type 0
@@ -129,5 +128,5 @@ module _ {F I O E : Type 0} (of_file : F → Option (List ℕ)) (of_input : I �
     pub written : WatchedWriter O
     pub obeys : Obeys of_file of_input contents holds asked asked' config script standard.input standard'.input standard.output written words ending
     pub status : HasStatus ending result.status
-    pub says : OnTrue result.told (SaysSo ending (said standard.errors) (said standard'.errors))
+    pub says : SaysSo ending result.told (said standard.errors) (said standard'.errors)
     pub leaves : Leaves ending written standard'.output

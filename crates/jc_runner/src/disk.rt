@@ -1,8 +1,11 @@
-//! Files by their paths.
+//! Files by their paths, and what the machine hands over.
+ghost use Rattle.std.specs.Prelude.{◌≡◌, ◌≢◌, ◌↔◌, IsTrue};
+ghost use Rattle.std.specs.IoError.{error_kind};
 
+use crate::ending::WordsFault;
 use std::fs;
 use std::fs::Files;
-use std::io::{ErrorKind, Read};
+use std::io::{Error, ErrorKind, Read};
 
 /// Why a file does not open.
 #[derive(Clone, Copy, Debug, PartialEq, Eq)]
@@ -33,6 +36,25 @@ pub trait Disk {
         ensures asked { Asks (asked self.old) (asked self.new) path.now };
 }
 
+/// Whether a fault is that memory was refused.
+fn is_of_memory(error: &Error) -> bool
+    ensures { IsTrue result ↔ (error_kind error.now ≡ ErrorKind.OutOfMemory) }
+{
+    matches!(error.kind(), ErrorKind::OutOfMemory)
+}
+
+/// The fault of words that the machine does not hand over.
+pub fn words_fault(error: &Error) -> WordsFault
+    ensures memory { error_kind error.now ≡ ErrorKind.OutOfMemory → result ≡ WordsFault.OutOfMemory }
+    ensures others { error_kind error.now ≢ ErrorKind.OutOfMemory → result ≡ WordsFault.NotText }
+{
+    if is_of_memory(error) {
+        WordsFault::OutOfMemory
+    } else {
+        WordsFault::NotText
+    }
+}
+
 /// The files of the machine, of which nothing is known.
 #[derive(Drop)]
 pub struct HostDisk<'a, R> {
@@ -51,7 +73,7 @@ impl<'a, R: Files> Disk for HostDisk<'a, R> {
     fn open(&mut self, path: &str) -> Result<R::File, OpenFault> {
         match fs::open(self.files, path) {
             Ok(file) => Ok(file),
-            Err(error) if error.kind() == ErrorKind::OutOfMemory => Err(OpenFault::OutOfMemory),
+            Err(error) if is_of_memory(&error) => Err(OpenFault::OutOfMemory),
             Err(_) => Err(OpenFault::Unreadable),
         }
     }

@@ -20,7 +20,7 @@ mod watched;
 mod writing;
 
 pub use configuring::read_configuration;
-pub use disk::{Disk, HostDisk, OpenFault};
+pub use disk::{Disk, HostDisk, OpenFault, words_fault};
 pub use ending::{Ended, Ending, WordsFault};
 pub use fault::{ProgramFault, RunFault, write_fault};
 pub use files::run_files;

@@ -1,6 +1,5 @@
 //! What the program says in the end.
 ghost use Rattle.std.specs.Prelude.{◌≡◌, OnOk, codes};
-ghost use Rattle.std.specs.Bool.{OnTrue};
 ghost use Rattle.std.specs.Io.KnownBytes.{Appends};
 ghost use Rattle.jc_runner.specs.Endings.{HasStatus, SaysSo, Leaves, ending_of};
 
@@ -29,7 +28,9 @@ fn write_no_text<E: Write>(errors: &mut E) -> io::Result<()>
 
 /// Prints help, or tells a mistake on standard error.
 fn refuse<O: Write, E: Write>(error: &Error, output: &mut WatchedWriter<O>, errors: &mut E) -> Ended
-    ensures { HasStatus (Ending.Refused error.now) result.status }
+    ensures status { HasStatus (Ending.Refused error.now) result.status }
+    ensures says { SaysSo (Ending.Refused error.now) result.told (E.contents errors.old) (E.contents errors.new) }
+    ensures leaves { Leaves (Ending.Refused error.now) output.old output.new }
 {
     if error.use_stderr() {
         Ended {
@@ -51,7 +52,7 @@ pub fn say<O: Write, E: Write>(
     errors: &mut E,
 ) -> Ended
     ensures status { HasStatus ending.now result.status }
-    ensures says { OnTrue result.told (SaysSo ending.now (E.contents errors.old) (E.contents errors.new)) }
+    ensures says { SaysSo ending.now result.told (E.contents errors.old) (E.contents errors.new) }
     ensures leaves { Leaves ending.now output.old output.new }
 {
     match ending {

@@ -1,5 +1,5 @@
 //! A reader and a writer that keep account of how they were used. Nothing else reads from them or writes to them.
-ghost use Rattle.std.specs.Prelude.{◌≡◌, false, true, is_err, is_ok};
+ghost use Rattle.std.specs.Prelude.{◌≡◌, false, not, is_err, is_ok};
 ghost use Rattle.std.specs.Io.{ReadsAtMost, WritesAtMost};
 ghost use Rattle.std.specs.Io.KnownBytes.{ReadConsumes, WriteAppends, Keeps};
 ghost use Rattle.jc_runner.specs.Meters.{next, next_if};
@@ -99,7 +99,10 @@ impl<W: Write> WatchedWriter<W> {
     }
 
     /// Writes what is shown so; false where the writer failed.
-    pub(crate) fn print<T: Display>(&mut self, shown: &T) -> bool {
+    pub(crate) fn print<T: Display>(&mut self, shown: &T) -> bool
+        ensures failures { self.new.failures ≡ next_if (not result) self.old.failures }
+        ensures flushed { self.new.flushed ≡ false }
+    {
         let printed = write!(self.inner, "{shown}").is_ok();
         self.failures = next_if(!printed, self.failures);
         self.flushed = false;

@@ -3,9 +3,8 @@
 //! Without words the script is read from standard input and run on the demonstration's caches.
 #![tactic(auto)]
 
-use jc_runner::{HostDisk, Opened, Standard, WordsFault, program};
+use jc_runner::{HostDisk, Opened, Standard, WordsFault, program, words_fault};
 use std::env;
-use std::io::ErrorKind;
 use std::process::ExitCode;
 
 /// The words behind the program's name.
@@ -15,8 +14,7 @@ fn words_of(rt: &HostRuntime) -> Result<Vec<String>, WordsFault> {
             Ok(words) => Ok(words),
             Err(_) => Err(WordsFault::OutOfMemory),
         },
-        Err(fault) if fault.kind() == ErrorKind::OutOfMemory => Err(WordsFault::OutOfMemory),
-        Err(_) => Err(WordsFault::NotText),
+        Err(fault) => Err(words_fault(&fault)),
     }
 }
 

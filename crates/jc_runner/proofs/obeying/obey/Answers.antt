@@ -28,4 +28,4 @@ returns-in-Ok-None g c =
 pub returns : goal.returns
 returns g c =
     let same = ap shown c.as_slice.ensures.value ∙ c.in-Ok.ensures in
-    refuses c.in-Err.error (subst (λ (ws : List (List ℕ)). MayRefuse ws c.in-Err.error) same c.in-Err.ensures.refused) (λ e. absurd (false≢true (sym c.if-lacks_memory.false ∙ c.lacks_memory.ensures.1 e))) refl
+    refuses c.in-Err.error (subst (λ (ws : List (List ℕ)). MayRefuse ws c.in-Err.error) same c.in-Err.ensures.refused) (λ e. absurd (false≢true (sym c.if-lacks_memory.false ∙ c.lacks_memory.ensures.1 e))) refl refl
