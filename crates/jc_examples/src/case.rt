@@ -1,7 +1,9 @@
 //! One line of the list of examples.
 
 use crate::events::play_events;
-use crate::run::{run_demonstration, run_each_configuration, run_each_script, run_words};
+use crate::run::{
+    run_demonstration, run_each_configuration, run_each_script, run_files, run_words,
+};
 use std::io;
 
 /// Prints an example's name, and then what the program prints; last its status, where that is not 0.
@@ -16,7 +18,7 @@ pub fn play_case(rt: &HostRuntime, line: &str) -> io::Result<()> {
         [] => {
             let config = format!(in alloc; "{name}.toml")?;
             let script = format!(in alloc; "{name}.jsonl")?;
-            run_words(rt, &["run", config.as_str(), script.as_str()])
+            run_files(rt, config.as_str(), script.as_str())
         }
         ["<", script] => run_demonstration(rt, script),
         ["each", "script", "of", scripts, "on", config] => run_each_script(rt, scripts, config),

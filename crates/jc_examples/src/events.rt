@@ -2,18 +2,22 @@
 
 use crate::texts::{asked_text, notices_text};
 use jc_config::{Settings, read_config};
+use jc_cuckoo::cuckoo::Cuckoo;
+use jc_cuckoo::mirror::NoMirror;
 use jc_engine::recorded::Recorded;
 use jc_model::call::{Action, Answer, ProcessorFault, Verdict};
 use jc_model::event::{CacheId, Cause, Step};
 use jc_model::key::Key;
 use jc_model::value::Value;
+use jc_ring::link_ring::LinkRing;
 use jc_ring::list_ring::ListRing;
+use jc_ring::ring::Ring;
 use jc_rows::list_rows::ListRows;
+use jc_rows::rows::Rows;
 use jc_script::{read_script, reply_text, report};
+use jc_trials::ConstantPlacer;
 use std::alloc::{AllocError, Global};
 use std::{fs, io};
-
-type Manager = Recorded<ListRows, ListRing>;
 
 /// The value with this text; nothing where it is too long.
 fn value_of(alloc: Global, text: &str) -> Result<Option<Value>, AllocError> {
@@ -47,7 +51,7 @@ fn answer_of(alloc: Global, words: &[&str]) -> Result<Option<Answer>, AllocError
 }
 
 /// The id of the cache with this name, else one that no cache has.
-fn id_of(manager: &Manager, name: &str) -> CacheId {
+fn id_of<R: Rows, G: Ring>(manager: &Recorded<R, G>, name: &str) -> CacheId {
     let known = match Key::from_text(name) {
         Ok(name) => manager.cache(&name),
         Err(_) => None,
@@ -68,9 +72,9 @@ fn refused_text(alloc: Global, cause: Cause) -> Result<String, AllocError> {
 }
 
 /// What becomes of the call of a line.
-fn begun(
+fn begun<R: Rows, G: Ring>(
     alloc: Global,
-    manager: &mut Manager,
+    manager: &mut Recorded<R, G>,
     settings: &Settings,
     call: &str,
 ) -> Result<String, AllocError> {
@@ -88,9 +92,9 @@ fn begun(
 }
 
 /// What becomes of an open call.
-fn resumed(
+fn resumed<R: Rows, G: Ring>(
     alloc: Global,
-    manager: &mut Manager,
+    manager: &mut Recorded<R, G>,
     id: CacheId,
     words: &[&str],
 ) -> Result<String, AllocError> {
@@ -110,9 +114,9 @@ fn resumed(
 }
 
 /// What an event comes to.
-fn outcome(
+fn outcome<R: Rows, G: Ring>(
     alloc: Global,
-    manager: &mut Manager,
+    manager: &mut Recorded<R, G>,
     settings: &Settings,
     event: &str,
 ) -> Result<String, AllocError> {
@@ -129,24 +133,56 @@ fn outcome(
     }
 }
 
-/// Prints what each event of a file comes to, and the report.
+/// What each event comes to, a line each, and the report.
+fn played<R: Rows, G: Ring>(
+    alloc: Global,
+    manager: &mut Recorded<R, G>,
+    settings: &Settings,
+    events: &str,
+) -> Result<String, AllocError> {
+    let mut text = String::new(alloc);
+    for event in events.lines() {
+        text.push_str(outcome(alloc, manager, settings, event)?.as_str())?;
+        text.push_str("\n")?;
+    }
+    text.push_str(report(alloc, manager.names(), manager.transcript())?.as_str())?;
+    Ok(text)
+}
+
+/// The settings of a configuration; those of no caches where it is faulty.
+fn settings_of(alloc: Global, config: &[u8]) -> Option<Settings> {
+    match read_config(alloc, config) {
+        Ok(configuration) => Some(configuration.settings),
+        Err(_) => None,
+    }
+}
+
+/// Prints what each event of a file comes to, and the report. Over the cuckoo table and the linked ring it is the same,
+/// also where all keys share two buckets.
 pub fn play_events(rt: &HostRuntime, config: &str, events: &str) -> io::Result<()> {
     let alloc = rt.alloc();
     let config = fs::read(rt, config)?;
-    let caches = match read_config(alloc, config.as_slice()) {
-        Ok(configuration) => configuration.settings.into_caches(),
-        Err(fault) => return println!(rt; "{fault:?}"),
+    let events = fs::read_to_string(rt, events)?;
+    let all = || settings_of(alloc, config.as_slice());
+    let (Some(settings), Some(first), Some(second)) = (all(), all(), all()) else {
+        return println!(rt; "a faulty configuration");
     };
-    let settings = match read_config(alloc, config.as_slice()) {
-        Ok(configuration) => configuration.settings,
-        Err(fault) => return println!(rt; "{fault:?}"),
+    let Ok(table) = Cuckoo::new(alloc, ConstantPlacer, NoMirror, 16) else {
+        return println!(rt; "no table");
     };
-    let mut manager = match Recorded::open(alloc, ListRows::new(alloc), caches) {
-        Ok(manager) => manager,
-        Err(refusal) => return println!(rt; "{refusal:?}"),
+    let plain = Recorded::<ListRows, ListRing>::open(
+        alloc,
+        ListRows::new(alloc),
+        first.into_caches(),
+    );
+    let crowded = Recorded::<_, LinkRing>::open(alloc, table, second.into_caches());
+    let (Ok(mut plain), Ok(mut crowded)) = (plain, crowded) else {
+        return println!(rt; "the manager does not open");
     };
-    for event in fs::read_to_string(rt, events)?.lines() {
-        println!(rt; "{}", outcome(alloc, &mut manager, &settings, event)?)?;
+    let text = played(alloc, &mut plain, &settings, events.as_str())?;
+    print!(rt; "{text}")?;
+    if played(alloc, &mut crowded, &settings, events.as_str())? == text {
+        return Ok(());
     }
-    print!(rt; "{}", report(alloc, manager.names(), manager.transcript())?)
+    println!(rt; "another text over the cuckoo table")
 }

@@ -9,6 +9,7 @@
 
 mod case;
 mod events;
+mod over;
 mod run;
 mod texts;
 

@@ -1,164 +1,132 @@
-//! Runs of the program's calls, whose reports and faults are printed.
+//! Runs of the program, over the words of an example.
 
-use jc_config::{Configuration, HookKinds, LoaderKind, ProcessorKind, Settings, WriterKind};
-use jc_hooks::program::{
-    AppendProcessor, CheckWriter, DropProcessor, EchoLoader, FailProcessor, PeekProcessor,
-};
-use jc_hooks::{CacheHooks, Listener, Loader, Processor, TallyListener, Writer};
-use jc_model::list::Sequence;
-use jc_runner::{
-    ProgramFault, Run, RunFault, Watched, WatchedWriter, demonstration, read_configuration,
-    read_words, serial, write_fault,
-};
+use crate::over::reported;
+use jc_runner::{Disk, HostDisk, OpenFault, Opened, Standard, program};
 use std::alloc::Global;
-use std::fs::File;
-use std::io::Read;
 use std::{fs, io};
 
-/// The callbacks of one cache, boxed.
-type BoxedHooks = CacheHooks<
-    Box<dyn Loader>,
-    Box<dyn Writer>,
-    Box<dyn Processor>,
-    Box<dyn Listener>,
->;
+/// Seeds with which a run is made again: the report must be the same.
+const SEEDS: [&str; 2] = ["1", "9223372036854775807"];
 
-/// No callbacks are named.
-fn no_kinds(alloc: Global) -> HookKinds {
-    HookKinds {
-        loader: None,
-        writer: None,
-        processors: Sequence::new(Vec::new(alloc)),
-    }
+/// What the program wrote on standard output and on standard error, and its status.
+#[derive(Drop)]
+struct Written {
+    output: Vec<u8>,
+    errors: Vec<u8>,
+    status: u8,
 }
 
-/// No callbacks.
-fn no_hooks(alloc: Global) -> BoxedHooks {
-    CacheHooks {
-        loader: None,
-        writer: None,
-        processors: Vec::new(alloc),
-        listeners: Vec::new(alloc),
-    }
+/// Two texts in place of files.
+#[derive(Drop)]
+struct Texts<'a> {
+    config: &'a [u8],
+    script: &'a [u8],
 }
 
-/// Runs a script with the callbacks of these kinds, and prints the report.
-fn run_script<R: Read>(
-    rt: &HostRuntime,
-    settings: Settings,
-    kinds: &[HookKinds],
-    seed: u64,
-    script: &mut Watched<R>,
-) -> Result<(), RunFault> {
-    let alloc = rt.alloc();
-    let mut hooks = Vec::new(alloc);
-    for (config, kinds) in settings.caches().iter().zip(kinds) {
-        let mut own = no_hooks(alloc);
-        match kinds.loader {
-            Some(LoaderKind::Echo) => own.loader = Some(Box::new(alloc, EchoLoader)?),
-            None => {}
-        }
-        match kinds.writer {
-            Some(WriterKind::Check) => own.writer = Some(Box::new(alloc, CheckWriter)?),
-            None => {}
-        }
-        for kind in kinds.processors.items() {
-            match kind {
-                ProcessorKind::Append => own.processors.push(Box::new(alloc, AppendProcessor)?)?,
-                ProcessorKind::Fail => own.processors.push(Box::new(alloc, FailProcessor)?)?,
-                ProcessorKind::Drop => own.processors.push(Box::new(alloc, DropProcessor)?)?,
-                ProcessorKind::Peek => own.processors.push(Box::new(alloc, PeekProcessor)?)?,
-            }
-        }
-        for _ in 0..config.listeners {
-            own.listeners.push(Box::new(alloc, TallyListener::new())?)?;
-        }
-        hooks.push(own)?;
-    }
-    let mut writer = WatchedWriter::new(rt.stdout());
-    serial(
-        alloc,
-        settings,
-        hooks.as_mut_slice(),
-        seed,
-        script,
-        &mut writer,
-    )
-}
+impl<'a> Disk for Texts<'a> {
+    ghost use Rattle.std.specs.Prelude.{None};
 
-/// Runs a script on caches of a configuration.
-fn run_texts(rt: &HostRuntime, config: &[u8], script: &[u8]) -> Result<(), ProgramFault> {
-    let mut config = Watched::new(config);
-    let Configuration { settings, hooks } = read_configuration(rt.alloc(), &mut config)?;
-    let mut script = Watched::new(script);
-    run_script(rt, settings, hooks.items(), 0, &mut script).map_err(ProgramFault::Run)
-}
+    type File = &'a [u8];
 
-/// Runs the files that the words name.
-fn run_files(rt: &HostRuntime, run: &Run) -> Result<(), ProgramFault> {
-    let Ok(config) = File::open(rt, run.config.as_str()) else {
-        return Err(ProgramFault::ConfigRead);
-    };
-    let mut config = Watched::new(config);
-    let Configuration { settings, hooks } = read_configuration(rt.alloc(), &mut config)?;
-    let Ok(script) = File::open(rt, run.script.as_str()) else {
-        return Err(ProgramFault::Run(RunFault::Read));
-    };
-    let mut script = Watched::new(script);
-    run_script(rt, settings, hooks.items(), run.seed, &mut script).map_err(ProgramFault::Run)
-}
+    ghost holds = { λ _ _. None };
 
-/// Prints a fault's line, and says whether there is none.
-fn print_fault(rt: &HostRuntime, outcome: Result<(), ProgramFault>) -> bool {
-    match outcome {
-        Ok(()) => true,
-        Err(fault) => {
-            let _ = write_fault(&fault, &mut rt.stdout());
-            false
+    ghost asked = { λ _. None };
+
+    fn open(&mut self, path: &str) -> Result<&'a [u8], OpenFault> {
+        match path {
+            "config" => Ok(self.config),
+            "script" => Ok(self.script),
+            _ => Err(OpenFault::Unreadable),
         }
     }
 }
 
-/// Prints a fault's line and its status.
-fn print_end(rt: &HostRuntime, outcome: Result<(), ProgramFault>) -> io::Result<()> {
-    if print_fault(rt, outcome) {
-        Ok(())
-    } else {
-        println!(rt; "status 1")
+/// Runs the program on these words.
+fn printed<D: Disk>(
+    alloc: Global,
+    words: &[&str],
+    disk: &mut D,
+    input: &[u8],
+) -> io::Result<Written> {
+    let mut given = Vec::with_capacity(alloc, words.len())?;
+    for word in words {
+        given.push(word.to_string(alloc)?)?;
     }
+    let mut opened = Opened::none();
+    let mut standard = Standard::new(input, Vec::new(alloc), Vec::new(alloc));
+    let ended = program(alloc, Ok(given), disk, &mut opened, &mut standard);
+    Ok(Written {
+        output: standard.output.into_inner(),
+        errors: standard.errors,
+        status: ended.status,
+    })
 }
 
-/// Runs what the words after the program's name ask for.
+/// Prints what a run wrote, and its status where that is not 0.
+fn show(rt: &HostRuntime, run: &Written) -> io::Result<()> {
+    show_text(rt, run)?;
+    if run.status == 0 {
+        return Ok(());
+    }
+    println!(rt; "status {}", run.status)
+}
+
+fn show_text(rt: &HostRuntime, run: &Written) -> io::Result<()> {
+    for bytes in [&run.output, &run.errors] {
+        match str::from_utf8(bytes.as_slice()) {
+            Ok(text) => print!(rt; "{text}")?,
+            Err(_) => println!(rt; "no text")?,
+        }
+    }
+    Ok(())
+}
+
+/// Runs what the words ask for.
 pub fn run_words(rt: &HostRuntime, words: &[&str]) -> io::Result<()> {
-    match read_words(rt.alloc(), words) {
-        Ok(Some(run)) => print_end(rt, run_files(rt, &run)),
-        Ok(None) => Ok(()),
-        Err(error) => {
-            print!(rt; "{error}")?;
-            match error.exit_code() {
-                0 => Ok(()),
-                code => println!(rt; "status {code}"),
-            }
+    let mut disk = HostDisk { files: rt };
+    show(rt, &printed(rt.alloc(), words, &mut disk, &[])?)
+}
+
+/// Runs a configuration and a script. With other seeds, and where all keys share two buckets, the report is the same.
+pub fn run_files(rt: &HostRuntime, config: &str, script: &str) -> io::Result<()> {
+    let alloc = rt.alloc();
+    let mut disk = HostDisk { files: rt };
+    let run = printed(alloc, &["run", config, script], &mut disk, &[])?;
+    show(rt, &run)?;
+    for seed in SEEDS {
+        let words = ["run", config, script, "--seed", seed];
+        let other = printed(alloc, &words, &mut disk, &[])?;
+        if other.output != run.output {
+            println!(rt; "another report with the seed {seed}")?;
         }
+    }
+    let crowded = reported(alloc, &fs::read(rt, config)?, &fs::read(rt, script)?);
+    match crowded {
+        Ok(report) if report.as_bytes() == run.output.as_slice() => Ok(()),
+        Ok(_) => println!(rt; "another report where all keys share two buckets"),
+        Err(fault) => println!(rt; "{fault:?}"),
     }
 }
 
 /// Runs a file as standard input on the demonstration's caches.
 pub fn run_demonstration(rt: &HostRuntime, script: &str) -> io::Result<()> {
-    let settings = demonstration(rt.alloc())?;
-    let kinds = [no_kinds(rt.alloc()), no_kinds(rt.alloc())];
-    let mut script = Watched::new(File::open(rt, script)?);
-    print_end(
-        rt,
-        run_script(rt, settings, &kinds, 0, &mut script).map_err(ProgramFault::Run),
-    )
+    let script = fs::read(rt, script)?;
+    let mut disk = HostDisk { files: rt };
+    show(rt, &printed(rt.alloc(), &[], &mut disk, script.as_slice())?)
+}
+
+/// Runs a script on caches of a configuration.
+fn run_texts(rt: &HostRuntime, config: &[u8], script: &[u8]) -> io::Result<()> {
+    let mut texts = Texts { config, script };
+    let words = ["run", "config", "script"];
+    show_text(rt, &printed(rt.alloc(), &words, &mut texts, &[])?)
 }
 
 /// Runs each line of a file as a script of its own.
 pub fn run_each_script(rt: &HostRuntime, scripts: &str, config: &str) -> io::Result<()> {
     let config = fs::read(rt, config)?;
     for script in fs::read_to_string(rt, scripts)?.lines() {
-        let _ = print_fault(rt, run_texts(rt, config.as_slice(), script.as_bytes()));
+        run_texts(rt, config.as_slice(), script.as_bytes())?;
     }
     Ok(())
 }
@@ -166,8 +134,7 @@ pub fn run_each_script(rt: &HostRuntime, scripts: &str, config: &str) -> io::Res
 /// Runs an empty script on each line of a file as a configuration of its own.
 pub fn run_each_configuration(rt: &HostRuntime, configs: &str) -> io::Result<()> {
     for config in fs::read_to_string(rt, configs)?.lines() {
-        let none: &[u8] = &[];
-        let _ = print_fault(rt, run_texts(rt, config.as_bytes(), none));
+        run_texts(rt, config.as_bytes(), &[])?;
     }
     Ok(())
 }

@@ -3,12 +3,12 @@
 
 use crate::closures::{echo_closure, processor_closure};
 use crate::fakes::{
-    NotedListener, NotedLoader, NotedProcessor, NotedWriter, PoorLoader, ProgramProcessor,
+    NotedListener, NotedLoader, NotedProcessor, NotedWriter, PoorLoader,
 };
 use crate::log::Log;
 use crate::trouble::{Trouble, no_hooks};
 use jc_config::{Configuration, HookKinds, ProcessorKind, read_config};
-use jc_hooks::program::{CheckWriter, PeekProcessor};
+use jc_hooks::program::{CheckWriter, ProgramProcessor};
 use jc_hooks::{CacheHooks, ClosureLoader, ClosureProcessor, TallyListener};
 use jc_model::OutOfMemory;
 use jc_runner::{RunFault, Watched, WatchedWriter, serial};
@@ -214,7 +214,7 @@ fn callbacks_are_asked_in_order_and_once(rt: HostRuntime) -> Result<(), Trouble>
 /// The fault of a scene whose loader finds no memory, and what was written.
 fn poor(alloc: Global, scene: &Scene) -> Result<(Option<RunFault>, Vec<u8>), Trouble> {
     let Configuration { settings, .. } = read_config(alloc, scene.caches.as_bytes())?;
-    let mut hooks: [CacheHooks<PoorLoader, CheckWriter, PeekProcessor, TallyListener>; 1] = [
+    let mut hooks: [CacheHooks<PoorLoader, CheckWriter, ProgramProcessor, TallyListener>; 1] = [
         CacheHooks {
             loader: Some(PoorLoader),
             ..no_hooks(alloc)
@@ -223,7 +223,7 @@ fn poor(alloc: Global, scene: &Scene) -> Result<(Option<RunFault>, Vec<u8>), Tro
     let mut reader = Watched::new(scene.calls.as_bytes());
     let mut writer = WatchedWriter::new(Vec::new(alloc));
     let fault = serial(alloc, settings, &mut hooks, 0, &mut reader, &mut writer).err();
-    Ok((fault, writer.inner))
+    Ok((fault, writer.into_inner()))
 }
 
 #[test]

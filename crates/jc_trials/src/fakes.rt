@@ -1,7 +1,6 @@
 //! Callbacks that note what they are asked, and then do as another.
 
 use crate::log::{Log, Text};
-use jc_hooks::program::{AppendProcessor, DropProcessor, FailProcessor, PeekProcessor};
 use jc_hooks::{Listener, Loaded, Loader, Processor, Writer};
 use jc_model::OutOfMemory;
 use jc_model::call::{Kind, Notice, ProcessorFault, Verdict};
@@ -117,45 +116,5 @@ impl Loader for PoorLoader {
 
     fn load(&self, _alloc: Global, _key: &Key) -> Result<Loaded, OutOfMemory> {
         Err(AllocError)
-    }
-}
-
-/// One of the program's processors.
-#[derive(Drop)]
-pub enum ProgramProcessor {
-    Append,
-    Fail,
-    Drop,
-    Peek,
-}
-
-impl Processor for ProgramProcessor {
-    ghost use Rattle.jc_trials.specs.Processors.{wants_of, verdict_by};
-
-    ghost wants = { wants_of };
-
-    ghost verdict_of = { verdict_by };
-
-    fn wants_value(&self) -> bool {
-        match self {
-            ProgramProcessor::Append => AppendProcessor.wants_value(),
-            ProgramProcessor::Fail => FailProcessor.wants_value(),
-            ProgramProcessor::Drop => DropProcessor.wants_value(),
-            ProgramProcessor::Peek => PeekProcessor.wants_value(),
-        }
-    }
-
-    fn process(
-        &self,
-        alloc: Global,
-        value: Option<&Value>,
-        argument: &Value,
-    ) -> Result<Result<Verdict, ProcessorFault>, OutOfMemory> {
-        match self {
-            ProgramProcessor::Append => AppendProcessor.process(alloc, value, argument),
-            ProgramProcessor::Fail => FailProcessor.process(alloc, value, argument),
-            ProgramProcessor::Drop => DropProcessor.process(alloc, value, argument),
-            ProgramProcessor::Peek => PeekProcessor.process(alloc, value, argument),
-        }
     }
 }

@@ -2,8 +2,7 @@
 
 use crate::trouble::{Trouble, no_hooks};
 use jc_config::{Configuration, read_config};
-use jc_hooks::program::{AppendProcessor, CheckWriter, EchoLoader};
-use jc_hooks::{CacheHooks, TallyListener};
+use jc_hooks::program::{ProgramHooks, ProgramProcessor};
 use jc_runner::{Watched, WatchedWriter, serial};
 use std::alloc::Global;
 
@@ -22,15 +21,12 @@ capacity = 64
 /// The report of a script on these caches.
 fn reported(alloc: Global, script: &str) -> Result<Vec<u8>, Trouble> {
     let Configuration { settings, .. } = read_config(alloc, CACHES.as_bytes())?;
-    let mut hooks: [CacheHooks<EchoLoader, CheckWriter, AppendProcessor, TallyListener>; 2] = [
-        no_hooks(alloc),
-        no_hooks(alloc),
-    ];
-    hooks[0].processors.push(AppendProcessor)?;
+    let mut hooks: [ProgramHooks; 2] = [no_hooks(alloc), no_hooks(alloc)];
+    hooks[0].processors.push(ProgramProcessor::Append)?;
     let mut reader = Watched::new(script.as_bytes());
     let mut writer = WatchedWriter::new(Vec::new(alloc));
     serial(alloc, settings, &mut hooks, 0, &mut reader, &mut writer)?;
-    Ok(writer.inner)
+    Ok(writer.into_inner())
 }
 
 #[test]

@@ -8,7 +8,7 @@ mod placers;
 mod trouble;
 
 pub use fakes::{
-    NotedListener, NotedLoader, NotedProcessor, NotedWriter, PoorLoader, ProgramProcessor,
+    NotedListener, NotedLoader, NotedProcessor, NotedWriter, PoorLoader,
 };
 pub use log::{Log, Text};
 pub use placers::{ConstantPlacer, RefusingMirror, TablePlacer};

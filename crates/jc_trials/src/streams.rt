@@ -2,8 +2,7 @@
 
 use crate::trouble::{Trouble, no_hooks};
 use jc_config::ConfigFault;
-use jc_hooks::program::{CheckWriter, EchoLoader, PeekProcessor};
-use jc_hooks::{CacheHooks, TallyListener};
+use jc_hooks::program::ProgramHooks;
 use jc_runner::{
     ProgramFault, RunFault, Watched, WatchedWriter, demonstration, read_configuration, serial,
     write_fault,
@@ -27,8 +26,6 @@ const REPORTS: [&str; 4] = [
     "cache a\n0 put ok\n0 get some \"1\"\n0 stats 1 0 1 0 0\ncache b\n",
 ];
 
-type Hooks = CacheHooks<EchoLoader, CheckWriter, PeekProcessor, TallyListener>;
-
 /// The fault of a run of the demonstration's caches, with the callbacks of so many caches.
 fn fault_of<R: Read, O: Write>(
     alloc: Global,
@@ -36,7 +33,7 @@ fn fault_of<R: Read, O: Write>(
     reader: &mut Watched<R>,
     writer: &mut WatchedWriter<O>,
 ) -> Result<Option<RunFault>, Trouble> {
-    let mut hooks: Vec<Hooks> = Vec::new(alloc);
+    let mut hooks: Vec<ProgramHooks> = Vec::new(alloc);
     for _ in 0..caches {
         hooks.push(no_hooks(alloc))?;
     }
@@ -53,7 +50,7 @@ fn run(
     let mut reader = Watched::new(script);
     let mut writer = WatchedWriter::new(Vec::new(alloc));
     let fault = fault_of(alloc, caches, &mut reader, &mut writer)?;
-    Ok((fault, writer.inner))
+    Ok((fault, writer.into_inner()))
 }
 
 /// What comes of the first bytes of the script: its lines up to a cut one, which is no JSON.
@@ -121,7 +118,7 @@ fn a_reader_fails_at_each_read(rt: HostRuntime) -> Result<(), Trouble> {
         let fault = fault_of(alloc, 2, &mut script, &mut writer)?;
         assert_eq!(rt; fault, Some(RunFault::Read));
         assert_eq!(rt; (config.reads, script.reads), (left + 1, left + 1));
-        assert!(rt; writer.inner.is_empty());
+        assert!(rt; writer.into_inner().is_empty());
     }
     Ok(())
 }
@@ -211,7 +208,7 @@ fn a_writer_fails_at_each_byte(rt: HostRuntime) -> Result<(), Trouble> {
         let mut writer = WatchedWriter::new(failing(alloc, left));
         let fault = fault_of(alloc, 2, &mut reader, &mut writer)?;
         assert_eq!(rt; fault, Some(RunFault::Write));
-        assert_eq!(rt; writer.inner.taken.as_slice(), &report[..left]);
+        assert_eq!(rt; writer.into_inner().taken.as_slice(), &report[..left]);
     }
     Ok(())
 }

@@ -3,7 +3,7 @@ use Rattle.jc_engine.specs.Caches.{names_of}
 use Rattle.jc_script.specs.Report.{text}
 use Rattle.jc_runner.specs.Reports.{Reports}
 use Rattle.jc_runner.proofs.Told.{first_moment, first_ready, last_moment}
-use Rattle.jc_runner.proofs.run.report_of.Goals as goal
+use Rattle.jc_runner.proofs.run.report_on.Goals as goal
 
 pub run_all-requires-clause-ready : goal.run_all-requires-clause-ready
 run_all-requires-clause-ready g c = λ _ _.
@@ -18,4 +18,4 @@ returns-clause-text g c =
     let same : string_bytes c.in_ok-text.text ≡ text (names_of last.caches) last.transcript =
     c.in_ok-text.ensures ∙ ap (λ (names : List (List ℕ)). text names c.transcript.result.now) c.names.ensures ∙ ap (text (names_of last.caches)) c.transcript.ensures.value in
     subst (λ (bytes : List ℕ). Reports g.L.Loader.load_of g.W.Writer.may g.P.Processor.verdict_of g.K.Listener.state_after c.args.settings c.args.lines.items c.args.hooks.now c.run_all.new.hooks bytes) (sym same)
-    (last_moment g.L.Loader.load_of g.W.Writer.may g.P.Processor.verdict_of g.K.Listener.state_after c.args.settings c.args.hooks.now c.args.lines.items last c.run_all.new.hooks told)
+    (last_moment g.L.Loader.load_of g.W.Writer.may g.P.Processor.verdict_of g.K.Listener.state_after c.args.settings c.args.hooks.now c.args.lines.items last c.run_all.new.hooks told c.transcript.ensures.legal)

@@ -3,8 +3,8 @@ use Rattle.std.specs.Prelude.{ℕ, Bool, true, false, List, Option, Result}
 use Rattle.jc_model.specs.declared.call.Verdict.{Verdict}
 use Rattle.jc_model.specs.declared.call.ProcessorFault.{ProcessorFault}
 use Rattle.jc_hooks.specs.Program.{appended, failed, dropped, peeked}
-use Rattle.jc_trials.specs.declared.fakes.ProgramProcessor.{ProgramProcessor}
-use Rattle.jc_trials.specs.declared.fakes.ProgramProcessor.TheVariants.{Append, Fail, Drop, Peek}
+use Rattle.jc_hooks.specs.declared.program.ProgramProcessor.{ProgramProcessor}
+use Rattle.jc_hooks.specs.declared.program.ProgramProcessor.TheVariants.{Append, Fail, Drop, Peek}
 
 abbrev pub wants_of : ProgramProcessor → Bool
 wants_of Append = true
