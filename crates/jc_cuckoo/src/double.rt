@@ -156,6 +156,7 @@ impl<P: Placer + Drop, M: Mirror> Cuckoo<P, M> {
         self.bring_stash(&mut twice);
         Ok(twice)
     }
+
     /// The slots, and how many rows the stash holds: what an image tells.
     fn told(&self) -> (&[Option<Held>], u32)
         ensures image { grown result.0.now result.1 ≡ image self.now }
@@ -165,7 +166,7 @@ impl<P: Placer + Drop, M: Mirror> Cuckoo<P, M> {
         (&self.cells.as_slice()[..self.slots()], stash)
     }
 
-    /// Takes the place of the rows over from a table of twice as many buckets, unless the mirror finds no memory for it.
+    /// Holds the rows from now on as a table of twice as many buckets does, unless the mirror finds no memory for it.
     fn take_over(&mut self, twice: Cuckoo<P, NoMirror>) -> bool
         requires few { 2 * self.old.buckets ≤ 65536 }
         requires doubled { IsDoubled self.old twice }
