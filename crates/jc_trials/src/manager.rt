@@ -3,6 +3,9 @@
 use crate::trouble::{Trouble, key, plain_cache, value_of};
 use jc_engine::engine::Engine;
 use jc_engine::open::OpenRefusal;
+use jc_engine::open::OpenRefusal::{
+    BadCapacity, DuplicateName, TooManyCaches, TooManyListeners, TooManyProcessors, TotalCapacity,
+};
 use jc_model::call::{Answer, Call, Counts, ProcessorFault, Reply, Request};
 use jc_model::config::CacheConfig;
 use jc_model::event::{CacheId, Cause, Event, Outcome, Step};
@@ -44,19 +47,23 @@ fn configs(alloc: Global, opening: &Opening) -> Result<Vec<CacheConfig>, Trouble
     Ok(configs)
 }
 
-fn alike(
-    sizes: (u32, u32),
-    hooks: (u8, usize),
-    last: u32,
-    refusal: Option<OpenRefusal>,
-) -> Opening {
+/// Caches of these numbers of caches and rows, listeners and processors, which open.
+fn opens(sizes: (u32, u32), hooks: (u8, usize)) -> Opening {
     Opening {
         caches: sizes.0,
         capacity: sizes.1,
         listeners: hooks.0,
         processors: hooks.1,
+        last: sizes.0,
+        refusal: None,
+    }
+}
+
+fn refused(sizes: (u32, u32), hooks: (u8, usize), last: u32, refusal: OpenRefusal) -> Opening {
+    Opening {
         last,
-        refusal,
+        refusal: Some(refusal),
+        ..opens(sizes, hooks)
     }
 }
 
@@ -64,41 +71,16 @@ fn alike(
 fn managers_open_or_are_refused(rt: HostRuntime) -> Result<(), Trouble> {
     let alloc = rt.alloc();
     let openings = [
-        alike((0, 0), (0, 0), 0, None),
-        alike((4, 65_536), (8, 16), 4, None),
-        alike((1024, 256), (0, 0), 1024, None),
-        alike((1025, 0), (9, 17), 1, Some(OpenRefusal::TooManyCaches)),
-        alike(
-            (3, 0),
-            (9, 17),
-            1,
-            Some(OpenRefusal::BadCapacity { cache: 0 }),
-        ),
-        alike(
-            (3, 65_537),
-            (9, 17),
-            1,
-            Some(OpenRefusal::BadCapacity { cache: 0 }),
-        ),
-        alike(
-            (3, 1),
-            (9, 17),
-            1,
-            Some(OpenRefusal::TooManyListeners { cache: 0 }),
-        ),
-        alike(
-            (3, 1),
-            (8, 17),
-            1,
-            Some(OpenRefusal::TooManyProcessors { cache: 0 }),
-        ),
-        alike(
-            (5, 65_536),
-            (8, 16),
-            2,
-            Some(OpenRefusal::DuplicateName { cache: 4 }),
-        ),
-        alike((5, 65_536), (8, 16), 5, Some(OpenRefusal::TotalCapacity)),
+        opens((0, 0), (0, 0)),
+        opens((4, 65_536), (8, 16)),
+        opens((1024, 256), (0, 0)),
+        refused((1025, 0), (9, 17), 1, TooManyCaches),
+        refused((3, 0), (9, 17), 1, BadCapacity { cache: 0 }),
+        refused((3, 65_537), (9, 17), 1, BadCapacity { cache: 0 }),
+        refused((3, 1), (9, 17), 1, TooManyListeners { cache: 0 }),
+        refused((3, 1), (8, 17), 1, TooManyProcessors { cache: 0 }),
+        refused((5, 65_536), (8, 16), 2, DuplicateName { cache: 4 }),
+        refused((5, 65_536), (8, 16), 5, TotalCapacity),
     ];
     for opening in &openings {
         let configs = configs(alloc, opening)?;
