@@ -15,7 +15,7 @@ use Rattle.jc_model.specs.Sound.{Lacks, HasDistinctKeys, Throughout}
 use Rattle.jc_model.specs.Suspended.{KeyWait, key_run}
 use Rattle.jc_model.proofs.KeepsCalls.{throughout-resume, throughout-answered}
 use Rattle.jc_model.proofs.Sound.{row_of-None}
-use Rattle.jc_ops.specs.Kept.{Kept, items_of}
+use Rattle.jc_state.specs.Kept.{Kept, items_of}
 use Rattle.jc_ops.specs.Stepped.{StepsTo}
 use Rattle.jc_ops.specs.Supply.{Covers}
 use Rattle.jc_ops.specs.declared.step.Next.{Next}

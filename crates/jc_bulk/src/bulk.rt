@@ -4,9 +4,9 @@
 //! it keep their values: no other step changes the value of its key.
 ghost use Rattle.std.specs.Prelude.{◌≡◌, ◌*◌, ◌≤◌, ◌∷◌, true, length};
 ghost use Rattle.jc_model.specs.Whole.{after_key, each};
-ghost use Rattle.jc_ops.specs.Kept.{items_of, progress_of, IsKept};
-ghost use Rattle.jc_ops.specs.Noted.{HasPlaces};
-ghost use Rattle.jc_ops.specs.Tied.{SameElsewhere};
+ghost use Rattle.jc_state.specs.Kept.{items_of, progress_of, IsKept};
+ghost use Rattle.jc_state.specs.Noted.{HasPlaces};
+ghost use Rattle.jc_state.specs.Tied.{SameElsewhere};
 ghost use Rattle.jc_bulk.specs.Moved.{ComesTo};
 ghost use Rattle.jc_bulk.specs.Provided.{calls_in, keys_in, AreCovered, IsAhead, IsReady};
 ghost use Rattle.jc_bulk.specs.Tallied.{sum_of};
@@ -19,8 +19,8 @@ use jc_model::config::CacheConfig;
 use jc_model::event::CacheId;
 use jc_model::key::Key;
 use jc_model::thrice::Thrice;
-use jc_ops::notices::Notices;
-use jc_ops::state::CacheState;
+use jc_state::notices::Notices;
+use jc_state::state::CacheState;
 use jc_ops::step::{KeyStep, Next};
 use jc_ops::supply::Supply;
 use jc_ring::ring::Ring;

@@ -3,8 +3,8 @@ ghost use Rattle.std.specs.Prelude.{◌≡◌, ◌+◌, ◌<◌, ◌≤◌, [], 
 ghost use Rattle.jc_model.specs.Changes.{begun};
 ghost use Rattle.jc_model.specs.State.{Item, row_of};
 ghost use Rattle.jc_model.specs.Whole.{touch_each, contents};
-ghost use Rattle.jc_ops.specs.Kept.{items_of, state_of, IsKept};
-ghost use Rattle.jc_ops.specs.Tied.{Tied, SameElsewhere};
+ghost use Rattle.jc_state.specs.Kept.{items_of, state_of, IsKept};
+ghost use Rattle.jc_state.specs.Tied.{Tied, SameElsewhere};
 ghost use Rattle.jc_bulk.specs.Entries.{live_value};
 ghost use Rattle.jc_bulk.specs.Tallied.{pushed};
 
@@ -16,7 +16,7 @@ use jc_model::key::Key;
 use jc_model::list::Sequence;
 use jc_model::thrice::Thrice;
 use jc_model::value::Value;
-use jc_ops::state::CacheState;
+use jc_state::state::CacheState;
 use jc_ring::ring::Ring;
 use jc_rows::rows::Rows;
 use std::alloc::Global;

@@ -1,11 +1,11 @@
 //! What all steps of a call may need, made before the first of them.
 ghost use Rattle.std.specs.Prelude.{◌≡◌, ◌+◌, ◌*◌, ◌≤◌, true, length, IfOk, OnOk};
 ghost use Rattle.jc_model.specs.Bulk.{empty_sum};
-ghost use Rattle.jc_ops.specs.Kept.{items_of, IsKept};
+ghost use Rattle.jc_state.specs.Kept.{items_of, IsKept};
 ghost use Rattle.jc_ops.specs.Lines.{creates};
-ghost use Rattle.jc_ops.specs.Noted.{HasPlaces};
+ghost use Rattle.jc_state.specs.Noted.{HasPlaces};
 ghost use Rattle.jc_ops.specs.Supply.{CoversAnswer, HasRoomAt};
-ghost use Rattle.jc_ops.specs.Tied.{Tied};
+ghost use Rattle.jc_state.specs.Tied.{Tied};
 ghost use Rattle.jc_bulk.specs.Calls.{steps_of as steps, gathers};
 ghost use Rattle.jc_bulk.specs.Provided.{calls_in, any_creates, AreCovered, IsReady};
 ghost use Rattle.jc_bulk.specs.Tallied.{HasRoomFor, sum_of};
@@ -18,8 +18,8 @@ use jc_model::OutOfMemory;
 use jc_model::call::{Answer, KeyCall, Op};
 use jc_model::config::CacheConfig;
 use jc_model::event::CacheId;
-use jc_ops::notices::Notices;
-use jc_ops::state::CacheState;
+use jc_state::notices::Notices;
+use jc_state::state::CacheState;
 use jc_ops::supply::{Supply, make_room};
 use jc_ring::ring::Ring;
 use jc_rows::rows::Rows;

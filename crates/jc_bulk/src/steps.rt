@@ -1,7 +1,7 @@
 //! The steps of a call on many keys, in their order.
 ghost use Rattle.std.specs.Prelude.{◌≡◌, ◌<◌, ◌^◌, if◌then◌else◌, length, IfOk};
 ghost use Rattle.jc_model.specs.Bulk.{same_op, put_each, remove_each};
-ghost use Rattle.jc_ops.specs.Kept.{items_of, IsKept};
+ghost use Rattle.jc_state.specs.Kept.{items_of, IsKept};
 ghost use Rattle.jc_bulk.specs.Calls.{steps_of};
 ghost use Rattle.jc_bulk.specs.Provided.{keys_in, AreApart};
 
@@ -12,7 +12,7 @@ use jc_model::config::CacheConfig;
 use jc_model::event::CacheId;
 use jc_model::key::Key;
 use jc_model::value::Value;
-use jc_ops::state::CacheState;
+use jc_state::state::CacheState;
 use jc_ring::ring::Ring;
 use jc_rows::rows::Rows;
 use std::alloc::Global;

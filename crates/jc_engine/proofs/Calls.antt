@@ -14,7 +14,7 @@ use Rattle.jc_model.specs.Run.{Run, Awaited, ended, waiting, and_then, resume, f
 use Rattle.jc_model.specs.Whole.{whole, plan, carried_out, told_first}
 use Rattle.jc_model.specs.Runs.{Standing, Status, busy, begins, answers, has_processor, shown, standing_of, reply_of, moved_by, moved}
 use Rattle.jc_model.specs.Suspended.{Wait, one, many, telling, run_of, standing_by}
-use Rattle.jc_ops.specs.Kept.{Kept, state_of, progress_of}
+use Rattle.jc_state.specs.Kept.{Kept, state_of, progress_of}
 use Rattle.jc_bulk.specs.Waits.{Waits}
 use Rattle.jc_bulk.specs.Moved.{wait_run, WaitsOn, IsSuspended}
 use Rattle.jc_engine.specs.declared.cache.Advance.{Advance}

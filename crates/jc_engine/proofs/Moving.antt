@@ -14,8 +14,8 @@ use Rattle.jc_model.specs.Run.{Awaited}
 use Rattle.jc_model.specs.Suspended.{Wait, standing_by}
 use Rattle.jc_model.specs.Runs.{Status, Said, gives_up, idle, cache_of, said, reply_of, moved_by, refuse_last, for_memory, answer_of, answer_to, moved, statuses_after, put_moved}
 use Rattle.jc_rows.specs.Rows.{RowMap}
-use Rattle.jc_ops.specs.Noted.{Noted}
-use Rattle.jc_ops.specs.Tied.{SameElsewhere}
+use Rattle.jc_state.specs.Noted.{Noted}
+use Rattle.jc_state.specs.Tied.{SameElsewhere}
 use Rattle.jc_engine.specs.declared.cache.Advance.{Advance}
 use Rattle.jc_engine.specs.declared.cache.Managed.{Managed}
 use Rattle.jc_engine.specs.Caches.{Cache, status_of}

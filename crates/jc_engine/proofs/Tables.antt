@@ -5,10 +5,10 @@ use Rattle.std.specs.FinMap as table
 use Rattle.jc_model.specs.declared.config.Expiry.{Expiry}
 use Rattle.jc_model.specs.State.{Item, row_of}
 use Rattle.jc_rows.specs.Rows.{RowMap}
-use Rattle.jc_ops.specs.Tied.{Tied, SameElsewhere}
-use Rattle.jc_ops.specs.Kept.{Kept, items_of}
-use Rattle.jc_ops.proofs.Ties.{Tied-same}
-use Rattle.jc_ops.proofs.Found.{is_row, row_of-absent}
+use Rattle.jc_state.specs.Tied.{Tied, SameElsewhere}
+use Rattle.jc_state.specs.Kept.{Kept, items_of}
+use Rattle.jc_state.proofs.Ties.{Tied-same}
+use Rattle.jc_state.proofs.Found.{is_row, row_of-absent}
 use Rattle.jc_engine.specs.declared.cache.Managed.{Managed}
 use Rattle.jc_engine.specs.Managed.{IsManaged, cache_in}
 use Rattle.jc_engine.specs.Caches.{expiry_in}

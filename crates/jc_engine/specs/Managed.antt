@@ -15,8 +15,8 @@ use Rattle.jc_model.specs.Whole.{told_first}
 use Rattle.jc_model.specs.Runs.{Said, shown, standing_of, reply_of, moved}
 use Rattle.jc_model.specs.Suspended.{Wait, one, many, telling, standing_by}
 use Rattle.jc_rows.specs.Rows.{RowMap}
-use Rattle.jc_ops.specs.Noted.{Noted}
-use Rattle.jc_ops.specs.Kept.{Kept, progress_of, IsKept}
+use Rattle.jc_state.specs.Noted.{Noted}
+use Rattle.jc_state.specs.Kept.{Kept, progress_of, IsKept}
 use Rattle.jc_bulk.specs.Moved.{IsSuspended}
 use Rattle.jc_engine.specs.declared.cache.Turn.{Turn}
 use Rattle.jc_engine.specs.declared.cache.Turn.TheVariants.{Idle, Waiting, Telling}

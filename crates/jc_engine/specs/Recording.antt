@@ -8,7 +8,7 @@ use Rattle.jc_model.specs.declared.event.Entry.{Entry}
 use Rattle.jc_model.specs.Run.{Awaited, told_by}
 use Rattle.jc_model.specs.Legal.{Tells}
 use Rattle.jc_model.specs.Suspended.{Wait}
-use Rattle.jc_ops.specs.Noted.{Noted}
+use Rattle.jc_state.specs.Noted.{Noted}
 use Rattle.jc_engine.specs.declared.cache.Advance.{Advance}
 use Rattle.jc_engine.specs.declared.cache.Advance.TheVariants.{Replied, Asked, Told}
 use Rattle.jc_engine.specs.Caches.{Cache, status_of}

@@ -12,7 +12,7 @@ use crate::cache::Advance;
 use crate::engine::Engine;
 use jc_model::call::{Answer, Call};
 use jc_model::event::{CacheId, Cause};
-use jc_ops::notices::Notices;
+use jc_state::notices::Notices;
 use jc_ring::ring::Ring;
 use jc_rows::rows::Rows;
 

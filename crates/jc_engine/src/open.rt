@@ -12,7 +12,7 @@ use crate::engine::Engine;
 use jc_model::OutOfMemory;
 use jc_model::config::CacheConfig;
 use jc_model::key::Key;
-use jc_ops::state::CacheState;
+use jc_state::state::CacheState;
 use jc_ring::ring::Ring;
 use jc_rows::rows::Rows;
 use std::alloc::Global;

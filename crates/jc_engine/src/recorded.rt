@@ -26,7 +26,7 @@ use jc_model::key::Key;
 use jc_model::list::Sequence;
 use jc_model::share::Share;
 use jc_model::transcript::Transcript;
-use jc_ops::notices::Notices;
+use jc_state::notices::Notices;
 use jc_ring::ring::Ring;
 use jc_rows::rows::Rows;
 use std::alloc::Global;

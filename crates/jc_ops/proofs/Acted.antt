@@ -11,7 +11,7 @@ use Rattle.jc_model.specs.Step.{act_live, act_absent}
 use Rattle.jc_rows.specs.Rows.{RowMap}
 use Rattle.jc_ops.specs.declared.step.ending.LiveEnding.{LiveEnding}
 use Rattle.jc_ops.specs.declared.step.ending.AbsentEnding.{AbsentEnding}
-use Rattle.jc_ops.specs.Kept.{Kept, IsRow, FoundRow}
+use Rattle.jc_state.specs.Kept.{Kept, IsRow, FoundRow}
 use Rattle.jc_ops.specs.Endings.{ended_live, ended_absent}
 use Rattle.jc_ops.specs.Lines.{unhooked}
 use Rattle.jc_ops.specs.Verdicts.{stores_by, act_on}

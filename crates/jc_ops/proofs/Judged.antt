@@ -20,7 +20,7 @@ use Rattle.jc_model.specs.Run.{Run, ended, waiting, resume, is_written, loaded_b
 use Rattle.jc_model.specs.Step.{step, on_row, act_live, act_absent}
 use Rattle.jc_model.specs.Suspended.{key_run}
 use Rattle.jc_rows.specs.Rows.{RowMap}
-use Rattle.jc_ops.specs.Kept.{Kept, items_of, FoundRow}
+use Rattle.jc_state.specs.Kept.{Kept, items_of, FoundRow}
 use Rattle.jc_ops.specs.Given.{given_by, value_in, loaded_in, verdict_in}
 use Rattle.jc_ops.specs.Lines.{unhooked, loads_for}
 use Rattle.jc_ops.specs.declared.supply.Supply.{Supply}

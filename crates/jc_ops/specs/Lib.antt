@@ -1,9 +1,3 @@
-pub mod Noted
-pub mod Shelf
-pub mod Slots
-pub mod Tied
-pub mod Kept
-pub mod Clock
 pub mod Lines
 pub mod Given
 pub mod Verdicts

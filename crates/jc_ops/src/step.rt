@@ -13,15 +13,15 @@ ghost use Rattle.std.specs.Prelude.{◌≡◌, ℕ, ◌+◌, ◌≤◌, option_m
 ghost use Rattle.jc_model.specs.Step.{step as step_of};
 ghost use Rattle.jc_model.specs.Run.{resume};
 ghost use Rattle.jc_model.specs.Suspended.{key_run};
-ghost use Rattle.jc_ops.specs.Tied.{SameElsewhere};
-ghost use Rattle.jc_ops.specs.Noted.{HasPlaces};
-ghost use Rattle.jc_ops.specs.Kept.{items_of, progress_of, IsKept};
+ghost use Rattle.jc_state.specs.Tied.{SameElsewhere};
+ghost use Rattle.jc_state.specs.Noted.{HasPlaces};
+ghost use Rattle.jc_state.specs.Kept.{items_of, progress_of, IsKept};
 ghost use Rattle.jc_ops.specs.Given.{given_by, loaded_in, verdict_in};
 ghost use Rattle.jc_ops.specs.Supply.{Covers, CoversAnswer, HasRoom, HasRoomAt};
 ghost use Rattle.jc_ops.specs.Stepped.{StepsTo, StaysAt, IsWaiting, waits_first, invoked};
 
-use crate::notices::Notices;
-use crate::state::CacheState;
+use jc_state::notices::Notices;
+use jc_state::state::CacheState;
 use crate::step::answer::answer_line;
 use crate::step::invoke::{Invocation, answer_invoke};
 use crate::step::start::{start_absent, start_live};

@@ -7,14 +7,14 @@ pub(crate) mod needs;
 
 ghost use Rattle.std.specs.Prelude.{◌≡◌, ◌<◌, ◌≤◌, true, Some, None, is_some, IfOk, OnOk, option_map};
 ghost use Rattle.jc_model.specs.State.{Item, row_of};
-ghost use Rattle.jc_ops.specs.Kept.{items_of};
+ghost use Rattle.jc_state.specs.Kept.{items_of};
 ghost use Rattle.jc_ops.specs.Lines.{loads};
-ghost use Rattle.jc_ops.specs.Noted.{HasPlaces};
+ghost use Rattle.jc_state.specs.Noted.{HasPlaces};
 ghost use Rattle.jc_ops.specs.Supply.{IsTold, StoredIsTold, Covers, CoversLoaded, CoversVerdict, CoversAnswer, HasRoom, HasRoomBy, HasRoomAt};
-ghost use Rattle.jc_ops.specs.Tied.{Tied};
+ghost use Rattle.jc_state.specs.Tied.{Tied};
 
-use crate::notices::Notices;
-use crate::state::CacheState;
+use jc_state::notices::Notices;
+use jc_state::state::CacheState;
 use crate::step::KeyStep;
 use crate::supply::needs::{creates, handed, handed_by, is_invoke, shows, stored_by, stored_now};
 use jc_model::OutOfMemory;

@@ -9,7 +9,7 @@ use jc_model::key::Key;
 use jc_model::keys::{Keys, Pairs};
 use jc_model::list::Sequence;
 use jc_model::value::Value;
-use jc_ops::state::CacheState;
+use jc_state::state::CacheState;
 use jc_ring::list_ring::ListRing;
 use jc_rows::list_rows::ListRows;
 use std::alloc::Global;
@@ -26,7 +26,7 @@ struct OneCache {
 }
 
 impl Model for OneCache {
-    ghost use Rattle.jc_ops.specs.Kept.{Kept, IsKept};
+    ghost use Rattle.jc_state.specs.Kept.{Kept, IsKept};
     ghost use Rattle.jc_rows.specs.Listed.{contents_of};
 
     ghost Value = { Kept };

@@ -2,15 +2,15 @@
 ghost use Rattle.std.specs.Prelude.{◌≡◌, ℕ, ◌+◌, ◌≤◌, true, false, Some, None};
 ghost use Rattle.jc_model.specs.Run.{resume, is_written};
 ghost use Rattle.jc_model.specs.Suspended.{key_run};
-ghost use Rattle.jc_ops.specs.Tied.{SameElsewhere};
-ghost use Rattle.jc_ops.specs.Noted.{HasPlaces};
-ghost use Rattle.jc_ops.specs.Kept.{items_of, progress_of, IsKept, FoundRow};
+ghost use Rattle.jc_state.specs.Tied.{SameElsewhere};
+ghost use Rattle.jc_state.specs.Noted.{HasPlaces};
+ghost use Rattle.jc_state.specs.Kept.{items_of, progress_of, IsKept, FoundRow};
 ghost use Rattle.jc_ops.specs.Lines.{is_invoke, loads, reloads};
 ghost use Rattle.jc_ops.specs.Supply.{CoversAnswer, HasRoomAt};
 ghost use Rattle.jc_ops.specs.Stepped.{StepsTo, StaysAt, IsWaiting, waits_first};
 
-use crate::notices::Notices;
-use crate::state::CacheState;
+use jc_state::notices::Notices;
+use jc_state::state::CacheState;
 use crate::step::Next;
 use crate::step::change::{end_absent, end_live};
 use crate::step::ending::{ending_absent, ending_live, ending_loaded, ending_reloaded};

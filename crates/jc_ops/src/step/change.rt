@@ -2,17 +2,17 @@
 ghost use Rattle.std.specs.Prelude.{◌≡◌, ◌+◌, ◌<◌, ◌≤◌, true, Some, None, List, if◌then◌else◌, option_map};
 ghost use Rattle.std.specs.FinMap as map;
 ghost use Rattle.jc_model.specs.State.{Item, row_of};
-ghost use Rattle.jc_ops.specs.Tied.{SameElsewhere};
-ghost use Rattle.jc_ops.specs.Noted.{HasPlaces};
-ghost use Rattle.jc_ops.specs.Kept.{items_of, progress_of, IsKept, FoundRow};
+ghost use Rattle.jc_state.specs.Tied.{SameElsewhere};
+ghost use Rattle.jc_state.specs.Noted.{HasPlaces};
+ghost use Rattle.jc_state.specs.Kept.{items_of, progress_of, IsKept, FoundRow};
 ghost use Rattle.jc_ops.specs.Supply.{IsTold, StoredIsTold};
 ghost use Rattle.jc_ops.specs.Endings.{changed_live, changed_absent, ended_live, ended_absent, adds};
 ghost use Rattle.jc_model.specs.Run.{ended};
 ghost use Rattle.jc_model.specs.declared.call.Notice.{Notice};
 ghost use Rattle.jc_model.specs.Changes.{update, create_by_put, hit as hit_of, miss as miss_of};
 
-use crate::notices::Notices;
-use crate::state::CacheState;
+use jc_state::notices::Notices;
+use jc_state::state::CacheState;
 use crate::step::ending::{AbsentChange, AbsentEnding, LiveChange, LiveEnding};
 use crate::step::reply::reply_of;
 use crate::supply::Stored;

@@ -6,9 +6,9 @@ ghost use Rattle.jc_model.specs.declared.config.CacheConfig.{CacheConfig};
 ghost use Rattle.jc_model.specs.Changes.{find_row};
 ghost use Rattle.jc_model.specs.Run.{ended, resume, is_written, loaded_by, verdict_of};
 ghost use Rattle.jc_model.specs.Suspended.{key_run};
-ghost use Rattle.jc_ops.specs.Tied.{SameElsewhere};
-ghost use Rattle.jc_ops.specs.Noted.{HasPlaces};
-ghost use Rattle.jc_ops.specs.Kept.{items_of, progress_of, IsKept, FoundRow};
+ghost use Rattle.jc_state.specs.Tied.{SameElsewhere};
+ghost use Rattle.jc_state.specs.Noted.{HasPlaces};
+ghost use Rattle.jc_state.specs.Kept.{items_of, progress_of, IsKept, FoundRow};
 ghost use Rattle.jc_ops.specs.Given.{given_by, value_in};
 ghost use Rattle.jc_ops.specs.Invoked.{part_of, wait_of};
 ghost use Rattle.jc_ops.specs.Lines.{unhooked};
@@ -16,8 +16,8 @@ ghost use Rattle.jc_ops.specs.Supply.{StoredIsTold, CoversVerdict, CoversAnswer,
 ghost use Rattle.jc_ops.specs.Stepped.{StepsTo, StaysAt, IsWaiting, invoked};
 ghost use Rattle.jc_ops.specs.Verdicts.{stores_by, counted, awaits_load, act_on, processed_on, loaded_on, agreed_on};
 
-use crate::notices::Notices;
-use crate::state::CacheState;
+use jc_state::notices::Notices;
+use jc_state::state::CacheState;
 use crate::step::answer::is_written;
 use crate::step::change::{end_absent, end_live};
 use crate::step::ending::{acted_absent, acted_live};

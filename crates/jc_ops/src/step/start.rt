@@ -2,14 +2,14 @@
 ghost use Rattle.std.specs.Prelude.{◌≡◌, ℕ, ◌+◌, ◌≤◌, Some, None};
 ghost use Rattle.jc_model.specs.Changes.{purge};
 ghost use Rattle.jc_model.specs.Step.{step as step_of};
-ghost use Rattle.jc_ops.specs.Tied.{SameElsewhere};
-ghost use Rattle.jc_ops.specs.Noted.{HasPlaces};
-ghost use Rattle.jc_ops.specs.Kept.{items_of, progress_of, IsKept, FoundRow};
+ghost use Rattle.jc_state.specs.Tied.{SameElsewhere};
+ghost use Rattle.jc_state.specs.Noted.{HasPlaces};
+ghost use Rattle.jc_state.specs.Kept.{items_of, progress_of, IsKept, FoundRow};
 ghost use Rattle.jc_ops.specs.Supply.{Covers, HasRoom};
 ghost use Rattle.jc_ops.specs.Stepped.{StepsTo, StaysAt};
 
-use crate::notices::Notices;
-use crate::state::CacheState;
+use jc_state::notices::Notices;
+use jc_state::state::CacheState;
 use crate::step::change::{end_absent, end_live};
 use crate::step::ending::{ending_absent, ending_live};
 use crate::step::request::{request_absent, request_live};

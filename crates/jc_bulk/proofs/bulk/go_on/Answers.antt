@@ -4,7 +4,7 @@ use Rattle.jc_model.specs.Run.{Run}
 use Rattle.jc_model.specs.Sound.{HasDistinctKeys}
 use Rattle.jc_model.specs.Step.{step}
 use Rattle.jc_model.specs.Whole.{each}
-use Rattle.jc_ops.specs.Kept.{items_of, progress_of}
+use Rattle.jc_state.specs.Kept.{items_of, progress_of}
 use Rattle.jc_bulk.specs.Moved.{ComesTo}
 use Rattle.jc_bulk.specs.declared.bulk.Provided.{Provided}
 use Rattle.jc_bulk.specs.Provided.{calls_in, IsReady}

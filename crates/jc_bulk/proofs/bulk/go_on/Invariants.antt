@@ -1,7 +1,7 @@
 use Rattle.std.proofs.Common.{◌≡◌, length}
 use Rattle.jc_model.specs.Whole.{each}
-use Rattle.jc_ops.specs.Kept.{items_of, progress_of, IsKept}
-use Rattle.jc_ops.specs.Tied.{SameElsewhere}
+use Rattle.jc_state.specs.Kept.{items_of, progress_of, IsKept}
+use Rattle.jc_state.specs.Tied.{SameElsewhere}
 use Rattle.jc_bulk.specs.Provided.{calls_in, IsReady}
 use Rattle.jc_bulk.specs.Tallied.{sum_of}
 use Rattle.jc_bulk.proofs.bulk.go_on.Given as goal

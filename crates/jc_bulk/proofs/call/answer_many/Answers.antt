@@ -5,7 +5,7 @@ use Rattle.jc_model.specs.Changes.{Progress}
 use Rattle.jc_model.specs.Run.{Run, and_then, resume}
 use Rattle.jc_model.specs.Suspended.{key_run, bulk_run}
 use Rattle.jc_model.specs.Whole.{each}
-use Rattle.jc_ops.specs.Kept.{items_of, progress_of}
+use Rattle.jc_state.specs.Kept.{items_of, progress_of}
 use Rattle.jc_ops.specs.Stepped.{IsWaiting}
 use Rattle.jc_bulk.specs.Moved.{ComesTo}
 use Rattle.jc_bulk.specs.Paused.{bulk_wait}

@@ -4,7 +4,7 @@ use Rattle.jc_model.specs.declared.call.Reply.TheVariants.{Truth}
 use Rattle.jc_model.specs.Changes.{Progress, begun}
 use Rattle.jc_model.specs.Run.{ended}
 use Rattle.jc_model.specs.Whole.{plan, carried_out}
-use Rattle.jc_ops.specs.Kept.{state_of}
+use Rattle.jc_state.specs.Kept.{state_of}
 use Rattle.jc_bulk.specs.Calls.{once_call}
 use Rattle.jc_bulk.specs.declared.plan.AtOnce.{AtOnce}
 use Rattle.jc_bulk.proofs.call.at_once.Goals as goal

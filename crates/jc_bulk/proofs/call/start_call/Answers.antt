@@ -1,7 +1,7 @@
 use Rattle.std.proofs.Common.{subst}
 use Rattle.jc_model.specs.Changes.{begun}
 use Rattle.jc_model.specs.Run.{Run}
-use Rattle.jc_ops.specs.Kept.{state_of}
+use Rattle.jc_state.specs.Kept.{state_of}
 use Rattle.jc_bulk.specs.Moved.{ComesTo}
 use Rattle.jc_bulk.proofs.Plans.{planned_key}
 use Rattle.jc_bulk.proofs.call.start_call.Goals as goal

@@ -1,7 +1,7 @@
 use Rattle.std.proofs.Common.{◌≡◌, ◌<◌, ◌+◌, ◌++◌, List, ℕ, length, get_or, drop, Option, ap, ◌∙◌, subst, arith}
 use Rattle.jc_model.specs.State.{Item}
 use Rattle.jc_model.specs.Whole.{contents}
-use Rattle.jc_ops.specs.Kept.{items_of}
+use Rattle.jc_state.specs.Kept.{items_of}
 use Rattle.jc_bulk.specs.Tallied.{pushed}
 use Rattle.jc_bulk.proofs.Rows.{RowAt, row_at, listed_row}
 use Rattle.jc_bulk.proofs.TiedKeys.{tied_keys}

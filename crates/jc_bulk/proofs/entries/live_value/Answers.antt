@@ -1,6 +1,6 @@
 use Rattle.std.proofs.Common.{◌≡◌, true, false, Some, sym, ap, ◌∙◌}
 use Rattle.jc_model.specs.State.{Item, is_live}
-use Rattle.jc_ops.specs.Kept.{items_of, record_of}
+use Rattle.jc_state.specs.Kept.{items_of, record_of}
 use Rattle.jc_bulk.proofs.Rows.{value_found, value_absent}
 use Rattle.jc_bulk.proofs.entries.live_value.Goals as goal
 

@@ -2,7 +2,7 @@ use Rattle.std.proofs.Common.{◌≡◌, ◌<◌, ◌+◌, List, [], ◌∷◌, 
 use Rattle.jc_model.specs.State.{Item, row_of}
 use Rattle.jc_model.specs.Changes.{Progress, begun}
 use Rattle.jc_model.specs.Whole.{touch_each}
-use Rattle.jc_ops.specs.Kept.{items_of, state_of}
+use Rattle.jc_state.specs.Kept.{items_of, state_of}
 use Rattle.jc_bulk.proofs.Rows.{RowAt, row_at}
 use Rattle.jc_bulk.proofs.TiedKeys.{tied_keys}
 use Rattle.jc_bulk.proofs.Touched.{AreLeft, all_left, left_after}

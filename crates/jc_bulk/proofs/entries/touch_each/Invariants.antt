@@ -1,8 +1,8 @@
 use Rattle.std.proofs.Common.{◌≡◌, drop}
 use Rattle.jc_model.specs.Changes.{begun}
 use Rattle.jc_model.specs.Whole.{touch_each}
-use Rattle.jc_ops.specs.Kept.{items_of, state_of, IsKept}
-use Rattle.jc_ops.specs.Tied.{SameElsewhere}
+use Rattle.jc_state.specs.Kept.{items_of, state_of, IsKept}
+use Rattle.jc_state.specs.Tied.{SameElsewhere}
 use Rattle.jc_bulk.proofs.Touched.{AreLeft}
 use Rattle.jc_bulk.proofs.entries.touch_each.Given as goal
 

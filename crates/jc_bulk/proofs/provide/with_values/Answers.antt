@@ -1,5 +1,5 @@
 use Rattle.std.proofs.Common.{◌≡◌, ◌++◌, ◌∷◌, [], List, sym, ap, ◌∙◌, subst}
-use Rattle.jc_ops.specs.Kept.{items_of}
+use Rattle.jc_state.specs.Kept.{items_of}
 use Rattle.jc_bulk.specs.declared.bulk.Provided.{Provided}
 use Rattle.jc_bulk.specs.Provided.{calls_in, AreCovered}
 use Rattle.jc_bulk.proofs.Left.{calls_in-push, covered-push}

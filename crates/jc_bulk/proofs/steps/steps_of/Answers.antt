@@ -1,7 +1,7 @@
 use Rattle.std.proofs.Common.{List, ℕ, map, sym, subst}
 use Rattle.jc_model.specs.declared.call.Op.TheVariants.{Get, Remove, Invoke, Load}
 use Rattle.jc_model.specs.Lists.{AreKeys}
-use Rattle.jc_ops.specs.Kept.{items_of}
+use Rattle.jc_state.specs.Kept.{items_of}
 use Rattle.jc_bulk.proofs.Apart.{if_made, same_apart, put_apart, row_apart}
 use Rattle.jc_bulk.proofs.TiedKeys.{tied_keys}
 use Rattle.jc_bulk.proofs.steps.steps_of.Goals as goal

@@ -1,7 +1,7 @@
 use Rattle.std.proofs.Common.{subst}
 use Rattle.jc_model.specs.Run.{Run}
 use Rattle.jc_ops.specs.Given.{given_by}
-use Rattle.jc_ops.specs.Kept.{progress_of}
+use Rattle.jc_state.specs.Kept.{progress_of}
 use Rattle.jc_ops.specs.Stepped.{StepsTo}
 use Rattle.jc_ops.proofs.Starts.{goes_on, not_invoke, line_view, invoke_view}
 use Rattle.jc_ops.proofs.step.KeyStep.answer.Goals as goal

@@ -3,7 +3,7 @@ use Rattle.jc_model.specs.Changes.{purge}
 use Rattle.jc_model.specs.Step.{step}
 use Rattle.jc_model.specs.Run.{Run}
 use Rattle.jc_model.proofs.Purge.{purge-again, step-purged}
-use Rattle.jc_ops.specs.Kept.{progress_of}
+use Rattle.jc_state.specs.Kept.{progress_of}
 use Rattle.jc_ops.specs.Stepped.{StepsTo}
 use Rattle.jc_ops.proofs.Starts.{covers_purged, has_room}
 use Rattle.jc_ops.proofs.step.KeyStep.start.Goals as goal

@@ -4,7 +4,7 @@ use Rattle.jc_model.specs.declared.call.Reply.TheVariants.{Fault}
 use Rattle.jc_model.specs.Run.{ended}
 use Rattle.jc_model.specs.Step.{on_absent}
 use Rattle.std.specs.Prelude.{None}
-use Rattle.jc_ops.specs.Kept.{progress_of}
+use Rattle.jc_state.specs.Kept.{progress_of}
 use Rattle.jc_ops.specs.Lines.{unhooked}
 use Rattle.jc_ops.proofs.Ended.{absent_ended}
 use Rattle.jc_ops.proofs.Starts.{answer_to_absent}

@@ -1,6 +1,6 @@
 use Rattle.std.proofs.Common.{sym, ◌∙◌}
 use Rattle.std.specs.Prelude.{Some}
-use Rattle.jc_ops.specs.Kept.{progress_of}
+use Rattle.jc_state.specs.Kept.{progress_of}
 use Rattle.jc_ops.specs.Lines.{loaded_value}
 use Rattle.jc_ops.proofs.Ended.{loaded_ended, value_loaded, not_failed}
 use Rattle.jc_ops.proofs.Starts.{answer_to_load}

@@ -1,6 +1,6 @@
 use Rattle.std.proofs.Common.{sym, ◌∙◌, ap}
 use Rattle.std.specs.Prelude.{option_map}
-use Rattle.jc_ops.specs.Kept.{progress_of}
+use Rattle.jc_state.specs.Kept.{progress_of}
 use Rattle.jc_ops.specs.Endings.{changed_live}
 use Rattle.jc_ops.proofs.step.change.change_live.Goals as goal
 

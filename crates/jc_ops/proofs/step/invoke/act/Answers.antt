@@ -4,7 +4,7 @@ use Rattle.jc_model.specs.Run.{is_written}
 use Rattle.jc_model.specs.Suspended.{KeyWait, key_run}
 use Rattle.std.specs.Prelude.{is_some}
 use Rattle.jc_ops.specs.Given.{value_in}
-use Rattle.jc_ops.specs.Kept.{progress_of}
+use Rattle.jc_state.specs.Kept.{progress_of}
 use Rattle.jc_ops.specs.Verdicts.{agreed_on}
 use Rattle.jc_ops.proofs.Judged.{stores_at_once, act_none, act_some}
 use Rattle.jc_ops.proofs.step.invoke.act.Goals as goal

@@ -5,7 +5,7 @@ use Rattle.jc_model.specs.Changes.{find_row}
 use Rattle.jc_model.specs.Run.{Run, resume}
 use Rattle.jc_model.specs.Suspended.{key_run}
 use Rattle.jc_ops.specs.Invoked.{wait_of}
-use Rattle.jc_ops.specs.Kept.{items_of, progress_of}
+use Rattle.jc_state.specs.Kept.{items_of, progress_of}
 use Rattle.jc_ops.specs.Stepped.{StepsTo, IsWaiting}
 use Rattle.jc_ops.specs.Verdicts.{awaits_load}
 use Rattle.jc_ops.proofs.Judged.{covers_agreed, covers_judged, room_agreed, room_judged, awaits_parts, is_none, row_is_there, at_loader, at_processor, at_writer}

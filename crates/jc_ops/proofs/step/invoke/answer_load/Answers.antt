@@ -5,7 +5,7 @@ use Rattle.jc_model.specs.declared.call.Reply.TheVariants.{Fault}
 use Rattle.jc_model.specs.Run.{ended, resume}
 use Rattle.jc_model.specs.Suspended.{key_run}
 use Rattle.jc_ops.specs.Invoked.{wait_of}
-use Rattle.jc_ops.specs.Kept.{Kept, progress_of}
+use Rattle.jc_state.specs.Kept.{Kept, progress_of}
 use Rattle.jc_ops.specs.Stepped.{StepsTo}
 use Rattle.jc_ops.specs.Verdicts.{loaded_on}
 use Rattle.jc_ops.proofs.Judged.{asks_processor}

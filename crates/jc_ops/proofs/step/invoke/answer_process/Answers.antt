@@ -8,7 +8,7 @@ use Rattle.jc_model.specs.Run.{Run, ended, resume}
 use Rattle.jc_model.specs.Suspended.{key_run}
 use Rattle.jc_ops.specs.Given.{value_in}
 use Rattle.jc_ops.specs.Invoked.{wait_of}
-use Rattle.jc_ops.specs.Kept.{progress_of}
+use Rattle.jc_state.specs.Kept.{progress_of}
 use Rattle.jc_ops.specs.Stepped.{StepsTo}
 use Rattle.jc_ops.specs.Verdicts.{counted, judged_on}
 use Rattle.jc_ops.proofs.Asked.{processed_resumed}

@@ -2,7 +2,7 @@ use Rattle.std.proofs.Common.{sym, ◌∙◌, ap}
 use Rattle.jc_model.specs.Changes.{find_row}
 use Rattle.jc_model.specs.Run.{ended}
 use Rattle.jc_ops.specs.Given.{value_in}
-use Rattle.jc_ops.specs.Kept.{progress_of}
+use Rattle.jc_state.specs.Kept.{progress_of}
 use Rattle.jc_ops.specs.Verdicts.{agreed_on}
 use Rattle.jc_ops.proofs.step.invoke.answer_verdict.Goals as goal
 

@@ -1,6 +1,6 @@
 use Rattle.std.proofs.Common.{sym, ◌∙◌}
 use Rattle.jc_ops.specs.Given.{value_in}
-use Rattle.jc_ops.specs.Kept.{progress_of}
+use Rattle.jc_state.specs.Kept.{progress_of}
 use Rattle.jc_ops.proofs.Acted.{found_there, found_none, acted_there, acted_nowhere}
 use Rattle.jc_ops.proofs.step.invoke.end_verdict.Goals as goal
 

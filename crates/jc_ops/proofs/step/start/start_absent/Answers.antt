@@ -2,7 +2,7 @@ use Rattle.std.proofs.Common.{sym, subst}
 use Rattle.jc_model.specs.Step.{step}
 use Rattle.jc_model.specs.Suspended.{KeyWait}
 use Rattle.jc_ops.specs.Stepped.{StepWaits}
-use Rattle.jc_ops.specs.Kept.{progress_of}
+use Rattle.jc_state.specs.Kept.{progress_of}
 use Rattle.jc_ops.proofs.Ended.{absent_ended}
 use Rattle.jc_ops.proofs.Starts.{waits_absent, ends_absent, absent_stores, creates_asks}
 use Rattle.jc_ops.proofs.step.start.start_absent.Goals as goal

@@ -2,7 +2,7 @@ use Rattle.std.proofs.Common.{sym, ◌∙◌, ap, subst}
 use Rattle.jc_model.specs.Step.{step}
 use Rattle.jc_model.specs.Suspended.{KeyWait}
 use Rattle.jc_ops.specs.Stepped.{StepWaits}
-use Rattle.jc_ops.specs.Kept.{progress_of, record_of}
+use Rattle.jc_state.specs.Kept.{progress_of, record_of}
 use Rattle.jc_ops.specs.Lines.{request_live}
 use Rattle.jc_ops.proofs.Ended.{live_ended}
 use Rattle.jc_ops.proofs.Starts.{waits_live, ends_live, live_stores}

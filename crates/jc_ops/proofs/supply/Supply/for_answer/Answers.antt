@@ -1,7 +1,7 @@
 use Rattle.std.proofs.Common.{sym, ◌∙◌, ap}
 use Rattle.std.specs.Prelude.{option_map}
 use Rattle.jc_model.specs.declared.call.Answer.TheVariants.{Processed}
-use Rattle.jc_ops.specs.Kept.{items_of}
+use Rattle.jc_state.specs.Kept.{items_of}
 use Rattle.jc_ops.proofs.Made.{idle_failed, idle_else, made_idle, room_idle, made_written, made_agreed, made_loaded, made_judged, room_written, room_agreed, room_loaded, room_judged}
 use Rattle.jc_ops.proofs.supply.Supply.for_answer.Goals as goal
 

@@ -2,8 +2,8 @@ use Rattle.std.proofs.Common.{◌≡◌, ◌≤◌, None, ap, sym, subst, ◌∙
 use Rattle.std.specs.FinMap as map
 use Rattle.jc_rows.specs.Rows.{RowMap}
 use Rattle.jc_rows.proofs.Laws.{get-empty}
-use Rattle.jc_ops.specs.Kept.{Kept}
-use Rattle.jc_ops.proofs.KeptLaws.{kept_new}
+use Rattle.jc_state.specs.Kept.{Kept}
+use Rattle.jc_state.proofs.KeptLaws.{kept_new}
 use Rattle.jc_trials.proofs.one_cache.OneCache.new.Goals as goal
 
 pub invariant_of-result : goal.invariant_of-result
