@@ -8,7 +8,7 @@ use Rattle.jc_rows.specs.Rows.{RowMap}
 use Rattle.jc_state.specs.declared.slots.Record.{Record}
 use Rattle.jc_state.specs.Shelf.{Cell, seek, without_row, stored}
 use Rattle.jc_state.specs.Tied.{Placed, Tied}
-use Rattle.jc_state.specs.Kept.{Kept, item_of, items_of, record_of, IsRow, FoundRow}
+use Rattle.jc_state.specs.Kept.{Kept, item_of, items_of, record_of, IsTied, IsRow, FoundRow}
 use Rattle.jc_state.proofs.Ties.{RowIsKey, row_is_key, row_there, placed_at, key_tells}
 
 -- The rows as items.
@@ -63,19 +63,17 @@ found_item : (o : Option Item) (it : Record) → option_map record_of o ≡ Some
 found_item None it h = cc
 found_item (Some x) it h = (x, refl, cc)
 
-pub is_row : (m : RowMap) (id : ℕ) (k : List ℕ) (s : Kept) (r : ℕ) (e : Expiry) → Tied m id s.cells → table.get m (id, k) ≡ Some (r, e) → (x : Item) × IsRow m id k s r x
-is_row m id k s r e t g =
+pub is_row : (m : RowMap) (k : List ℕ) (s : Kept) (r : ℕ) (e : Expiry) → IsTied m s → table.get m (s.id, k) ≡ Some (r, e) → (x : Item) × IsRow k s r x
+is_row m k s r e t g =
     let it = found_held (seek r s.cells) k (t.found k r e g) in
-    let only : RowIsKey r k s.cells = row_is_key m id s.cells k r e t g in
-    let item = found_item (row_of k (items_of s.cells)) it.0 (row_of-items r k s.cells only ∙ it.1) in
-    let at : table.get m (id, it.0.key) ≡ Some (r, it.0.expiry) = placed_at m id s.cells r it.0 t.placed it.1 in (
+    let only : RowIsKey r k s.cells = row_is_key m s.id s.cells k r e t g in
+    let item = found_item (row_of k (items_of s.cells)) it.0 (row_of-items r k s.cells only ∙ it.1) in (
       item.0,
       record {
         found = item.1;
         key_is = ap (λ h. h.key) item.2 ∙ it.2;
         there = it.1 ∙ ap Some (sym item.2);
-        on = row_there m id s.cells k r e t g;
-        placed = ap (λ q. table.get m (id, q)) (sym it.2) ∙ (at ∙ ap (λ h. Some (r, h.expiry)) (sym item.2));
+        on = row_there m s.id s.cells k r e t g;
       },
     )
 
@@ -88,19 +86,23 @@ not_placed None h = refl
 not_placed (Some p) h = cc
 
 -- where the table has a key's row
-pub found_row : (m : RowMap) (id : ℕ) (k : List ℕ) (s : Kept) (o : Option ℕ) → Tied m id s.cells → o ≡ option_map (λ p. p.0) (table.get m (id, k)) → FoundRow m id k s o
-found_row m id k s None t h = let none : table.get m (id, k) ≡ None = not_placed _ h in (row_of-absent m id k s.cells t.placed none, none)
-found_row m id k s (Some r) t h = let at = found_place (table.get m (id, k)) r h in is_row m id k s r at.0 t at.1
+pub found_row : (m : RowMap) (k : List ℕ) (s : Kept) (o : Option ℕ) → IsTied m s → o ≡ option_map (λ p. p.0) (table.get m (s.id, k)) → FoundRow k s o
+found_row m k s None t h = row_of-absent m s.id k s.cells t.placed (not_placed _ h)
+found_row m k s (Some r) t h = let at = found_place (table.get m (s.id, k)) r h in is_row m k s r at.0 t at.1
 
--- the item that the key has is that row's
-pub same_row : (m : RowMap) (id : ℕ) (k : List ℕ) (s : Kept) (r : ℕ) (x y : Item) → IsRow m id k s r x → row_of k (items_of s.cells) ≡ Some y → IsRow m id k s r y
-same_row m id k s r x y is e = let same : x ≡ y = some_same (sym is.found ∙ e) in subst (IsRow m id k s r) same is
+-- a key with no row has none in the table
+pub absent_there : (m : RowMap) (k : List ℕ) (s : Kept) → IsTied m s → row_of k (items_of s.cells) ≡ None → table.get m (s.id, k) ≡ None
+absent_there m k s t none = by (table.get m (s.id, k)) refl
   where
-    some_same : ◌≡◌ {A = Option Item} (Some x) (Some y) → x ≡ y
-    some_same h = cc
+    by : (o : Option (ℕ × Expiry)) → table.get m (s.id, k) ≡ o → o ≡ None
+    by None g = refl
+    by (Some p) g = let x = is_row m k s p.0 p.1 t g in let no : ◌≡◌ {A = Option Item} None (Some x.0) = sym none ∙ x.1.found in absurd (cc)
 
-pub only_row : (m : RowMap) (id : ℕ) (k : List ℕ) (s : Kept) (r : ℕ) (x : Item) → Tied m id s.cells → IsRow m id k s r x → RowIsKey r k s.cells
-only_row m id k s r x t is = row_is_key m id s.cells k r x.expiry t is.placed
+pub placed_there : (m : RowMap) (k : List ℕ) (s : Kept) (r : ℕ) (x : Item) → IsTied m s → IsRow k s r x → table.get m (s.id, k) ≡ Some (r, x.expiry)
+placed_there m k s r x t is = ap (λ q. table.get m (s.id, q)) (sym is.key_is) ∙ placed_at m s.id s.cells r (record_of x) t.placed is.there
+
+pub only_row : (m : RowMap) (k : List ℕ) (s : Kept) (r : ℕ) (x : Item) → IsTied m s → IsRow k s r x → RowIsKey r k s.cells
+only_row m k s r x t is = row_is_key m s.id s.cells k r x.expiry t (placed_there m k s r x t is)
 
 pub same_record : (o : Option Record) (a b : Record) → o ≡ Some a → o ≡ Some b → a ≡ b
 same_record o a b e f = some_same (sym e ∙ f)

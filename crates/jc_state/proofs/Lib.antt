@@ -9,4 +9,6 @@ pub mod Progress
 pub mod Room
 mod ClockLaw
 pub mod KeptLaws
+pub mod Changes
+mod Purges
 pub mod Walk

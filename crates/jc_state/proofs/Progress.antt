@@ -7,9 +7,8 @@ use Rattle.jc_model.specs.Changes.{Progress, with_ring, notify, expire, purge, f
 use Rattle.jc_rows.specs.Rows.{RowMap}
 use Rattle.jc_state.specs.declared.slots.Record.{Record}
 use Rattle.jc_state.specs.Shelf.{without_row, stored}
-use Rattle.jc_state.specs.Tied.{Tied}
 use Rattle.jc_state.specs.Noted.{told_after}
-use Rattle.jc_state.specs.Kept.{Kept, items_of, progress_of, IsRow}
+use Rattle.jc_state.specs.Kept.{Kept, items_of, progress_of, IsTied, IsRow}
 use Rattle.std.proofs.Common.{ltb-true}
 use Rattle.jc_state.proofs.Ties.{RowIsKey}
 use Rattle.jc_state.proofs.Found.{items_of-without, items_of-stored, only_row, used_item}
@@ -51,12 +50,12 @@ module _ (c : CacheConfig) (now : ℕ) (k : List ℕ) (p : Progress) where
 
 -- A row that goes, and one that is stored anew.
 
-module _ (m : RowMap) (id : ℕ) (k : List ℕ) (s : Kept) (r : ℕ) (x : Item) (t : Tied m id s.cells) (is : IsRow m id k s r x) where
+module _ (m : RowMap) (k : List ℕ) (s : Kept) (r : ℕ) (x : Item) (t : IsTied m s) (is : IsRow k s r x) where
   pub items-without : items_of (without_row r s.cells) ≡ without x.key (items_of s.cells)
-  items-without = items_of-without r k s.cells (only_row m id k s r x t is) ∙ ap (λ q. without q (items_of s.cells)) (sym is.key_is)
+  items-without = items_of-without r k s.cells (only_row m k s r x t is) ∙ ap (λ q. without q (items_of s.cells)) (sym is.key_is)
 
   pub removed : (c : CacheConfig) (now : ℕ) (n : Notice) (told : List Notice) → progress_of (record s { cells = without_row r s.cells }) (told_after c n told) ≡ notify c now n (with_ring (without x.key (items_of s.cells)) (progress_of s told))
   removed c now n told = noted c now n (record s { cells = without_row r s.cells }) told ∙ ap (λ ring. notify c now n (with_ring ring (progress_of s told))) items-without
 
   pub items-stored : (it : Record) → it.key ≡ k → items_of (stored r it s.cells) ≡ with_row (used_item it) (items_of s.cells)
-  items-stored it e = items_of-stored r it s.cells (subst (λ q. RowIsKey r q s.cells) (sym e) (only_row m id k s r x t is))
+  items-stored it e = items_of-stored r it s.cells (subst (λ q. RowIsKey r q s.cells) (sym e) (only_row m k s r x t is))

@@ -1,6 +1,5 @@
 -- What a cache keeps, and what it means.
-use Rattle.std.specs.Prelude.{◌≡◌, ◌≤◌, ℕ, List, length, map, Option, Some, None, true}
-use Rattle.std.specs.FinMap as table
+use Rattle.std.specs.Prelude.{◌≡◌, ◌+◌, ◌≤◌, ℕ, List, map, Option, Some, None, true}
 use Rattle.jc_model.specs.declared.call.Counts.{Counts}
 use Rattle.jc_model.specs.declared.call.Notice.{Notice}
 use Rattle.jc_model.specs.declared.config.CacheConfig.{CacheConfig}
@@ -8,13 +7,15 @@ use Rattle.jc_model.specs.State.{Item, State, row_of}
 use Rattle.jc_model.specs.Changes.{Progress}
 use Rattle.jc_rows.specs.Rows.{RowMap}
 use Rattle.jc_state.specs.declared.slots.Record.{Record}
+use Rattle.jc_state.specs.Noted.{Noted}
 use Rattle.jc_state.specs.Shelf.{Cell, seek, has_row}
-use Rattle.jc_state.specs.Tied.{Tied}
+use Rattle.jc_state.specs.Tied.{Tied, SameElsewhere}
 
--- the rows in the order of the ring, how many there may be, and the statistics
+-- its configuration, its id, the rows in the order of the ring, and the statistics
 pub record Kept : Type 0 where
+  pub config : CacheConfig
+  pub id : ℕ
   pub cells : List Cell
-  pub limit : ℕ
   pub counts : Counts
 
 abbrev pub item_of : Cell → Item
@@ -29,26 +30,36 @@ state_of k = record { ring = items_of k.cells; counts = k.counts }
 abbrev pub progress_of : Kept → List Notice → Progress
 progress_of k told = record { state = state_of k; notices = told }
 
--- what is true of a cache between any two calls
-pub record IsKept (c : CacheConfig) (m : RowMap) (id : ℕ) (k : Kept) : Type 0 where
-  pub tied : Tied m id k.cells
-  pub within : length k.cells ≤ c.capacity
-  pub limit : k.limit ≡ c.capacity
-  pub some : 1 ≤ c.capacity
+-- the cache and the table say the same of its rows
+abbrev pub IsTied : RowMap → Kept → Type 0
+IsTied m k = Tied m k.id k.cells
+
+-- What stays while a cache and the table change: it is the same cache and tied to the table, the table says the same of
+-- other caches, and no more than so many rows of its room are used.
+pub record Keeps (rows : ℕ) (m : RowMap) (spare : ℕ) (k : Kept) (n : RowMap) (left : ℕ) (k' : Kept) : Type 0 where
+  pub config : k'.config ≡ k.config
+  pub id : k'.id ≡ k.id
+  pub tied : IsTied n k'
+  pub elsewhere : SameElsewhere k.id m n
+  pub room : spare ≤ left + rows
+
+-- and no more than so many places for notices
+pub record Stays (rows most : ℕ) (m : RowMap) (spare : ℕ) (k : Kept) (s : Noted) (n : RowMap) (left : ℕ) (k' : Kept) (t : Noted) : Type 0 where
+  pub keeps : Keeps rows m spare k n left k'
+  pub places : s.spare ≤ t.spare + most
 
 -- what the row of an item holds
 abbrev pub record_of : Item → Record
 record_of x = record { key = x.key; value = x.value; expiry = x.expiry }
 
 -- the key's row is at this number, and x is its item
-pub record IsRow (m : RowMap) (id : ℕ) (key : List ℕ) (k : Kept) (row : ℕ) (x : Item) : Type 0 where
+pub record IsRow (key : List ℕ) (k : Kept) (row : ℕ) (x : Item) : Type 0 where
   pub found : row_of key (items_of k.cells) ≡ Some x
   pub key_is : x.key ≡ key
   pub there : seek row k.cells ≡ Some (record_of x)
   pub on : has_row row k.cells ≡ true
-  pub placed : table.get m (id, key) ≡ Some (row, x.expiry)
 
 -- where the key's row is, if it has one
-abbrev pub FoundRow : RowMap → ℕ → List ℕ → Kept → Option ℕ → Type 0
-FoundRow m id key k None = (row_of key (items_of k.cells) ≡ None) × (table.get m (id, key) ≡ None)
-FoundRow m id key k (Some row) = (x : Item) × IsRow m id key k row x
+abbrev pub FoundRow : List ℕ → Kept → Option ℕ → Type 0
+FoundRow key k None = row_of key (items_of k.cells) ≡ None
+FoundRow key k (Some row) = (x : Item) × IsRow key k row x

@@ -6,3 +6,4 @@ pub mod notices;
 pub mod shelf;
 pub mod slots;
 pub mod state;
+pub mod stored;

@@ -1,5 +1,5 @@
 //! The notices of one call, in places that were made before any change.
-ghost use Rattle.std.specs.Prelude.{◌≡◌, ◌+◌, ◌<◌, ◌≤◌, ◌∷◌, ◌++◌, [], length, eqb, IfOk, OnOk};
+ghost use Rattle.std.specs.Prelude.{◌≡◌, ◌+◌, ◌<◌, ◌≤◌, ◌∷◌, ◌++◌, [], length, eqb, IfOk, OnOk, IsOk};
 ghost use Rattle.jc_state.specs.Noted.{HasPlaces, told_after};
 
 use jc_model::OutOfMemory;
@@ -42,25 +42,27 @@ impl Notices {
         }
     }
 
-    /// No notices, and places for so many.
-    pub fn with_places(alloc: Global, places: usize) -> Result<Notices, OutOfMemory>
-        ensures told { IfOk result (λ notices. notices.told ≡ []) }
-        ensures places { IfOk result (λ notices. notices.spare ≡ places) }
-    {
-        let told = Vec::with_capacity(alloc, places)?;
-        let kept = Vec::with_capacity(alloc, places)?;
-        Ok(Notices { told, kept })
-    }
-
     /// Makes places for so many more. Where memory runs out, the notices and their places stay.
     pub fn reserve(&mut self, more: usize) -> Result<(), OutOfMemory>
         ensures told { self.new.told ≡ self.old.told }
         ensures places { OnOk result (more ≤ self.new.spare) }
-        ensures kept { self.old.spare ≤ self.new.spare }
+        ensures succeeds { more ≤ self.old.spare → IsOk result }
     {
         self.told.reserve(more)?;
         self.kept.reserve(more)?;
         Ok(())
+    }
+
+    /// Makes places for so many more where the cache has listeners, as `reserve`.
+    pub fn reserve_for(&mut self, config: &CacheConfig, more: usize) -> Result<(), OutOfMemory>
+        ensures told { self.new.told ≡ self.old.told }
+        ensures places { OnOk result (HasPlaces config.now more self.new) }
+        ensures succeeds { HasPlaces config.now more self.old → IsOk result }
+    {
+        if config.listeners == 0 {
+            return Ok(());
+        }
+        self.reserve(more)
     }
 
     /// How many there are.

@@ -44,9 +44,17 @@ impl<G: Ring> Shelf<G> {
         Ok(Shelf { slots, ring })
     }
 
+    /// How many rows there are.
+    pub fn len(&self) -> u32
+        ensures { result ≡ length self.now.cells }
+    {
+        self.slots.filled()
+    }
+
     /// Whether no more rows fit.
     pub fn is_full(&self) -> bool
-        ensures { result ≡ (length self.now.cells == self.now.limit) }
+        ensures full { result ≡ true → length self.now.cells ≡ self.now.limit }
+        ensures below { result ≡ false → length self.now.cells < self.now.limit }
     {
         self.slots.is_full()
     }

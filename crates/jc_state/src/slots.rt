@@ -59,6 +59,13 @@ impl Slots {
         self.vacant.is_empty()
     }
 
+    /// How many rows are filled.
+    pub(crate) fn filled(&self) -> u32
+        ensures { result ≡ count_by is_some self.now }
+    {
+        (self.records.len() - self.vacant.len()) as u32
+    }
+
     /// The record of a filled row.
     pub fn record(&self, row: u32) -> &Record
         requires { IsSome (slice_index_or self.now row None) }

@@ -1,14 +1,11 @@
-use Rattle.std.proofs.Common.{sym, subst}
-use Rattle.jc_rows.proofs.Laws.{get-put_cache}
-use Rattle.jc_state.specs.Tied.{Tied}
-use Rattle.jc_state.specs.Kept.{Kept}
-use Rattle.jc_state.proofs.Ties.{Tied-pushed}
+use Rattle.std.proofs.Common.{sym, subst, ◌≡◌, None}
+use Rattle.std.specs.FinMap as map
+use Rattle.jc_state.specs.Kept.{Kept, IsTied}
+use Rattle.jc_state.proofs.Changes.{keeps-pushed}
 use Rattle.jc_state.proofs.state.CacheState.add_row.Goals as goal
 
-pub returns-clause-tied : goal.returns-clause-tied
-returns-clause-tied g c =
-    let t : Tied (g.R.Rows.contents c.args.rows.now) c.args.id c.self.inside.shelf.cells = subst (λ (v : Kept). Tied (g.R.Rows.contents c.args.rows.now) c.args.id v.cells) (sym c.self.view_is) c.requires.tied in
-    rw (c.put.ensures.put, c.push-row.ensures.pushed) (Tied-pushed _ _ _ _ c.args.new t c.push-row.ensures.fresh c.requires.absent)
-
-pub returns-clause-elsewhere : goal.returns-clause-elsewhere
-returns-clause-elsewhere g c = λ other k e. rw c.put.ensures.put (get-put_cache _ _ _ _ other k e)
+pub returns-clause-keeps : goal.returns-clause-keeps
+returns-clause-keeps g c =
+    rw (← c.self.view_is, c.put.ensures.put, c.push-row.ensures.pushed)
+    (keeps-pushed _ _ (subst (IsTied (g.R.Rows.contents c.args.rows.now)) (sym c.self.view_is) c.requires.tied) _ _ c.push-row.result c.args.new c.push-row.ensures.fresh
+    (subst (λ (k : Kept). map.get (g.R.Rows.contents c.args.rows.now) (k.id, c.args.new.key) ≡ None) (sym c.self.view_is) c.requires.absent) c.put.ensures.kept)

@@ -1,13 +1,11 @@
 use Rattle.std.proofs.Common.{◌≡◌, length}
-use Rattle.jc_state.specs.Tied.{Tied, SameElsewhere}
+use Rattle.jc_state.specs.Kept.{IsTied, Keeps}
 use Rattle.jc_state.proofs.state.CacheState.clear.Given as goal
 
 abbrev pub invariant-rows : goal.invariant-rows
 invariant-rows g l = record {
-  tied : Tied (g.R.Rows.contents l.rows) l.id l.self.cells;
-  elsewhere : SameElsewhere l.id (g.R.Rows.contents l.fn.rows) (g.R.Rows.contents l.rows);
-  limit : l.self.limit ≡ l.fn.self.limit;
-  counts : l.self.counts ≡ l.fn.self.counts;
+  keeps : Keeps 0 (g.R.Rows.contents l.fn.rows) (g.R.Rows.spare l.fn.rows) l.fn.self (g.R.Rows.contents l.rows) (g.R.Rows.spare l.rows) l.self;
+  same : l.self ≡ record l.fn.self { cells = l.self.cells };
 }
 
 abbrev pub decreases-rows : goal.decreases-rows

@@ -1,24 +1,19 @@
-use Rattle.std.proofs.Common.{◌≡◌, ◌∙◌, Some, sym, subst, ap}
+use Rattle.std.proofs.Common.{◌≡◌, Some, option_map, ap, sym, subst, refl}
 use Rattle.std.specs.FinMap as map
-use Rattle.jc_model.specs.State.{Item}
-use Rattle.jc_rows.proofs.Laws.{get-with_expiry_cache, with_expiry_is}
+use Rattle.jc_state.specs.Shelf.{with_expiry_of}
 use Rattle.jc_state.specs.declared.slots.Record.{Record}
-use Rattle.jc_state.specs.Shelf.{seek, with_expiry_of}
 use Rattle.jc_state.specs.Tied.{Tied}
-use Rattle.jc_state.specs.Kept.{Kept, record_of}
-use Rattle.jc_state.proofs.Ties.{Tied-stored}
+use Rattle.jc_state.specs.Kept.{Kept, IsTied}
+use Rattle.jc_state.proofs.Changes.{keeps-stored}
+use Rattle.jc_state.proofs.Ties.{placed_at}
 use Rattle.jc_state.proofs.state.CacheState.renew_row.Goals as goal
 
-pub returns-clause-tied : goal.returns-clause-tied
-returns-clause-tied g c =
-    let x : Item = c.requires.row.0 in
-    let is = c.requires.row.1 in
-    let new : Record = with_expiry_of c.args.expiry (record_of x) in
-    let t : Tied (g.R.Rows.contents c.args.rows.now) c.args.id c.self.inside.shelf.cells = subst (λ (v : Kept). Tied (g.R.Rows.contents c.args.rows.now) c.args.id v.cells) (sym c.self.view_is) c.requires.tied in
-    let there : seek c.args.row c.self.inside.shelf.cells ≡ Some (record_of x) = subst (λ (v : Kept). seek c.args.row v.cells ≡ Some (record_of x)) (sym c.self.view_is) is.there in
-    let placed : map.get (g.R.Rows.contents c.args.rows.now) (c.args.id, x.key) ≡ Some (c.args.row, x.expiry) = ap (λ k. map.get (g.R.Rows.contents c.args.rows.now) (c.args.id, k)) is.key_is ∙ is.placed in
-    rw (c.set_expiry.ensures.set ∙ (with_expiry_is _ _ _ _ c.args.expiry is.placed ∙ ap (λ k. map.insert (g.R.Rows.contents c.args.rows.now) (c.args.id, k) (c.args.row, c.args.expiry)) (sym is.key_is)), c.renew.ensures.stored (record_of x) there)
-    (Tied-stored _ _ _ c.args.row x.expiry new t placed)
+pub renew-requires-2 : goal.renew-requires-2
+renew-requires-2 g c =
+    let tied : Tied (g.R.Rows.contents c.args.rows.now) c.self.inside.id c.self.inside.shelf.cells = subst (λ (k : Kept). Tied (g.R.Rows.contents c.args.rows.now) k.id k.cells) (sym c.self.view_is) c.requires.tied in
+    ap (option_map (λ row. row.1)) (placed_at _ _ _ _ _ tied.placed c.record-held.ensures)
 
-pub returns-clause-elsewhere : goal.returns-clause-elsewhere
-returns-clause-elsewhere g c = λ other k e. rw c.set_expiry.ensures.set (get-with_expiry_cache _ _ _ _ other k e)
+pub returns-clause-keeps : goal.returns-clause-keeps
+returns-clause-keeps g c =
+    rw (← c.self.view_is, c.renew-2.ensures.set, c.renew.ensures.stored c.record-held.result.now c.record-held.ensures)
+    (keeps-stored _ _ (subst (IsTied (g.R.Rows.contents c.args.rows.now)) (sym c.self.view_is) c.requires.tied) _ _ c.args.row c.record-held.result.now (with_expiry_of c.args.expiry c.record-held.result.now) c.record-held.ensures refl c.renew-2.ensures.room)
