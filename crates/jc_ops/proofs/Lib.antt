@@ -1,6 +1,6 @@
-pub mod Asked
-pub mod Starts
-pub mod Judged
-pub mod Acted
-pub mod Ended
-pub mod Made
+mod Asked
+mod Lined
+pub mod Goes
+mod Answered
+mod Judged
+mod Made

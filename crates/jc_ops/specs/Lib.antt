@@ -1,7 +1,7 @@
 pub mod Lines
 pub mod Given
 pub mod Verdicts
-pub mod Endings
+pub mod Heard
 pub mod Supply
 pub mod Stepped
 pub mod Invoked

@@ -5,7 +5,7 @@ use Rattle.jc_model.specs.declared.config.Expiry.{Expiry}
 use Rattle.jc_rows.specs.Rows.{RowMap}
 use Rattle.jc_state.specs.Noted.{Noted}
 use Rattle.jc_state.specs.Tied.{Tied, SameElsewhere}
-use Rattle.jc_state.specs.Kept.{Kept, IsTied, Keeps, Stays}
+use Rattle.jc_state.specs.Kept.{Kept, IsTied, Keeps, Stays, Remains}
 use Rattle.jc_state.proofs.Ties.{Tied-same}
 
 -- where the table has no row of a cache, one with no rows is tied to it
@@ -49,3 +49,21 @@ stays_less m n a b k l s t x y p q less fewer h = record { keeps = keeps_less m 
 
 pub keeps_same : (m : RowMap) (a : ℕ) (k : Kept) → IsTied m k → Keeps 0 m a k m a k
 keeps_same m a k tied = record { config = refl; id = refl; tied = tied; elsewhere = λ other q differ. refl; room = omega arith }
+
+pub remains : (x : ℕ) (m n : RowMap) (a b : ℕ) (k l : Kept) → Keeps x m a k n b l → Remains m k n l
+remains x m n a b k l h = record { config = h.config; id = h.id; tied = h.tied; elsewhere = h.elsewhere }
+
+pub remains_on : (m n o : RowMap) (k l j : Kept) → Remains m k n l → Remains n l o j → Remains m k o j
+remains_on m n o k l j first then = record {
+  config = then.config ∙ first.config;
+  id = then.id ∙ first.id;
+  tied = then.tied;
+  elsewhere = λ other q differ. then.elsewhere other q (ap (eqb other) first.id ∙ differ) ∙ first.elsewhere other q differ;
+}
+
+pub remains_same : (m : RowMap) (k : Kept) → IsTied m k → Remains m k m k
+remains_same m k tied = record { config = refl; id = refl; tied = tied; elsewhere = λ other q differ. refl }
+
+-- a change of one table that says the same as another
+pub remains_over : (m m' n : RowMap) (k l : Kept) → m' ≡ m → Remains m' k n l → Remains m k n l
+remains_over m m' n k l same h = subst (λ (x : RowMap). Remains x k n l) same h

@@ -63,3 +63,15 @@ pub record IsRow (key : List ℕ) (k : Kept) (row : ℕ) (x : Item) : Type 0 whe
 abbrev pub FoundRow : List ℕ → Kept → Option ℕ → Type 0
 FoundRow key k None = row_of key (items_of k.cells) ≡ None
 FoundRow key k (Some row) = (x : Item) × IsRow key k row x
+
+-- What stays while a call moves its cache, however much room it uses.
+pub record Remains (m : RowMap) (k : Kept) (n : RowMap) (k' : Kept) : Type 0 where
+  pub config : k'.config ≡ k.config
+  pub id : k'.id ≡ k.id
+  pub tied : IsTied n k'
+  pub elsewhere : SameElsewhere k.id m n
+
+-- nothing has moved
+pub record IsUnmoved (m : RowMap) (k : Kept) (n : RowMap) (k' : Kept) : Type 0 where
+  pub state : k' ≡ k
+  pub table : n ≡ m
