@@ -48,6 +48,7 @@ pub struct Supply {
 pub fn make_room<R: Rows>(rows: &mut R, more: usize) -> Result<(), OutOfMemory>
     ensures same { R.contents rows.new ≡ R.contents rows.old }
     ensures room { OnOk result (more ≤ R.spare rows.new) }
+    ensures kept { R.spare rows.old ≤ R.spare rows.new }
     ensures none { more ≡ 0 → IsOk result }
     ensures stands { more ≤ R.spare rows.old → map.len (R.contents rows.old) + more < 2 ^ 64 → IsOk result }
 {

@@ -109,3 +109,10 @@ same_record o a b e f = some_same (sym e ∙ f)
   where
     some_same : ◌≡◌ {A = Option Record} (Some a) (Some b) → a ≡ b
     some_same h = cc
+
+-- the item that the key has is that row's
+pub same_row : (k : List ℕ) (s : Kept) (r : ℕ) (x y : Item) → IsRow k s r x → row_of k (items_of s.cells) ≡ Some y → IsRow k s r y
+same_row k s r x y is e = let same : x ≡ y = some_same (sym is.found ∙ e) in subst (IsRow k s r) same is
+  where
+    some_same : ◌≡◌ {A = Option Item} (Some x) (Some y) → x ≡ y
+    some_same h = cc

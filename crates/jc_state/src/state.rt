@@ -81,6 +81,13 @@ impl<G: Ring> CacheState<G> {
         })
     }
 
+    /// How many rows it has, expired ones among them.
+    pub fn len(&self) -> u32
+        ensures { result ≡ length self.now.cells }
+    {
+        self.shelf.len()
+    }
+
     /// Its configuration.
     pub fn config(&self) -> &CacheConfig
         ensures { result.now ≡ self.now.config }

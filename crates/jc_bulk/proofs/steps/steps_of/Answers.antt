@@ -24,7 +24,7 @@ returns-in-RemoveKeys-clause-apart g c =
 
 pub returns-in-RemoveAll-clause-apart : goal.returns-in-RemoveAll-clause-apart
 returns-in-RemoveAll-clause-apart g c =
-    if_made (λ v. v.items) c.each_row.result _ c.each_row.ensures (row_apart c.args.now (items_of c.args.state.now.cells) (tied_keys _ _ _ c.requires.kept.tied))
+    if_made (λ v. v.items) c.each_row.result _ c.each_row.ensures (row_apart c.args.now (items_of c.args.state.now.cells) (tied_keys _ _ _ c.requires.tied))
 
 pub returns-in-LoadAll-clause-apart : goal.returns-in-LoadAll-clause-apart
 returns-in-LoadAll-clause-apart g c =
