@@ -11,6 +11,7 @@ use Rattle.jc_model.specs.declared.event.Step.TheVariants.{Done, Need}
 use Rattle.jc_model.specs.declared.event.Outcome.{Outcome}
 use Rattle.jc_model.specs.declared.event.Outcome.TheVariants as outcome
 use Rattle.jc_model.specs.Run.{Run, ended, waiting, and_then, Awaited, for_tell, told_by}
+use Rattle.jc_model.specs.Everywhere.{AtEach}
 use Rattle.jc_model.specs.Whole.{told_first}
 use Rattle.jc_model.specs.Runs.{Said, shown, standing_of, reply_of, moved}
 use Rattle.jc_model.specs.Suspended.{Wait, one, many, telling, standing_by}
@@ -74,8 +75,7 @@ FitsTurn (Told notices) turn = tells turn ≡ true
 
 -- no request of a run tells notices
 abbrev pub NeverTells : Run → Type 0
-NeverTells (ended p r) = Unit {0}
-NeverTells (waiting q p resumed) = (told_by q ≡ []) × ((a : _) → NeverTells (resumed a))
+NeverTells run = AtEach (λ q p. told_by q ≡ []) (λ p r. Unit {0}) run
 
 -- a call that has come to this run goes on as the turn says
 pub record Settled (c : CacheConfig) (run : Run) (k : Kept) (turn : Turn) (advance : Advance) : Type 0 where
