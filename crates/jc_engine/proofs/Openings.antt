@@ -16,6 +16,8 @@ use Rattle.jc_engine.specs.declared.cache.Managed.{Managed}
 use Rattle.jc_engine.specs.declared.open.OpenRefusal.{OpenRefusal}
 use Rattle.jc_engine.specs.Caches.{Cache, status_of, fresh_cache}
 use Rattle.jc_engine.specs.Managed.{cache_in, IsManaged}
+use Rattle.jc_model.specs.Limits.{most_caches, most_rows, most_rows_together}
+use Rattle.jc_engine.specs.declared.open.OpenRefusal.TheVariants.{TooManyCaches}
 use Rattle.jc_engine.specs.Opening.{or_else, names_in, limit_refusal, refusal_at, refusal_from, capacities, open_refusal}
 use Rattle.jc_engine.specs.Fresh.{AreIds, fresh_fields}
 use Rattle.jc_engine.specs.Sound.{IsAt, IsSound}
@@ -36,10 +38,18 @@ not_refused : (b : Bool) (r : OpenRefusal) (next : Option OpenRefusal) → (if b
 not_refused true r next h = absurd cc
 not_refused false r next h = refl
 
+next_none : (b : Bool) (r : OpenRefusal) (next : Option OpenRefusal) → (if b then Some r else next) ≡ None → next ≡ None
+next_none true r next h = absurd cc
+next_none false r next h = h
+
+pub each_allowed : (configs : List CacheConfig) → open_refusal configs ≡ None → refusal_from [] 0 configs ≡ None
+each_allowed configs h =
+    none_first (refusal_from [] 0 configs) _ (next_none (ltb most_caches (length configs)) TooManyCaches _ h)
+
 some_rows : (place : ℕ) (c : CacheConfig) → limit_refusal place c ≡ None → 1 ≤ c.capacity
-some_rows place c h = by (ltb c.capacity 1) refl (not_refused (ltb c.capacity 1 || ltb 65536 c.capacity) _ _ h)
+some_rows place c h = by (ltb c.capacity 1) refl (not_refused (ltb c.capacity 1 || ltb most_rows c.capacity) _ _ h)
   where
-    by : (b : Bool) → ltb c.capacity 1 ≡ b → (b || ltb 65536 c.capacity) ≡ false → 1 ≤ c.capacity
+    by : (b : Bool) → ltb c.capacity 1 ≡ b → (b || ltb most_rows c.capacity) ≡ false → 1 ≤ c.capacity
     by true is h = absurd cc
     by false is h = grind (arith, nat_tests)
 
@@ -53,10 +63,10 @@ all_some names place (d ∷ configs) h (suc id) c at =
 
 -- Where none of the checks refuses, none does.
 
-pub all_allowed : (configs : List CacheConfig) → length configs ≤ 1024 → refusal_from [] 0 configs ≡ None → sum (capacities configs) ≤ 262144 → open_refusal configs ≡ None
+pub all_allowed : (configs : List CacheConfig) → length configs ≤ most_caches → refusal_from [] 0 configs ≡ None → sum (capacities configs) ≤ most_rows_together → open_refusal configs ≡ None
 all_allowed configs few none small =
-    let h : ltb 1024 (length configs) ≡ false = grind (arith, nat_tests) in
-    let k : ltb 262144 (sum (capacities configs)) ≡ false = grind (arith, nat_tests) in
+    let h : ltb most_caches (length configs) ≡ false = grind (arith, nat_tests) in
+    let k : ltb most_rows_together (sum (capacities configs)) ≡ false = grind (arith, nat_tests) in
     rw (h, none, k) refl
 
 pub none_refused : (o : Option OpenRefusal) (P : OpenRefusal → Type 0) → o ≡ None → IfSome o P

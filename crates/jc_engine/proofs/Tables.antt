@@ -1,17 +1,20 @@
 -- The shared table, as the caches see it.
-use Rattle.std.proofs.Common.{◌≡◌, ℕ, false, eqb, List, Option, Some, None, refl, sym, ap, ◌∙◌}
+use Rattle.std.proofs.Common.{◌≡◌, ℕ, ◌≤◌, suc, false, eqb, List, [], ◌∷◌, length, Option, Some, None, refl, sym, ap, subst, ◌∙◌}
 use Rattle.std.specs.Prelude.{option_map}
 use Rattle.std.specs.FinMap as table
 use Rattle.jc_model.specs.declared.config.Expiry.{Expiry}
 use Rattle.jc_model.specs.State.{Item, row_of}
+use Rattle.jc_model.specs.Sound.{IsSound}
 use Rattle.jc_rows.specs.Rows.{RowMap}
+use Rattle.jc_ops.specs.Shelf.{Cell}
 use Rattle.jc_ops.specs.Tied.{Tied, SameElsewhere}
 use Rattle.jc_ops.specs.Kept.{Kept, items_of}
 use Rattle.jc_ops.proofs.Ties.{Tied-same}
 use Rattle.jc_ops.proofs.Found.{is_row, row_of-absent}
 use Rattle.jc_engine.specs.declared.cache.Managed.{Managed}
 use Rattle.jc_engine.specs.Managed.{IsManaged, cache_in}
-use Rattle.jc_engine.specs.Caches.{expiry_in}
+use Rattle.jc_engine.specs.Caches.{Cache, expiry_in}
+use Rattle.jc_bulk.proofs.TiedKeys.{tied_keys}
 use Rattle.jc_engine.specs.Sound.{IsAt}
 
 -- a cache is as it was where the table has changed elsewhere
@@ -41,3 +44,15 @@ expiry_of_row (Some (r, e)) m id k key tied found =
 pub expiry_shown : {G : Type 0} (m : RowMap) (id : ℕ) (found : Option (Managed G)) (key : List ℕ) → IsAt m id found → option_map (λ row. row.1) (table.get m (id, key)) ≡ expiry_in key (option_map cache_in found)
 expiry_shown m id None key is = ap (option_map (λ (p : ℕ × Expiry). p.1)) (is key)
 expiry_shown m id (Some cache) key is = expiry_of_row (table.get m (id, key)) m id cache.state key is.kept.tied refl
+
+-- a cache's keys are distinct, and its rows within its capacity
+items_within : (cs : List Cell) → length (items_of cs) ≡ length cs
+items_within [] = refl
+items_within (c ∷ cs) = ap suc (items_within cs)
+
+pub sound_there : {G : Type 0} (m : RowMap) (id : ℕ) (found : Option (Managed G)) (k : Cache) → IsAt m id found → option_map cache_in found ≡ Some k → IsSound k.config k.progress.state
+sound_there m id None k is at = absurd cc
+sound_there m id (Some cache) k is at =
+    let here : IsSound cache.config (record { ring = items_of cache.state.cells; counts = cache.state.counts }) = (tied_keys m id cache.state.cells is.kept.tied, subst (λ n. n ≤ cache.config.capacity) (sym (items_within cache.state.cells)) is.kept.within) in
+    let same : cache_in cache ≡ k = cc in
+    subst (λ (j : Cache). IsSound j.config j.progress.state) same here

@@ -2,7 +2,6 @@
 use Rattle.std.proofs.Common.{◌≡◌, ℕ, ◌*◌, List, [], length, refl}
 use Rattle.jc_model.specs.declared.call.Answer.{Answer}
 use Rattle.jc_model.specs.declared.call.KeyCall.{KeyCall}
-use Rattle.jc_model.specs.declared.call.Reply.{Reply}
 use Rattle.jc_model.specs.declared.call.Request.{Request}
 use Rattle.jc_model.specs.declared.call.Request.TheVariants.{Load, Write, Delete, Process, Tell}
 use Rattle.jc_model.specs.declared.config.CacheConfig.{CacheConfig}
@@ -56,5 +55,5 @@ wait_run-untold c p (many_keys w) =
     at_each-and_then Untold (λ p r. Unit {0}) (λ p r. Unit {0}) (key_run c p w.key) _
     (at_each-answered Untold (λ p r. Unit {0}) (step c w.key.now w.key.call p) w.key.given (step-untold c w.key.now w.key.call p))
     (λ q r i. goes-at_each Untold (λ p r. Unit {0}) (3 * length w.rest) _
-     (after_key-goes c w.key.now Untold Anything w.key.call.key (λ next q. each c w.key.now w.rest next q) w.sum (3 * length w.rest) q r tt (λ next. each-goes c w.key.now Untold Anything (steps c w.key.now) w.rest next q tt)))
+    (after_key-goes c w.key.now Untold Anything w.key.call.key (λ next q. each c w.key.now w.rest next q) w.sum (3 * length w.rest) q r tt (λ next. each-goes c w.key.now Untold Anything (steps c w.key.now) w.rest next q tt)))
 wait_run-untold c p (telling r) = tt

@@ -10,7 +10,7 @@ use Rattle.jc_model.specs.declared.event.Step.{Step}
 use Rattle.jc_model.specs.declared.event.Step.TheVariants.{Done, Need}
 use Rattle.jc_model.specs.declared.event.Outcome.{Outcome}
 use Rattle.jc_model.specs.declared.event.Outcome.TheVariants as outcome
-use Rattle.jc_model.specs.Run.{Run, ended, waiting, and_then, Awaited, for_tell, told_by}
+use Rattle.jc_model.specs.Run.{Run, and_then, Awaited, for_tell, told_by}
 use Rattle.jc_model.specs.Everywhere.{AtEach}
 use Rattle.jc_model.specs.Whole.{told_first}
 use Rattle.jc_model.specs.Runs.{Said, shown, standing_of, reply_of, moved}

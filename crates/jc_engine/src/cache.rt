@@ -60,18 +60,6 @@ pub(crate) struct Managed<G: Ring> {
     pub(crate) turn: Turn,
 }
 
-/// Whether the processor that a call names, if any, is there.
-fn has_processor(config: &CacheConfig, call: &Call) -> bool
-    ensures { result ≡ has_processor config.now call.now }
-{
-    match call {
-        Call::Invoke { processor, .. } | Call::InvokeAll { processor, .. } => {
-            (*processor as usize) < config.processors.items().len()
-        }
-        _ => true,
-    }
-}
-
 /// How the cache goes on from what its call has come to. All notices are told before the reply.
 fn settle(moved: Moved) -> (Turn, Advance)
     ensures { (c : CacheConfig) (run : Run) (k : Kept) → ComesTo c run moved k → Settled c run k result.0 result.1 }
@@ -97,7 +85,7 @@ impl<G: Ring> Managed<G> {
     {
         match self.turn {
             Turn::Idle => {
-                if has_processor(&self.config, call) {
+                if self.config.has_processor(call) {
                     None
                 } else {
                     Some(Cause::NoSuchProcessor)

@@ -4,7 +4,7 @@ ghost use Rattle.std.specs.FinMap as table;
 ghost use Rattle.std.specs.Str.{bytes_eq};
 ghost use Rattle.jc_model.specs.declared.event.Event.TheVariants.{Begin, Answer as Answered, GiveUp};
 ghost use Rattle.jc_model.specs.Runs.{answer_to, statuses_after, for_memory};
-ghost use Rattle.jc_engine.specs.Caches.{status_of, names_of, expiry_in, holds_in};
+ghost use Rattle.jc_engine.specs.Caches.{AreSound, status_of, names_of, expiry_in, holds_in};
 ghost use Rattle.jc_engine.specs.Results.{of_begin, of_resume, of_give_up};
 
 use crate::cache::Managed;
@@ -62,9 +62,11 @@ impl<R: Rows, G: Ring> Engine<R, G> {
         self.names.as_slice()
     }
 
-    /// The table: exactly the rows of all caches, with their expiries.
+    /// The table: exactly the rows of all caches, with their expiries. At each moment, also while a call is open, the
+    /// keys of a cache are distinct, and its rows are no more than its capacity.
     pub fn rows(&self) -> &R
-        ensures { (id : ℕ) (key : List ℕ) → option_map (λ row. row.1) (table.get (R.contents result.now) (id, key)) ≡ expiry_in key (slice_get self.now id) }
+        ensures sound { AreSound self.now }
+        ensures table { (id : ℕ) (key : List ℕ) → option_map (λ row. row.1) (table.get (R.contents result.now) (id, key)) ≡ expiry_in key (slice_get self.now id) }
     {
         &self.rows
     }
