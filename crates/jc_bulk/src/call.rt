@@ -2,7 +2,7 @@
 //!
 //! A call first makes the memory that it may need. Where memory is refused, the call is handed back and nothing has
 //! changed; from there on it can't be refused. It ends with its reply and its notices, or waits for one answer.
-ghost use Rattle.std.specs.Prelude.{◌≡◌, true, [], IfOk, IfErr, OnErr};
+ghost use Rattle.std.specs.Prelude.{◌≡◌, true, [], IsOk, IfOk, IfErr, OnErr};
 ghost use Rattle.jc_model.specs.declared.config.CacheConfig.{CacheConfig};
 ghost use Rattle.jc_model.specs.Changes.{begun};
 ghost use Rattle.jc_model.specs.Run.{Run, ended, resume, fits};
@@ -13,7 +13,7 @@ ghost use Rattle.jc_ops.specs.Kept.{Kept, items_of, state_of, progress_of, IsKep
 ghost use Rattle.jc_ops.specs.Stepped.{StepsTo, IsWaiting};
 ghost use Rattle.jc_ops.specs.Tied.{SameElsewhere};
 ghost use Rattle.jc_bulk.specs.Awaiting.{awaited};
-ghost use Rattle.jc_bulk.specs.Calls.{many_call, once_call};
+ghost use Rattle.jc_bulk.specs.Calls.{many_call, once_call, is_free};
 ghost use Rattle.jc_bulk.specs.Moved.{ComesTo, IsSuspended, wait_run};
 ghost use Rattle.jc_bulk.specs.Paused.{bulk_wait};
 ghost use Rattle.jc_bulk.specs.Provided.{AreCovered};
@@ -140,6 +140,7 @@ fn at_once<R: Rows, G: Ring>(
     ensures elsewhere { SameElsewhere id (R.contents rows.old) (R.contents rows.new) }
     ensures ok { IfOk result (λ m. ComesTo config.now (carried_out config.now now (plan config.now now (once_call call) (begun (state_of state.old))) (begun (state_of state.old))) m state.new) }
     ensures back { IfErr result (λ back. back ≡ once_call call) }
+    ensures free { is_free (once_call call) ≡ true → IsOk result }
     ensures same { OnErr result (state.new ≡ state.old) }
     ensures table { OnErr result (R.contents rows.new ≡ R.contents rows.old) }
 {
@@ -175,6 +176,7 @@ pub fn start_call<R: Rows, G: Ring>(
     ensures kept_after { IsKept config.now (R.contents rows.new) id state.new }
     ensures elsewhere { SameElsewhere id (R.contents rows.old) (R.contents rows.new) }
     ensures ok { IfOk result (λ m. ComesTo config.now (carried_out config.now now (plan config.now now call (begun (state_of state.old))) (begun (state_of state.old))) m state.new) }
+    ensures free { is_free call ≡ true → IsOk result }
     ensures back { IfErr result (λ back. back ≡ call) }
     ensures same { OnErr result (state.new ≡ state.old) }
     ensures table { OnErr result (R.contents rows.new ≡ R.contents rows.old) }
