@@ -1,11 +1,12 @@
 //! One cache under the manager: its configuration, its rows and counters, and its open call.
-ghost use Rattle.std.specs.Prelude.{◌≡◌, ℕ, ◌<◌, true, List, Some, None, IfOk, IfErr, OnErr, MatchOption, length};
+ghost use Rattle.std.specs.Prelude.{◌≡◌, ℕ, ◌<◌, true, List, Some, None, IsOk, IfOk, IfErr, OnErr, MatchOption, length};
 ghost use Rattle.jc_model.specs.declared.config.CacheConfig.{CacheConfig};
 ghost use Rattle.jc_model.specs.declared.event.Outcome.TheVariants.{Refused, GivenUp};
-ghost use Rattle.jc_model.specs.Run.{Run};
+ghost use Rattle.jc_model.specs.Run.{Run, fits, for_tell};
 ghost use Rattle.jc_model.specs.Runs.{begins, answers, gives_up, has_processor, reply_of, moved};
 ghost use Rattle.jc_ops.specs.Kept.{Kept};
 ghost use Rattle.jc_ops.specs.Tied.{SameElsewhere};
+ghost use Rattle.jc_bulk.specs.Calls.{is_free};
 ghost use Rattle.jc_bulk.specs.Moved.{ComesTo};
 ghost use Rattle.jc_engine.specs.Caches.{status_of};
 ghost use Rattle.jc_engine.specs.Managed.{cache_in, step_of, is_step, IsManaged, Moves, Settled, Abandons};
@@ -127,6 +128,7 @@ impl<G: Ring> Managed<G> {
         ensures elsewhere { SameElsewhere id (R.contents rows.old) (R.contents rows.new) }
         ensures ok { IfOk result (λ advance. Moves (cache_in self.old) (begins now call) advance (cache_in self.new)) }
         ensures back { IfErr result (λ back. back ≡ call) }
+        ensures free { is_free call ≡ true → IsOk result }
         ensures same { OnErr result (self.new ≡ self.old) }
         ensures table { OnErr result (R.contents rows.new ≡ R.contents rows.old) }
     {
@@ -150,6 +152,7 @@ impl<G: Ring> Managed<G> {
         ensures elsewhere { SameElsewhere id (R.contents rows.old) (R.contents rows.new) }
         ensures ok { IfOk result (λ advance. Moves (cache_in self.old) (answers answer) advance (cache_in self.new)) }
         ensures back { IfErr result (λ back. back ≡ answer) }
+        ensures told { fits for_tell answer ≡ true → IsOk result }
         ensures same { OnErr result (self.new ≡ self.old) }
         ensures table { OnErr result (R.contents rows.new ≡ R.contents rows.old) }
     {

@@ -1,9 +1,11 @@
 //! The manager's calls in two parts: whether they are refused, and the move of one cache. Both the plain manager
 //! and the recorded one are made of these.
-ghost use Rattle.std.specs.Prelude.{◌≡◌, ℕ, true, false, IfOk, IfErr, OnOk, OnErr, MatchOption, map, slice_get};
+ghost use Rattle.std.specs.Prelude.{◌≡◌, ℕ, true, false, IsOk, IfOk, IfErr, OnOk, OnErr, MatchOption, map, slice_get};
 ghost use Rattle.jc_model.specs.declared.event.Event.TheVariants.{Begin, Answer as Answered, GiveUp};
 ghost use Rattle.jc_model.specs.declared.event.Outcome.TheVariants.{Refused};
 ghost use Rattle.jc_model.specs.Runs.{answer_to, statuses_after, for_memory};
+ghost use Rattle.jc_model.specs.Run.{fits, for_tell};
+ghost use Rattle.jc_bulk.specs.Calls.{is_free};
 ghost use Rattle.jc_engine.specs.Caches.{status_of};
 ghost use Rattle.jc_engine.specs.Managed.{is_step};
 ghost use Rattle.jc_engine.specs.Advances.{outcome_of, of_abandon, FitsAt, LeavesAt, ClosedAt, ChangesOne};
@@ -45,6 +47,7 @@ impl<R: Rows, G: Ring> Engine<R, G> {
         ensures one { ChangesOne self.old id self.new }
         ensures fits { IfOk result (λ advance. FitsAt advance (slice_get self.new id)) }
         ensures back { IfErr result (λ back. back ≡ call) }
+        ensures free { is_free call ≡ true → IsOk result }
         ensures refused { OnErr result (self.new ≡ self.old) }
     {
         let cache = &mut self.caches[id.number() as usize];
@@ -59,6 +62,7 @@ impl<R: Rows, G: Ring> Engine<R, G> {
         ensures one { ChangesOne self.old id self.new }
         ensures fits { IfOk result (λ advance. FitsAt advance (slice_get self.new id)) }
         ensures back { IfErr result (λ back. back ≡ answer) }
+        ensures told { fits for_tell answer ≡ true → IsOk result }
         ensures refused { OnErr result (self.new ≡ self.old) }
     {
         let cache = &mut self.caches[id.number() as usize];
