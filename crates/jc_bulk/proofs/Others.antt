@@ -6,11 +6,11 @@ use Rattle.std.specs.Str.{bytes_eq}
 use Rattle.std.proofs.lemmas.Slice.Eq.{bytes_eq-Decides}
 use Rattle.jc_model.specs.declared.call.KeyCall.{KeyCall}
 use Rattle.jc_model.specs.declared.config.CacheConfig.{CacheConfig}
-use Rattle.jc_model.specs.State.{Item, passed, stops_at, before_stop, from_stop, turned, row_of, without, with_row}
+use Rattle.jc_model.specs.State.{Item, passed, stops_at, before_stop, from_stop, turned, row_of, with_row}
 use Rattle.jc_model.specs.Changes.{Progress}
 use Rattle.jc_model.specs.Step.{step}
 use Rattle.jc_model.specs.Sound.{Throughout}
-use Rattle.jc_model.proofs.Rings.{KeepsRing, room_in}
+use Rattle.jc_model.proofs.Rings.{room_in}
 use Rattle.jc_model.proofs.Keeps.{step-keeps}
 
 -- all rows of this key have this value

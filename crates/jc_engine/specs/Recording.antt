@@ -1,5 +1,5 @@
 -- A manager with the transcript of its calls.
-use Rattle.std.specs.Prelude.{◌≡◌, ℕ, Bool, false, List, [], map, length, slice_get}
+use Rattle.std.specs.Prelude.{◌≡◌, ℕ, false, List, [], map, length, slice_get}
 use Rattle.std.specs.Prelude.{Option, Some, None}
 use Rattle.jc_model.specs.declared.call.Call.{Call}
 use Rattle.jc_model.specs.declared.call.Notice.{Notice}

@@ -27,9 +27,9 @@ use Rattle.jc_model.specs.Run.{Run, ended, waiting, load, load_for, process, loa
 use Rattle.jc_model.specs.Table.{live_line, absent_line, otherwise, expected_by, value_of, invoked_by, live_verdict, absent_verdict, decided}
 use Rattle.jc_model.specs.Step.{counted, live_in, expecting, changed, ended_by, failed_by, by_writer, by_loader, acted, act_live, act_absent, by_processor, by_ask, carried, on_row, step}
 use Rattle.jc_model.specs.Bulk.{Sum, empty_sum, with_key, ends_call}
-use Rattle.jc_model.specs.Whole.{Plan, one, many, at_once, after_key, each, most_asked, plan, carried_out, told_first, whole}
-use Rattle.jc_model.specs.Everywhere.{Goes, IsOf}
-use Rattle.jc_model.proofs.Everywhere.{goes-more, goes-and_then}
+use Rattle.jc_model.specs.Whole.{Plan, one, many, at_once, after_key, each, asked_by, plan, carried_out, told_first, whole}
+use Rattle.jc_model.specs.Everywhere.{Within, Goes, IsOf}
+use Rattle.jc_model.proofs.Everywhere.{goes-more, goes-within, goes-and_then}
 
 -- E holds of each way in which a line ends where the key k has this row, if any.
 abbrev pub Ends : CacheConfig → ℕ → List ℕ → (Progress → Reply → Type 0) → Option Item → Progress → Type 0
@@ -173,7 +173,7 @@ module _ (c : CacheConfig) (now : ℕ) (W : Request → Progress → Type 0) (I 
   AtOnce (many calls gathered) = Unit {0}
   AtOnce (at_once p r) = I p
 
-  pub carried_out-goes : Steps → (todo : Plan) (p : Progress) → AtOnce todo → I p → To' (most_asked todo) (carried_out c now todo p)
+  pub carried_out-goes : Steps → (todo : Plan) (p : Progress) → AtOnce todo → I p → To' (asked_by todo) (carried_out c now todo p)
   carried_out-goes steps (one k o) p a i = steps (record { key = k; op = o }) p i
   carried_out-goes steps (many calls gathered) p a i = each-goes steps calls (empty_sum gathered) p i
   carried_out-goes steps (at_once q r) p a i = a
@@ -189,7 +189,21 @@ module _ (c : CacheConfig) (now : ℕ) (W : Request → Progress → Type 0) (I 
       go [] = i
       go (n ∷ rest) = let told = tells p i in (omega arith, told.1, λ a. told.0)
 
-  pub whole-goes : Steps → Tells → (call : Call) (s : State) → AtOnce (plan c now call (begun s)) → I (begun s) → To' (most_asked (plan c now call (begun s)) + 1) (whole c now call s)
+  pub whole-goes : Steps → Tells → (call : Call) (s : State) → AtOnce (plan c now call (begun s)) → I (begun s) → To' (asked_by (plan c now call (begun s)) + 1) (whole c now call s)
   whole-goes steps tells call s a i =
-      goes-and_then W (λ q r. I q) (λ q r. I q) (most_asked (plan c now call (begun s))) 1 (carried_out c now (plan c now call (begun s)) (begun s)) told_first
+      goes-and_then W (λ q r. I q) (λ q r. I q) (asked_by (plan c now call (begun s))) 1 (carried_out c now (plan c now call (begun s)) (begun s)) told_first
       (carried_out-goes steps (plan c now call (begun s)) (begun s) a i) (told_first-goes tells)
+
+-- the most requests of a whole call
+pub whole-within : (c : CacheConfig) (now : ℕ) (call : Call) (s : State) → Within (asked_by (plan c now call (begun s)) + 1) (whole c now call s)
+whole-within c now call s =
+    goes-within Any (λ p r. Unit {0}) _ (whole c now call s)
+    (whole-goes c now Any (λ p. Unit {0}) (λ call p i. step-goes c now Any (λ p r. Unit {0}) call p (λ q of. tt) (λ kind counts v r. tt)) (λ p i. (tt, tt)) call s (free (plan c now call (begun s))) tt)
+  where
+    Any : Request → Progress → Type 0
+    Any q p = Unit {0}
+
+    free : (todo : Plan) → AtOnce c now Any (λ p. Unit {0}) todo
+    free (one k o) = tt
+    free (many calls gathered) = tt
+    free (at_once p r) = tt

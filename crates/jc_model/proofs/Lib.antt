@@ -20,4 +20,3 @@ pub mod Worked
 pub mod Places
 pub mod Suspended
 pub mod Distinct
-pub mod SameKey

@@ -24,10 +24,10 @@ pub data Plan : Type 0 where
   at_once : Progress → Reply → Plan
 
 -- the most requests of a plan before its notices are told
-abbrev pub most_asked : Plan → ℕ
-most_asked (one k o) = 3
-most_asked (many calls gathered) = 3 * length calls
-most_asked (at_once p r) = 0
+abbrev pub asked_by : Plan → ℕ
+asked_by (one k o) = 3
+asked_by (many calls gathered) = 3 * length calls
+asked_by (at_once p r) = 0
 
 -- after one key's step: the first fault of a loader or a writer ends the call, with the number of keys done before
 abbrev pub after_key : List ℕ → (Sum → Progress → Run) → Sum → Progress → Reply → Run

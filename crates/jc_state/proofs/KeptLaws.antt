@@ -29,6 +29,7 @@ module _ (m n o : RowMap) (a b c : ℕ) (k l j : Kept) where
     tied = then.tied;
     elsewhere = λ other q differ. then.elsewhere other q (ap (eqb other) first.id ∙ differ) ∙ first.elsewhere other q differ;
     room = omega (arith, first.room, then.room);
+    within = λ h. then.within (first.within h);
   }
 
   pub stays_on : (s t u : Noted) (x y p q : ℕ) → Stays x p m a k s n b l t → Stays y q n b l t o c j u → Stays (x + y) (p + q) m a k s o c j u
@@ -40,7 +41,7 @@ module _ (m n o : RowMap) (a b c : ℕ) (k l j : Kept) where
 -- Less may be used than is said.
 
 pub keeps_less : (m n : RowMap) (a b : ℕ) (k l : Kept) (x y : ℕ) → x ≤ y → Keeps x m a k n b l → Keeps y m a k n b l
-keeps_less m n a b k l x y less h = record { config = h.config; id = h.id; tied = h.tied; elsewhere = h.elsewhere; room = omega (arith, h.room, less) }
+keeps_less m n a b k l x y less h = record { config = h.config; id = h.id; tied = h.tied; elsewhere = h.elsewhere; room = omega (arith, h.room, less); within = h.within }
 
 pub stays_less : (m n : RowMap) (a b : ℕ) (k l : Kept) (s t : Noted) (x y p q : ℕ) → x ≤ y → p ≤ q → Stays x p m a k s n b l t → Stays y q m a k s n b l t
 stays_less m n a b k l s t x y p q less fewer h = record { keeps = keeps_less m n a b k l x y less h.keeps; places = omega (arith, h.places, fewer) }
@@ -48,10 +49,10 @@ stays_less m n a b k l s t x y p q less fewer h = record { keeps = keeps_less m 
 -- Nothing has changed.
 
 pub keeps_same : (m : RowMap) (a : ℕ) (k : Kept) → IsTied m k → Keeps 0 m a k m a k
-keeps_same m a k tied = record { config = refl; id = refl; tied = tied; elsewhere = λ other q differ. refl; room = omega arith }
+keeps_same m a k tied = record { config = refl; id = refl; tied = tied; elsewhere = λ other q differ. refl; room = omega arith; within = λ h. h }
 
 pub remains : (x : ℕ) (m n : RowMap) (a b : ℕ) (k l : Kept) → Keeps x m a k n b l → Remains m k n l
-remains x m n a b k l h = record { config = h.config; id = h.id; tied = h.tied; elsewhere = h.elsewhere }
+remains x m n a b k l h = record { config = h.config; id = h.id; tied = h.tied; elsewhere = h.elsewhere; within = h.within }
 
 pub remains_on : (m n o : RowMap) (k l j : Kept) → Remains m k n l → Remains n l o j → Remains m k o j
 remains_on m n o k l j first then = record {
@@ -59,10 +60,11 @@ remains_on m n o k l j first then = record {
   id = then.id ∙ first.id;
   tied = then.tied;
   elsewhere = λ other q differ. then.elsewhere other q (ap (eqb other) first.id ∙ differ) ∙ first.elsewhere other q differ;
+  within = λ h. then.within (first.within h);
 }
 
 pub remains_same : (m : RowMap) (k : Kept) → IsTied m k → Remains m k m k
-remains_same m k tied = record { config = refl; id = refl; tied = tied; elsewhere = λ other q differ. refl }
+remains_same m k tied = record { config = refl; id = refl; tied = tied; elsewhere = λ other q differ. refl; within = λ h. h }
 
 -- a change of one table that says the same as another
 pub remains_over : (m m' n : RowMap) (k l : Kept) → m' ≡ m → Remains m' k n l → Remains m k n l

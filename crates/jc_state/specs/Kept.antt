@@ -1,5 +1,5 @@
 -- What a cache keeps, and what it means.
-use Rattle.std.specs.Prelude.{◌≡◌, ◌+◌, ◌≤◌, ℕ, List, map, Option, Some, None, true}
+use Rattle.std.specs.Prelude.{◌≡◌, ◌+◌, ◌≤◌, ℕ, List, length, map, Option, Some, None, true}
 use Rattle.jc_model.specs.declared.call.Counts.{Counts}
 use Rattle.jc_model.specs.declared.call.Notice.{Notice}
 use Rattle.jc_model.specs.declared.config.CacheConfig.{CacheConfig}
@@ -34,14 +34,15 @@ progress_of k told = record { state = state_of k; notices = told }
 abbrev pub IsTied : RowMap → Kept → Type 0
 IsTied m k = Tied m k.id k.cells
 
--- What stays while a cache and the table change: it is the same cache and tied to the table, the table says the same of
--- other caches, and no more than so many rows of its room are used.
+-- What stays while a cache and the table change: it is the same cache, tied to the table and within its capacity, the
+-- table says the same of other caches, and no more than so many rows of its room are used.
 pub record Keeps (rows : ℕ) (m : RowMap) (spare : ℕ) (k : Kept) (n : RowMap) (left : ℕ) (k' : Kept) : Type 0 where
   pub config : k'.config ≡ k.config
   pub id : k'.id ≡ k.id
   pub tied : IsTied n k'
   pub elsewhere : SameElsewhere k.id m n
   pub room : spare ≤ left + rows
+  pub within : length k.cells ≤ k.config.capacity → length k'.cells ≤ k'.config.capacity
 
 -- and no more than so many places for notices
 pub record Stays (rows most : ℕ) (m : RowMap) (spare : ℕ) (k : Kept) (s : Noted) (n : RowMap) (left : ℕ) (k' : Kept) (t : Noted) : Type 0 where
@@ -70,6 +71,7 @@ pub record Remains (m : RowMap) (k : Kept) (n : RowMap) (k' : Kept) : Type 0 whe
   pub id : k'.id ≡ k.id
   pub tied : IsTied n k'
   pub elsewhere : SameElsewhere k.id m n
+  pub within : length k.cells ≤ k.config.capacity → length k'.cells ≤ k'.config.capacity
 
 -- nothing has moved
 pub record IsUnmoved (m : RowMap) (k : Kept) (n : RowMap) (k' : Kept) : Type 0 where

@@ -20,20 +20,19 @@ use std::test::Fail;
 #[derive(Drop)]
 struct OneCache {
     alloc: Global,
-    config: CacheConfig,
     state: CacheState<ListRing>,
     rows: ListRows,
 }
 
 impl Model for OneCache {
-    ghost use Rattle.jc_state.specs.Kept.{Kept, IsKept};
+    ghost use Rattle.jc_state.specs.Kept.{Kept, IsTied};
     ghost use Rattle.jc_rows.specs.Listed.{contents_of};
 
     ghost Value = { Kept };
 
     ghost view = { λ c. c.state };
 
-    ghost invariant = { λ c. IsKept c.config (contents_of c.rows) 5 c.state };
+    ghost invariant = { λ c. IsTied (contents_of c.rows) c.state };
 }
 
 fn id() -> CacheId
@@ -60,10 +59,9 @@ impl OneCache {
     fn new(alloc: Global, config: CacheConfig) -> Result<OneCache, Fail>
         requires { config.capacity ≡ 4 }
     {
-        let state = CacheState::with_capacity(alloc, 4)?;
+        let state = CacheState::empty(alloc, id(), config)?;
         Ok(OneCache {
             alloc,
-            config,
             state,
             rows: ListRows::new(alloc),
         })
@@ -72,7 +70,7 @@ impl OneCache {
     /// The reply, where the call does not wait.
     fn reply(&mut self, call: Call) -> Option<Reply> {
         let (state, rows) = (&mut self.state, &mut self.rows);
-        match start_call(self.alloc, &self.config, state, rows, id(), 0, call) {
+        match start_call(self.alloc, state, rows, 0, call) {
             Ok(Moved::Ended(reply, _)) => Some(reply.into_first()),
             _ => None,
         }
@@ -81,14 +79,14 @@ impl OneCache {
     /// The request for which the call waits.
     fn request(&mut self, call: Call) -> Option<Request> {
         let (state, rows) = (&mut self.state, &mut self.rows);
-        match start_call(self.alloc, &self.config, state, rows, id(), 0, call) {
+        match start_call(self.alloc, state, rows, 0, call) {
             Ok(Moved::Waiting(request, _)) => Some(request),
             _ => None,
         }
     }
 
     fn holds(&self, key: &Key) -> bool {
-        self.state.holds(&self.rows, id(), key, 0)
+        self.state.holds(&self.rows, key, 0)
     }
 
     fn counts(&self) -> Counts {

@@ -111,6 +111,18 @@ fn other_words_are_refused(rt: HostRuntime) -> Result<(), Fail> {
     Ok(())
 }
 
+#[test]
+fn the_version_is_told(rt: HostRuntime) -> Result<(), Fail> {
+    let alloc = rt.alloc();
+    for word in ["--version", "-V"] {
+        let words = [word];
+        let version = refusal_of(alloc, words.as_slice()).expect(&rt, "a version is no run");
+        assert_eq!(rt; version.exit_code(), 0);
+        assert_eq!(rt; version.to_string(alloc)?.as_str(), "jcache 0.1.0\n");
+    }
+    Ok(())
+}
+
 /// Whether the text has each of these parts.
 fn has_parts(text: &str, parts: &[&str]) -> bool {
     parts.iter().all(|part| text.contains(*part))
@@ -122,6 +134,7 @@ fn help_tells_of_files_and_statuses(rt: HostRuntime) -> Result<(), Fail> {
     let parts = [
         "[[cache]]",
         "{\"s\":0,\"c\":\"a\",\"at\":0,\"op\":\"put\"",
+        "    k p arg         invoke",
         "    0  the report",
         "    1  a file",
         "    2  the command line",
@@ -132,7 +145,9 @@ fn help_tells_of_files_and_statuses(rt: HostRuntime) -> Result<(), Fail> {
         assert_eq!(rt; help.exit_code(), 0);
         let text = help.to_string(alloc)?;
         assert!(rt; has_parts(text.as_str(), parts.as_slice()), "{word}");
-        assert!(rt; text.contains("Usage: jcache <COMMAND>"));
+        assert!(rt;
+            text.contains("Usage: jcache run [OPTIONS] <CONFIG> <SCRIPT>\n       jcache < SCRIPT\n")
+        );
     }
     let help = refusal_of(alloc, ["run", "--help"].as_slice()).expect(&rt, "help is no run");
     assert_eq!(rt; help.exit_code(), 0);

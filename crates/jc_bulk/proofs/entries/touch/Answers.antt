@@ -1,7 +1,7 @@
-use Rattle.std.proofs.Common.{◌≡◌, [], subst, true, false, Bool, if◌then◌else◌, Some, sym, ap, ◌∙◌}
-use Rattle.jc_model.specs.State.{row_of, is_live}
+use Rattle.std.proofs.Common.{◌≡◌, [], subst, true, false, Bool, if◌then◌else◌, sym, ap, ◌∙◌}
+use Rattle.jc_model.specs.State.{is_live}
 use Rattle.jc_model.specs.Changes.{Progress, begun, hit, access}
-use Rattle.jc_state.specs.Kept.{Kept, items_of, state_of, progress_of, record_of, IsRow}
+use Rattle.jc_state.specs.Kept.{Kept, state_of, progress_of, record_of, IsRow}
 use Rattle.jc_model.specs.declared.config.CacheConfig.{CacheConfig}
 use Rattle.jc_state.proofs.Found.{same_row}
 use Rattle.jc_bulk.proofs.entries.touch.Goals as goal
