@@ -20,3 +20,4 @@ pub mod Worked
 pub mod Places
 pub mod Suspended
 pub mod Distinct
+pub mod Tests
