@@ -117,7 +117,7 @@ fn a_reader_fails_at_each_read(rt: HostRuntime) -> Result<(), Trouble> {
         let mut writer = WatchedWriter::new(Vec::new(alloc));
         let fault = fault_of(alloc, 2, &mut script, &mut writer)?;
         assert_eq!(rt; fault, Some(RunFault::Read));
-        assert_eq!(rt; (config.reads, script.reads), (left + 1, left + 1));
+        assert_eq!(rt; (config.reads(), script.reads()), (left + 1, left + 1));
         assert!(rt; writer.into_inner().is_empty());
     }
     Ok(())
