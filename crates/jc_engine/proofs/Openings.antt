@@ -91,9 +91,9 @@ pub from_push : {G : Type 0} (place : ℕ) (configs : List CacheConfig) (c : Cac
 from_push place [] c = let same : place + 0 ≡ place = omega arith in ap (λ (i : ℕ). fresh_fields i c ∷ []) same
 from_push place (d ∷ ds) c = let same : place + length (d ∷ ds) ≡ (place + 1) + length ds = omega arith in ap (λ l. fresh_fields place d ∷ l) (ap (λ (i : ℕ). fresh_from (place + 1) ds ++ fresh_fields i c ∷ []) same ∙ from_push (place + 1) ds c)
 
-pub from_length : {G : Type 0} (place : ℕ) (configs : List CacheConfig) → length (fresh_from {G = G} place configs) ≡ length configs
-from_length place [] = refl
-from_length place (c ∷ cs) = ap suc (from_length (place + 1) cs)
+pub from_length : (G : Type 0) (place : ℕ) (configs : List CacheConfig) → length (fresh_from {G = G} place configs) ≡ length configs
+from_length G place [] = refl
+from_length G place (c ∷ cs) = ap suc (from_length G (place + 1) cs)
 
 fresh_at : {G : Type 0} (m : RowMap) → ((x : ℕ × List ℕ) → table.get m x ≡ None) → (id : ℕ) (c : CacheConfig) → IsManaged {G = G} m id (fresh_fields id c)
 fresh_at m none id c = record {

@@ -1,4 +1,4 @@
-use Rattle.std.proofs.Common.{◌≡◌, ◌<◌, length, Some, refl, sym, ap, subst, ◌∙◌, List, ℕ, false, arith, rules}
+use Rattle.std.proofs.Common.{◌≡◌, Some, refl, sym, ap, subst, ◌∙◌, List, ℕ, false, rules}
 use Rattle.std.specs.Prelude.{slice_get, slice_set, map, IfOk, OnOk}
 use Rattle.std.specs.HashMap.{get}
 use Rattle.std.specs.Str.{bytes_eq}

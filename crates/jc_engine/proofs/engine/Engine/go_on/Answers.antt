@@ -1,9 +1,9 @@
-use Rattle.std.proofs.Common.{◌≡◌, ◌<◌, length, Some, refl}
+use Rattle.std.proofs.Common.{◌≡◌, Some, refl}
 use Rattle.std.specs.Prelude.{slice_get}
 use Rattle.std.specs.HashMap.{get}
 use Rattle.std.specs.Str.{bytes_eq}
 use Rattle.jc_model.specs.declared.event.Event.TheVariants.{Answer as Answered}
-use Rattle.jc_engine.proofs.Moving.{read_at, managed_own, within, allowed_here, managed_here, sound_after, one_after, outcome_after, statuses_later, fits_after}
+use Rattle.jc_engine.proofs.Moving.{read_at, managed_own, within, allowed_here, sound_after, one_after, outcome_after, statuses_later, fits_after}
 use Rattle.jc_engine.proofs.engine.Engine.go_on.Given as given
 use Rattle.jc_engine.proofs.engine.Engine.go_on.Goals as goal
 

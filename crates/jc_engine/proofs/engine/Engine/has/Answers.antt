@@ -1,4 +1,4 @@
-use Rattle.std.proofs.Common.{◌≡◌, List, Some, None, ap, sym, ◌∙◌}
+use Rattle.std.proofs.Common.{List, ap, sym, ◌∙◌}
 use Rattle.std.specs.Prelude.{slice_get, option_map}
 use Rattle.std.specs.HashMap.{get}
 use Rattle.std.specs.Str.{bytes_eq}
@@ -27,4 +27,4 @@ pub holds-requires : goal.holds-requires
 holds-requires g c =
     let found = c.in-Some.ensures.lookup in
     let at = read_at c.self.inside.caches.items c.deref.result.now c.number.result c.args.id c.in-Some.cache.now c.deref.ensures.value c.number.ensures found.3.0 found.1 in
-    (managed_at c.self.inside.caches.items c.args.id c.in-Some.cache.now c.in-Some.cache.now at (g.R.Rows.contents c.self.inside.rows) c.self.inside.names.items (get bytes_eq c.self.inside.ids) c.self.invariant).kept.tied
+    record { tied = (managed_at c.self.inside.caches.items c.args.id c.in-Some.cache.now c.in-Some.cache.now at (g.R.Rows.contents c.self.inside.rows) c.self.inside.names.items (get bytes_eq c.self.inside.ids) c.self.invariant).kept.tied }
