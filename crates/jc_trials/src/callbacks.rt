@@ -8,8 +8,10 @@ use crate::fakes::{
 use crate::log::Log;
 use crate::trouble::{Trouble, no_hooks};
 use jc_config::{Configuration, HookKinds, ProcessorKind, read_config};
-use jc_hooks::program::{CheckWriter, ProgramProcessor};
-use jc_hooks::{CacheHooks, ClosureLoader, ClosureProcessor, TallyListener};
+use jc_hooks::program::{CheckWriter, EchoLoader, ProgramProcessor};
+use jc_hooks::{
+    CacheHooks, ClosureLoader, ClosureProcessor, Listener, Loader, Processor, TallyListener, Writer,
+};
 use jc_model::OutOfMemory;
 use jc_runner::{RunFault, Watched, WatchedWriter, serial};
 use std::alloc::Global;
@@ -231,5 +233,38 @@ fn a_callback_without_memory_ends_the_run(rt: HostRuntime) -> Result<(), Trouble
     let (fault, written) = poor(rt.alloc(), &SCENES[0])?;
     assert_eq!(rt; fault, Some(RunFault::Memory));
     assert!(rt; written.is_empty());
+    Ok(())
+}
+
+/// What the last scene reports.
+const REPORT: &str = r#"cache a
+0 event created "k"
+0 invoke some "k+"
+0 event updated "k"
+0 put ok
+0 event updated "k"
+0 load_all fault loader after 1
+0 event removed "k"
+0 get_and_remove some "k"
+"#;
+
+#[test]
+fn boxed_callbacks_answer_as_those_in_the_boxes(rt: HostRuntime) -> Result<(), Trouble> {
+    let alloc = rt.alloc();
+    let Configuration { settings, .. } = read_config(alloc, SCENES[5].caches.as_bytes())?;
+    let loader: Box<dyn Loader> = Box::new(alloc, EchoLoader)?;
+    let check: Box<dyn Writer> = Box::new(alloc, CheckWriter)?;
+    let append: Box<dyn Processor> = Box::new(alloc, ProgramProcessor::Append)?;
+    let tally: Box<dyn Listener> = Box::new(alloc, TallyListener::new())?;
+    let mut hooks = [CacheHooks {
+        loader: Some(loader),
+        writer: Some(check),
+        processors: Vec::from_array(alloc, [append])?,
+        listeners: Vec::from_array(alloc, [tally])?,
+    }];
+    let mut reader = Watched::new(SCENES[5].calls.as_bytes());
+    let mut writer = WatchedWriter::new(Vec::new(alloc));
+    serial(alloc, settings, &mut hooks, 0, &mut reader, &mut writer)?;
+    assert_eq!(rt; writer.into_inner().as_slice(), REPORT.as_bytes());
     Ok(())
 }
