@@ -19,7 +19,8 @@ pub const SCRIPT: &str = "Path of the script, one JSON object a line";
 
 pub const WORKERS: &str = "From 1 to 8; has no effect yet: one thread makes all calls";
 
-pub const SEED: &str = "From 0 to 9223372036854775807; has no effect yet";
+pub const SEED: &str =
+    "From 0 to 9223372036854775807; picks places in the table, and changes no report";
 
 pub const SERIAL: &str = "Has no effect yet: all calls are made in the script's order";
 
