@@ -2,9 +2,7 @@
 //! stored closures.
 
 use crate::closures::{echo_closure, processor_closure};
-use crate::fakes::{
-    NotedListener, NotedLoader, NotedProcessor, NotedWriter, PoorLoader,
-};
+use crate::fakes::{NotedListener, NotedLoader, NotedProcessor, NotedWriter, PoorLoader};
 use crate::log::Log;
 use crate::trouble::{Trouble, no_hooks};
 use jc_config::{Configuration, HookKinds, ProcessorKind, read_config};

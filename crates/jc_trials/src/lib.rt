@@ -7,9 +7,7 @@ mod log;
 mod placers;
 mod trouble;
 
-pub use fakes::{
-    NotedListener, NotedLoader, NotedProcessor, NotedWriter, PoorLoader,
-};
+pub use fakes::{NotedListener, NotedLoader, NotedProcessor, NotedWriter, PoorLoader};
 pub use log::{Log, Text};
 pub use placers::{ConstantPlacer, RefusingMirror, TablePlacer};
 pub use trouble::{Trouble, key, no_hooks, plain_cache, value_of};
