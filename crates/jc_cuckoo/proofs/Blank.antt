@@ -6,7 +6,7 @@ use Rattle.std.proofs.lemmas.Nat.{mod_below}
 use Rattle.std.proofs.lemmas.List.{get_or-set_other, length-set}
 use Rattle.jc_place.specs.declared.place.Place.{Place}
 use Rattle.jc_place.specs.Place.{IsTableSize, alternate_of}
-use Rattle.jc_place.proofs.Other.{size_positive}
+use Rattle.jc_place.proofs.Other.{counts, size_positive}
 use Rattle.jc_cuckoo.specs.declared.held.Held.{Held}
 use Rattle.jc_cuckoo.specs.Cells.{cell, IsBucketOf, IsFull, first_bucket, second_bucket}
 use Rattle.jc_cuckoo.specs.Double.{IsBlank, IsFilled}
@@ -71,7 +71,7 @@ filled_length cs ds t h f = ap length f.cells ∙ length-set cs f.at (Some h)
 -- which of its two buckets
 
 pub first_heir : (p : ℕ → List ℕ → Place) (n m at : ℕ) (place : Place) (x : ℕ × List ℕ) → IsTableSize m → m ≡ 2 * n → at < 4 * n → place ≡ p x.0 x.1 → place.first % m % n ≡ at / 4 → Heir n at (place.first % m)
-first_heir p n m at place x size twice from is half = record { from = from; below = subst (λ (k : ℕ). place.first % m < k) twice (mod_below place.first m (size_positive m size)); half = half }
+first_heir p n m at place x size twice from is half = record { from = from; below = subst (λ (k : ℕ). place.first % m < k) twice (mod_below place.first m (size_positive m (counts m size))); half = half }
 
 pub second_heir : (p : ℕ → List ℕ → Place) (n m at s : ℕ) (place : Place) (x : ℕ × List ℕ) → IsTableSize n → m ≡ 2 * n → at < 4 * n → place ≡ p x.0 x.1 → s ≡ alternate_of m place.tag (place.first % m) → s < m → (place.first % m % n ≡ at / 4 → ⊥) → IsBucketOf p n x (at / 4) → Heir n at s
 second_heir p n m at s place x size twice from is second below other bucket = record {

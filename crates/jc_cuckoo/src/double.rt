@@ -40,6 +40,7 @@ impl<P: Placer + Drop, M: Mirror> Cuckoo<P, M> {
 
     /// Puts a row from a slot of a table of half the size into that one of its two buckets which the slot's bucket
     /// became part of.
+    #[tactic(auto, using(jc_place::proofs::Other::counts))]
     fn bring(&mut self, half: u32, at: usize, held: Held)
         requires size { IsTableSize half }
         requires twice { self.old.buckets ≡ 2 * half }
@@ -91,6 +92,7 @@ impl<P: Placer + Drop, M: Mirror> Cuckoo<P, M> {
     }
 
     /// Puts a row into the first empty slot of its first bucket, else of its second, else at the end of the stash.
+    #[tactic(auto, using(jc_place::proofs::Other::counts))]
     fn admit(&mut self, held: Held)
         requires room { 0 < self.old.room }
         requires absent { map.get (rows_in self.old.cells) (place_of held) ≡ None }

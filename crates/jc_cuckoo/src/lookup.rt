@@ -13,6 +13,7 @@ use jc_place::place::{Placer, alternate};
 
 impl<P: Placer + Drop, M: Mirror> Cuckoo<P, M> {
     /// The cell in which a key's row stands.
+    #[tactic(auto, using(jc_place::proofs::Other::counts))]
     pub(crate) fn seek(&self, id: CacheId, key: &Key) -> Option<usize>
         ensures { IsSought self.now.cells 0 (length self.now.cells) (id, key.now) result }
     {

@@ -15,6 +15,7 @@ use jc_place::place::{Placer, alternate};
 impl<P: Placer + Drop, M: Mirror> Cuckoo<P, M> {
     /// Adds the bucket that a row could move into, where it is near and new and there is room for it. The row stands in
     /// the slot that the search comes to after so many.
+    #[tactic(auto, using(jc_place::proofs::Other::counts))]
     pub(crate) fn reach(&self, queue: &mut Queue, looked: usize)
         requires queue { IsQueue (P.placing self.now.placer) self.now.buckets self.now.cells queue.old }
         requires searched { IsSearched (P.placing self.now.placer) self.now.buckets self.now.cells queue.old looked }
@@ -111,6 +112,7 @@ impl<P: Placer + Drop, M: Mirror> Cuckoo<P, M> {
     }
 
     /// Puts a row into a slot where a path leads to one, and says whether one did. Where none did, only `work` changes.
+    #[tactic(auto, using(jc_place::proofs::Other::counts))]
     pub(crate) fn settle(&mut self, held: Held) -> bool
         requires absent { map.get (rows_in self.old.cells) (place_of held) ≡ None }
         requires work { (self.old.work.searches ≤ 1) × (self.old.work.looked ≤ 256) × (self.old.work.moves ≡ 0) }
