@@ -4,7 +4,7 @@ use mathlib.Core.Logic.{dite}
 use native.Mathlib.Decide.{ℕ_discrete}
 use Rattle.std.proofs.Math.Seq.{take-suc}
 use Rattle.std.proofs.lemmas.List.{take_all}
-use Rattle.jc_stripes.specs.Stripes.{Among, Changes, IsOpened, IsShut, IsCommitted, Covered, written}
+use Rattle.jc_stripes.specs.Stripes.{Among, Changes, IsOpened, IsShut, IsCommitted, Covered, set_all}
 
 pub among_end : (js : List ℕ) (x : ℕ) → Among x (js ++ x ∷ [])
 among_end [] x = inl refl
@@ -88,22 +88,22 @@ pub settled_after : (js vs us : List ℕ) → ((j : ℕ) → get_or vs j 0 < 2 ^
 settled_after js vs us fits fits' settled k j odd = ⊎_elim (λ (e : get_or us j 0 ≡ get_or vs j 0). let was : get_or vs j 0 % 2 ≡ 1 = ap (λ (z : ℕ). z % 2) (sym e) ∙ odd in omega (arith, settled j was))
     (λ (a : Among j js). settled_one (get_or vs j 0) (get_or us j 0) (fits j) (fits' j) (settled j) (k.there j a) odd) (k.elsewhere j)
 
-pub written-snoc : (words : List ℕ) (xs : List (ℕ × ℕ)) (x : ℕ × ℕ) → written words (xs ++ x ∷ []) ≡ set (written words xs) x.0 x.1
-written-snoc words [] x = refl
-written-snoc words (y ∷ ys) x = written-snoc (set words y.0 y.1) ys x
+pub set_all-snoc : (words : List ℕ) (xs : List (ℕ × ℕ)) (x : ℕ × ℕ) → set_all words (xs ++ x ∷ []) ≡ set (set_all words xs) x.0 x.1
+set_all-snoc words [] x = refl
+set_all-snoc words (y ∷ ys) x = set_all-snoc (set words y.0 y.1) ys x
 
-pub written-more : (words : List ℕ) (xs : List (ℕ × ℕ)) (i : ℕ) (d : ℕ × ℕ) → i < length xs → written words (take (i + 1) xs) ≡ set (written words (take i xs)) (get_or xs i d).0 (get_or xs i d).1
-written-more words xs i d inside = rw (add-one, take-suc xs i d inside) (written-snoc words (take i xs) (get_or xs i d))
+pub set_all-more : (words : List ℕ) (xs : List (ℕ × ℕ)) (i : ℕ) (d : ℕ × ℕ) → i < length xs → set_all words (take (i + 1) xs) ≡ set (set_all words (take i xs)) (get_or xs i d).0 (get_or xs i d).1
+set_all-more words xs i d inside = rw (add-one, take-suc xs i d inside) (set_all-snoc words (take i xs) (get_or xs i d))
 
 -- all but the last, and then the last
-pub written-last : (words : List ℕ) (xs : List (ℕ × ℕ)) (i : ℕ) (d : ℕ × ℕ) → i + 1 ≡ length xs → set (written words (take i xs)) (get_or xs i d).0 (get_or xs i d).1 ≡ written words xs
-written-last words xs i d is = sym (written-more words xs i d (omega arith)) ∙ ap (written words) (ap (λ n. take n xs) is ∙ take_all (length xs) xs (le_refl (length xs)))
+pub set_all-last : (words : List ℕ) (xs : List (ℕ × ℕ)) (i : ℕ) (d : ℕ × ℕ) → i + 1 ≡ length xs → set (set_all words (take i xs)) (get_or xs i d).0 (get_or xs i d).1 ≡ set_all words xs
+set_all-last words xs i d is = sym (set_all-more words xs i d (omega arith)) ∙ ap (set_all words) (ap (λ n. take n xs) is ∙ take_all (length xs) xs (le_refl (length xs)))
 
-pub length-written : (words : List ℕ) (xs : List (ℕ × ℕ)) → length (written words xs) ≡ length words
-length-written words [] = refl
-length-written words (x ∷ xs) = length-written (set words x.0 x.1) xs ∙ length-set words x.0 x.1
+pub length-set_all : (words : List ℕ) (xs : List (ℕ × ℕ)) → length (set_all words xs) ≡ length words
+length-set_all words [] = refl
+length-set_all words (x ∷ xs) = length-set_all (set words x.0 x.1) xs ∙ length-set words x.0 x.1
 
--- what is written is under an open version
+-- what is set_all is under an open version
 module _ (group : ℕ → ℕ) where
   pub covered_at : (js : List ℕ) (ws : List (ℕ × ℕ)) (i : ℕ) (d : ℕ × ℕ) → i < length ws → Covered group js ws → Among (group (get_or ws i d).0) js
   covered_at js [] i d inside k = absurd (omega arith)

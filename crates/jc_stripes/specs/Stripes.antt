@@ -117,9 +117,9 @@ IsWriter v = v.role ≡ Writing (desk_of v)
 abbrev pub IsReader : {L : Type 0} → View L → Type 0
 IsReader v = v.role ≡ Looking (glance_of v)
 
-abbrev pub written : List ℕ → List (ℕ × ℕ) → List ℕ
-written words [] = words
-written words (x ∷ xs) = written (slice_set words x.0 x.1) xs
+abbrev pub set_all : List ℕ → List (ℕ × ℕ) → List ℕ
+set_all words [] = words
+set_all words (x ∷ xs) = set_all (slice_set words x.0 x.1) xs
 
 abbrev pub front_before : {L : Type 0} → Origin L → Front
 front_before o = elim o.before [ None ↦ [] | Some p ↦ p.value.me.0.front ]

@@ -1,7 +1,7 @@
 //! Tables of words that follow one another. Readers move on to the newest.
 ghost use Rattle.std.specs.Prelude.{◌≡◌, ◌+◌, ◌^◌, ◌<◌, [], ◌∷◌, ◌++◌, drop, replicate, length, map, Some, IfOk, IfErr, All, slice_get, ℕ, List};
 ghost use mathlib.Core.List.{IsPrefix};
-ghost use Rattle.jc_stripes.specs.Stripes.{many, last_of, desk_of, written, Covered, Changes, IsCommitted, shared};
+ghost use Rattle.jc_stripes.specs.Stripes.{many, last_of, desk_of, set_all, Covered, Changes, IsCommitted, shared};
 ghost use Rattle.jc_stripes.specs.Lineages.{tables, outgrown, IsEarlier};
 
 use crate::board::{Law, StripesSeat};
@@ -72,11 +72,11 @@ impl<L: Law + Drop> Lineage<L> {
         requires inside { All (λ w. many + w.0 < self.old.writer.seat.table_id.words) writes.now }
         requires few { All (λ j. j < many) stripes.now }
         requires covered { Covered L.group stripes.now writes.now }
-        requires lawful { (l : L) × (self.old.writer.seat.me.0.law ≡ Some l) × L.admits l (written (last_of self.old.writer.seat.me.0.front) writes.now) }
+        requires lawful { (l : L) × (self.old.writer.seat.me.0.law ≡ Some l) × L.admits l (set_all (last_of self.old.writer.seat.me.0.front) writes.now) }
         ensures name { self.new.keeper.seat.table_id ≡ self.old.keeper.seat.table_id }
         ensures same { (self.new.writer.seat.table_id ≡ self.old.writer.seat.table_id) × (self.new.writer.seat.me.0.law ≡ self.old.writer.seat.me.0.law) }
         ensures versions { Changes IsCommitted stripes.now (desk_of self.old.writer.seat.me.0).versions (desk_of self.new.writer.seat.me.0).versions }
-        ensures front { self.new.writer.seat.me.0.front ≡ self.old.writer.seat.me.0.front ++ written (last_of self.old.writer.seat.me.0.front) writes.now ∷ [] }
+        ensures front { self.new.writer.seat.me.0.front ≡ self.old.writer.seat.me.0.front ++ set_all (last_of self.old.writer.seat.me.0.front) writes.now ∷ [] }
     {
         self.writer.commit(stripes, writes);
     }
@@ -101,7 +101,7 @@ impl<L: Law + Drop> Lineage<L> {
     pub fn meet(&mut self, member: &mut Member<L>) -> Result<(), AllocError>
         requires { member.old.follower.seat.table_id ≡ self.old.keeper.seat.table_id }
         ensures name { (self.new.keeper.seat.table_id ≡ self.old.keeper.seat.table_id) × (member.new.follower.seat.table_id ≡ member.old.follower.seat.table_id) }
-        ensures writer { (self.new.writer.seat.me.0.front ≡ self.old.writer.seat.me.0.front) × (self.new.writer.seat.me.0.law ≡ self.old.writer.seat.me.0.law) × (self.new.writer.seat.table_id ≡ self.old.writer.seat.table_id) }
+        ensures writer { (self.new.writer.seat.me.0 ≡ record self.old.writer.seat.me.0 { told = self.new.writer.seat.me.0.told }) × (self.new.writer.seat.table_id ≡ self.old.writer.seat.table_id) }
         ensures front { IsPrefix member.old.reader.seat.me.0.front member.new.reader.seat.me.0.front }
         ensures met { IfOk result (λ _. (member.new.reader.seat.me.0 ≡ shared self.old.writer.seat.me.0) × (member.new.reader.seat.table_id ≡ self.old.writer.seat.table_id)) }
         ensures refused { IfErr result (λ _. (member.new.reader.seat.me.0 ≡ member.old.reader.seat.me.0) × (member.new.reader.seat.table_id ≡ member.old.reader.seat.table_id)) }

@@ -1,6 +1,6 @@
 //! What the writer does to the shared words: it opens versions, sets words under them, and shuts them.
 ghost use Rattle.std.specs.Prelude.{◌≡◌, ◌≢◌, ◌+◌, ◌%◌, ◌^◌, ◌<◌, ◌≤◌, [], ◌∷◌, ◌++◌, replicate, slice_index, slice_set, All, Some, ℕ};
-ghost use Rattle.jc_stripes.specs.Stripes.{IsWriter, IsOpened, IsShut, Changes, desk, desk_of, last_of, many, written};
+ghost use Rattle.jc_stripes.specs.Stripes.{IsWriter, IsOpened, IsShut, Changes, desk, desk_of, last_of, many, set_all};
 
 use crate::board::{Board, Law, Seal, Set, StripesSeat, Turn, VERSIONS};
 
@@ -123,7 +123,7 @@ pub(crate) fn fill<L: Law>(board: &Board<L>, seat: &mut StripesSeat<L>, writes: 
     requires known { IsWriter seat.old.me.0 }
     requires is_open { All (λ w. slice_index (desk_of seat.old.me.0).versions (L.group w.0) % 2 ≡ 1) writes.now }
     ensures same { (seat.new.table_id ≡ seat.old.table_id) × (seat.new.id ≡ seat.old.id) }
-    ensures view { seat.new.me ≡ (record seat.old.me.0 { role = desk (desk_of seat.old.me.0).versions (written (desk_of seat.old.me.0).words writes.now) }, seat.old.me.1) }
+    ensures view { seat.new.me ≡ (record seat.old.me.0 { role = desk (desk_of seat.old.me.0).versions (set_all (desk_of seat.old.me.0).words writes.now) }, seat.old.me.1) }
 {
     for i in 0..writes.len() {
         let (place, value) = writes[i];

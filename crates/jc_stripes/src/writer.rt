@@ -2,7 +2,7 @@
 ghost use Rattle.std.specs.Prelude.{◌≡◌, ◌+◌, ◌%◌, ◌^◌, ◌<◌, ◌≤◌, [], ◌∷◌, ◌++◌, drop, replicate, length, slice_index, All, IfOk, Some, ℕ};
 ghost use Rattle.std.specs.Arc.{arc_value};
 ghost use mathlib.Core.List.{IsPrefix};
-ghost use Rattle.jc_stripes.specs.Stripes.{IsWriter, IsCommitted, Changes, Covered, common, desk, desk_of, heard, last_of, many, opening_view, shared, written};
+ghost use Rattle.jc_stripes.specs.Stripes.{IsWriter, IsCommitted, Changes, Covered, common, desk, desk_of, heard, last_of, many, opening_view, shared, set_all};
 
 use crate::board::{Board, COMMON, Hear, Law, Origin, Recall, Share, StripesSeat, VERSIONS};
 use crate::reader::Reader;
@@ -78,10 +78,10 @@ impl<L: Law> Writer<L> {
         requires inside { All (λ w. many + w.0 < self.old.seat.table_id.words) writes.now }
         requires few { All (λ j. j < many) stripes.now }
         requires covered { Covered L.group stripes.now writes.now }
-        requires lawful { (l : L) × (self.old.seat.me.0.law ≡ Some l) × L.admits l (written (last_of self.old.seat.me.0.front) writes.now) }
+        requires lawful { (l : L) × (self.old.seat.me.0.law ≡ Some l) × L.admits l (set_all (last_of self.old.seat.me.0.front) writes.now) }
         ensures same { (self.new.seat.table_id ≡ self.old.seat.table_id) × (self.new.seat.me.0.law ≡ self.old.seat.me.0.law) }
         ensures versions { Changes IsCommitted stripes.now (desk_of self.old.seat.me.0).versions (desk_of self.new.seat.me.0).versions }
-        ensures front { self.new.seat.me.0.front ≡ self.old.seat.me.0.front ++ written (last_of self.old.seat.me.0.front) writes.now ∷ [] }
+        ensures front { self.new.seat.me.0.front ≡ self.old.seat.me.0.front ++ set_all (last_of self.old.seat.me.0.front) writes.now ∷ [] }
     {
         let last = writes.len() - 1;
         let (place, value) = writes[last];
@@ -104,7 +104,7 @@ impl<L: Law> Writer<L> {
     /// Takes in a reader: what it has seen is a beginning of the front.
     pub fn hear(&mut self, reader: Reader<L>)
         requires { reader.seat.table_id ≡ self.old.seat.table_id }
-        ensures same { (self.new.seat.table_id ≡ self.old.seat.table_id) × (self.new.seat.me.0.front ≡ self.old.seat.me.0.front) × (self.new.seat.me.0.law ≡ self.old.seat.me.0.law) }
+        ensures same { (self.new.seat.table_id ≡ self.old.seat.table_id) × (self.new.seat.me.0 ≡ heard self.old.seat.me.0 reader.seat.me.0) }
         ensures seen { IsPrefix reader.seat.me.0.front self.old.seat.me.0.front }
     {
         take_in(&self.board, &mut self.seat, reader);
