@@ -1,5 +1,5 @@
 -- Words that are all zero, and words of versions at rest.
-use Rattle.std.proofs.Common.{◌≡◌, ℕ, zero, suc, ◌+◌, ◌*◌, ◌/◌, ◌<◌, List, [], ◌∷◌, ◌++◌, length, take, drop, replicate, get_or, map, option_map, Option, Some, None, refl, sym, ap, ◌∙◌, subst, arith, add-one, length-append, append_assoc}
+use Rattle.std.proofs.Common.{◌≡◌, ℕ, zero, suc, ◌+◌, ◌*◌, ◌/◌, ◌<◌, List, [], ◌∷◌, ◌++◌, length, take, drop, replicate, get_or, map, option_map, Option, Some, None, refl, sym, ap, ◌∙◌, subst, arith, add-one, append_assoc}
 use Rattle.std.specs.List.{All}
 use mathlib.Core.List.{map-append}
 use Rattle.std.proofs.Math.Seq.{take-suc}
@@ -8,7 +8,7 @@ use Rattle.jc_cuckoo.specs.declared.held.Held.{Held}
 use Rattle.jc_cuckoo.specs.Images.{Image, IsImage, Shown, shown}
 use Rattle.jc_index.specs.Indexes.{empty_image}
 use Rattle.jc_index.specs.Spelling.{IsCoded, IsSpelt, IsLawful, slot_words, slots_words, slots_in, encoded, image_in}
-use Rattle.jc_index.proofs.Coding.{AllCoded, coded_back, six_words}
+use Rattle.jc_index.proofs.Coding.{long_slots, AllCoded, coded_back}
 
 zeros_more : (k m n : ℕ) → n ≡ k + m → replicate {A = ℕ} n 0 ≡ replicate k 0 ++ replicate m 0
 zeros_more zero m n e = let f : n ≡ m = omega (arith, e) in ap (λ (i : ℕ). replicate i 0) f
@@ -84,10 +84,6 @@ showing xs = map (option_map shown) xs
 pub all_coded : (xs : List (Option Held)) → All (λ x. IsCoded (option_map shown x)) xs → AllCoded (showing xs)
 all_coded [] all = tt
 all_coded (x ∷ xs) all = (all 0 x (omega arith), all_coded xs (λ k d inside. all (suc k) d (omega arith)))
-
-long_slots : (xs : List (Option Shown)) → length (slots_words xs) ≡ 6 * length xs
-long_slots [] = refl
-long_slots (x ∷ xs) = omega (arith, length-append (slot_words x) (slots_words xs), six_words x, long_slots xs)
 
 pub filled_image : (image : Image) → AllCoded image.slots → length image.slots ≡ 4 * image.buckets → image_in (encoded image) ≡ image
 filled_image image coded long =

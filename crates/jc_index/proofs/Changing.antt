@@ -7,7 +7,8 @@ use Rattle.jc_index.specs.Spelling.{IsCoded, IsSpelt, group_of, slot_words, slot
 use Rattle.jc_cuckoo.specs.Images.{Image, Shown, write_all, written}
 use Rattle.jc_index.specs.Batches.{Write, shows, placed_at, slot_batch, count_batch, is_some, stripes_for}
 use Rattle.jc_index.specs.Versions.{versions_of}
-use Rattle.jc_index.proofs.Coding.{AllCoded, coded_back, back_coded, coded_set, image_set, six_words}
+use Rattle.jc_stripes.proofs.Opening.{length-set_all}
+use Rattle.jc_index.proofs.Coding.{long_slots, AllCoded, coded_back, back_coded, coded_set, image_set, six_words}
 use Rattle.jc_index.proofs.Noting.{group_at, group_zero}
 use Rattle.jc_index.proofs.Taking.{few_versions, first_in, second_in, stash_in}
 
@@ -105,10 +106,6 @@ set_all-append : (words : List ℕ) (xs ys : List (ℕ × ℕ)) → set_all word
 set_all-append words [] ys = refl
 set_all-append words (x ∷ xs) ys = set_all-append (set words x.0 x.1) xs ys
 
-length-set_all : (words : List ℕ) (xs : List (ℕ × ℕ)) → length (set_all words xs) ≡ length words
-length-set_all words [] = refl
-length-set_all words (x ∷ xs) = length-set_all (set words x.0 x.1) xs ∙ length-set words x.0 x.1
-
 written_slots : (n : ℕ) (xs : List (Option Shown)) (ws : List Write) → All (λ w. w.0 < length xs) ws → set_all (n ∷ slots_words xs) (slot_batch ws) ≡ n ∷ slots_words (write_all xs ws)
 written_slots n xs [] all = refl
 written_slots n xs (w ∷ ws) all =
@@ -127,10 +124,6 @@ count_in n (Some m) = m
 written_count : (n : ℕ) (rest : List ℕ) (c : Option ℕ) → set_all (n ∷ rest) (count_batch c) ≡ count_in n c ∷ rest
 written_count n rest None = refl
 written_count n rest (Some m) = refl
-
-long_slots : (xs : List (Option Shown)) → length (slots_words xs) ≡ 6 * length xs
-long_slots [] = refl
-long_slots (x ∷ xs) = omega (arith, length-append (slot_words x) (slots_words xs), six_words x, long_slots xs)
 
 pub image_batch : (buckets : ℕ) (words : List ℕ) (ws : List Write) (c : Option ℕ) (stash : ℕ) → All (λ w. w.0 < 4 * buckets) ws → All (λ w. IsCoded (shows w)) ws → IsSpelt buckets words → count_in (image_in words).stash c ≡ stash
     → IsSpelt buckets (set_all words (slot_batch ws ++ count_batch c)) × (image_in (set_all words (slot_batch ws ++ count_batch c)) ≡ written (image_in words) ws stash)

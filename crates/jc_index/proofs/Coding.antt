@@ -1,6 +1,5 @@
 -- Rows and their words.
-use Rattle.std.proofs.Common.{◌≡◌, ℕ, zero, suc, ◌+◌, ◌-◌, ◌*◌, ◌%◌, ◌^◌, ◌<◌, ◌≤◌, Bool, true, false, List, [], ◌∷◌, ◌++◌, length, take, drop, replicate, get_or, set, nat_lt, if◌then◌else◌, Option, Some, None, refl, sym, ap, ◌∙◌, arith, add-one, append_assoc, length-append, length-drop}
-use Rattle.std.proofs.Math.Seq.{take-suc}
+use Rattle.std.proofs.Common.{◌≡◌, ℕ, zero, suc, ◌+◌, ◌-◌, ◌*◌, ◌%◌, ◌^◌, ◌<◌, ◌≤◌, Bool, true, false, List, [], ◌∷◌, ◌++◌, length, take, drop, replicate, get_or, set, nat_lt, if◌then◌else◌, Option, Some, None, refl, sym, ap, ◌∙◌, arith, append_assoc, length-append, length-drop}
 use Rattle.std.specs.Int.{to_le_bytes, w64}
 use Rattle.std.proofs.Math.Seq.{take-append_seam}
 use Rattle.std.proofs.lemmas.Nat.{le_bytes_8}
@@ -8,6 +7,7 @@ use Rattle.jc_model.specs.Key.{bytes_of, word_at, words_of}
 use Rattle.jc_model.specs.declared.config.Expiry.{Expiry}
 use Rattle.jc_model.specs.declared.config.Expiry.TheVariants.{Never, At}
 use Rattle.jc_stripes.specs.Stripes.{set_all}
+use Rattle.jc_stripes.proofs.Opening.{taken_more}
 use Rattle.jc_cuckoo.specs.Images.{Shown}
 use Rattle.jc_index.specs.Spelling.{IsCoded, key_of, slot_of, slot_in, slot_words, slots_words, slots_in, never_bit, moment_of}
 use Rattle.jc_index.specs.Batches.{placed_at}
@@ -121,11 +121,8 @@ placed_snoc : (p q : ℕ) (vs : List ℕ) (v : ℕ) → q ≡ p + length vs → 
 placed_snoc p q [] v e = let f : p ≡ q = omega (arith, e) in ap (λ (i : ℕ). (i, v) ∷ []) f
 placed_snoc p q (w ∷ vs) v e = ap (λ l. (p, w) ∷ l) (placed_snoc (p + 1) q vs v (omega (arith, e)))
 
-taken_more : (xs : List ℕ) (i : ℕ) → i < length xs → take (i + 1) xs ≡ take i xs ++ get_or xs i 0 ∷ []
-taken_more xs i inside = rw (add-one) (take-suc xs i 0 inside)
-
 pub placed_more : (p : ℕ) (vs : List ℕ) (k : ℕ) → k < length vs → placed_at p (take (k + 1) vs) ≡ placed_at p (take k vs) ++ (p + k, get_or vs k 0) ∷ []
-placed_more p vs k inside = ap (placed_at p) (taken_more vs k inside) ∙ placed_snoc p (p + k) (take k vs) (get_or vs k 0) (omega (arith, long_take k vs (omega arith)))
+placed_more p vs k inside = ap (placed_at p) (taken_more vs k 0 inside) ∙ placed_snoc p (p + k) (take k vs) (get_or vs k 0) (omega (arith, long_take k vs (omega arith)))
 
 -- the words of one slot are set
 set_skip : (p : ℕ) (vs : List ℕ) (y : ℕ) (xs : List ℕ) (q : ℕ) → q ≡ p + 1 → set_all (y ∷ xs) (placed_at q vs) ≡ y ∷ set_all xs (placed_at p vs)
@@ -147,6 +144,10 @@ set_over (v ∷ vs) (y ∷ ys) xs e = set_skip 0 vs v (ys ++ xs) (0 + 1) (omega 
 pub six_words : (x : Option Shown) → length (slot_words x) ≡ 6
 six_words None = refl
 six_words (Some h) = refl
+
+pub long_slots : (xs : List (Option Shown)) → length (slots_words xs) ≡ 6 * length xs
+long_slots [] = refl
+long_slots (x ∷ xs) = omega (arith, length-append (slot_words x) (slots_words xs), six_words x, long_slots xs)
 
 pub slot_set : (xs : List (Option Shown)) (s p : ℕ) (x : Option Shown) → p ≡ 6 * s → s < length xs → set_all (slots_words xs) (placed_at p (slot_words x)) ≡ slots_words (set xs s x)
 slot_set [] s p x e inside = absurd (omega arith)

@@ -34,6 +34,3 @@ module _ {L : Type 0} where
 
   pub noted_as : {js : List ℕ} {s t : Seat (Unit {0}) (View L)} {P Q : List ℕ → Type 0} → IsNoted js s t P → ((words : List ℕ) → P words → Q words) → IsNoted js s t Q
   noted_as a f = record { table = a.table; view = a.view; tells = λ words fits. let k = a.tells words fits in (k.0, f words k.1) }
-
-  pub young_after : {js : List ℕ} {s t : Seat (Unit {0}) (View L)} {P : List ℕ → Type 0} → IsNoted js s t P → (glance_of t.me.0).settled ≡ false
-  young_after a = ap (λ (v : View L). (glance_of v).settled) a.view

@@ -27,9 +27,6 @@ module _ {L : Type 0} (v0 v1 v2 v3 : View L) (begun : List (ℕ × ℕ)) (begin 
   pub begun_two : (glance_of v2).begun ≡ begun
   begun_two = ap (λ (v : View L). (glance_of v).begun) look ∙ ap (λ (v : View L). (glance_of v).begun) begin
 
-  pub checked_two : (glance_of v2).checked ≡ []
-  checked_two = ap (λ (v : View L). (glance_of v).checked) look ∙ ap (λ (v : View L). (glance_of v).checked) begin
-
   pub front_two : v2.front ≡ v0.front
   front_two = ap (λ (v : View L). v.front) look ∙ ap (λ (v : View L). v.front) begin
 
@@ -38,12 +35,6 @@ module _ {L : Type 0} (v0 v1 v2 v3 : View L) (begun : List (ℕ × ℕ)) (begin 
 
   pub law_three : v3.law ≡ v0.law
   law_three = ap (λ (v : View L). v.law) check ∙ law_two
-
-  pub begun_three : (glance_of v3).begun ≡ (glance_of v2).begun
-  begun_three = ap (λ (v : View L). (glance_of v).begun) check
-
-  pub settled_three : (glance_of v3).settled ≡ true
-  settled_three = ap (λ (v : View L). (glance_of v).settled) check
 
   pub lookups_three : v3.lookups ≡ suc v0.lookups
   lookups_three = ap (λ (v : View L). v.lookups) check ∙ (ap (λ (v : View L). v.lookups) look ∙ ap (λ (v : View L). v.lookups) begin)

@@ -1,5 +1,5 @@
 -- The versions taken.
-use Rattle.std.proofs.Common.{◌≡◌, ℕ, zero, suc, ◌%◌, ◌<◌, ◌==◌, Bool, true, false, List, [], ◌∷◌, ◌++◌, length, nat_lt, refl, sym, subst, inl, inr, arith, eq-eqb, ne_eqb, eqb-true}
+use Rattle.std.proofs.Common.{◌≡◌, ℕ, zero, suc, ◌%◌, ◌<◌, ◌==◌, Bool, true, false, List, [], ◌∷◌, ◌++◌, length, nat_lt, refl, sym, subst, inl, inr, arith, eqb-true}
 use Rattle.std.specs.List.{All}
 use Rattle.jc_stripes.specs.Stripes.{Among}
 use Rattle.jc_index.specs.Versions.{pair_by, stash_if, versions_of}
@@ -69,29 +69,3 @@ stash_in one two = stash_by (one % 64 == two % 64) (nat_lt (one % 64) (two % 64)
 pub all_in : (js : List ℕ) (one two : ℕ) → js ≡ versions_of one two true → Among (one % 64) js × Among (two % 64) js × Among 64 js
 all_in js one two is =
     subst (λ (l : List ℕ). Among (one % 64) l × Among (two % 64) l × Among 64 l) (sym is) (first_in one two true, second_in one two true, stash_in one two)
-
-lt_true : (a b : ℕ) → a < b → nat_lt a b ≡ true
-lt_true a b h = grind arith
-
-lt_false : (a b : ℕ) → (a < b → ⊥) → nat_lt a b ≡ false
-lt_false a b h = grind arith
-
-pub versions_same : (one two : ℕ) (s : Bool) → one % 64 ≡ two % 64 → one % 64 ∷ stash_if s ≡ versions_of one two s
-versions_same one two true e = λ i. pair_by (sym (eq-eqb (one % 64) (two % 64) e) i) (nat_lt (one % 64) (two % 64)) (one % 64) (two % 64) ++ stash_if true
-versions_same one two false e = λ i. pair_by (sym (eq-eqb (one % 64) (two % 64) e) i) (nat_lt (one % 64) (two % 64)) (one % 64) (two % 64) ++ stash_if false
-
-pub versions_less : (one two : ℕ) (s : Bool) → one % 64 < two % 64 → one % 64 ∷ two % 64 ∷ stash_if s ≡ versions_of one two s
-versions_less one two true l =
-    let no : (one % 64 == two % 64) ≡ false = ne_eqb (one % 64) (two % 64) (λ (e : one % 64 ≡ two % 64). absurd (omega (arith, e, l))) in
-    λ i. pair_by (sym no i) (sym (lt_true (one % 64) (two % 64) l) i) (one % 64) (two % 64) ++ stash_if true
-versions_less one two false l =
-    let no : (one % 64 == two % 64) ≡ false = ne_eqb (one % 64) (two % 64) (λ (e : one % 64 ≡ two % 64). absurd (omega (arith, e, l))) in
-    λ i. pair_by (sym no i) (sym (lt_true (one % 64) (two % 64) l) i) (one % 64) (two % 64) ++ stash_if false
-
-pub versions_more : (one two : ℕ) (s : Bool) → two % 64 < one % 64 → two % 64 ∷ one % 64 ∷ stash_if s ≡ versions_of one two s
-versions_more one two true l =
-    let no : (one % 64 == two % 64) ≡ false = ne_eqb (one % 64) (two % 64) (λ (e : one % 64 ≡ two % 64). absurd (omega (arith, e, l))) in
-    λ i. pair_by (sym no i) (sym (lt_false (one % 64) (two % 64) (λ (m : one % 64 < two % 64). absurd (omega (arith, m, l)))) i) (one % 64) (two % 64) ++ stash_if true
-versions_more one two false l =
-    let no : (one % 64 == two % 64) ≡ false = ne_eqb (one % 64) (two % 64) (λ (e : one % 64 ≡ two % 64). absurd (omega (arith, e, l))) in
-    λ i. pair_by (sym no i) (sym (lt_false (one % 64) (two % 64) (λ (m : one % 64 < two % 64). absurd (omega (arith, m, l)))) i) (one % 64) (two % 64) ++ stash_if false

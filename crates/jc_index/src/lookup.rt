@@ -1,14 +1,13 @@
 //! A lookup that never waits.
 ghost use Rattle.std.specs.Prelude.{◌≡◌, ◌⊎◌, ◌≢◌, suc, ◌+◌, ◌*◌, ◌%◌, ◌<◌, Bool, true, false, [], ◌∷◌, length, Some, None};
-ghost use mathlib.Core.List.{IsPrefix};
 ghost use Rattle.jc_place.specs.Place.{IsTableSize};
-ghost use Rattle.jc_stripes.specs.Stripes.{SomeOdd, glance_of, last_of, stripes_in};
+ghost use Rattle.jc_stripes.specs.Stripes.{glance_of};
 ghost use Rattle.jc_cuckoo.specs.Images.{last_image};
 ghost use Rattle.jc_index.specs.Spelling.{buckets_of};
 ghost use Rattle.jc_index.specs.Found.{found};
 ghost use Rattle.jc_index.specs.declared.lookup.Lookup.TheVariants.{Sure, Unsure};
-ghost use Rattle.jc_index.specs.Versions.{onto, read_for, versions_of};
-ghost use Rattle.jc_index.specs.Passes.{images_of, begun_of, checked_of, lookups_of};
+ghost use Rattle.jc_index.specs.Versions.{versions_of};
+ghost use Rattle.jc_index.specs.Passes.{IsLookup, Moved, images_of};
 
 use crate::look::look;
 use crate::placed::{Placed, buckets_of};
@@ -38,12 +37,8 @@ fn probe<P: Placer>(
     requires alike { length versions.old ≡ length stripes.now }
     requires rests { (glance_of reader.old.seat.me.0).settled ≡ true }
     ensures sure { result.0 ≡ true → found (last_image (images_of reader.new)) sought.now.id sought.now.key sought.now.moment ≡ result.1 }
-    ensures unsure { result.0 ≡ false → SomeOdd (begun_of reader.new) ⊎ (begun_of reader.new ≢ checked_of reader.new) }
-    ensures stripes { stripes_in (begun_of reader.new) ≡ onto stripes.now [] }
-    ensures again { stripes_in (checked_of reader.new) ≡ stripes_in (begun_of reader.new) }
-    ensures front { IsPrefix (images_of reader.old) (images_of reader.new) }
-    ensures counted { lookups_of reader.new ≡ suc (lookups_of reader.old) }
-    ensures same { (reader.new.seat.table_id ≡ reader.old.seat.table_id) × (reader.new.seat.me.0.law ≡ reader.old.seat.me.0.law) × ((glance_of reader.new.seat.me.0).settled ≡ true) }
+    ensures unsure { result.0 ≡ false → Moved reader.new }
+    ensures reads { IsLookup (one, two) reader.old reader.new }
 {
     reader.begin(stripes, versions);
     let answer = look(reader, one, two, sought);
@@ -51,6 +46,7 @@ fn probe<P: Placer>(
     (same, answer)
 }
 
+/// Sure where the versions stayed and the words tell.
 fn told(same: bool, answer: Option<bool>) -> Lookup
     ensures sure { (b : Bool) → result ≡ Sure b → (same ≡ true) × (answer ≡ Some b) }
     ensures unsure { result ≡ Unsure → (same ≡ false) ⊎ ((same ≡ true) × (answer ≡ None)) }
@@ -76,12 +72,8 @@ pub(crate) fn look_up<P: Placer>(
     requires size { IsTableSize buckets }
     requires rests { (glance_of reader.old.seat.me.0).settled ≡ true }
     ensures sure { (b : Bool) → result ≡ Sure b → found (last_image (images_of reader.new)) sought.now.id sought.now.key sought.now.moment ≡ Some b }
-    ensures unsure { result ≡ Unsure → (SomeOdd (begun_of reader.new) ⊎ (begun_of reader.new ≢ checked_of reader.new)) ⊎ (found (last_image (images_of reader.new)) sought.now.id sought.now.key sought.now.moment ≡ None) }
-    ensures stripes { stripes_in (begun_of reader.new) ≡ read_for (buckets_of (P.placing placer.now) buckets (sought.now.id, sought.now.key)) }
-    ensures again { stripes_in (checked_of reader.new) ≡ stripes_in (begun_of reader.new) }
-    ensures front { IsPrefix (images_of reader.old) (images_of reader.new) }
-    ensures counted { lookups_of reader.new ≡ suc (lookups_of reader.old) }
-    ensures same { (reader.new.seat.table_id ≡ reader.old.seat.table_id) × (reader.new.seat.me.0.law ≡ reader.old.seat.me.0.law) × ((glance_of reader.new.seat.me.0).settled ≡ true) }
+    ensures unsure { result ≡ Unsure → Moved reader.new ⊎ (found (last_image (images_of reader.new)) sought.now.id sought.now.key sought.now.moment ≡ None) }
+    ensures reads { IsLookup (buckets_of (P.placing placer.now) buckets (sought.now.id, sought.now.key)) reader.old reader.new }
 {
     let (one, two) = buckets_of(placer, buckets, sought.id, &sought.key);
     let (first, second) = (one % STRIPES, two % STRIPES);

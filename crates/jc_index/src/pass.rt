@@ -61,7 +61,7 @@ impl<P: Placer + Drop> Pass<P> {
         ensures words { words.new ≡ words.old }
         ensures front { IsPrefix self.old.images self.new.images }
         ensures met { IfOk result (λ _. (self.new.met ≡ true) × (self.new.images ≡ words.old.images) × (self.new.placer ≡ words.old.placer) × (self.new.buckets ≡ words.old.buckets)) }
-        ensures refused { IfErr result (λ _. (self.new.met ≡ false) × (self.new.images ≡ self.old.images)) }
+        ensures refused { IfErr result (λ _. self.new ≡ record self.old { met = false }) }
         ensures name { self.new.name ≡ self.old.name }
     {
         self.met = false;

@@ -1,8 +1,8 @@
 //! The index as its writer has it.
-ghost use Rattle.std.specs.Prelude.{◌≡◌, ◌*◌, ◌<◌, ◌≤◌, [], ◌∷◌, ◌++◌, true, All, Some, IfOk, length};
+ghost use Rattle.std.specs.Prelude.{◌≡◌, ◌*◌, ◌<◌, ◌≤◌, [], ◌∷◌, ◌++◌, true, All, Some, IfOk, OnErr, OnOk, length};
 ghost use Rattle.jc_place.specs.Place.{IsTableSize};
 ghost use Rattle.jc_stripes.specs.Stripes.{Changes, IsCommitted};
-ghost use Rattle.jc_cuckoo.specs.Images.{IsImage, last_image, written};
+ghost use Rattle.jc_cuckoo.specs.Images.{IsGrowth, IsImage, grown, last_image, written};
 ghost use Rattle.jc_index.specs.Batches.{count_for, is_some, stripes_for};
 ghost use Rattle.jc_index.specs.Indexes.{empty_image};
 
@@ -93,7 +93,15 @@ impl<P: Placer + Drop> Mirror for Words<P> {
     }
 
     /// The image is the first of a new table. The old table's readers are unsure from then on.
-    fn grow(&mut self, slots: &[Option<Held>], stash: u32) -> Result<(), OutOfMemory> {
+    fn grow(&mut self, slots: &[Option<Held>], stash: u32) -> Result<(), OutOfMemory>
+        requires growth { IsGrowth (P.placing self.old.placer) (last_image self.old.images) slots.now stash }
+        ensures images { OnOk result (Some self.new.images ≡ Some (self.old.images ++ grown slots.now stash ∷ [])) }
+        ensures buckets { OnOk result (self.new.buckets ≡ 2 * self.old.buckets) }
+        ensures refused { OnErr result (Some self.new.images ≡ Some self.old.images) }
+        ensures kept { OnErr result (self.new ≡ self.old) }
+        ensures placing { P.placing self.new.placer ≡ P.placing self.old.placer }
+        ensures same { (self.new.placer ≡ self.old.placer) × (self.new.name ≡ self.old.name) }
+    {
         let alloc = *self.lineage.retired.allocator();
         let words = filled(alloc.clone()?, slots, stash)?;
         let law = Placed {

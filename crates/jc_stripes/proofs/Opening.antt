@@ -34,9 +34,6 @@ module _ (How : ℕ → ℕ → Type 0) (again : (v w u : ℕ) → How v w → H
             (λ ne. ⊎_elim (λ (e : get_or ws j 0 ≡ get_or vs j 0). inl (others j ne ∙ e)) (λ (b : Among j js). inr (among_more j js x b)) (k.elsewhere j));
       }
 
-  pub changes_none : (vs : List ℕ) → Changes How [] vs vs
-  changes_none vs = record { there = λ j a. absurd a; elsewhere = λ j. inl refl }
-
   pub changes_next : (js vs ws us : List ℕ) (i : ℕ) → i < length js → Changes How (take i js) vs ws → How (get_or ws (get_or js i 0) 0) (get_or us (get_or js i 0) 0) → ((j : ℕ) → j ≢ get_or js i 0 → get_or us j 0 ≡ get_or ws j 0) → Changes How (take (i + 1) js) vs us
   changes_next js vs ws us i inside k one others = subst (λ (l : List ℕ). Changes How l vs us) (sym (taken_more js i 0 inside)) (changes_more (take i js) vs ws us (get_or js i 0) k one others)
 

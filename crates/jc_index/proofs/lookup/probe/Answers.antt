@@ -1,4 +1,5 @@
-use Rattle.std.proofs.Common.{◌≢◌, ◌⊎◌, ◌<◌, ℕ, List, [], length, arith, ap, sym, subst, ◌∙◌, true}
+use Rattle.std.proofs.Common.{◌≡◌, ◌≢◌, ◌⊎◌, ◌<◌, ℕ, List, [], length, arith, ap, sym, subst, ◌∙◌, true}
+use Rattle.jc_index.specs.Versions.{onto, versions_of}
 use Rattle.std.specs.List.{All}
 use mathlib.Core.List.{IsPrefix}
 use Rattle.jc_stripes.specs.Stripes.{Front, SomeOdd, last_of, stacked, glance_of, stripes_in}
@@ -55,38 +56,25 @@ pub returns-clause-unsure : goal.returns-clause-unsure
 returns-clause-unsure g c e =
     subst (λ (b : List (ℕ × ℕ)). SomeOdd b ⊎ (b ≢ (glance_of c.check-same.new.self.seat.me.0).checked)) (sym (ap (λ v. (glance_of v).begun) c.check-same.ensures.view)) (c.check-same.ensures.differ e)
 
-pub returns-clause-again : goal.returns-clause-again
-returns-clause-again g c = c.check-same.ensures.again ∙ sym (ap (λ v. stripes_in (glance_of v).begun) c.check-same.ensures.view)
-
-pub returns-clause-front : goal.returns-clause-front
-returns-clause-front g c =
+pub returns-clause-reads : goal.returns-clause-reads
+returns-clause-reads g c =
     let js = c.args.stripes.now in
     let m = all_in js c.args.one c.args.two c.requires.stripes in
     let n = c.look-answer.ensures.noted js m.0 m.1 m.2 in
-    prefix_map image_in _ _ (subst (λ (f : Front). IsPrefix f c.check-same.new.self.seat.me.0.front) (front_two c.args.reader.now.seat.me.0 c.begin.new.self.seat.me.0 c.look-answer.new.reader.seat.me.0 c.check-same.new.self.seat.me.0 (stacked c.args.stripes.now c.begin.new.versions []) c.begin.ensures.view n.view c.check-same.ensures.view) c.check-same.ensures.front)
-
-pub returns-clause-counted : goal.returns-clause-counted
-returns-clause-counted g c =
-    let js = c.args.stripes.now in
-    let m = all_in js c.args.one c.args.two c.requires.stripes in
-    let n = c.look-answer.ensures.noted js m.0 m.1 m.2 in
-    lookups_three c.args.reader.now.seat.me.0 c.begin.new.self.seat.me.0 c.look-answer.new.reader.seat.me.0 c.check-same.new.self.seat.me.0 (stacked c.args.stripes.now c.begin.new.versions []) c.begin.ensures.view n.view c.check-same.ensures.view
-
-pub returns-clause-same : goal.returns-clause-same
-returns-clause-same g c =
-    let js = c.args.stripes.now in
-    let m = all_in js c.args.one c.args.two c.requires.stripes in
-    let n = c.look-answer.ensures.noted js m.0 m.1 m.2 in (
-      c.check-same.ensures.same ∙ (n.table ∙ c.begin.ensures.same),
-      law_three c.args.reader.now.seat.me.0 c.begin.new.self.seat.me.0 c.look-answer.new.reader.seat.me.0 c.check-same.new.self.seat.me.0 (stacked c.args.stripes.now c.begin.new.versions []) c.begin.ensures.view n.view c.check-same.ensures.view,
-      ap (λ v. (glance_of v).settled) c.check-same.ensures.view,
-    )
-
-pub returns-clause-stripes : goal.returns-clause-stripes
-returns-clause-stripes g c =
-    let js = c.args.stripes.now in
-    let m = all_in js c.args.one c.args.two c.requires.stripes in
-    let n = c.look-answer.ensures.noted js m.0 m.1 m.2 in
-    ap (λ v. stripes_in (glance_of v).begun) c.check-same.ensures.view
-    ∙ (ap stripes_in (begun_two c.args.reader.now.seat.me.0 c.begin.new.self.seat.me.0 c.look-answer.new.reader.seat.me.0 c.check-same.new.self.seat.me.0 (stacked js c.begin.new.versions []) c.begin.ensures.view n.view c.check-same.ensures.view)
-    ∙ stacked_stripes js c.begin.new.versions [] (c.begin.ensures.alike ∙ c.requires.alike))
+    let v0 = c.args.reader.now.seat.me.0 in
+    let v1 = c.begin.new.self.seat.me.0 in
+    let v2 = c.look-answer.new.reader.seat.me.0 in
+    let v3 = c.check-same.new.self.seat.me.0 in
+    let begun = stacked js c.begin.new.versions [] in
+    let one = c.begin.ensures.view in
+    let three = c.check-same.ensures.view in
+    let all_of : stripes_in begun ≡ onto (versions_of c.args.one c.args.two true) [] = stacked_stripes js c.begin.new.versions [] (c.begin.ensures.alike ∙ c.requires.alike) ∙ ap (λ (l : List ℕ). onto l []) c.requires.stripes in
+    record {
+      stripes = ap (λ v. stripes_in (glance_of v).begun) three ∙ (ap stripes_in (begun_two v0 v1 v2 v3 begun one n.view three) ∙ all_of);
+      again = c.check-same.ensures.again ∙ sym (ap (λ v. stripes_in (glance_of v).begun) three);
+      front = prefix_map image_in _ _ (subst (λ (f : Front). IsPrefix f v3.front) (front_two v0 v1 v2 v3 begun one n.view three) c.check-same.ensures.front);
+      counted = lookups_three v0 v1 v2 v3 begun one n.view three;
+      table = c.check-same.ensures.same ∙ (n.table ∙ c.begin.ensures.same);
+      law = law_three v0 v1 v2 v3 begun one n.view three;
+      settled = ap (λ v. (glance_of v).settled) three;
+    }
