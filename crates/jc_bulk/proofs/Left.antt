@@ -13,9 +13,9 @@ use Rattle.jc_model.specs.State.{Item, row_of}
 use Rattle.jc_model.specs.Step.{step}
 use Rattle.jc_model.specs.Sound.{Lacks, HasDistinctKeys, Throughout}
 use Rattle.jc_model.specs.Suspended.{KeyWait, key_run}
-use Rattle.jc_model.proofs.KeepsCalls.{throughout-resume, throughout-answered}
+use Rattle.jc_model.proofs.Everywhere.{at_each-resume, at_each-answered}
 use Rattle.jc_model.proofs.Sound.{row_of-None}
-use Rattle.jc_ops.specs.Kept.{Kept, items_of}
+use Rattle.jc_state.specs.Kept.{Kept, items_of}
 use Rattle.jc_ops.specs.Stepped.{StepsTo}
 use Rattle.jc_ops.specs.Supply.{Covers}
 use Rattle.jc_ops.specs.declared.step.Next.{Next}
@@ -94,7 +94,7 @@ start-stays c now call p next s told e q d u h =
 pub answer-stays : (c : CacheConfig) (p : Progress) (w : KeyWait) (a : Answer) (next : Next) (s : Kept) (told : List Notice) → StepsTo c (resume (key_run c p w) a) next s told → (q : List ℕ) → w.call.key ≢ q → FitsStay q p.state.ring (items_of s.cells)
 answer-stays c p w a next s told e q d u h =
     stepped-fits c (resume (key_run c p w) a) next s told q u e
-    (throughout-resume (λ t. Fits q u t.ring) (key_run c p w) a (throughout-answered (λ t. Fits q u t.ring) (step c w.now w.call p) w.given (step-fits c w.now q u w.call p d h)))
+    (at_each-resume _ _ (key_run c p w) a (at_each-answered _ _ (step c w.now w.call p) w.given (step-fits c w.now q u w.call p d h)))
 
 -- One step more.
 

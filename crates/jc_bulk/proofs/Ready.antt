@@ -4,7 +4,7 @@ use Rattle.std.proofs.lemmas.Grind.{common_steps}
 use Rattle.jc_model.specs.declared.config.CacheConfig.{CacheConfig}
 use Rattle.jc_model.specs.State.{Item}
 use Rattle.jc_model.specs.Sound.{HasDistinctKeys}
-use Rattle.jc_ops.specs.Noted.{Noted, HasPlaces}
+use Rattle.jc_state.specs.Noted.{Noted, HasPlaces}
 use Rattle.jc_ops.specs.Supply.{HasRoom}
 use Rattle.jc_bulk.specs.declared.bulk.Provided.{Provided}
 use Rattle.jc_bulk.specs.declared.tally.Collected.{Collected}

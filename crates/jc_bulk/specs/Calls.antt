@@ -81,3 +81,11 @@ on_one_key call.Entries = false
 on_one_key call.Stats = false
 on_one_key call.ClearStats = false
 on_one_key _ = true
+
+-- a call that takes no memory
+abbrev pub is_free : Call → Bool
+is_free (call.Contains k) = true
+is_free call.Clear = true
+is_free call.Stats = true
+is_free call.ClearStats = true
+is_free _ = false

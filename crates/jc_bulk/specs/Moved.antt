@@ -6,7 +6,7 @@ use Rattle.jc_model.specs.declared.config.CacheConfig.{CacheConfig}
 use Rattle.jc_model.specs.Changes.{Progress}
 use Rattle.jc_model.specs.Run.{Run, ended, waiting, awaited_by}
 use Rattle.jc_model.specs.Suspended.{Wait, one, many, telling, key_run, bulk_run}
-use Rattle.jc_ops.specs.Kept.{Kept, progress_of}
+use Rattle.jc_state.specs.Kept.{Kept, progress_of}
 use Rattle.jc_ops.specs.Stepped.{IsWaiting}
 use Rattle.jc_bulk.specs.Provided.{AreCovered}
 use Rattle.jc_bulk.specs.Waits.{Waits}

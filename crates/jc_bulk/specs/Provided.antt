@@ -5,7 +5,7 @@ use Rattle.jc_model.specs.declared.call.KeyCall.{KeyCall}
 use Rattle.jc_model.specs.declared.config.CacheConfig.{CacheConfig}
 use Rattle.jc_model.specs.State.{Item}
 use Rattle.jc_ops.specs.Lines.{creates}
-use Rattle.jc_ops.specs.Noted.{Noted, HasPlaces}
+use Rattle.jc_state.specs.Noted.{Noted, HasPlaces}
 use Rattle.jc_ops.specs.Supply.{Covers}
 use Rattle.jc_bulk.specs.declared.bulk.Provided.{Provided}
 use Rattle.jc_bulk.specs.declared.tally.Tally.{Tally}

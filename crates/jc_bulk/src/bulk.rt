@@ -4,27 +4,25 @@
 //! it keep their values: no other step changes the value of its key.
 ghost use Rattle.std.specs.Prelude.{◌≡◌, ◌*◌, ◌≤◌, ◌∷◌, true, length};
 ghost use Rattle.jc_model.specs.Whole.{after_key, each};
-ghost use Rattle.jc_ops.specs.Kept.{items_of, progress_of, IsKept};
-ghost use Rattle.jc_ops.specs.Noted.{HasPlaces};
-ghost use Rattle.jc_ops.specs.Tied.{SameElsewhere};
+ghost use Rattle.jc_state.specs.Kept.{items_of, progress_of, IsTied, Remains};
+ghost use Rattle.jc_state.specs.Noted.{HasPlaces};
 ghost use Rattle.jc_bulk.specs.Moved.{ComesTo};
 ghost use Rattle.jc_bulk.specs.Provided.{calls_in, keys_in, AreCovered, IsAhead, IsReady};
 ghost use Rattle.jc_bulk.specs.Tallied.{sum_of};
 
 use crate::call::Moved;
-use crate::tally::{Tally, ends_call, fault_after};
+use crate::tally::{Tally, ends_call};
 use crate::waits::{Paused, suspend};
 use jc_model::call::{KeyCall, Reply};
-use jc_model::config::CacheConfig;
-use jc_model::event::CacheId;
 use jc_model::key::Key;
 use jc_model::thrice::Thrice;
-use jc_ops::notices::Notices;
-use jc_ops::state::CacheState;
+use jc_ops::step::reply::fault;
 use jc_ops::step::{KeyStep, Next};
 use jc_ops::supply::Supply;
 use jc_ring::ring::Ring;
 use jc_rows::rows::Rows;
+use jc_state::notices::Notices;
+use jc_state::state::CacheState;
 use std::collections::VecDeque;
 use std::marker::Model;
 
@@ -66,29 +64,27 @@ impl Model for BulkStep {
 
 /// Goes on with the steps that are left, until one waits or fails.
 pub(crate) fn go_on<R: Rows, G: Ring>(
-    config: &CacheConfig,
     state: &mut CacheState<G>,
     rows: &mut R,
     mut notices: Notices,
-    id: CacheId,
     now: u64,
     mut ahead: Ahead,
 ) -> Moved
-    requires kept { IsKept config.now (R.contents rows.old) id state.old }
-    requires ready { IsReady config.now (items_of state.old.cells) notices (R.spare rows.old) ahead.rest.items ahead.sum ahead.adds }
-    ensures kept_after { IsKept config.now (R.contents rows.new) id state.new }
-    ensures elsewhere { SameElsewhere id (R.contents rows.old) (R.contents rows.new) }
-    ensures moved { ComesTo config.now (each config.now now (calls_in ahead.rest.items) (sum_of ahead.sum) (progress_of state.old notices.told)) result state.new }
+    requires tied { IsTied (R.contents rows.old) state.old }
+    requires ready { IsReady state.old.config (items_of state.old.cells) notices (R.spare rows.old) ahead.rest.items ahead.sum ahead.adds }
+    ensures remains { Remains (R.contents rows.old) state.old (R.contents rows.new) state.new }
+    ensures moved { ComesTo state.old.config (each state.old.config now (calls_in ahead.rest.items) (sum_of ahead.sum) (progress_of state.old notices.told)) result state.new }
 {
     'steps: while let Some(Provided { call, supply }) = ahead.rest.pop_front() {
         let key = call.key;
-        match KeyStep::start(config, state, rows, &mut notices, id, now, call, supply) {
+        let row = state.find(rows, &key);
+        match KeyStep::start(state, rows, &mut notices, now, call, row, supply) {
             Next::Waiting(request, step) => {
                 return suspend(request, Paused::Many(BulkStep { step, ahead }), notices);
             }
             Next::Ended(reply) => {
                 if let Some(by) = ends_call(reply.first()) {
-                    return Moved::Ended(fault_after(by, ahead.sum.done), notices);
+                    return Moved::Ended(fault(by, Some(ahead.sum.done)), notices);
                 }
                 ahead.sum.add(key, reply);
             }
@@ -99,30 +95,27 @@ pub(crate) fn go_on<R: Rows, G: Ring>(
 
 /// Goes on after the step that waited has ended with this reply.
 pub(crate) fn go_on_after<R: Rows, G: Ring>(
-    config: &CacheConfig,
     state: &mut CacheState<G>,
     rows: &mut R,
     notices: Notices,
-    id: CacheId,
     now: u64,
     key: Key,
     reply: Thrice<Reply>,
     mut ahead: Ahead,
 ) -> Moved
-    requires kept { IsKept config.now (R.contents rows.old) id state.old }
+    requires tied { IsTied (R.contents rows.old) state.old }
     requires ahead { IsAhead (key ∷ keys_in (calls_in ahead.rest.items)) (calls_in ahead.rest.items) ahead.sum ahead.adds }
-    requires covered { AreCovered config.now (items_of state.old.cells) ahead.rest.items }
-    requires places { HasPlaces config.now (3 * length ahead.rest.items) notices }
+    requires covered { AreCovered state.old.config (items_of state.old.cells) ahead.rest.items }
+    requires places { HasPlaces state.old.config (3 * length ahead.rest.items) notices }
     requires room { ahead.adds ≡ true → length ahead.rest.items ≤ R.spare rows.old }
-    ensures kept_after { IsKept config.now (R.contents rows.new) id state.new }
-    ensures elsewhere { SameElsewhere id (R.contents rows.old) (R.contents rows.new) }
-    ensures moved { ComesTo config.now (after_key key (λ next q. each config.now now (calls_in ahead.rest.items) next q) (sum_of ahead.sum) (progress_of state.old notices.told) reply) result state.new }
+    ensures remains { Remains (R.contents rows.old) state.old (R.contents rows.new) state.new }
+    ensures moved { ComesTo state.old.config (after_key key (λ next q. each state.old.config now (calls_in ahead.rest.items) next q) (sum_of ahead.sum) (progress_of state.old notices.told) reply) result state.new }
 {
     match ends_call(reply.first()) {
-        Some(by) => Moved::Ended(fault_after(by, ahead.sum.done), notices),
+        Some(by) => Moved::Ended(fault(by, Some(ahead.sum.done)), notices),
         None => {
             ahead.sum.add(key, reply);
-            go_on(config, state, rows, notices, id, now, ahead)
+            go_on(state, rows, notices, now, ahead)
         }
     }
 }

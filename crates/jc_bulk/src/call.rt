@@ -2,18 +2,17 @@
 //!
 //! A call first makes the memory that it may need. Where memory is refused, the call is handed back and nothing has
 //! changed; from there on it can't be refused. It ends with its reply and its notices, or waits for one answer.
-ghost use Rattle.std.specs.Prelude.{◌≡◌, true, [], IfOk, IfErr, OnErr};
+ghost use Rattle.std.specs.Prelude.{◌≡◌, true, [], IfOk, IfErr, OnErr, IsOk};
 ghost use Rattle.jc_model.specs.declared.config.CacheConfig.{CacheConfig};
 ghost use Rattle.jc_model.specs.Changes.{begun};
 ghost use Rattle.jc_model.specs.Run.{Run, ended, resume, fits};
 ghost use Rattle.jc_model.specs.Step.{step as step_of};
 ghost use Rattle.jc_model.specs.Suspended.{one, many, key_run, bulk_run};
 ghost use Rattle.jc_model.specs.Whole.{plan, carried_out};
-ghost use Rattle.jc_ops.specs.Kept.{Kept, items_of, state_of, progress_of, IsKept};
+ghost use Rattle.jc_state.specs.Kept.{Kept, items_of, state_of, progress_of, IsTied, Remains, IsUnmoved};
 ghost use Rattle.jc_ops.specs.Stepped.{StepsTo, IsWaiting};
-ghost use Rattle.jc_ops.specs.Tied.{SameElsewhere};
 ghost use Rattle.jc_bulk.specs.Awaiting.{awaited};
-ghost use Rattle.jc_bulk.specs.Calls.{many_call, once_call};
+ghost use Rattle.jc_bulk.specs.Calls.{many_call, once_call, is_free};
 ghost use Rattle.jc_bulk.specs.Moved.{ComesTo, IsSuspended, wait_run};
 ghost use Rattle.jc_bulk.specs.Paused.{bulk_wait};
 ghost use Rattle.jc_bulk.specs.Provided.{AreCovered};
@@ -25,16 +24,14 @@ use crate::provide::{prepare, prepare_answer};
 use crate::tally::listed;
 use crate::waits::{Awaits, Paused, Suspended, suspend};
 use jc_model::call::{Answer, Call, Counts, KeyCall, Reply, Request};
-use jc_model::config::CacheConfig;
-use jc_model::event::CacheId;
 use jc_model::thrice::Thrice;
-use jc_ops::notices::Notices;
-use jc_ops::state::CacheState;
 use jc_ops::step::reply::{done, truth};
 use jc_ops::step::{KeyStep, Next};
 use jc_ops::supply::Supply;
 use jc_ring::ring::Ring;
 use jc_rows::rows::Rows;
+use jc_state::notices::Notices;
+use jc_state::state::CacheState;
 use std::alloc::Global;
 
 /// What a call has come to: its reply and its notices, or the next request.
@@ -75,26 +72,24 @@ fn with_notices(next: Next, notices: Notices) -> Moved
 /// Begins a call on one key.
 fn start_key<R: Rows, G: Ring>(
     alloc: Global,
-    config: &CacheConfig,
     state: &mut CacheState<G>,
     rows: &mut R,
-    id: CacheId,
     now: u64,
     call: KeyCall,
 ) -> Result<Moved, KeyCall>
-    requires kept { IsKept config.now (R.contents rows.old) id state.old }
-    ensures kept_after { IsKept config.now (R.contents rows.new) id state.new }
-    ensures elsewhere { SameElsewhere id (R.contents rows.old) (R.contents rows.new) }
-    ensures ok { IfOk result (λ m. ComesTo config.now (step_of config.now now call (begun (state_of state.old))) m state.new) }
+    requires tied { IsTied (R.contents rows.old) state.old }
+    ensures remains { Remains (R.contents rows.old) state.old (R.contents rows.new) state.new }
+    ensures ok { IfOk result (λ m. ComesTo state.old.config (step_of state.old.config now call (begun (state_of state.old))) m state.new) }
     ensures back { IfErr result (λ back. back ≡ call) }
-    ensures same { OnErr result (state.new ≡ state.old) }
-    ensures table { OnErr result (R.contents rows.new ≡ R.contents rows.old) }
+    ensures same { OnErr result (IsUnmoved (R.contents rows.old) state.old (R.contents rows.new) state.new) }
 {
     let mut notices = Notices::none(alloc);
-    match Supply::for_step(config, state, rows, &mut notices, id, &call, config.writer) {
+    let row = state.find(rows, &call.key);
+    let writer = state.config().writer;
+    match Supply::for_step(state, rows, &mut notices, row, &call, writer) {
         Err(_) => Err(call),
         Ok(supply) => {
-            let next = KeyStep::start(config, state, rows, &mut notices, id, now, call, supply);
+            let next = KeyStep::start(state, rows, &mut notices, now, call, row, supply);
             Ok(with_notices(next, notices))
         }
     }
@@ -103,120 +98,108 @@ fn start_key<R: Rows, G: Ring>(
 /// Begins a call on many keys.
 fn start_many<R: Rows, G: Ring>(
     alloc: Global,
-    config: &CacheConfig,
     state: &mut CacheState<G>,
     rows: &mut R,
-    id: CacheId,
     now: u64,
     call: ManyKeys,
 ) -> Result<Moved, ManyKeys>
-    requires kept { IsKept config.now (R.contents rows.old) id state.old }
-    ensures kept_after { IsKept config.now (R.contents rows.new) id state.new }
-    ensures elsewhere { SameElsewhere id (R.contents rows.old) (R.contents rows.new) }
-    ensures ok { IfOk result (λ m. ComesTo config.now (carried_out config.now now (plan config.now now (many_call call) (begun (state_of state.old))) (begun (state_of state.old))) m state.new) }
+    requires tied { IsTied (R.contents rows.old) state.old }
+    ensures remains { Remains (R.contents rows.old) state.old (R.contents rows.new) state.new }
+    ensures ok { IfOk result (λ m. ComesTo state.old.config (carried_out state.old.config now (plan state.old.config now (many_call call) (begun (state_of state.old))) (begun (state_of state.old))) m state.new) }
     ensures back { IfErr result (λ back. back ≡ call) }
-    ensures same { OnErr result (state.new ≡ state.old) }
-    ensures table { OnErr result (R.contents rows.new ≡ R.contents rows.old) }
+    ensures same { OnErr result (IsUnmoved (R.contents rows.old) state.old (R.contents rows.new) state.new) }
 {
     let mut notices = Notices::none(alloc);
-    match prepare(alloc, config, state, rows, &mut notices, id, now, &call) {
+    match prepare(alloc, state, rows, &mut notices, now, &call) {
         Err(_) => Err(call),
-        Ok(ahead) => Ok(go_on(config, state, rows, notices, id, now, ahead)),
+        Ok(ahead) => Ok(go_on(state, rows, notices, now, ahead)),
     }
 }
 
 /// Carries out a call that asks no hook.
 fn at_once<R: Rows, G: Ring>(
     alloc: Global,
-    config: &CacheConfig,
     state: &mut CacheState<G>,
     rows: &mut R,
-    id: CacheId,
     now: u64,
     call: AtOnce,
 ) -> Result<Moved, Call>
-    requires kept { IsKept config.now (R.contents rows.old) id state.old }
-    ensures kept_after { IsKept config.now (R.contents rows.new) id state.new }
-    ensures elsewhere { SameElsewhere id (R.contents rows.old) (R.contents rows.new) }
-    ensures ok { IfOk result (λ m. ComesTo config.now (carried_out config.now now (plan config.now now (once_call call) (begun (state_of state.old))) (begun (state_of state.old))) m state.new) }
+    requires tied { IsTied (R.contents rows.old) state.old }
+    ensures remains { Remains (R.contents rows.old) state.old (R.contents rows.new) state.new }
+    ensures ok { IfOk result (λ m. ComesTo state.old.config (carried_out state.old.config now (plan state.old.config now (once_call call) (begun (state_of state.old))) (begun (state_of state.old))) m state.new) }
     ensures back { IfErr result (λ back. back ≡ once_call call) }
-    ensures same { OnErr result (state.new ≡ state.old) }
-    ensures table { OnErr result (R.contents rows.new ≡ R.contents rows.old) }
+    ensures same { OnErr result (IsUnmoved (R.contents rows.old) state.old (R.contents rows.new) state.new) }
+    ensures free { is_free (once_call call) ≡ true → IsOk result }
 {
     match call {
-        AtOnce::Contains(key) => Ok(ended(alloc, truth(state.holds(rows, id, &key, now)))),
+        AtOnce::Contains(key) => Ok(ended(alloc, truth(state.holds(rows, &key, now)))),
         AtOnce::Stats => Ok(ended(alloc, counted(state.counts()))),
         AtOnce::ClearStats => {
             state.clear_counts();
             Ok(ended(alloc, done()))
         }
         AtOnce::Clear => {
-            state.clear(rows, id);
+            state.clear(rows);
             Ok(ended(alloc, done()))
         }
-        AtOnce::Entries => match entries(alloc, config, state, rows, id, now) {
+        AtOnce::Entries => match entries(alloc, state, rows, now) {
             Err(_) => Err(Call::Entries),
             Ok(pairs) => Ok(ended(alloc, listed(pairs))),
         },
     }
 }
 
-/// Begins a call on a cache. Where memory is refused, the call is handed back, and nothing has changed.
+/// Begins a call on a cache. Where memory is refused, the call is handed back, and nothing has changed; a call that
+/// takes none is not refused.
 pub fn start_call<R: Rows, G: Ring>(
     alloc: Global,
-    config: &CacheConfig,
     state: &mut CacheState<G>,
     rows: &mut R,
-    id: CacheId,
     now: u64,
     call: Call,
 ) -> Result<Moved, Call>
-    requires kept { IsKept config.now (R.contents rows.old) id state.old }
-    ensures kept_after { IsKept config.now (R.contents rows.new) id state.new }
-    ensures elsewhere { SameElsewhere id (R.contents rows.old) (R.contents rows.new) }
-    ensures ok { IfOk result (λ m. ComesTo config.now (carried_out config.now now (plan config.now now call (begun (state_of state.old))) (begun (state_of state.old))) m state.new) }
+    requires tied { IsTied (R.contents rows.old) state.old }
+    ensures remains { Remains (R.contents rows.old) state.old (R.contents rows.new) state.new }
+    ensures ok { IfOk result (λ m. ComesTo state.old.config (carried_out state.old.config now (plan state.old.config now call (begun (state_of state.old))) (begun (state_of state.old))) m state.new) }
     ensures back { IfErr result (λ back. back ≡ call) }
-    ensures same { OnErr result (state.new ≡ state.old) }
-    ensures table { OnErr result (R.contents rows.new ≡ R.contents rows.old) }
+    ensures same { OnErr result (IsUnmoved (R.contents rows.old) state.old (R.contents rows.new) state.new) }
+    ensures free { is_free call ≡ true → IsOk result }
 {
     match plan_of(call) {
         Planned::OneKey(part) => {
-            match start_key(alloc, config, state, rows, id, now, part) {
+            match start_key(alloc, state, rows, now, part) {
                 Ok(moved) => Ok(moved),
                 Err(part) => Err(whole_call(part)),
             }
         }
         Planned::ManyKeys(many) => {
-            match start_many(alloc, config, state, rows, id, now, many) {
+            match start_many(alloc, state, rows, now, many) {
                 Ok(moved) => Ok(moved),
                 Err(many) => Err(whole_many(many)),
             }
         }
-        Planned::AtOnce(once) => at_once(alloc, config, state, rows, id, now, once),
+        Planned::AtOnce(once) => at_once(alloc, state, rows, now, once),
     }
 }
 
 /// Gives a call on one key its answer.
 fn answer_key<R: Rows, G: Ring>(
-    config: &CacheConfig,
     state: &mut CacheState<G>,
     rows: &mut R,
-    id: CacheId,
     step: KeyStep,
     awaits: Awaits,
     mut notices: Notices,
     answer: Answer,
 ) -> Result<Moved, (Suspended, Answer)>
-    requires kept { IsKept config.now (R.contents rows.old) id state.old }
-    requires waits { IsWaiting config.now (progress_of state.old notices.told) step }
-    ensures kept_after { IsKept config.now (R.contents rows.new) id state.new }
-    ensures elsewhere { SameElsewhere id (R.contents rows.old) (R.contents rows.new) }
-    ensures ok { IfOk result (λ m. ComesTo config.now (resume (key_run config.now (progress_of state.old notices.told) step) answer) m state.new) }
+    requires tied { IsTied (R.contents rows.old) state.old }
+    requires waits { IsWaiting state.old.config (progress_of state.old notices.told) step }
+    ensures remains { Remains (R.contents rows.old) state.old (R.contents rows.new) state.new }
+    ensures ok { IfOk result (λ m. ComesTo state.old.config (resume (key_run state.old.config (progress_of state.old notices.told) step) answer) m state.new) }
     ensures back { IfErr result (λ back. back ≡ (record { awaits = awaited awaits; wait = one step; notices = notices.told; stock = [] }, answer)) }
-    ensures same { OnErr result (state.new ≡ state.old) }
-    ensures table { OnErr result (R.contents rows.new ≡ R.contents rows.old) }
+    ensures same { OnErr result (IsUnmoved (R.contents rows.old) state.old (R.contents rows.new) state.new) }
 {
-    match Supply::for_answer(config, state, rows, &mut notices, id, &step, &answer) {
+    let row = state.find(rows, &step.call().key);
+    match Supply::for_answer(state, rows, &mut notices, row, &step, &answer) {
         Err(_) => Err((
             Suspended {
                 paused: Paused::One(step),
@@ -226,7 +209,7 @@ fn answer_key<R: Rows, G: Ring>(
             answer,
         )),
         Ok(supply) => {
-            let next = step.answer(config, state, rows, &mut notices, id, answer, supply);
+            let next = step.answer(state, rows, &mut notices, answer, row, supply);
             Ok(with_notices(next, notices))
         }
     }
@@ -234,26 +217,23 @@ fn answer_key<R: Rows, G: Ring>(
 
 /// Gives a call on many keys its answer.
 fn answer_many<R: Rows, G: Ring>(
-    config: &CacheConfig,
     state: &mut CacheState<G>,
     rows: &mut R,
-    id: CacheId,
     bulk: BulkStep,
     awaits: Awaits,
     mut notices: Notices,
     answer: Answer,
 ) -> Result<Moved, (Suspended, Answer)>
-    requires kept { IsKept config.now (R.contents rows.old) id state.old }
-    requires waits { IsWaiting config.now (progress_of state.old notices.told) bulk.key }
-    requires covered { AreCovered config.now (items_of state.old.cells) bulk.rest }
-    ensures kept_after { IsKept config.now (R.contents rows.new) id state.new }
-    ensures elsewhere { SameElsewhere id (R.contents rows.old) (R.contents rows.new) }
-    ensures ok { IfOk result (λ m. ComesTo config.now (resume (bulk_run config.now (progress_of state.old notices.told) (bulk_wait bulk)) answer) m state.new) }
+    requires tied { IsTied (R.contents rows.old) state.old }
+    requires waits { IsWaiting state.old.config (progress_of state.old notices.told) bulk.key }
+    requires covered { AreCovered state.old.config (items_of state.old.cells) bulk.rest }
+    ensures remains { Remains (R.contents rows.old) state.old (R.contents rows.new) state.new }
+    ensures ok { IfOk result (λ m. ComesTo state.old.config (resume (bulk_run state.old.config (progress_of state.old notices.told) (bulk_wait bulk)) answer) m state.new) }
     ensures back { IfErr result (λ back. back ≡ (record { awaits = awaited awaits; wait = many (bulk_wait bulk); notices = notices.told; stock = bulk.rest }, answer)) }
-    ensures same { OnErr result (state.new ≡ state.old) }
-    ensures table { OnErr result (R.contents rows.new ≡ R.contents rows.old) }
+    ensures same { OnErr result (IsUnmoved (R.contents rows.old) state.old (R.contents rows.new) state.new) }
 {
-    match prepare_answer(config, state, rows, &mut notices, id, &bulk, &answer) {
+    let row = state.find(rows, &bulk.step.call().key);
+    match prepare_answer(state, rows, &mut notices, row, &bulk, &answer) {
         Err(_) => Err((
             Suspended {
                 paused: Paused::Many(bulk),
@@ -266,14 +246,12 @@ fn answer_many<R: Rows, G: Ring>(
             let BulkStep { step, ahead } = bulk;
             let now = step.now();
             let key = step.call().key;
-            match step.answer(config, state, rows, &mut notices, id, answer, supply) {
+            match step.answer(state, rows, &mut notices, answer, row, supply) {
                 Next::Waiting(request, step) => {
                     let bulk = BulkStep { step, ahead };
                     Ok(suspend(request, Paused::Many(bulk), notices))
                 }
-                Next::Ended(reply) => Ok(go_on_after(
-                    config, state, rows, notices, id, now, key, reply, ahead,
-                )),
+                Next::Ended(reply) => Ok(go_on_after(state, rows, notices, now, key, reply, ahead)),
             }
         }
     }
@@ -281,22 +259,18 @@ fn answer_many<R: Rows, G: Ring>(
 
 /// Gives a suspended call its answer. Where memory is refused, both are handed back, and nothing has changed.
 pub fn answer_call<R: Rows, G: Ring>(
-    config: &CacheConfig,
     state: &mut CacheState<G>,
     rows: &mut R,
-    id: CacheId,
     suspended: Suspended,
     answer: Answer,
 ) -> Result<Moved, (Suspended, Answer)>
-    requires kept { IsKept config.now (R.contents rows.old) id state.old }
+    requires tied { IsTied (R.contents rows.old) state.old }
     requires awaited { fits suspended.awaits answer ≡ true }
-    requires waits { IsSuspended config.now (progress_of state.old suspended.notices) suspended }
-    ensures kept_after { IsKept config.now (R.contents rows.new) id state.new }
-    ensures elsewhere { SameElsewhere id (R.contents rows.old) (R.contents rows.new) }
-    ensures ok { IfOk result (λ m. ComesTo config.now (resume (wait_run config.now (progress_of state.old suspended.notices) suspended.wait) answer) m state.new) }
+    requires waits { IsSuspended state.old.config (progress_of state.old suspended.notices) suspended }
+    ensures remains { Remains (R.contents rows.old) state.old (R.contents rows.new) state.new }
+    ensures ok { IfOk result (λ m. ComesTo state.old.config (resume (wait_run state.old.config (progress_of state.old suspended.notices) suspended.wait) answer) m state.new) }
     ensures back { IfErr result (λ back. back ≡ (suspended, answer)) }
-    ensures same { OnErr result (state.new ≡ state.old) }
-    ensures table { OnErr result (R.contents rows.new ≡ R.contents rows.old) }
+    ensures same { OnErr result (IsUnmoved (R.contents rows.old) state.old (R.contents rows.new) state.new) }
 {
     let Suspended {
         paused,
@@ -304,9 +278,7 @@ pub fn answer_call<R: Rows, G: Ring>(
         notices,
     } = suspended;
     match paused {
-        Paused::One(step) => answer_key(config, state, rows, id, step, awaits, notices, answer),
-        Paused::Many(bulk) => {
-            answer_many(config, state, rows, id, bulk, awaits, notices, answer)
-        }
+        Paused::One(step) => answer_key(state, rows, step, awaits, notices, answer),
+        Paused::Many(bulk) => { answer_many(state, rows, bulk, awaits, notices, answer) }
     }
 }

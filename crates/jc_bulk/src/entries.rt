@@ -3,36 +3,32 @@ ghost use Rattle.std.specs.Prelude.{◌≡◌, ◌+◌, ◌<◌, ◌≤◌, [], 
 ghost use Rattle.jc_model.specs.Changes.{begun};
 ghost use Rattle.jc_model.specs.State.{Item, row_of};
 ghost use Rattle.jc_model.specs.Whole.{touch_each, contents};
-ghost use Rattle.jc_ops.specs.Kept.{items_of, state_of, IsKept};
-ghost use Rattle.jc_ops.specs.Tied.{Tied, SameElsewhere};
+ghost use Rattle.jc_state.specs.Kept.{items_of, state_of, IsTied, Remains, IsUnmoved};
 ghost use Rattle.jc_bulk.specs.Entries.{live_value};
 ghost use Rattle.jc_bulk.specs.Tallied.{pushed};
 
 use crate::lists::Lists;
 use jc_model::OutOfMemory;
-use jc_model::config::CacheConfig;
-use jc_model::event::CacheId;
 use jc_model::key::Key;
 use jc_model::list::Sequence;
 use jc_model::thrice::Thrice;
 use jc_model::value::Value;
-use jc_ops::state::CacheState;
 use jc_ring::ring::Ring;
 use jc_rows::rows::Rows;
+use jc_state::state::CacheState;
 use std::alloc::Global;
 
 /// The key's value, if it has a live row.
 fn live_value<'a, R: Rows, G: Ring>(
     state: &'a CacheState<G>,
     rows: &R,
-    id: CacheId,
     now: u64,
     key: &Key,
 ) -> Option<&'a Value>
-    requires tied { Tied (R.contents rows.now) id state.now.cells }
+    requires tied { IsTied (R.contents rows.now) state.now }
     ensures { option_map (λ v. v.now) result ≡ live_value now key.now (items_of state.now.cells) }
 {
-    match state.find(rows, id, key) {
+    match state.find(rows, key) {
         None => None,
         Some(row) => {
             if state.is_live(row, now) {
@@ -60,85 +56,63 @@ fn list(pairs: &mut Lists<(Key, Value)>, key: Key, value: Option<&Value>) -> Res
 /// The pairs of all live rows, in the order of the ring.
 fn contents<R: Rows, G: Ring>(
     alloc: Global,
-    config: &CacheConfig,
     state: &CacheState<G>,
     rows: &R,
-    id: CacheId,
     now: u64,
     keys: &[Key],
 ) -> Result<Lists<(Key, Value)>, OutOfMemory>
-    requires kept { IsKept config.now (R.contents rows.now) id state.now }
+    requires tied { IsTied (R.contents rows.now) state.now }
     requires keys { keys.now ≡ map (λ x. x.key) (items_of state.now.cells) }
-    ensures { IfOk result (λ lists. lists.items ≡ contents config.now now (items_of state.now.cells)) }
+    ensures { IfOk result (λ lists. lists.items ≡ contents state.now.config now (items_of state.now.cells)) }
 {
     let mut pairs = Lists::with_room(alloc, keys.len())?;
     for key in keys {
-        list(&mut pairs, *key, live_value(state, rows, id, now, key))?;
+        list(&mut pairs, *key, live_value(state, rows, now, key))?;
     }
     Ok(pairs)
 }
 
 /// Counts a hit on the key's row and uses it, where it is live.
-fn touch<R: Rows, G: Ring>(
-    config: &CacheConfig,
-    state: &mut CacheState<G>,
-    rows: &mut R,
-    id: CacheId,
-    now: u64,
-    key: &Key,
-)
-    requires kept { IsKept config.now (R.contents rows.old) id state.old }
-    ensures kept_after { IsKept config.now (R.contents rows.new) id state.new }
-    ensures elsewhere { SameElsewhere id (R.contents rows.old) (R.contents rows.new) }
-    ensures progress { (x : Item) → row_of key.now (items_of state.old.cells) ≡ Some x → begun (state_of state.new) ≡ touch_each config.now now (x ∷ []) (begun (state_of state.old)) }
+fn touch<R: Rows, G: Ring>(state: &mut CacheState<G>, rows: &mut R, now: u64, key: &Key)
+    requires tied { IsTied (R.contents rows.old) state.old }
+    ensures remains { Remains (R.contents rows.old) state.old (R.contents rows.new) state.new }
+    ensures progress { (x : Item) → row_of key.now (items_of state.old.cells) ≡ Some x → begun (state_of state.new) ≡ touch_each state.old.config now (x ∷ []) (begun (state_of state.old)) }
 {
-    if let Some(row) = state.find(rows, id, key) {
+    if let Some(row) = state.find(rows, key) {
         if state.is_live(row, now) {
             state.hit();
-            state.access(config, rows, id, now, key, row);
+            state.access(rows, now, row);
         }
     }
 }
 
 /// Counts a hit on each live row and uses it, in the order of the ring.
-fn touch_each<R: Rows, G: Ring>(
-    config: &CacheConfig,
-    state: &mut CacheState<G>,
-    rows: &mut R,
-    id: CacheId,
-    now: u64,
-    keys: &[Key],
-)
-    requires kept { IsKept config.now (R.contents rows.old) id state.old }
+fn touch_each<R: Rows, G: Ring>(state: &mut CacheState<G>, rows: &mut R, now: u64, keys: &[Key])
+    requires tied { IsTied (R.contents rows.old) state.old }
     requires keys { keys.now ≡ map (λ x. x.key) (items_of state.old.cells) }
-    ensures kept_after { IsKept config.now (R.contents rows.new) id state.new }
-    ensures elsewhere { SameElsewhere id (R.contents rows.old) (R.contents rows.new) }
-    ensures progress { begun (state_of state.new) ≡ touch_each config.now now (items_of state.old.cells) (begun (state_of state.old)) }
+    ensures remains { Remains (R.contents rows.old) state.old (R.contents rows.new) state.new }
+    ensures progress { begun (state_of state.new) ≡ touch_each state.old.config now (items_of state.old.cells) (begun (state_of state.old)) }
 {
     for key in keys {
-        touch(config, state, rows, id, now, key);
+        touch(state, rows, now, key);
     }
 }
 
 /// Lists all live rows, and uses each. Where memory is refused, nothing has changed.
 pub(crate) fn entries<R: Rows, G: Ring>(
     alloc: Global,
-    config: &CacheConfig,
     state: &mut CacheState<G>,
     rows: &mut R,
-    id: CacheId,
     now: u64,
 ) -> Result<Thrice<Sequence<(Key, Value)>>, OutOfMemory>
-    requires kept { IsKept config.now (R.contents rows.old) id state.old }
-    ensures kept_after { IsKept config.now (R.contents rows.new) id state.new }
-    ensures elsewhere { SameElsewhere id (R.contents rows.old) (R.contents rows.new) }
-    ensures listed { IfOk result (λ pairs. pairs ≡ contents config.now now (items_of state.old.cells)) }
-    ensures progress { IfOk result (λ _. begun (state_of state.new) ≡ touch_each config.now now (items_of state.old.cells) (begun (state_of state.old))) }
-    ensures same { OnErr result (state.new ≡ state.old) }
-    ensures table { OnErr result (R.contents rows.new ≡ R.contents rows.old) }
+    requires tied { IsTied (R.contents rows.old) state.old }
+    ensures remains { Remains (R.contents rows.old) state.old (R.contents rows.new) state.new }
+    ensures listed { IfOk result (λ pairs. pairs ≡ contents state.old.config now (items_of state.old.cells)) }
+    ensures progress { IfOk result (λ _. begun (state_of state.new) ≡ touch_each state.old.config now (items_of state.old.cells) (begun (state_of state.old))) }
+    ensures same { OnErr result (IsUnmoved (R.contents rows.old) state.old (R.contents rows.new) state.new) }
 {
     let keys = state.keys(alloc)?;
-    let pairs = contents(alloc, config, state, rows, id, now, keys.as_slice())?;
-    touch_each(config, state, rows, id, now, keys.as_slice());
+    let pairs = contents(alloc, state, rows, now, keys.as_slice())?;
+    touch_each(state, rows, now, keys.as_slice());
     Ok(pairs.into_lists())
 }

@@ -1,20 +1,18 @@
 //! The steps of a call on many keys, in their order.
 ghost use Rattle.std.specs.Prelude.{◌≡◌, ◌<◌, ◌^◌, if◌then◌else◌, length, IfOk};
 ghost use Rattle.jc_model.specs.Bulk.{same_op, put_each, remove_each};
-ghost use Rattle.jc_ops.specs.Kept.{items_of, IsKept};
+ghost use Rattle.jc_state.specs.Kept.{items_of, IsTied};
 ghost use Rattle.jc_bulk.specs.Calls.{steps_of};
 ghost use Rattle.jc_bulk.specs.Provided.{keys_in, AreApart};
 
 use crate::plan::ManyKeys;
 use jc_model::OutOfMemory;
 use jc_model::call::{KeyCall, Op};
-use jc_model::config::CacheConfig;
-use jc_model::event::CacheId;
 use jc_model::key::Key;
 use jc_model::value::Value;
-use jc_ops::state::CacheState;
 use jc_ring::ring::Ring;
 use jc_rows::rows::Rows;
+use jc_state::state::CacheState;
 use std::alloc::Global;
 
 /// An equal operation.
@@ -87,19 +85,17 @@ fn removal(live: bool) -> Op
 /// A removal of each row, in the order of the ring.
 fn each_row<R: Rows, G: Ring>(
     alloc: Global,
-    config: &CacheConfig,
     state: &CacheState<G>,
     rows: &R,
-    id: CacheId,
     now: u64,
 ) -> Result<Vec<KeyCall>, OutOfMemory>
-    requires kept { IsKept config.now (R.contents rows.now) id state.now }
+    requires tied { IsTied (R.contents rows.now) state.now }
     ensures { IfOk result (λ calls. calls.items ≡ remove_each now (items_of state.now.cells)) }
 {
     let keys = state.keys(alloc)?;
-    let mut calls = Vec::new(alloc);
+    let mut calls = Vec::with_capacity(alloc, keys.len())?;
     for key in &keys {
-        let op = removal(state.holds(rows, id, key, now));
+        let op = removal(state.holds(rows, key, now));
         calls.push(KeyCall { key: *key, op })?;
     }
     Ok(calls)
@@ -108,19 +104,18 @@ fn each_row<R: Rows, G: Ring>(
 /// The steps of a call. No two are on one key.
 pub fn steps_of<R: Rows, G: Ring>(
     alloc: Global,
-    config: &CacheConfig,
     state: &CacheState<G>,
     rows: &R,
-    id: CacheId,
     now: u64,
     call: &ManyKeys,
 ) -> Result<Vec<KeyCall>, OutOfMemory>
-    requires kept { IsKept config.now (R.contents rows.now) id state.now }
+    requires tied { IsTied (R.contents rows.now) state.now }
     ensures steps { IfOk result (λ calls. calls.items ≡ steps_of now (items_of state.now.cells) call.now) }
     ensures apart { IfOk result (λ calls. AreApart (keys_in calls.items)) }
     ensures few { IfOk result (λ calls. length calls.items < 2 ^ 32) }
 {
-    let _capacity = config.capacity;
+    // The number of rows is a `u32`, and so no more steps are made of them.
+    let _rows = state.len();
     match call {
         ManyKeys::GetAll(keys) => each_key(alloc, keys.keys(), &Op::Get),
         ManyKeys::InvokeAll {
@@ -137,7 +132,7 @@ pub fn steps_of<R: Rows, G: Ring>(
         }
         ManyKeys::PutAll(pairs) => each_put(alloc, pairs.pairs()),
         ManyKeys::RemoveKeys(keys) => each_key(alloc, keys.keys(), &Op::Remove),
-        ManyKeys::RemoveAll => each_row(alloc, config, state, rows, id, now),
+        ManyKeys::RemoveAll => each_row(alloc, state, rows, now),
         ManyKeys::LoadAll { keys, replace } => {
             each_key(alloc, keys.keys(), &Op::Load { replace: *replace })
         }

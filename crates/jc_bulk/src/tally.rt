@@ -39,22 +39,6 @@ pub fn ends_call(reply: &Reply) -> Option<By>
     }
 }
 
-fn fault_by(by: By, done: u32) -> Reply
-    ensures { result ≡ Reply.Fault by (Some done) }
-{
-    Reply::Fault {
-        by,
-        done: Some(done),
-    }
-}
-
-/// The fault that ended a call, after so many keys.
-pub fn fault_after(by: By, done: u32) -> Thrice<Reply>
-    ensures { result ≡ Reply.Fault by (Some done) }
-{
-    Thrice::new(fault_by(by, done), fault_by(by, done), fault_by(by, done))
-}
-
 /// The value that was found.
 fn found(reply: Reply) -> Option<Value>
     ensures { result ≡ found_in reply }

@@ -7,8 +7,8 @@ ghost use Rattle.jc_bulk.specs.Paused.{wait_of, stock_of};
 use crate::bulk::BulkStep;
 use crate::call::Moved;
 use jc_model::call::{Answer, Request};
-use jc_ops::notices::Notices;
 use jc_ops::step::KeyStep;
+use jc_state::notices::Notices;
 use std::marker::Model;
 
 /// What kind of answer a suspended call awaits.

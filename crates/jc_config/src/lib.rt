@@ -16,6 +16,3 @@ pub use fault::{ConfigFault, Member};
 pub use kinds::{CacheSettings, Configuration, HookKinds, LoaderKind, ProcessorKind, WriterKind};
 pub use read::read_config;
 pub use settings::Settings;
-
-#[cfg(test)]
-mod tests;

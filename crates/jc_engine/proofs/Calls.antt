@@ -10,11 +10,11 @@ use Rattle.jc_model.specs.declared.event.Cause.TheVariants.{NoSuchProcessor, Wro
 use Rattle.jc_model.specs.declared.event.Outcome.{Outcome}
 use Rattle.jc_model.specs.declared.event.Outcome.TheVariants as outcome
 use Rattle.jc_model.specs.Changes.{Progress, begun}
-use Rattle.jc_model.specs.Run.{Run, Awaited, ended, waiting, and_then, resume, fits}
+use Rattle.jc_model.specs.Run.{Run, Awaited, ended, waiting, and_then, resume, for_tell, fits}
 use Rattle.jc_model.specs.Whole.{whole, plan, carried_out, told_first}
 use Rattle.jc_model.specs.Runs.{Standing, Status, busy, begins, answers, has_processor, shown, standing_of, reply_of, moved_by, moved}
 use Rattle.jc_model.specs.Suspended.{Wait, one, many, telling, run_of, standing_by}
-use Rattle.jc_ops.specs.Kept.{Kept, state_of, progress_of}
+use Rattle.jc_state.specs.Kept.{Kept, state_of, progress_of}
 use Rattle.jc_bulk.specs.Waits.{Waits}
 use Rattle.jc_bulk.specs.Moved.{wait_run, WaitsOn, IsSuspended}
 use Rattle.jc_engine.specs.declared.cache.Advance.{Advance}
@@ -24,7 +24,7 @@ use Rattle.jc_engine.specs.declared.cache.Turn.TheVariants.{Idle, Waiting, Telli
 use Rattle.jc_engine.specs.Caches.{Cache, status_of}
 use Rattle.jc_engine.specs.Managed.{turn_in, notices_in, step_of, is_step, is_telling, NeverTells, WaitsThere, Settled, Moves}
 use mathlib.Core.Path.{fun_ext}
-use Rattle.jc_engine.proofs.Untold.{carried_out-untold, resume-untold, wait_run-untold}
+use Rattle.jc_engine.proofs.Untold.{not_told, carried_out-untold, resume-untold, wait_run-untold}
 
 abbrev pub cache_of : CacheConfig → Kept → Turn → Cache
 cache_of c k turn = record { config = c; progress = progress_of k (notices_in turn); turn = turn_in turn }
@@ -90,3 +90,11 @@ went_on c k (Waiting t) a k' turn' advance s is there allowed settled =
       moves = ap (λ (s : Standing). (let status : Status = record { config = c; standing = s } in status)) (settled'.stands ∙ ap standing_of (sym goes));
       fits = settled'.fits (resume-untold (wait_run c (progress_of k t.notices) t.wait) a (wait_run-untold c (progress_of k t.notices) t.wait));
     }
+
+-- that notices were told is no answer that a suspended call takes
+pub never_told : (c : CacheConfig) (k : Kept) (turn : Turn) (a : Answer) (s : Waits) → turn ≡ Waiting s → WaitsThere c k turn
+    → is_step (reply_of c (standing_by c (progress_of k (notices_in turn)) (turn_in turn)) (answers a)) ≡ true → fits for_tell a ≡ true → ⊥
+never_told c k Idle a s is there allowed told = cc
+never_told c k (Telling r) a s is there allowed told = cc
+never_told c k (Waiting t) a s is there allowed told =
+    not_told c (progress_of k t.notices) t a there (first_of (fits t.awaits a) (shown (run_of c (progress_of k t.notices) t.wait a)) WrongAnswer allowed) told

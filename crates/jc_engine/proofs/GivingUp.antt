@@ -12,7 +12,7 @@ use Rattle.jc_model.specs.Changes.{Progress}
 use Rattle.jc_model.specs.Run.{Awaited}
 use Rattle.jc_model.specs.Suspended.{Wait, standing_by}
 use Rattle.jc_model.specs.Runs.{Standing, Status, gives_up, refuse_last, idle, reply_of, moved_by, answer_of, answer_to, moved, statuses_after}
-use Rattle.jc_ops.specs.Noted.{Noted}
+use Rattle.jc_state.specs.Noted.{Noted}
 use Rattle.jc_engine.specs.declared.cache.Turn.TheVariants.{Idle}
 use Rattle.jc_engine.specs.declared.cache.Managed.{Managed}
 use Rattle.jc_engine.specs.Caches.{Cache, status_of}
@@ -43,14 +43,14 @@ module _ {G : Type 0} (caches : List (Managed G)) (id : ℕ) (cache cache' : Man
 
   given : (notices : List Notice) → (turn_in cache.turn ≡ None → ⊥) → notices ≡ (cache_in cache).progress.notices → outcome.GivenUp notices ≡ answer_to (map status_of (map cache_in caches)) (GiveUp id) false
   given notices waits same =
-      let g = given_up cache.config (cache_in cache).progress (turn_in cache.turn) waits in
+      let g = given_up cache.state.config (cache_in cache).progress (turn_in cache.turn) waits in
       ap outcome.GivenUp same
       ∙ ap (λ (reply : Outcome). refuse_last false reply) (sym g.hands_out)
       ∙ ap (λ (o : Option Status). answer_of o gives_up false) (sym here)
 
   moves : (turn_in cache.turn ≡ None → ⊥) → cache' ≡ record cache { turn = Idle } → status_of (cache_in cache') ≡ moved (status_of (cache_in cache)) gives_up
   moves waits after =
-      let g = given_up cache.config (cache_in cache).progress (turn_in cache.turn) waits in
+      let g = given_up cache.state.config (cache_in cache).progress (turn_in cache.turn) waits in
       ap (λ (k : Managed G). status_of (cache_in k)) after
       ∙ ap (λ (s : Standing). record (status_of (cache_in cache)) { standing = s }) (sym g.leaves)
 
@@ -68,7 +68,7 @@ module _ {G : Type 0} (caches : List (Managed G)) (id : ℕ) (cache cache' : Man
     leaves = ap (λ (ks : List (Managed G)). map status_of (map cache_in ks)) (ap (slice_set caches id) is.2 ∙ same_set caches id cache at);
   }
     where
-      idle_answer : (turn : Option (Awaited × Wait)) → turn ≡ None → outcome.Refused NoTurn ≡ refuse_last false (reply_of cache.config (standing_by cache.config (cache_in cache).progress turn) gives_up)
+      idle_answer : (turn : Option (Awaited × Wait)) → turn ≡ None → outcome.Refused NoTurn ≡ refuse_last false (reply_of cache.state.config (standing_by cache.state.config (cache_in cache).progress turn) gives_up)
       idle_answer None is = refl
       idle_answer (Some w) is = absurd cc
 
@@ -92,6 +92,6 @@ pub managed_after : {G : Type 0} (m : RowMap) (id : ℕ) (cache cache' : Managed
 managed_after {G} m id cache cache' (Ok left) managed is = let idle : IsManaged m id (record cache { turn = Idle }) = record { kept = managed.kept; waits = tt } in subst (IsManaged m id) (sym is.0) idle
 managed_after {G} m id cache cache' (Err cause) managed is = subst (IsManaged m id) (sym is.2) managed
 
-pub config_after : {G : Type 0} (cache cache' : Managed G) (r : Result (Option Noted) Cause) → Abandons cache r cache' → cache'.config ≡ cache.config
-config_after {G} cache cache' (Ok left) is = ap (λ (k : Managed G). k.config) is.0
-config_after {G} cache cache' (Err cause) is = ap (λ (k : Managed G). k.config) is.2
+pub config_after : {G : Type 0} (cache cache' : Managed G) (r : Result (Option Noted) Cause) → Abandons cache r cache' → cache'.state.config ≡ cache.state.config
+config_after {G} cache cache' (Ok left) is = ap (λ (k : Managed G). k.state.config) is.0
+config_after {G} cache cache' (Err cause) is = ap (λ (k : Managed G). k.state.config) is.2

@@ -5,7 +5,6 @@ pub mod Entries
 pub mod Moving
 pub mod GivingUp
 pub mod Recordings
-pub mod Keys
 pub mod Names
 pub mod Openings
 pub mod Untold

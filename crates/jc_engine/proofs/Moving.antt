@@ -14,8 +14,8 @@ use Rattle.jc_model.specs.Run.{Awaited}
 use Rattle.jc_model.specs.Suspended.{Wait, standing_by}
 use Rattle.jc_model.specs.Runs.{Status, Said, gives_up, idle, cache_of, said, reply_of, moved_by, refuse_last, for_memory, answer_of, answer_to, moved, statuses_after, put_moved}
 use Rattle.jc_rows.specs.Rows.{RowMap}
-use Rattle.jc_ops.specs.Noted.{Noted}
-use Rattle.jc_ops.specs.Tied.{SameElsewhere}
+use Rattle.jc_state.specs.Noted.{Noted}
+use Rattle.jc_state.specs.Tied.{SameElsewhere}
 use Rattle.jc_engine.specs.declared.cache.Advance.{Advance}
 use Rattle.jc_engine.specs.declared.cache.Managed.{Managed}
 use Rattle.jc_engine.specs.Caches.{Cache, status_of}
@@ -90,16 +90,28 @@ module _ {G : Type 0} (caches : List (Managed G)) (seen : List Cache) (view_is :
       ∙ ap (option_map status_of) (slice_get-map cache_in caches (cache_of event) ∙ ap (option_map cache_in) at)
 
   module _ (cache : Managed G) (at : slice_get caches (cache_of event) ≡ Some cache) where
-    pub allowed_here : is_step (answer_to (map status_of seen) event false) ≡ true → is_step (reply_of cache.config (status_of (cache_in cache)).standing (said event)) ≡ true
+    pub allowed_here : is_step (answer_to (map status_of seen) event false) ≡ true → is_step (reply_of cache.state.config (status_of (cache_in cache)).standing (said event)) ≡ true
     allowed_here allowed = step_at (slice_get (map status_of seen) (cache_of event)) (said event) (status_of (cache_in cache)) (status_seen cache at) allowed
 
     pub managed_here : (m : RowMap) (names : List (List ℕ)) (ids : List ℕ → Option ℕ) → IsSound m caches names ids → IsManaged m (cache_of event) cache
     managed_here m names ids sound = managed_at caches (cache_of event) cache cache at m names ids sound
 
+    own : (m : RowMap) (id : ℕ) → IsManaged m id cache → IsManaged m cache.state.id cache
+    own m id is = record { kept = record { id_is = refl; tied = is.kept.tied; within = is.kept.within }; waits = is.waits }
+
+    -- a cache knows its id
+    pub managed_own : (m : RowMap) (names : List (List ℕ)) (ids : List ℕ → Option ℕ) → IsSound m caches names ids → IsManaged m cache.state.id cache
+    managed_own m names ids sound = own m (cache_of event) (managed_here m names ids sound)
+
     module _ (cache' : Managed G) where
-      pub sound_after : (m n : RowMap) (names : List (List ℕ)) (ids : List ℕ → Option ℕ) → IsSound m caches names ids → IsManaged n (cache_of event) cache' → cache'.config ≡ cache.config → SameElsewhere (cache_of event) m n → IsSound n (slice_set caches number cache') names ids
-      sound_after m n names ids sound managed same elsewhere =
+      sound_after_id : (m n : RowMap) (names : List (List ℕ)) (ids : List ℕ → Option ℕ) → IsSound m caches names ids → IsManaged n (cache_of event) cache' → cache'.state.config ≡ cache.state.config → SameElsewhere (cache_of event) m n → IsSound n (slice_set caches number cache') names ids
+      sound_after_id m n names ids sound managed same elsewhere =
           subst (λ (i : ℕ). IsSound n (slice_set caches i cache') names ids) (sym is) (sound_set caches (cache_of event) cache cache' at m n names ids sound managed same elsewhere)
+
+      pub sound_after : (m n : RowMap) (names : List (List ℕ)) (ids : List ℕ → Option ℕ) → IsSound m caches names ids → IsManaged n cache.state.id cache' → cache'.state.config ≡ cache.state.config → SameElsewhere cache.state.id m n → IsSound n (slice_set caches number cache') names ids
+      sound_after m n names ids sound managed same elsewhere =
+          let id_is : cache.state.id ≡ cache_of event = (managed_here m names ids sound).kept.id_is in
+          sound_after_id m n names ids sound (subst (λ (i : ℕ). IsManaged n i cache') id_is managed) same (subst (λ (i : ℕ). SameElsewhere i m n) id_is elsewhere)
 
       pub one_after : ChangesOne seen (cache_of event) (map cache_in (slice_set caches number cache'))
       one_after =

@@ -1,5 +1,5 @@
 -- Names and their places.
-use Rattle.std.proofs.Common.{◌≡◌, ℕ, ◌<◌, ◌≤◌, ◌+◌, zero, suc, Bool, true, false, cond, eqb, List, [], ◌∷◌, ◌++◌, map, length, take, drop, Option, Some, None, is_some, refl, sym, ap, subst, ◌∙◌, arith, length-append}
+use Rattle.std.proofs.Common.{◌≡◌, ℕ, ◌<◌, ◌≤◌, ◌+◌, Bool, true, false, cond, eqb, List, [], ◌∷◌, ◌++◌, map, length, Option, Some, None, is_some, refl, sym, ap, subst, ◌∙◌, arith, length-append}
 use Rattle.std.specs.Prelude.{position, nat_lt, not, ◌||◌}
 use Rattle.std.specs.List.{position_or_len, list_any}
 use Rattle.std.specs.Str.{bytes_eq}
@@ -9,11 +9,8 @@ use Rattle.std.proofs.lemmas.List.Sums.{prefix_len-le-length}
 use Rattle.std.proofs.lemmas.Bool.Decides.{nat_tests}
 use Rattle.std.proofs.lemmas.List.Folds.{position_or_len_push}
 use Rattle.std.proofs.lemmas.Slice.Eq.{bytes_eq-Decides}
-use Rattle.jc_model.specs.contracts.key.KeyPartialEq.TheImpl.{eq-value}
 use Rattle.jc_engine.specs.Opening.{is_taken}
 use Rattle.jc_engine.specs.Fresh.{AreIds}
-use Rattle.jc_model.proofs.SameKey.{key_eq}
-use Rattle.jc_engine.proofs.Keys.{lookup_same}
 
 either : (b c : Bool) → (b || c) ≡ false → (b ≡ false) × (c ≡ false)
 either true c h = absurd cc
@@ -108,17 +105,16 @@ any_map p f (x ∷ xs) = ap (λ (b : Bool). p (f x) || b) (any_map p f xs)
 
 -- The ids by name.
 
-pub same_get : {X S : Type 0} (ids : HashMap (List ℕ) X S) (name : List ℕ) → lookup (eq-value.it name) ids.entries ≡ get bytes_eq ids name
-same_get ids name = lookup_same (eq-value.it name) (bytes_eq name) ids.entries (key_eq name)
+pub same_get : {X S : Type 0} (ids : HashMap (List ℕ) X S) (name : List ℕ) → lookup (bytes_eq name) ids.entries ≡ get bytes_eq ids name
+same_get ids name = refl
 
 pub ids_with : {S : Type 0} (ids ids' : HashMap (List ℕ) ℕ S) (names : List (List ℕ)) (name : List ℕ) (number : ℕ)
-    → ((q : List ℕ) → lookup (eq-value.it q) ids'.entries ≡ cond (eq-value.it name q) (Some number) (lookup (eq-value.it q) ids.entries))
+    → ((q : List ℕ) → lookup (bytes_eq q) ids'.entries ≡ cond (bytes_eq name q) (Some number) (lookup (bytes_eq q) ids.entries))
     → AreIds (Some ids) names → is_taken name names ≡ false → number ≡ length names → AreIds (Some ids') (names ++ name ∷ [])
 ids_with ids ids' names name number updates are absent counted = λ q.
     sym (same_get ids' q) ∙ (updates q
-    ∙ (ap (λ (b : Bool). cond b (Some number) (lookup (eq-value.it q) ids.entries)) (key_eq name q)
     ∙ (ap (λ (o : Option ℕ). cond (bytes_eq name q) (Some number) o) (same_get ids q ∙ are q)
-    ∙ by q (bytes_eq name q) refl)))
+    ∙ by q (bytes_eq name q) refl))
   where
     by : (q : List ℕ) (b : Bool) → bytes_eq name q ≡ b → cond b (Some number) (position (λ n. bytes_eq n q) names) ≡ position (λ n. bytes_eq n q) (names ++ name ∷ [])
     by q true h =

@@ -1,5 +1,5 @@
 -- A manager that has just been opened.
-use Rattle.std.proofs.Common.{◌≡◌, ℕ, ◌≤◌, ◌+◌, zero, suc, Bool, true, false, List, [], ◌∷◌, ◌++◌, map, length, Option, Some, None, Result, Ok, Err, refl, sym, ap, subst, ◌∙◌, arith}
+use Rattle.std.proofs.Common.{◌≡◌, ℕ, ◌≤◌, ◌+◌, zero, suc, Bool, true, false, List, [], ◌∷◌, ◌++◌, map, length, Option, Some, None, Result, Ok, Err, refl, sym, ap, ap₂, subst, ◌∙◌, arith}
 use Rattle.std.specs.Prelude.{slice_get, option_map, IfSome, position, sum, ltb, ◌||◌, if◌then◌else◌}
 use Rattle.std.specs.FinMap as table
 use Rattle.std.specs.HashMap.{HashMap, get}
@@ -16,8 +16,10 @@ use Rattle.jc_engine.specs.declared.cache.Managed.{Managed}
 use Rattle.jc_engine.specs.declared.open.OpenRefusal.{OpenRefusal}
 use Rattle.jc_engine.specs.Caches.{Cache, status_of, fresh_cache}
 use Rattle.jc_engine.specs.Managed.{cache_in, IsManaged}
+use Rattle.jc_model.specs.Limits.{most_caches, most_rows, most_rows_together}
+use Rattle.jc_engine.specs.declared.open.OpenRefusal.TheVariants.{TooManyCaches}
 use Rattle.jc_engine.specs.Opening.{or_else, names_in, limit_refusal, refusal_at, refusal_from, capacities, open_refusal}
-use Rattle.jc_engine.specs.Fresh.{AreIds, fresh_fields}
+use Rattle.jc_engine.specs.Fresh.{AreIds, fresh_fields, fresh_from}
 use Rattle.jc_engine.specs.Sound.{IsAt, IsSound}
 use Rattle.jc_engine.specs.Recording.{HasEntry, IsRecorded}
 use Rattle.jc_engine.proofs.Places.{map_map}
@@ -36,10 +38,18 @@ not_refused : (b : Bool) (r : OpenRefusal) (next : Option OpenRefusal) → (if b
 not_refused true r next h = absurd cc
 not_refused false r next h = refl
 
+next_none : (b : Bool) (r : OpenRefusal) (next : Option OpenRefusal) → (if b then Some r else next) ≡ None → next ≡ None
+next_none true r next h = absurd cc
+next_none false r next h = h
+
+pub each_allowed : (configs : List CacheConfig) → open_refusal configs ≡ None → refusal_from [] 0 configs ≡ None
+each_allowed configs h =
+    none_first (refusal_from [] 0 configs) _ (next_none (ltb most_caches (length configs)) TooManyCaches _ h)
+
 some_rows : (place : ℕ) (c : CacheConfig) → limit_refusal place c ≡ None → 1 ≤ c.capacity
-some_rows place c h = by (ltb c.capacity 1) refl (not_refused (ltb c.capacity 1 || ltb 65536 c.capacity) _ _ h)
+some_rows place c h = by (ltb c.capacity 1) refl (not_refused (ltb c.capacity 1 || ltb most_rows c.capacity) _ _ h)
   where
-    by : (b : Bool) → ltb c.capacity 1 ≡ b → (b || ltb 65536 c.capacity) ≡ false → 1 ≤ c.capacity
+    by : (b : Bool) → ltb c.capacity 1 ≡ b → (b || ltb most_rows c.capacity) ≡ false → 1 ≤ c.capacity
     by true is h = absurd cc
     by false is h = grind (arith, nat_tests)
 
@@ -53,10 +63,10 @@ all_some names place (d ∷ configs) h (suc id) c at =
 
 -- Where none of the checks refuses, none does.
 
-pub all_allowed : (configs : List CacheConfig) → length configs ≤ 1024 → refusal_from [] 0 configs ≡ None → sum (capacities configs) ≤ 262144 → open_refusal configs ≡ None
+pub all_allowed : (configs : List CacheConfig) → length configs ≤ most_caches → refusal_from [] 0 configs ≡ None → sum (capacities configs) ≤ most_rows_together → open_refusal configs ≡ None
 all_allowed configs few none small =
-    let h : ltb 1024 (length configs) ≡ false = grind (arith, nat_tests) in
-    let k : ltb 262144 (sum (capacities configs)) ≡ false = grind (arith, nat_tests) in
+    let h : ltb most_caches (length configs) ≡ false = grind (arith, nat_tests) in
+    let k : ltb most_rows_together (sum (capacities configs)) ≡ false = grind (arith, nat_tests) in
     rw (h, none, k) refl
 
 pub none_refused : (o : Option OpenRefusal) (P : OpenRefusal → Type 0) → o ≡ None → IfSome o P
@@ -65,38 +75,57 @@ none_refused (Some r) P none = absurd cc
 
 -- The fields at first.
 
-fresh_at : {G : Type 0} (m : RowMap) → ((x : ℕ × List ℕ) → table.get m x ≡ None) → (id : ℕ) (c : CacheConfig) → 1 ≤ c.capacity → IsManaged {G = G} m id (fresh_fields c)
-fresh_at m none id c some = record {
+from_map : {G B : Type 0} (f : Managed G → B) (h : CacheConfig → B) → ((i : ℕ) (c : CacheConfig) → f (fresh_fields i c) ≡ h c) → (place : ℕ) (configs : List CacheConfig) → map f (fresh_from place configs) ≡ map h configs
+from_map f h same place [] = refl
+from_map f h same place (c ∷ cs) = ap₂ (λ x xs. x ∷ xs) (same place c) (from_map f h same (place + 1) cs)
+
+from_at_place : {G : Type 0} (place : ℕ) (configs : List CacheConfig) (id : ℕ) → slice_get (fresh_from {G = G} place configs) id ≡ option_map (fresh_fields (place + id)) (slice_get configs id)
+from_at_place place [] id = refl
+from_at_place place (c ∷ cs) zero = let same : place ≡ place + 0 = omega arith in ap (λ (i : ℕ). Some (fresh_fields i c)) same
+from_at_place place (c ∷ cs) (suc id) = let same : (place + 1) + id ≡ place + suc id = omega arith in from_at_place (place + 1) cs id ∙ ap (λ (i : ℕ). option_map (fresh_fields i) (slice_get cs id)) same
+
+from_at : {G : Type 0} (place : ℕ) (configs : List CacheConfig) (id : ℕ) → slice_get (fresh_from {G = G} 0 configs) id ≡ option_map (fresh_fields id) (slice_get configs id)
+from_at place configs id = from_at_place 0 configs id ∙ (let same : 0 + id ≡ id = omega arith in ap (λ (i : ℕ). option_map (fresh_fields i) (slice_get configs id)) same)
+
+pub from_push : {G : Type 0} (place : ℕ) (configs : List CacheConfig) (c : CacheConfig) → fresh_from {G = G} place configs ++ fresh_fields (place + length configs) c ∷ [] ≡ fresh_from place (configs ++ c ∷ [])
+from_push place [] c = let same : place + 0 ≡ place = omega arith in ap (λ (i : ℕ). fresh_fields i c ∷ []) same
+from_push place (d ∷ ds) c = let same : place + length (d ∷ ds) ≡ (place + 1) + length ds = omega arith in ap (λ l. fresh_fields place d ∷ l) (ap (λ (i : ℕ). fresh_from (place + 1) ds ++ fresh_fields i c ∷ []) same ∙ from_push (place + 1) ds c)
+
+pub from_length : (G : Type 0) (place : ℕ) (configs : List CacheConfig) → length (fresh_from {G = G} place configs) ≡ length configs
+from_length G place [] = refl
+from_length G place (c ∷ cs) = ap suc (from_length G (place + 1) cs)
+
+fresh_at : {G : Type 0} (m : RowMap) → ((x : ℕ × List ℕ) → table.get m x ≡ None) → (id : ℕ) (c : CacheConfig) → IsManaged {G = G} m id (fresh_fields id c)
+fresh_at m none id c = record {
   kept = record {
     tied = record {
       distinct = tt;
       placed = tt;
       found = λ k r e h. absurd (let no : ◌≡◌ {A = Option (ℕ × Expiry)} (Some (r, e)) None = sym h ∙ none (id, k) in cc);
     };
+    id_is = refl;
     within = omega arith;
-    limit = refl;
-    some = some;
   };
   waits = tt;
 }
 
 pub opened_sound : {G S : Type 0} (m : RowMap) (configs : List CacheConfig) (caches : List (Managed G)) (names : List (List ℕ)) (ids : HashMap (List ℕ) ℕ S)
-    → m ≡ table.empty → refusal_from [] 0 configs ≡ None → caches ≡ map fresh_fields configs → names ≡ names_in configs → AreIds (Some ids) (names_in configs) → IsSound m caches names (get bytes_eq ids)
+    → m ≡ table.empty → refusal_from [] 0 configs ≡ None → caches ≡ fresh_from 0 configs → names ≡ names_in configs → AreIds (Some ids) (names_in configs) → IsSound m caches names (get bytes_eq ids)
 opened_sound {G} {S} m configs caches names ids empty allowed fresh named are = record {
-  each = λ id. subst (λ (ks : List (Managed G)). IsAt m id (slice_get ks id)) (sym fresh) (subst (IsAt m id) (sym (slice_get-map fresh_fields configs id)) (by id (slice_get configs id) refl));
-  named = named ∙ (sym (map_map (λ (k : Managed G). k.config.name) fresh_fields configs) ∙ ap (map (λ (k : Managed G). k.config.name)) (sym fresh));
+  each = λ id. subst (λ (ks : List (Managed G)). IsAt m id (slice_get ks id)) (sym fresh) (subst (IsAt m id) (sym (from_at 0 configs id)) (by id (slice_get configs id)));
+  named = named ∙ (sym (from_map (λ (k : Managed G). k.state.config.name) (λ c. c.name) (λ i c. refl) 0 configs) ∙ ap (map (λ (k : Managed G). k.state.config.name)) (sym fresh));
   found = λ name. are name ∙ ap (λ (ns : List (List ℕ)). position (λ n. bytes_eq n name) ns) (sym named);
 }
   where
     none : (x : ℕ × List ℕ) → table.get m x ≡ None
     none x = ap (λ (n : RowMap). table.get n x) empty ∙ get-empty x
 
-    by : (id : ℕ) (o : Option CacheConfig) → slice_get configs id ≡ o → IsAt {G = G} m id (option_map fresh_fields o)
-    by id None at = λ key. none (id, key)
-    by id (Some c) at = fresh_at m none id c (all_some [] 0 configs allowed id c at)
+    by : (id : ℕ) (o : Option CacheConfig) → IsAt {G = G} m id (option_map (fresh_fields id) o)
+    by id None = λ key. none (id, key)
+    by id (Some c) = fresh_at m none id c
 
-pub opened_fresh : {G : Type 0} (configs : List CacheConfig) (caches : List (Managed G)) → caches ≡ map fresh_fields configs → map cache_in caches ≡ map fresh_cache configs
-opened_fresh {G} configs caches fresh = ap (map cache_in) fresh ∙ map_map cache_in fresh_fields configs
+pub opened_fresh : {G : Type 0} (configs : List CacheConfig) (caches : List (Managed G)) → caches ≡ fresh_from 0 configs → map cache_in caches ≡ map fresh_cache configs
+opened_fresh {G} configs caches fresh = ap (map cache_in) fresh ∙ from_map cache_in fresh_cache (λ i c. refl) 0 configs
 
 -- With the transcript of no calls.
 

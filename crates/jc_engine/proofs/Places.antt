@@ -5,7 +5,7 @@ use Rattle.std.proofs.lemmas.Bool.Decides.{nat_tests}
 use Rattle.std.proofs.lemmas.Option.{slice_get-map}
 use Rattle.jc_model.proofs.EachCache.{at_same, at_other}
 use Rattle.jc_rows.specs.Rows.{RowMap}
-use Rattle.jc_ops.specs.Tied.{SameElsewhere}
+use Rattle.jc_state.specs.Tied.{SameElsewhere}
 use Rattle.jc_engine.specs.declared.cache.Managed.{Managed}
 use Rattle.jc_engine.specs.Managed.{IsManaged, cache_in}
 use Rattle.jc_engine.specs.Caches.{Cache, status_of}
@@ -27,14 +27,14 @@ same_set (y ∷ ys) zero x at = let same : y ≡ x = cc in ap (λ z. z ∷ ys) (
 same_set (y ∷ ys) (suc i) x at = ap (λ zs. y ∷ zs) (same_set ys i x at)
 
 module _ {G : Type 0} (caches : List (Managed G)) (id : ℕ) (cache cache' : Managed G) (at : slice_get caches id ≡ Some cache) where
-  same_names : cache'.config ≡ cache.config → map (λ (k : Managed G). k.config.name) (slice_set caches id cache') ≡ map (λ (k : Managed G). k.config.name) caches
+  same_names : cache'.state.config ≡ cache.state.config → map (λ (k : Managed G). k.state.config.name) (slice_set caches id cache') ≡ map (λ (k : Managed G). k.state.config.name) caches
   same_names same =
-      map_set (λ (k : Managed G). k.config.name) caches id cache'
-      ∙ ap (slice_set (map (λ (k : Managed G). k.config.name) caches) id) (ap (λ c. c.name) same)
-      ∙ same_set (map (λ (k : Managed G). k.config.name) caches) id cache.config.name (slice_get-map (λ (k : Managed G). k.config.name) caches id ∙ ap (option_map (λ (k : Managed G). k.config.name)) at)
+      map_set (λ (k : Managed G). k.state.config.name) caches id cache'
+      ∙ ap (slice_set (map (λ (k : Managed G). k.state.config.name) caches) id) (ap (λ c. c.name) same)
+      ∙ same_set (map (λ (k : Managed G). k.state.config.name) caches) id cache.state.config.name (slice_get-map (λ (k : Managed G). k.state.config.name) caches id ∙ ap (option_map (λ (k : Managed G). k.state.config.name)) at)
 
   -- the manager stays sound where one cache has moved
-  pub sound_set : (m n : RowMap) (names : List (List ℕ)) (ids : List ℕ → Option ℕ) → IsSound m caches names ids → IsManaged n id cache' → cache'.config ≡ cache.config → SameElsewhere id m n → IsSound n (slice_set caches id cache') names ids
+  pub sound_set : (m n : RowMap) (names : List (List ℕ)) (ids : List ℕ → Option ℕ) → IsSound m caches names ids → IsManaged n id cache' → cache'.state.config ≡ cache.state.config → SameElsewhere id m n → IsSound n (slice_set caches id cache') names ids
   sound_set m n names ids sound is same elsewhere = record {
     each = λ other. by other (eqb other id) refl;
     named = sound.named ∙ sym (same_names same);

@@ -21,7 +21,7 @@ use Rattle.jc_model.specs.Suspended.{Wait, one, many, telling, standing_by, run_
 use Rattle.jc_model.specs.Legal.{Tells, recorded, with_outcome, with_answer, on_open}
 use Rattle.jc_model.proofs.EachCache.{at_same, at_other}
 use Rattle.jc_model.proofs.Recording.{one_more_event}
-use Rattle.jc_ops.specs.Noted.{Noted}
+use Rattle.jc_state.specs.Noted.{Noted}
 use Rattle.jc_engine.specs.declared.cache.Advance.{Advance}
 use Rattle.jc_engine.specs.declared.cache.Advance.TheVariants.{Replied, Asked, Told}
 use Rattle.jc_engine.specs.Caches.{Cache, status_of}

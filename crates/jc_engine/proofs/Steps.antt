@@ -52,9 +52,9 @@ module _ {G : Type 0} (caches : List (Managed G)) (event : Event) (cache cache' 
       ∙ ap (put_moved (map status_of (map cache_in caches)) event) (sym found)
 
   -- a result of the cache, as the manager's
-  pub answered : {T : Type 0} (r : Result Advance T) → is_step (reply_of cache.config (status_of (cache_in cache)).standing (said event)) ≡ true → IfOk r (λ advance. Moves (cache_in cache) (said event) advance (cache_in cache')) → OnErr r (cache' ≡ cache) → IsAnswered caches event (outcome_of r) (slice_set caches (cache_of event) cache')
+  pub answered : {T : Type 0} (r : Result Advance T) → is_step (reply_of cache.state.config (status_of (cache_in cache)).standing (said event)) ≡ true → IfOk r (λ advance. Moves (cache_in cache) (said event) advance (cache_in cache')) → OnErr r (cache' ≡ cache) → IsAnswered caches event (outcome_of r) (slice_set caches (cache_of event) cache')
   answered (Ok advance) allowed ok err = record {
-    is = ok.shows ∙ sym (kept (reply_of cache.config (status_of (cache_in cache)).standing (said event)) allowed) ∙ ap (λ (o : Option Status). answer_of o (said event) false) (sym found);
+    is = ok.shows ∙ sym (kept (reply_of cache.state.config (status_of (cache_in cache)).standing (said event)) allowed) ∙ ap (λ (o : Option Status). answer_of o (said event) false) (sym found);
     leaves = moves_on ok.moves;
   }
     where
@@ -63,7 +63,7 @@ module _ {G : Type 0} (caches : List (Managed G)) (event : Event) (cache cache' 
       kept (outcome.Refused cause) is = refl
       kept (outcome.GivenUp notices) is = refl
   answered (Err back) allowed ok err = record {
-    is = refused_last (reply_of cache.config (status_of (cache_in cache)).standing (said event)) allowed ∙ ap (λ (o : Option Status). answer_of o (said event) true) (sym found);
+    is = refused_last (reply_of cache.state.config (status_of (cache_in cache)).standing (said event)) allowed ∙ ap (λ (o : Option Status). answer_of o (said event) true) (sym found);
     leaves = ap (λ (ks : List (Managed G)). map status_of (map cache_in ks)) (ap (slice_set caches (cache_of event)) err ∙ same_set caches (cache_of event) cache at);
   }
 

@@ -1,13 +1,11 @@
 -- The outcomes of a manager's inner calls, which keep the copies that a transcript needs.
 use Rattle.std.specs.Prelude.{◌≡◌, ℕ, List, [], Result, Ok, Err, slice_set}
 use Rattle.std.specs.Prelude.{Option, Some, None}
-use Rattle.jc_model.specs.declared.call.Call.{Call}
-use Rattle.jc_model.specs.declared.call.Answer.{Answer}
 use Rattle.jc_model.specs.declared.event.Cause.{Cause}
 use Rattle.jc_model.specs.declared.event.Cause.TheVariants.{OutOfMemory}
 use Rattle.jc_model.specs.declared.event.Outcome.{Outcome}
 use Rattle.jc_model.specs.declared.event.Outcome.TheVariants as outcome
-use Rattle.jc_ops.specs.Noted.{Noted}
+use Rattle.jc_state.specs.Noted.{Noted}
 use Rattle.jc_engine.specs.declared.cache.Advance.{Advance}
 use Rattle.jc_engine.specs.Caches.{Cache}
 use Rattle.jc_engine.specs.Managed.{step_of, FitsTurn, LeavesNotices}

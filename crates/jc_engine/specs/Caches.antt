@@ -1,5 +1,5 @@
 -- The caches of a manager, as its callers see them.
-use Rattle.std.specs.Prelude.{ℕ, Bool, false, List, map, option_map}
+use Rattle.std.specs.Prelude.{◌≡◌, ℕ, Bool, false, List, map, option_map, slice_get}
 use Rattle.std.specs.Prelude.{Option, Some, None}
 use Rattle.jc_model.specs.declared.config.CacheConfig.{CacheConfig}
 use Rattle.jc_model.specs.declared.config.Expiry.{Expiry}
@@ -7,6 +7,7 @@ use Rattle.jc_model.specs.State.{first_state, row_of}
 use Rattle.jc_model.specs.Changes.{Progress, begun}
 use Rattle.jc_model.specs.Run.{Awaited}
 use Rattle.jc_model.specs.Whole.{holds}
+use Rattle.jc_model.specs.Sound.{IsSound}
 use Rattle.jc_model.specs.Runs.{Status}
 use Rattle.jc_model.specs.Suspended.{Wait, standing_by}
 
@@ -29,6 +30,10 @@ configs_of caches = map (λ k. k.config) caches
 
 abbrev pub names_of : List Cache → List (List ℕ)
 names_of caches = map (λ k. k.config.name) caches
+
+-- in each cache no two rows have one key, and there are no more rows than it may have
+abbrev pub AreSound : List Cache → Type 0
+AreSound caches = (id : ℕ) (k : Cache) → slice_get caches id ≡ Some k → IsSound k.config k.progress.state
 
 -- when a cache's row of this key expires
 abbrev pub expiry_in : List ℕ → Option Cache → Option Expiry

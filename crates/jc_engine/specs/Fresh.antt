@@ -1,5 +1,5 @@
 -- A manager's fields at its opening.
-use Rattle.std.specs.Prelude.{◌≡◌, ℕ, List, [], position}
+use Rattle.std.specs.Prelude.{◌≡◌, ℕ, List, [], ◌∷◌, ◌+◌, position}
 use Rattle.std.specs.Prelude.{Option, Some, None}
 use Rattle.std.specs.HashMap.{HashMap, get}
 use Rattle.std.specs.Str.{bytes_eq}
@@ -13,5 +13,10 @@ abbrev pub AreIds : {S : Type 0} → Option (HashMap (List ℕ) ℕ S) → List 
 AreIds None names = Unit {0}
 AreIds (Some ids) names = (name : List ℕ) → get bytes_eq ids name ≡ position (λ n. bytes_eq n name) names
 
-abbrev pub fresh_fields : {G : Type 0} → CacheConfig → Managed G
-fresh_fields c = record { config = c; state = record { cells = []; limit = c.capacity; counts = zeros }; turn = Idle }
+abbrev pub fresh_fields : {G : Type 0} → ℕ → CacheConfig → Managed G
+fresh_fields id c = record { state = record { config = c; id = id; cells = []; counts = zeros }; turn = Idle }
+
+-- each has its place as its id
+abbrev pub fresh_from : {G : Type 0} → ℕ → List CacheConfig → List (Managed G)
+fresh_from place [] = []
+fresh_from place (c ∷ cs) = fresh_fields place c ∷ fresh_from (place + 1) cs

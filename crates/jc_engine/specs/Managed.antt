@@ -1,5 +1,5 @@
 -- What the fields of one cache stand for, and how it moves.
-use Rattle.std.specs.Prelude.{◌≡◌, ℕ, Bool, true, false, List, [], Result, Ok, Err}
+use Rattle.std.specs.Prelude.{◌≡◌, ◌≤◌, length, ℕ, Bool, true, false, List, [], Result, Ok, Err}
 use Rattle.std.specs.Prelude.{Option, Some, None}
 use Rattle.jc_model.specs.declared.call.Notice.{Notice}
 use Rattle.jc_model.specs.declared.call.Request.TheVariants.{Tell}
@@ -10,13 +10,14 @@ use Rattle.jc_model.specs.declared.event.Step.{Step}
 use Rattle.jc_model.specs.declared.event.Step.TheVariants.{Done, Need}
 use Rattle.jc_model.specs.declared.event.Outcome.{Outcome}
 use Rattle.jc_model.specs.declared.event.Outcome.TheVariants as outcome
-use Rattle.jc_model.specs.Run.{Run, ended, waiting, and_then, Awaited, for_tell, told_by}
+use Rattle.jc_model.specs.Run.{Run, and_then, Awaited, for_tell, told_by}
+use Rattle.jc_model.specs.Everywhere.{AtEach}
 use Rattle.jc_model.specs.Whole.{told_first}
 use Rattle.jc_model.specs.Runs.{Said, shown, standing_of, reply_of, moved}
 use Rattle.jc_model.specs.Suspended.{Wait, one, many, telling, standing_by}
 use Rattle.jc_rows.specs.Rows.{RowMap}
-use Rattle.jc_ops.specs.Noted.{Noted}
-use Rattle.jc_ops.specs.Kept.{Kept, progress_of, IsKept}
+use Rattle.jc_state.specs.Noted.{Noted}
+use Rattle.jc_state.specs.Kept.{Kept, progress_of, IsTied}
 use Rattle.jc_bulk.specs.Moved.{IsSuspended}
 use Rattle.jc_engine.specs.declared.cache.Turn.{Turn}
 use Rattle.jc_engine.specs.declared.cache.Turn.TheVariants.{Idle, Waiting, Telling}
@@ -37,7 +38,7 @@ notices_in (Waiting s) = s.notices
 notices_in (Telling reply) = []
 
 abbrev pub cache_in : {G : Type 0} → Managed G → Cache
-cache_in cache = record { config = cache.config; progress = progress_of cache.state (notices_in cache.turn); turn = turn_in cache.turn }
+cache_in cache = record { config = cache.state.config; progress = progress_of cache.state (notices_in cache.turn); turn = turn_in cache.turn }
 
 -- an open call waits where its run leads
 abbrev pub WaitsThere : CacheConfig → Kept → Turn → Type 0
@@ -45,9 +46,15 @@ WaitsThere c k Idle = Unit {0}
 WaitsThere c k (Waiting s) = IsSuspended c (progress_of k s.notices) s
 WaitsThere c k (Telling reply) = Unit {0}
 
+-- a cache has this id, is tied to the table, and has no more rows than it may
+pub record IsKept (m : RowMap) (id : ℕ) (k : Kept) : Type 0 where
+  pub id_is : k.id ≡ id
+  pub tied : IsTied m k
+  pub within : length k.cells ≤ k.config.capacity
+
 pub record IsManaged {G : Type 0} (m : RowMap) (id : ℕ) (cache : Managed G) : Type 0 where
-  pub kept : IsKept cache.config m id cache.state
-  pub waits : WaitsThere cache.config cache.state cache.turn
+  pub kept : IsKept m id cache.state
+  pub waits : WaitsThere cache.state.config cache.state cache.turn
 
 -- The call moves.
 
@@ -74,8 +81,7 @@ FitsTurn (Told notices) turn = tells turn ≡ true
 
 -- no request of a run tells notices
 abbrev pub NeverTells : Run → Type 0
-NeverTells (ended p r) = Unit {0}
-NeverTells (waiting q p resumed) = (told_by q ≡ []) × ((a : _) → NeverTells (resumed a))
+NeverTells run = AtEach (λ q p. told_by q ≡ []) (λ p r. Unit {0}) run
 
 -- a call that has come to this run goes on as the turn says
 pub record Settled (c : CacheConfig) (run : Run) (k : Kept) (turn : Turn) (advance : Advance) : Type 0 where

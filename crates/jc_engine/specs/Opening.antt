@@ -4,6 +4,7 @@ use Rattle.std.specs.Prelude.{Option, Some, None}
 use Rattle.std.specs.List.{list_any}
 use Rattle.std.specs.Str.{bytes_eq}
 use Rattle.jc_model.specs.declared.config.CacheConfig.{CacheConfig}
+use Rattle.jc_model.specs.Limits.{most_caches, most_rows, most_rows_together, most_listeners, most_processors}
 use Rattle.jc_engine.specs.declared.open.OpenRefusal.{OpenRefusal}
 use Rattle.jc_engine.specs.declared.open.OpenRefusal.TheVariants.{TooManyCaches, BadCapacity, TooManyListeners, TooManyProcessors, DuplicateName, TotalCapacity}
 
@@ -21,9 +22,9 @@ names_in configs = map (λ c. c.name) configs
 -- what is wrong with the cache at a place, its name aside
 abbrev pub limit_refusal : ℕ → CacheConfig → Option OpenRefusal
 limit_refusal place c =
-    if ltb c.capacity 1 || ltb 65536 c.capacity then Some (BadCapacity place)
-    else (if ltb 8 c.listeners then Some (TooManyListeners place)
-    else (if ltb 16 (length c.processors) then Some (TooManyProcessors place) else None))
+    if ltb c.capacity 1 || ltb most_rows c.capacity then Some (BadCapacity place)
+    else (if ltb most_listeners c.listeners then Some (TooManyListeners place)
+    else (if ltb most_processors (length c.processors) then Some (TooManyProcessors place) else None))
 
 -- and behind caches with these names
 abbrev pub refusal_at : List (List ℕ) → ℕ → CacheConfig → Option OpenRefusal
@@ -40,5 +41,5 @@ capacities configs = map (λ c. c.capacity) configs
 -- why a manager does not open, where memory suffices
 abbrev pub open_refusal : List CacheConfig → Option OpenRefusal
 open_refusal configs =
-    if ltb 1024 (length configs) then Some TooManyCaches
-    else or_else (refusal_from [] 0 configs) (if ltb 262144 (sum (capacities configs)) then Some TotalCapacity else None)
+    if ltb most_caches (length configs) then Some TooManyCaches
+    else or_else (refusal_from [] 0 configs) (if ltb most_rows_together (sum (capacities configs)) then Some TotalCapacity else None)

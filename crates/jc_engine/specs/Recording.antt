@@ -1,5 +1,5 @@
 -- A manager with the transcript of its calls.
-use Rattle.std.specs.Prelude.{◌≡◌, ℕ, Bool, false, List, [], map, length, slice_get}
+use Rattle.std.specs.Prelude.{◌≡◌, ℕ, false, List, [], map, length, slice_get}
 use Rattle.std.specs.Prelude.{Option, Some, None}
 use Rattle.jc_model.specs.declared.call.Call.{Call}
 use Rattle.jc_model.specs.declared.call.Notice.{Notice}
@@ -8,7 +8,7 @@ use Rattle.jc_model.specs.declared.event.Entry.{Entry}
 use Rattle.jc_model.specs.Run.{Awaited, told_by}
 use Rattle.jc_model.specs.Legal.{Tells}
 use Rattle.jc_model.specs.Suspended.{Wait}
-use Rattle.jc_ops.specs.Noted.{Noted}
+use Rattle.jc_state.specs.Noted.{Noted}
 use Rattle.jc_engine.specs.declared.cache.Advance.{Advance}
 use Rattle.jc_engine.specs.declared.cache.Advance.TheVariants.{Replied, Asked, Told}
 use Rattle.jc_engine.specs.Caches.{Cache, status_of}

@@ -15,5 +15,5 @@ IsAt m id (Some cache) = IsManaged m id cache
 -- the table has the rows of all caches and no others; the names are theirs, and each leads to its id
 pub record IsSound {G : Type 0} (m : RowMap) (caches : List (Managed G)) (names : List (List ℕ)) (ids : List ℕ → Option ℕ) : Type 0 where
   pub each : (id : ℕ) → IsAt m id (slice_get caches id)
-  pub named : names ≡ map (λ cache. cache.config.name) caches
+  pub named : names ≡ map (λ cache. cache.state.config.name) caches
   pub found : (name : List ℕ) → ids name ≡ position (λ n. bytes_eq n name) names

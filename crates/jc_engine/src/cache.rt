@@ -1,11 +1,12 @@
 //! One cache under the manager: its configuration, its rows and counters, and its open call.
-ghost use Rattle.std.specs.Prelude.{◌≡◌, ℕ, ◌<◌, true, List, Some, None, IfOk, IfErr, OnErr, MatchOption, length};
+ghost use Rattle.std.specs.Prelude.{◌≡◌, ℕ, ◌<◌, true, List, Some, None, IsOk, IfOk, IfErr, OnErr, MatchOption, length};
 ghost use Rattle.jc_model.specs.declared.config.CacheConfig.{CacheConfig};
 ghost use Rattle.jc_model.specs.declared.event.Outcome.TheVariants.{Refused, GivenUp};
-ghost use Rattle.jc_model.specs.Run.{Run};
+ghost use Rattle.jc_model.specs.Run.{Run, fits, for_tell};
 ghost use Rattle.jc_model.specs.Runs.{begins, answers, gives_up, has_processor, reply_of, moved};
-ghost use Rattle.jc_ops.specs.Kept.{Kept};
-ghost use Rattle.jc_ops.specs.Tied.{SameElsewhere};
+ghost use Rattle.jc_state.specs.Kept.{Kept};
+ghost use Rattle.jc_state.specs.Tied.{SameElsewhere};
+ghost use Rattle.jc_bulk.specs.Calls.{is_free};
 ghost use Rattle.jc_bulk.specs.Moved.{ComesTo};
 ghost use Rattle.jc_engine.specs.Caches.{status_of};
 ghost use Rattle.jc_engine.specs.Managed.{cache_in, step_of, is_step, IsManaged, Moves, Settled, Abandons};
@@ -13,13 +14,12 @@ ghost use Rattle.jc_engine.specs.Managed.{cache_in, step_of, is_step, IsManaged,
 use jc_bulk::call::{Moved, answer_call, start_call};
 use jc_bulk::waits::Suspended;
 use jc_model::call::{Answer, Call, Reply, Request};
-use jc_model::config::CacheConfig;
-use jc_model::event::{CacheId, Cause, Step};
+use jc_model::event::{Cause, Step};
 use jc_model::thrice::Thrice;
-use jc_ops::notices::Notices;
-use jc_ops::state::CacheState;
 use jc_ring::ring::Ring;
 use jc_rows::rows::Rows;
+use jc_state::notices::Notices;
+use jc_state::state::CacheState;
 use std::alloc::Global;
 use std::mem;
 
@@ -55,21 +55,8 @@ impl Advance {
 
 #[derive(Drop)]
 pub(crate) struct Managed<G: Ring> {
-    pub(crate) config: CacheConfig,
     pub(crate) state: CacheState<G>,
     pub(crate) turn: Turn,
-}
-
-/// Whether the processor that a call names, if any, is there.
-fn has_processor(config: &CacheConfig, call: &Call) -> bool
-    ensures { result ≡ has_processor config.now call.now }
-{
-    match call {
-        Call::Invoke { processor, .. } | Call::InvokeAll { processor, .. } => {
-            (*processor as usize) < config.processors.items().len()
-        }
-        _ => true,
-    }
 }
 
 /// How the cache goes on from what its call has come to. All notices are told before the reply.
@@ -93,11 +80,11 @@ fn settle(moved: Moved) -> (Turn, Advance)
 impl<G: Ring> Managed<G> {
     /// Why a call can't begin now, where memory suffices.
     pub(crate) fn begin_refusal(&self, call: &Call) -> Option<Cause>
-        ensures { (now : ℕ) → let reply = reply_of self.now.config (status_of (cache_in self.now)).standing (begins now call.now) in MatchOption result (is_step reply ≡ true) (λ cause. reply ≡ Refused cause) }
+        ensures { (now : ℕ) → let reply = reply_of self.now.state.config (status_of (cache_in self.now)).standing (begins now call.now) in MatchOption result (is_step reply ≡ true) (λ cause. reply ≡ Refused cause) }
     {
         match self.turn {
             Turn::Idle => {
-                if has_processor(&self.config, call) {
+                if self.state.config().has_processor(call) {
                     None
                 } else {
                     Some(Cause::NoSuchProcessor)
@@ -109,7 +96,7 @@ impl<G: Ring> Managed<G> {
 
     /// Why an answer is refused now, where memory suffices.
     pub(crate) fn resume_refusal(&self, answer: &Answer) -> Option<Cause>
-        ensures { let reply = reply_of self.now.config (status_of (cache_in self.now)).standing (answers answer.now) in MatchOption result (is_step reply ≡ true) (λ cause. reply ≡ Refused cause) }
+        ensures { let reply = reply_of self.now.state.config (status_of (cache_in self.now)).standing (answers answer.now) in MatchOption result (is_step reply ≡ true) (λ cause. reply ≡ Refused cause) }
     {
         let awaited = match &self.turn {
             Turn::Idle => return Some(Cause::NoTurn),
@@ -128,40 +115,36 @@ impl<G: Ring> Managed<G> {
         &mut self,
         alloc: Global,
         rows: &mut R,
-        id: CacheId,
         now: u64,
         call: Call,
     ) -> Result<Advance, Call>
-        requires managed { IsManaged (R.contents rows.old) id self.old }
-        requires allowed { is_step (reply_of self.old.config (status_of (cache_in self.old)).standing (begins now call)) ≡ true }
-        ensures config { self.new.config ≡ self.old.config }
-        ensures managed_after { IsManaged (R.contents rows.new) id self.new }
-        ensures elsewhere { SameElsewhere id (R.contents rows.old) (R.contents rows.new) }
+        requires managed { IsManaged (R.contents rows.old) self.old.state.id self.old }
+        requires allowed { is_step (reply_of self.old.state.config (status_of (cache_in self.old)).standing (begins now call)) ≡ true }
+        ensures config { self.new.state.config ≡ self.old.state.config }
+        ensures managed_after { IsManaged (R.contents rows.new) self.old.state.id self.new }
+        ensures elsewhere { SameElsewhere self.old.state.id (R.contents rows.old) (R.contents rows.new) }
         ensures ok { IfOk result (λ advance. Moves (cache_in self.old) (begins now call) advance (cache_in self.new)) }
         ensures back { IfErr result (λ back. back ≡ call) }
+        ensures free { is_free call ≡ true → IsOk result }
         ensures same { OnErr result (self.new ≡ self.old) }
         ensures table { OnErr result (R.contents rows.new ≡ R.contents rows.old) }
     {
-        let moved = start_call(alloc, &self.config, &mut self.state, rows, id, now, call)?;
+        let moved = start_call(alloc, &mut self.state, rows, now, call)?;
         let (turn, advance) = settle(moved);
         self.turn = turn;
         Ok(advance)
     }
 
     /// Goes on with the open call. Only memory can refuse it, before any change.
-    pub(crate) fn go_on<R: Rows>(
-        &mut self,
-        rows: &mut R,
-        id: CacheId,
-        answer: Answer,
-    ) -> Result<Advance, Answer>
-        requires managed { IsManaged (R.contents rows.old) id self.old }
-        requires allowed { is_step (reply_of self.old.config (status_of (cache_in self.old)).standing (answers answer)) ≡ true }
-        ensures config { self.new.config ≡ self.old.config }
-        ensures managed_after { IsManaged (R.contents rows.new) id self.new }
-        ensures elsewhere { SameElsewhere id (R.contents rows.old) (R.contents rows.new) }
+    pub(crate) fn go_on<R: Rows>(&mut self, rows: &mut R, answer: Answer) -> Result<Advance, Answer>
+        requires managed { IsManaged (R.contents rows.old) self.old.state.id self.old }
+        requires allowed { is_step (reply_of self.old.state.config (status_of (cache_in self.old)).standing (answers answer)) ≡ true }
+        ensures config { self.new.state.config ≡ self.old.state.config }
+        ensures managed_after { IsManaged (R.contents rows.new) self.old.state.id self.new }
+        ensures elsewhere { SameElsewhere self.old.state.id (R.contents rows.old) (R.contents rows.new) }
         ensures ok { IfOk result (λ advance. Moves (cache_in self.old) (answers answer) advance (cache_in self.new)) }
         ensures back { IfErr result (λ back. back ≡ answer) }
+        ensures told { fits for_tell answer ≡ true → IsOk result }
         ensures same { OnErr result (self.new ≡ self.old) }
         ensures table { OnErr result (R.contents rows.new ≡ R.contents rows.old) }
     {
@@ -169,7 +152,7 @@ impl<G: Ring> Managed<G> {
             Turn::Idle => unreachable!(),
             Turn::Telling(reply) => Ok(Advance::Replied(reply)),
             Turn::Waiting(suspended) => {
-                match answer_call(&self.config, &mut self.state, rows, id, suspended, answer) {
+                match answer_call(&mut self.state, rows, suspended, answer) {
                     Ok(moved) => {
                         let (turn, advance) = settle(moved);
                         self.turn = turn;

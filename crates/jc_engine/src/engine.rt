@@ -1,10 +1,12 @@
 //! The manager: many caches over one table of rows, each with at most one open call.
-ghost use Rattle.std.specs.Prelude.{◌≡◌, ℕ, List, false, IfErr, OnErr, map, option_map, position, slice_get};
+ghost use Rattle.std.specs.Prelude.{◌≡◌, ℕ, List, true, false, IfErr, OnErr, map, option_map, position, slice_get};
 ghost use Rattle.std.specs.FinMap as table;
 ghost use Rattle.std.specs.Str.{bytes_eq};
 ghost use Rattle.jc_model.specs.declared.event.Event.TheVariants.{Begin, Answer as Answered, GiveUp};
 ghost use Rattle.jc_model.specs.Runs.{answer_to, statuses_after, for_memory};
-ghost use Rattle.jc_engine.specs.Caches.{status_of, names_of, expiry_in, holds_in};
+ghost use Rattle.jc_model.specs.Run.{fits, for_tell};
+ghost use Rattle.jc_bulk.specs.Calls.{is_free};
+ghost use Rattle.jc_engine.specs.Caches.{AreSound, status_of, names_of, expiry_in, holds_in};
 ghost use Rattle.jc_engine.specs.Results.{of_begin, of_resume, of_give_up};
 
 use crate::cache::Managed;
@@ -62,9 +64,11 @@ impl<R: Rows, G: Ring> Engine<R, G> {
         self.names.as_slice()
     }
 
-    /// The table: exactly the rows of all caches, with their expiries.
+    /// The table: exactly the rows of all caches, with their expiries. At each moment, also while a call is open, the
+    /// keys of a cache are distinct, and its rows are no more than its capacity.
     pub fn rows(&self) -> &R
-        ensures { (id : ℕ) (key : List ℕ) → option_map (λ row. row.1) (table.get (R.contents result.now) (id, key)) ≡ expiry_in key (slice_get self.now id) }
+        ensures sound { AreSound self.now }
+        ensures table { (id : ℕ) (key : List ℕ) → option_map (λ row. row.1) (table.get (R.contents result.now) (id, key)) ≡ expiry_in key (slice_get self.now id) }
     {
         &self.rows
     }
@@ -74,7 +78,7 @@ impl<R: Rows, G: Ring> Engine<R, G> {
         ensures { result ≡ holds_in now key.now (slice_get self.now id) }
     {
         match self.caches.get(id.number() as usize) {
-            Some(cache) => cache.state.holds(&self.rows, id, key, now),
+            Some(cache) => cache.state.holds(&self.rows, key, now),
             None => false,
         }
     }
@@ -82,9 +86,11 @@ impl<R: Rows, G: Ring> Engine<R, G> {
     /// Begins a call: the step is its reply, or the next request to a hook of the cache.
     ///
     /// Refused as `NoSuchCache`, `Busy` (a call on this cache is open), `NoSuchProcessor`, `OutOfMemory`, in this order.
+    /// `Contains`, `Clear`, `Stats` and `ClearStats` take no memory.
     pub fn begin(&mut self, id: CacheId, now: u64, call: Call) -> Result<Step, (Cause, Call)>
         ensures outcome { of_begin result ≡ answer_to (map status_of self.old) (Begin id now call) (for_memory (of_begin result)) }
         ensures statuses { map status_of self.new ≡ statuses_after (map status_of self.old) (Begin id now call) (of_begin result) }
+        ensures free { is_free call ≡ true → of_begin result ≡ answer_to (map status_of self.old) (Begin id now call) false }
         ensures back { IfErr result (λ e. e.1 ≡ call) }
         ensures refused { OnErr result (self.new ≡ self.old) }
     {
@@ -100,9 +106,11 @@ impl<R: Rows, G: Ring> Engine<R, G> {
     /// Hands the open call the answer to its request: the step is its reply, or its next request.
     ///
     /// Refused as `NoSuchCache`, `NoTurn` (no call is open), `WrongAnswer` (not of the awaited kind), `OutOfMemory`, in this order.
+    /// `Told` takes no memory.
     pub fn resume(&mut self, id: CacheId, answer: Answer) -> Result<Step, (Cause, Answer)>
         ensures outcome { of_resume result ≡ answer_to (map status_of self.old) (Answered id answer) (for_memory (of_resume result)) }
         ensures statuses { map status_of self.new ≡ statuses_after (map status_of self.old) (Answered id answer) (of_resume result) }
+        ensures told { fits for_tell answer ≡ true → of_resume result ≡ answer_to (map status_of self.old) (Answered id answer) false }
         ensures back { IfErr result (λ e. e.1 ≡ answer) }
         ensures refused { OnErr result (self.new ≡ self.old) }
     {

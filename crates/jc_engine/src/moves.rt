@@ -1,9 +1,11 @@
 //! The manager's calls in two parts: whether they are refused, and the move of one cache. Both the plain manager
 //! and the recorded one are made of these.
-ghost use Rattle.std.specs.Prelude.{◌≡◌, ℕ, true, false, IfOk, IfErr, OnOk, OnErr, MatchOption, map, slice_get};
+ghost use Rattle.std.specs.Prelude.{◌≡◌, ℕ, true, false, IsOk, IfOk, IfErr, OnOk, OnErr, MatchOption, map, slice_get};
 ghost use Rattle.jc_model.specs.declared.event.Event.TheVariants.{Begin, Answer as Answered, GiveUp};
 ghost use Rattle.jc_model.specs.declared.event.Outcome.TheVariants.{Refused};
 ghost use Rattle.jc_model.specs.Runs.{answer_to, statuses_after, for_memory};
+ghost use Rattle.jc_model.specs.Run.{fits, for_tell};
+ghost use Rattle.jc_bulk.specs.Calls.{is_free};
 ghost use Rattle.jc_engine.specs.Caches.{status_of};
 ghost use Rattle.jc_engine.specs.Managed.{is_step};
 ghost use Rattle.jc_engine.specs.Advances.{outcome_of, of_abandon, FitsAt, LeavesAt, ClosedAt, ChangesOne};
@@ -12,9 +14,9 @@ use crate::cache::Advance;
 use crate::engine::Engine;
 use jc_model::call::{Answer, Call};
 use jc_model::event::{CacheId, Cause};
-use jc_ops::notices::Notices;
 use jc_ring::ring::Ring;
 use jc_rows::rows::Rows;
+use jc_state::notices::Notices;
 
 impl<R: Rows, G: Ring> Engine<R, G> {
     /// Why a call can't begin now, where memory suffices.
@@ -45,10 +47,11 @@ impl<R: Rows, G: Ring> Engine<R, G> {
         ensures one { ChangesOne self.old id self.new }
         ensures fits { IfOk result (λ advance. FitsAt advance (slice_get self.new id)) }
         ensures back { IfErr result (λ back. back ≡ call) }
+        ensures free { is_free call ≡ true → IsOk result }
         ensures refused { OnErr result (self.new ≡ self.old) }
     {
         let cache = &mut self.caches[id.number() as usize];
-        cache.start(self.alloc, &mut self.rows, id, now, call)
+        cache.start(self.alloc, &mut self.rows, now, call)
     }
 
     /// Goes on with the open call. Only memory can refuse it, before any change.
@@ -59,10 +62,11 @@ impl<R: Rows, G: Ring> Engine<R, G> {
         ensures one { ChangesOne self.old id self.new }
         ensures fits { IfOk result (λ advance. FitsAt advance (slice_get self.new id)) }
         ensures back { IfErr result (λ back. back ≡ answer) }
+        ensures told { fits for_tell answer ≡ true → IsOk result }
         ensures refused { OnErr result (self.new ≡ self.old) }
     {
         let cache = &mut self.caches[id.number() as usize];
-        cache.go_on(&mut self.rows, id, answer)
+        cache.go_on(&mut self.rows, answer)
     }
 
     /// Ends the open call without a reply, and hands out the notices that no one was told, if any may be left.

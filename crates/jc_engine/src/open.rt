@@ -3,31 +3,25 @@ ghost use Rattle.std.specs.Prelude.{◌≡◌, ◌≤◌, ℕ, false, List, [], 
 ghost use Rattle.std.specs.FinMap as table;
 ghost use Rattle.std.specs.List.{list_any};
 ghost use Rattle.std.specs.Str.{bytes_eq};
+ghost use Rattle.jc_model.specs.Limits.{most_caches};
 ghost use Rattle.jc_engine.specs.Caches.{fresh_cache};
 ghost use Rattle.jc_engine.specs.Opening.{open_refusal, limit_refusal, refusal_from, is_taken, capacities, names_in};
-ghost use Rattle.jc_engine.specs.Fresh.{AreIds, fresh_fields};
+ghost use Rattle.jc_engine.specs.Fresh.{AreIds, fresh_fields, fresh_from};
 
 use crate::cache::{Managed, Turn};
 use crate::engine::Engine;
 use jc_model::OutOfMemory;
 use jc_model::config::CacheConfig;
+use jc_model::event::CacheId;
 use jc_model::key::Key;
-use jc_ops::state::CacheState;
+use jc_model::limits::{
+    MOST_CACHES, MOST_LISTENERS, MOST_PROCESSORS, MOST_ROWS, MOST_ROWS_TOGETHER,
+};
 use jc_ring::ring::Ring;
 use jc_rows::rows::Rows;
-use std::alloc::Global;
+use jc_state::state::CacheState;
+use std::alloc::{AllocError, Global};
 use std::collections::HashMap;
-
-/// The most caches of one manager.
-pub const MOST_CACHES: usize = 1024;
-/// The most rows of one cache.
-pub const MOST_ROWS: u32 = 65_536;
-/// The most rows of all caches of one manager together.
-pub const MOST_ROWS_TOGETHER: u64 = 262_144;
-/// The most listeners of one cache.
-pub const MOST_LISTENERS: u8 = 8;
-/// The most processors of one cache.
-pub const MOST_PROCESSORS: usize = 16;
 
 /// Why a manager does not open; `cache` is the place of the cache in the list, from 0.
 #[derive(Debug, Drop, PartialEq, Eq)]
@@ -74,13 +68,8 @@ impl<R: Rows, G: Ring> Engine<R, G> {
         ensures memory { IfErr result (λ refusal. (open_refusal configs.items ≡ Some refusal) ⊎ (refusal ≡ OpenRefusal.OutOfMemory)) }
         ensures opened { IfOk result (λ engine. engine ≡ map fresh_cache configs.items) }
     {
-        if configs.len() > MOST_CACHES {
-            return Err(OpenRefusal::TooManyCaches);
-        }
-        let ids = checked_ids(alloc, &configs)?;
-        if total_capacity(&configs) > MOST_ROWS_TOGETHER {
-            return Err(OpenRefusal::TotalCapacity);
-        }
+        let some = HashMap::with_capacity(alloc, configs.len()).ok();
+        let ids = checked(some, &configs)?;
         let Some(ids) = ids else {
             return Err(OpenRefusal::OutOfMemory);
         };
@@ -94,6 +83,37 @@ impl<R: Rows, G: Ring> Engine<R, G> {
             ids,
         })
     }
+}
+
+/// Why a manager does not open with these caches, want of memory aside.
+pub fn open_refusal(configs: &[CacheConfig]) -> Option<OpenRefusal>
+    ensures { result ≡ open_refusal configs.now }
+{
+    match checked(None, configs) {
+        Ok(_) => None,
+        Err(refusal) => Some(refusal),
+    }
+}
+
+/// The ids of the caches by name, where there is a map for them and memory suffices, unless a manager does not open
+/// with these caches.
+fn checked(
+    ids: Option<HashMap<Key, u32>>,
+    configs: &[CacheConfig],
+) -> Result<Option<HashMap<Key, u32>>, OpenRefusal>
+    requires { AreIds ids [] }
+    ensures ok { IfOk result (λ ids. open_refusal configs.now ≡ None) }
+    ensures ids { IfOk result (λ ids. AreIds ids (names_in configs.now)) }
+    ensures refused { IfErr result (λ refusal. open_refusal configs.now ≡ Some refusal) }
+{
+    if configs.len() > MOST_CACHES {
+        return Err(OpenRefusal::TooManyCaches);
+    }
+    let ids = checked_ids(ids, configs)?;
+    if total_capacity(configs) > MOST_ROWS_TOGETHER {
+        return Err(OpenRefusal::TotalCapacity);
+    }
+    Ok(ids)
 }
 
 /// What is wrong with one cache, its name aside.
@@ -143,17 +163,18 @@ fn with_id(ids: Option<HashMap<Key, u32>>, name: Key, number: u32) -> Option<Has
     }
 }
 
-/// The ids of the caches by name, where memory suffices for them, unless one of the caches is refused.
+/// The same, unless one of the caches is refused.
 fn checked_ids(
-    alloc: Global,
+    ids: Option<HashMap<Key, u32>>,
     configs: &[CacheConfig],
 ) -> Result<Option<HashMap<Key, u32>>, OpenRefusal>
-    requires { length configs.now ≤ 1024 }
+    requires few { length configs.now ≤ most_caches }
+    requires ids { AreIds ids [] }
     ensures ok { IfOk result (λ ids. refusal_from [] 0 configs.now ≡ None) }
     ensures ids { IfOk result (λ ids. AreIds ids (names_in configs.now)) }
     ensures refused { IfErr result (λ refusal. refusal_from [] 0 configs.now ≡ Some refusal) }
 {
-    let mut ids = HashMap::with_capacity(alloc, configs.len()).ok();
+    let mut ids = ids;
     for (place, config) in configs.iter().enumerate() {
         let number = place as u32;
         if let Some(refusal) = limit_refusal(config, number) {
@@ -169,7 +190,7 @@ fn checked_ids(
 
 /// How many rows the caches may have together.
 fn total_capacity(configs: &[CacheConfig]) -> u64
-    requires { length configs.now ≤ 1024 }
+    requires { length configs.now ≤ most_caches }
     ensures { result ≡ sum (capacities configs.now) }
 {
     let mut total: u64 = 0;
@@ -185,21 +206,36 @@ fn all_names(alloc: Global, configs: &[CacheConfig]) -> Result<Vec<Key>, OutOfMe
     configs.iter().map(|config| config.name).collect(alloc)
 }
 
+/// One cache as it is at first, with its place as its id.
+fn fresh<G: Ring>(
+    alloc: Global,
+    place: usize,
+    config: CacheConfig,
+) -> Result<Managed<G>, OutOfMemory>
+    ensures { IfOk result (λ cache. cache ≡ fresh_fields place config) }
+{
+    // The checks before have refused more caches, and one of no rows.
+    if place >= MOST_CACHES || config.capacity < 1 {
+        return Err(AllocError);
+    }
+    let state = CacheState::empty(alloc, CacheId::new(place as u32), config)?;
+    Ok(Managed {
+        state,
+        turn: Turn::Idle,
+    })
+}
+
 /// The caches as they are at first.
 fn fresh_caches<G: Ring>(
     alloc: Global,
     configs: Vec<CacheConfig>,
 ) -> Result<Vec<Managed<G>>, OutOfMemory>
-    ensures { IfOk result (λ caches. caches.items ≡ map fresh_fields configs.items) }
+    ensures { IfOk result (λ caches. caches.items ≡ fresh_from 0 configs.items) }
 {
     let mut caches = Vec::with_capacity(alloc, configs.len())?;
     for config in configs {
-        let state = CacheState::with_capacity(alloc, config.capacity)?;
-        caches.push(Managed {
-            config,
-            state,
-            turn: Turn::Idle,
-        })?;
+        let cache = fresh(alloc, caches.len(), config)?;
+        caches.push(cache)?;
     }
     Ok(caches)
 }

@@ -1,5 +1,5 @@
 //! The manager with the transcript of its calls.
-ghost use Rattle.std.specs.Prelude.{◌≡◌, ◌⊎◌, ℕ, ◌<◌, List, false, IsSome, [], ◌∷◌, ◌++◌, IfSome, IfOk, IfErr, OnOk, OnErr, map, length, option_map, position, slice_get, slice_set};
+ghost use Rattle.std.specs.Prelude.{◌≡◌, ◌⊎◌, ℕ, ◌<◌, List, false, IsSome, [], ◌∷◌, ◌++◌, IfSome, IfOk, IfErr, OnOk, OnErr, MatchOption, map, length, option_map, position, slice_get, slice_set};
 ghost use Rattle.std.specs.FinMap as table;
 ghost use Rattle.std.specs.Str.{bytes_eq};
 ghost use Rattle.jc_model.specs.declared.event.Event.TheVariants.{Begin, Answer as Answered, GiveUp};
@@ -9,7 +9,7 @@ ghost use Rattle.jc_model.specs.declared.event.Entry.{Entry};
 ghost use Rattle.jc_model.specs.Runs.{answer_to, statuses_after, for_memory};
 ghost use Rattle.jc_model.specs.Solo.{opened};
 ghost use Rattle.jc_model.specs.Legal.{IsLegal, Tells, recorded, with_outcome, with_answer};
-ghost use Rattle.jc_engine.specs.Caches.{status_of, configs_of, names_of, expiry_in, holds_in};
+ghost use Rattle.jc_engine.specs.Caches.{AreSound, status_of, configs_of, names_of, expiry_in, holds_in};
 ghost use Rattle.jc_engine.specs.Opening.{open_refusal};
 ghost use Rattle.jc_engine.specs.Results.{of_recorded_begin, of_recorded_resume, of_give_up, reply_in};
 ghost use Rattle.jc_engine.specs.Managed.{step_of};
@@ -26,9 +26,9 @@ use jc_model::key::Key;
 use jc_model::list::Sequence;
 use jc_model::share::Share;
 use jc_model::transcript::Transcript;
-use jc_ops::notices::Notices;
 use jc_ring::ring::Ring;
 use jc_rows::rows::Rows;
+use jc_state::notices::Notices;
 use std::alloc::Global;
 use std::marker::Model;
 
@@ -97,9 +97,10 @@ impl<R: Rows, G: Ring> Recorded<R, G> {
         self.engine.has(id, key, now)
     }
 
-    /// The table: exactly the rows of all caches, with their expiries.
+    /// The table: exactly the rows of all caches, with their expiries, which are sound at each moment.
     pub fn rows(&self) -> &R
-        ensures { (id : ℕ) (key : List ℕ) → option_map (λ row. row.1) (table.get (R.contents result.now) (id, key)) ≡ expiry_in key (slice_get self.now.caches id) }
+        ensures sound { AreSound self.now.caches }
+        ensures table { (id : ℕ) (key : List ℕ) → option_map (λ row. row.1) (table.get (R.contents result.now) (id, key)) ≡ expiry_in key (slice_get self.now.caches id) }
     {
         self.engine.rows()
     }
@@ -112,6 +113,13 @@ impl<R: Rows, G: Ring> Recorded<R, G> {
     {
         let _places = &self.places;
         &self.transcript
+    }
+
+    /// The entry of the call that has begun last.
+    pub fn last(&self) -> Option<&Entry>
+        ensures { MatchOption result (self.now.transcript ≡ []) (λ e. (before : List Entry) × (self.now.transcript ≡ before ++ e.now ∷ [])) }
+    {
+        self.transcript.last()
     }
 
     /// Begins a call of a session, which becomes the transcript's last entry. At `Done` the second part is an equal

@@ -60,29 +60,3 @@ pub fn with_eviction(counts: Counts) -> Counts
         ..counts
     }
 }
-
-#[cfg(test)]
-mod tests {
-    use super::*;
-
-    #[test]
-    fn a_counter_stays_at_the_greatest(rt: HostRuntime) {
-        assert_eq!(rt; one_more(0), 1);
-        assert_eq!(rt; one_more(u64::MAX - 1), u64::MAX);
-        assert_eq!(rt; one_more(u64::MAX), u64::MAX);
-    }
-
-    #[test]
-    fn each_step_moves_its_own_counter(rt: HostRuntime) {
-        let counts = Counts {
-            hits: 1,
-            misses: 2,
-            puts: 3,
-            removals: 4,
-            evictions: 5,
-        };
-        let moved = with_eviction(with_removal(with_put(with_miss(with_hit(counts)))));
-        assert_eq!(rt; (moved.hits, moved.misses, moved.puts), (2, 3, 4));
-        assert_eq!(rt; (moved.removals, moved.evictions), (5, 6));
-    }
-}

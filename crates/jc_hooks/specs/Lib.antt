@@ -1,5 +1,6 @@
 pub mod Answers
 pub mod Codes
 pub mod Program
+pub mod Processors
 pub mod Stated
 pub mod Tallies

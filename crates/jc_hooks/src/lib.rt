@@ -13,8 +13,6 @@ mod loader;
 mod processor;
 pub mod program;
 mod tally;
-#[cfg(test)]
-mod tests;
 mod writer;
 
 pub use answer::{load_answer, process_answer, write_answer};

@@ -1,10 +1,12 @@
-//! The callbacks of the program, which it boxes.
+//! The callbacks of the program.
 
 ghost use Rattle.std.specs.Prelude.{◌≡◌, ◌≤◌, IfOk, length, option_map};
-ghost use Rattle.jc_hooks.specs.Program.{begins, bytes_of};
+ghost use Rattle.jc_hooks.specs.Program.{begins, bytes_of, appended};
 
+use crate::cache_hooks::CacheHooks;
 use crate::loader::{Loaded, Loader};
 use crate::processor::{Processor, shared};
+use crate::tally::TallyListener;
 use crate::writer::Writer;
 use jc_model::OutOfMemory;
 use jc_model::call::{Action, ProcessorFault, Verdict};
@@ -86,21 +88,55 @@ fn bytes_of<'a>(value: Option<&'a Value>) -> &'a [u8]
     }
 }
 
-/// Wants the value: sets it to the value, or nothing, followed by the argument, and answers the new value. It
-/// fails where that would be longer than a value may be.
+/// The verdict that sets the value to the value, or nothing, followed by the argument, and answers the new value.
+fn append(
+    alloc: Global,
+    value: Option<&Value>,
+    argument: &Value,
+) -> Result<Result<Verdict, ProcessorFault>, OutOfMemory>
+    ensures { IfOk result (λ v. v ≡ appended (option_map (λ r. r.now) value.entry) argument.now) }
+{
+    let given = bytes_of(value);
+    let added = argument.bytes();
+    if given.len() + added.len() > MAX_VALUE {
+        return Ok(Err(ProcessorFault {}));
+    }
+    let mut bytes = given.to_vec(alloc)?;
+    bytes.extend_from_slice(added)?;
+    let joined = new_value(alloc, bytes)?;
+    let answer = joined.share()?;
+    Ok(Ok(Verdict {
+        action: Action::Set(joined),
+        answer: Some(answer),
+    }))
+}
+
+/// One of the program's entry processors.
 #[derive(Drop)]
-pub struct AppendProcessor;
+pub enum ProgramProcessor {
+    /// Wants the value: sets it to the value, or nothing, followed by the argument, and answers the new value. It
+    /// fails where that would be longer than a value may be.
+    Append,
+    /// Fails on every entry.
+    Fail,
+    /// Removes the entry and answers the value that it was given.
+    Drop,
+    /// Wants the value: keeps the entry and answers the value that it was given.
+    Peek,
+}
 
-impl Processor for AppendProcessor {
-    ghost use Rattle.std.specs.Prelude.{true};
-    ghost use Rattle.jc_hooks.specs.Program.{appended};
+impl Processor for ProgramProcessor {
+    ghost use Rattle.jc_hooks.specs.Processors.{wants_of, verdict_by};
 
-    ghost wants = { λ _. true };
+    ghost wants = { wants_of };
 
-    ghost verdict_of = { λ _. appended };
+    ghost verdict_of = { verdict_by };
 
     fn wants_value(&self) -> bool {
-        true
+        match self {
+            ProgramProcessor::Append | ProgramProcessor::Peek => true,
+            ProgramProcessor::Fail | ProgramProcessor::Drop => false,
+        }
     }
 
     fn process(
@@ -109,105 +145,20 @@ impl Processor for AppendProcessor {
         value: Option<&Value>,
         argument: &Value,
     ) -> Result<Result<Verdict, ProcessorFault>, OutOfMemory> {
-        let given = bytes_of(value);
-        let added = argument.bytes();
-        if given.len() + added.len() > MAX_VALUE {
-            return Ok(Err(ProcessorFault {}));
+        match self {
+            ProgramProcessor::Append => append(alloc, value, argument),
+            ProgramProcessor::Fail => Ok(Err(ProcessorFault {})),
+            ProgramProcessor::Drop => Ok(Ok(Verdict {
+                action: Action::Remove,
+                answer: shared(value)?,
+            })),
+            ProgramProcessor::Peek => Ok(Ok(Verdict {
+                action: Action::Keep,
+                answer: shared(value)?,
+            })),
         }
-        let mut bytes = given.to_vec(alloc)?;
-        bytes.extend_from_slice(added)?;
-        let joined = new_value(alloc, bytes)?;
-        let answer = joined.share()?;
-        Ok(Ok(Verdict {
-            action: Action::Set(joined),
-            answer: Some(answer),
-        }))
     }
 }
 
-/// Fails on every entry.
-#[derive(Drop)]
-pub struct FailProcessor;
-
-impl Processor for FailProcessor {
-    ghost use Rattle.std.specs.Prelude.{false};
-    ghost use Rattle.jc_hooks.specs.Program.{failed};
-
-    ghost wants = { λ _. false };
-
-    ghost verdict_of = { λ _ _ _. failed };
-
-    fn wants_value(&self) -> bool {
-        false
-    }
-
-    fn process(
-        &self,
-        _alloc: Global,
-        _value: Option<&Value>,
-        _argument: &Value,
-    ) -> Result<Result<Verdict, ProcessorFault>, OutOfMemory> {
-        let fault = ProcessorFault {};
-        Ok(Err(fault))
-    }
-}
-
-/// Removes the entry and answers the value that it was given.
-#[derive(Drop)]
-pub struct DropProcessor;
-
-impl Processor for DropProcessor {
-    ghost use Rattle.std.specs.Prelude.{false};
-    ghost use Rattle.jc_hooks.specs.Program.{dropped};
-
-    ghost wants = { λ _. false };
-
-    ghost verdict_of = { λ _ value _. dropped value };
-
-    fn wants_value(&self) -> bool {
-        false
-    }
-
-    fn process(
-        &self,
-        _alloc: Global,
-        value: Option<&Value>,
-        _argument: &Value,
-    ) -> Result<Result<Verdict, ProcessorFault>, OutOfMemory> {
-        let answer = shared(value)?;
-        Ok(Ok(Verdict {
-            action: Action::Remove,
-            answer,
-        }))
-    }
-}
-
-/// Wants the value: keeps the entry and answers the value that it was given.
-#[derive(Drop)]
-pub struct PeekProcessor;
-
-impl Processor for PeekProcessor {
-    ghost use Rattle.std.specs.Prelude.{true};
-    ghost use Rattle.jc_hooks.specs.Program.{peeked};
-
-    ghost wants = { λ _. true };
-
-    ghost verdict_of = { λ _ value _. peeked value };
-
-    fn wants_value(&self) -> bool {
-        true
-    }
-
-    fn process(
-        &self,
-        _alloc: Global,
-        value: Option<&Value>,
-        _argument: &Value,
-    ) -> Result<Result<Verdict, ProcessorFault>, OutOfMemory> {
-        let answer = shared(value)?;
-        Ok(Ok(Verdict {
-            action: Action::Keep,
-            answer,
-        }))
-    }
-}
+/// The callbacks of one of the program's caches.
+pub type ProgramHooks = CacheHooks<EchoLoader, CheckWriter, ProgramProcessor, TallyListener>;

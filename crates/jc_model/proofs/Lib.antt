@@ -1,10 +1,13 @@
 pub mod Ring
+pub mod Everywhere
+pub mod Law
+pub mod Rings
 pub mod Sound
 pub mod Keeps
-pub mod KeepsCalls
 pub mod Purge
 pub mod KeyMade
 pub mod Waits
+pub mod Soundness
 pub mod Alone
 pub mod EachCache
 pub mod Leads
@@ -17,4 +20,4 @@ pub mod Worked
 pub mod Places
 pub mod Suspended
 pub mod Distinct
-pub mod SameKey
+pub mod Tests

@@ -8,7 +8,6 @@ use Rattle.std.proofs.lemmas.Bool.Decides.{nat_tests}
 use Rattle.jc_model.specs.declared.config.CacheConfig.{CacheConfig}
 use Rattle.jc_model.specs.declared.event.Event.{Event}
 use Rattle.jc_model.specs.declared.event.Event.TheVariants as event
-use Rattle.jc_model.specs.declared.event.Cause.{Cause}
 use Rattle.jc_model.specs.declared.event.Cause.TheVariants.{NoSuchProcessor, WrongAnswer}
 use Rattle.jc_model.specs.declared.event.Outcome.{Outcome}
 use Rattle.jc_model.specs.declared.event.Outcome.TheVariants as outcome
@@ -20,6 +19,7 @@ use Rattle.jc_model.specs.Whole.{whole}
 use Rattle.jc_model.specs.Runs.{Standing, idle, busy, Status, cache_of, said, shown, has_processor, standing_of, reply_of, moved_by, is_refused, for_memory, refuse_last, answer_of, answer_to, moved, put_moved, statuses_after}
 use Rattle.jc_model.specs.Solo.{fresh}
 use Rattle.jc_model.specs.Legal.{is_waiting, entries_of, IsTold, Tells, with_outcome, with_answer, on_open, accepted_in, recorded}
+use Rattle.jc_model.proofs.Alone.{not_accepted, accepted_only}
 use Rattle.jc_model.proofs.EachCache.{at_same, at_other, status, reply_kept}
 use Rattle.jc_model.proofs.OneCache.{Grown, appended, when_waiting, changed, begun_entry, left_shown, answer_moves, give_up_moves}
 
@@ -56,19 +56,12 @@ open_other id other f keeps differ (e ∷ es) = go (e.id == id) (is_waiting e.en
 kept_grown : {c : CacheConfig} {to : Standing} {es : List Entry} → Grown c fresh to es → IsTold (status c to) es
 kept_grown g = (g.legal, g.leaves)
 
-not_accepted : {o : Outcome} {cause : Cause} → o ≡ outcome.Refused cause → is_refused o ≡ false → ⊥
-not_accepted e accepted = cc
-
-accepted_only : (b : Bool) (reply o : Outcome) (cause : Cause) → o ≡ (if b then reply else outcome.Refused cause) → is_refused o ≡ false → (b ≡ true) × (o ≡ reply)
-accepted_only true reply o cause e accepted = (refl, e)
-accepted_only false reply o cause e accepted = absurd (not_accepted e accepted)
-
 heard_here : (session : ℕ) (event : Event) (o : Outcome) (transcript : List Entry) (c : CacheConfig) (standing : Standing) → IsTold (status c standing) (entries_of (cache_of event) transcript) → o ≡ reply_of c standing (said event) → is_refused o ≡ false → IsTold (status c (moved_by c standing (said event))) (entries_of (cache_of event) (accepted_in session event o transcript))
 heard_here session (event.Begin id now call) o transcript c (idle s) told e accepted =
-    let is = (accepted_only (has_processor c call) (shown (whole c now call s)) o NoSuchProcessor e accepted).1 in
+    let (there, is) = accepted_only (has_processor c call) (shown (whole c now call s)) o NoSuchProcessor e accepted in
     let blank : Entry = record { session = session; id = id; at = now; call = call; answers = []; told = []; end = Waiting } in
     let entry : Entry = with_outcome (shown (whole c now call s)) blank in
-    let g = appended c entry s fresh (entries_of id transcript) told.0 told.1 (begun_entry c s blank refl refl) in
+    let g = appended c entry s fresh (entries_of id transcript) told.0 told.1 (begun_entry c s blank refl refl there) in
     subst (λ (o : Outcome). IsTold (status c (standing_of (whole c now call s))) (entries_of id (transcript ++ with_outcome o blank ∷ []))) (sym is)
     (subst (λ (es : List Entry). IsTold (status c (standing_of (whole c now call s))) es) (sym (entries_append id transcript entry true (id_is_id id)))
     (g.legal, left_shown (whole c now call s) ∙ g.leaves))

@@ -1,9 +1,9 @@
 -- Worked examples, computed.
-use Rattle.std.specs.Prelude.{◌≡◌, ℕ, ◌+◌, ◌-◌, ◌^◌, Bool, true, false, if◌then◌else◌, eqb, List, [], ◌∷◌, ◌++◌, map, slice_index_or}
+use Rattle.std.specs.Prelude.{◌≡◌, ℕ, ◌+◌, ◌-◌, ◌^◌, true, false, if◌then◌else◌, eqb, List, [], ◌∷◌, ◌++◌, map, slice_index_or}
 use Rattle.std.specs.Prelude.{Option, Some, None, Ok, Err}
 use Rattle.std.proofs.Common.{refl}
 use Rattle.jc_model.specs.declared.call.Call.{Call}
-use Rattle.jc_model.specs.declared.call.Call.TheVariants.{Get, GetAll, Contains, Put, GetAndPut, PutIfAbsent, Replace, ReplaceIf, GetAndReplace, Remove, RemoveIf, GetAndRemove, Invoke, InvokeAll, PutAll, RemoveKeys, RemoveAll, Clear, LoadAll, Entries, Stats, ClearStats}
+use Rattle.jc_model.specs.declared.call.Call.TheVariants.{Get, GetAll, Contains, Put, GetAndPut, PutIfAbsent, Replace, ReplaceIf, GetAndReplace, Remove, RemoveIf, GetAndRemove, Invoke, InvokeAll, PutAll, RemoveAll, LoadAll, Entries, Stats}
 use Rattle.jc_model.specs.declared.call.Reply.{Reply}
 use Rattle.jc_model.specs.declared.call.Reply.TheVariants.{Done, Truth, Found, Listed, Results, Counted, Fault}
 use Rattle.jc_model.specs.declared.call.By.TheVariants as by
@@ -31,8 +31,8 @@ use Rattle.jc_model.specs.declared.event.End.{End}
 use Rattle.jc_model.specs.declared.event.End.TheVariants as end
 use Rattle.jc_model.specs.declared.event.Entry.{Entry}
 use Rattle.jc_model.specs.Runs.{IsRun, statuses_in_end}
-use Rattle.jc_model.specs.Solo.{Played, solo, calls, seen, fresh, opened}
-use Rattle.jc_model.specs.Legal.{IsLegalFrom, written}
+use Rattle.jc_model.specs.Solo.{solo, calls, seen, opened}
+use Rattle.jc_model.specs.Legal.{written}
 
 abbrev K : Type 0
 K = List ℕ

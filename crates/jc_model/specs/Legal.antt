@@ -14,7 +14,7 @@ use Rattle.jc_model.specs.declared.event.End.TheVariants.{Waiting, Replied, Give
 use Rattle.jc_model.specs.declared.event.Entry.{Entry}
 use Rattle.jc_model.specs.State.{State}
 use Rattle.jc_model.specs.Run.{Run, ended, waiting, resume, answered, awaits, told_by}
-use Rattle.jc_model.specs.Runs.{Standing, idle, busy, Status, left, is_refused}
+use Rattle.jc_model.specs.Runs.{Standing, idle, busy, Status, left, has_processor, is_refused}
 use Rattle.jc_model.specs.Solo.{Played, run_of, after_call, standing_from, fresh}
 
 abbrev pub was_given_up : End → Bool
@@ -49,10 +49,10 @@ abbrev pub told_in : Run → List Answer → Bool → List Notice
 told_in run [] given_up = if given_up then told_now run ++ left run else told_now run
 told_in run (a ∷ rest) given_up = told_now run ++ told_in (resume run a) rest given_up
 
--- an entry is the whole call from this state, under its answers
+-- an entry is the whole call from this state, under its answers, of a processor that is there
 abbrev pub IsLegalEntry : CacheConfig → State → Entry → Type 0
 IsLegalEntry c s e =
-    Fits (run_of c s (played e)) e.answers × Stands (answered (run_of c s (played e)) e.answers) e.end × (e.told ≡ told_in (run_of c s (played e)) e.answers (was_given_up e.end))
+    Fits (run_of c s (played e)) e.answers × Stands (answered (run_of c s (played e)) e.answers) e.end × (e.told ≡ told_in (run_of c s (played e)) e.answers (was_given_up e.end)) × IsTrue (has_processor c e.call)
 
 -- the entries of one cache; nothing follows a call that still waits
 abbrev pub IsLegalFrom : CacheConfig → Standing → List Entry → Type 0

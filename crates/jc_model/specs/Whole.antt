@@ -1,6 +1,6 @@
 -- One whole call on one cache.
-use Rattle.std.specs.Prelude.{ℕ, Bool, false, if◌then◌else◌, List, [], ◌∷◌, map}
-use Rattle.std.specs.Prelude.{Option, Some, None}
+use Rattle.std.specs.Prelude.{ℕ, ◌*◌, Bool, false, if◌then◌else◌, List, [], ◌∷◌, map, length}
+use Rattle.std.specs.Prelude.{Some, None}
 use Rattle.std.specs.List.{filter}
 use Rattle.jc_model.specs.declared.call.Call.{Call}
 use Rattle.jc_model.specs.declared.call.Call.TheVariants.{Get, GetAll, Contains, Put, GetAndPut, PutIfAbsent, Replace, ReplaceIf, GetAndReplace, Remove, RemoveIf, GetAndRemove, Invoke, InvokeAll, PutAll, RemoveKeys, RemoveAll, Clear, LoadAll, Entries, Stats, ClearStats}
@@ -22,6 +22,12 @@ pub data Plan : Type 0 where
   one : List ℕ → Op → Plan
   many : List KeyCall → Gathered → Plan
   at_once : Progress → Reply → Plan
+
+-- the most requests of a plan before its notices are told
+abbrev pub asked_by : Plan → ℕ
+asked_by (one k o) = 3
+asked_by (many calls gathered) = 3 * length calls
+asked_by (at_once p r) = 0
 
 -- after one key's step: the first fault of a loader or a writer ends the call, with the number of keys done before
 abbrev pub after_key : List ℕ → (Sum → Progress → Run) → Sum → Progress → Reply → Run

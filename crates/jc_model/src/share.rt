@@ -4,6 +4,7 @@ ghost use Rattle.jc_model.specs.declared.call.Call.TheVariants.{ReplaceIf, Remov
 
 use crate::OutOfMemory;
 use crate::call::{Action, Answer, By, Call, Kind, Notice, ProcessorFault, Reply, Verdict};
+use crate::config::CacheConfig;
 use crate::event::{CacheId, End, Entry};
 use crate::key::Key;
 use crate::keys::{Keys, Pairs};
@@ -292,5 +293,26 @@ impl Share for Entry {
             told,
             end,
         })
+    }
+}
+
+impl Share for CacheConfig {
+    fn share(&self) -> Result<CacheConfig, OutOfMemory> {
+        let processors = self.processors.share()?;
+        Ok(CacheConfig {
+            name: self.name,
+            capacity: self.capacity,
+            policy: self.policy,
+            loader: self.loader,
+            writer: self.writer,
+            processors,
+            listeners: self.listeners,
+        })
+    }
+}
+
+impl Share for Transcript {
+    fn share(&self) -> Result<Transcript, OutOfMemory> {
+        Transcript::share(self)
     }
 }

@@ -1,5 +1,5 @@
 //! The transcript: the calls that have begun, in the order of their beginning.
-ghost use Rattle.std.specs.Prelude.{◌≡◌, ◌<◌, ◌++◌, ◌∷◌, [], length, Some, slice_get, slice_set, OnOk, OnErr, MatchOption};
+ghost use Rattle.std.specs.Prelude.{◌≡◌, ◌<◌, ◌++◌, ◌∷◌, [], length, Some, slice_get, slice_set, List, IfOk, OnOk, OnErr, MatchOption};
 ghost use Rattle.jc_model.specs.Legal.{with_answer};
 ghost use Rattle.jc_model.specs.declared.call.Answer.{Answer};
 ghost use Rattle.jc_model.specs.declared.event.Entry.{Entry};
@@ -8,6 +8,7 @@ use crate::OutOfMemory;
 use crate::call::{Answer, Notice};
 use crate::event::{End, Entry};
 use crate::list::Sequence;
+use crate::share::Share;
 use std::alloc::Global;
 use std::marker::Model;
 
@@ -43,6 +44,13 @@ impl Transcript {
         self.entries.as_slice()
     }
 
+    /// The call that has begun last.
+    pub fn last(&self) -> Option<&Entry>
+        ensures { MatchOption result (self.now ≡ []) (λ e. (before : List Entry) × (self.now ≡ before ++ e.now ∷ [])) }
+    {
+        self.entries.last()
+    }
+
     /// Adds a call.
     pub fn push(&mut self, entry: Entry) -> Result<(), OutOfMemory>
         ensures ok { OnOk result (self.new ≡ self.old ++ entry ∷ []) }
@@ -70,12 +78,12 @@ impl Transcript {
     }
 
     /// Takes the last answer to the call at a place back.
-    pub fn pop_answer(&mut self, place: usize) -> Option<Answer>
+    pub fn pop_answer(&mut self, place: usize)
         requires { place < length self.old }
         ensures { (e : Entry) (a : Answer) → slice_get self.old place ≡ Some (with_answer a e) → self.new ≡ slice_set self.old place e }
     {
         let entry = &mut self.entries[place];
-        entry.answers.pop()
+        entry.answers.pop();
     }
 
     /// Sets what was told of the call at a place.
@@ -94,5 +102,16 @@ impl Transcript {
     {
         let entry = &mut self.entries[place];
         entry.end = end;
+    }
+
+    /// An equal second transcript.
+    pub fn share(&self) -> Result<Transcript, OutOfMemory>
+        ensures { IfOk result (λ t. t ≡ self.now) }
+    {
+        let mut entries = Vec::new(*self.entries.allocator());
+        for x in self.entries() {
+            entries.push(x.share()?)?;
+        }
+        Ok(Transcript { entries })
     }
 }

@@ -17,18 +17,19 @@ use Rattle.jc_model.specs.declared.config.CacheConfig.{CacheConfig}
 use Rattle.jc_model.specs.State.{Item, row_of}
 use Rattle.jc_model.specs.Changes.{Progress, find_row, purge, hit, miss}
 use Rattle.jc_model.specs.Run.{Run, ended, waiting, resume, is_written, loaded_by, verdict_of}
-use Rattle.jc_model.specs.Step.{step, on_row, act_live, act_absent}
+use Rattle.jc_model.specs.Step.{step, on_row}
 use Rattle.jc_model.specs.Suspended.{key_run}
-use Rattle.jc_rows.specs.Rows.{RowMap}
-use Rattle.jc_ops.specs.Kept.{Kept, items_of, FoundRow}
+use Rattle.jc_state.specs.Kept.{Kept, items_of, FoundRow}
 use Rattle.jc_ops.specs.Given.{given_by, value_in, loaded_in, verdict_in}
-use Rattle.jc_ops.specs.Lines.{unhooked, loads_for}
+use Rattle.jc_ops.specs.Lines.{written_by, asks_writer, loads_for}
 use Rattle.jc_ops.specs.declared.supply.Supply.{Supply}
 use Rattle.jc_ops.specs.Stepped.{StepWaits, IsWaiting, invoked}
 use Rattle.jc_ops.specs.Supply.{CoversAnswer, CoversVerdict, HasRoomBy, HasRoomAt}
-use Rattle.jc_ops.specs.Verdicts.{stores_by, asks_by, request_by, awaits_load, act_on, processed_on, loaded_on, agreed_on}
-use Rattle.jc_ops.proofs.Asked.{asked_run, asked_none, asked_some, asked_resumed, IsEnded, invoke_asks, invoke_loads, load_resumed}
-use Rattle.jc_ops.proofs.Starts.{waits_purged}
+use Rattle.jc_ops.specs.Verdicts.{stores_by, hands_by, verdict_line, awaits_load, act_on, done_on, processed_on, loaded_on, agreed_on}
+use Rattle.jc_model.specs.Table.{decided}
+use Rattle.jc_model.specs.declared.table.Line.{Line}
+use Rattle.jc_ops.proofs.Asked.{asked_run, asked_none, asked_some, asked_resumed, invoke_asks, invoke_loads, load_resumed}
+use Rattle.jc_ops.proofs.Goes.{waits_purged}
 
 -- What was given.
 
@@ -62,9 +63,9 @@ verdict_is (Processed (Err fault)) v e = cc
 verdict_is Told v e = cc
 
 -- where the key has a row
-pub row_is_there : (m : RowMap) (id : ℕ) (key : List ℕ) (k : Kept) (row : Option ℕ) → FoundRow m id key k row → is_some (row_of key (items_of k.cells)) ≡ is_some row
-row_is_there m id key k None found = ap is_some found.0
-row_is_there m id key k (Some row) found = ap is_some found.1.found
+pub row_is_there : (key : List ℕ) (k : Kept) (row : Option ℕ) → FoundRow key k row → is_some (row_of key (items_of k.cells)) ≡ is_some row
+row_is_there key k None found = ap is_some found
+row_is_there key k (Some row) found = ap is_some found.1.found
 
 -- the loader is awaited only where the key has no row and it has not answered
 
@@ -97,68 +98,71 @@ module _ (c : CacheConfig) (now : ℕ) (k : List ℕ) (processor : ℕ) (argumen
   pub room_judged : (n : ℕ) (v : Verdict) → HasRoomAt c (invoked now k processor argument (given_by loaded given)) a n → verdict_of a ≡ Some v → HasRoomBy c.writer (value_in loaded) v n
   room_judged n v room is = subst (λ (l : Option (List ℕ)). HasRoomBy c.writer l v n) (loaded_given loaded given) (room.judged v is)
 
--- what is not asked of the writer is stored at once
-pub stores_at_once : (c : CacheConfig) (k : List ℕ) (loaded : Option (List ℕ)) (action : Action) → request_by c k action ≡ None → stores_by c.writer loaded action ≡ stores_by false loaded action
-stores_at_once c k loaded Keep e = refl
-stores_at_once c k loaded (Set v) e = go c.writer e
-  where
-    go : (w : Bool) → (if w then asks_by k (Set v) else None) ≡ None → (if w then None else Some v) ≡ Some v
-    go true e = cc
-    go false e = refl
-stores_at_once c k loaded Remove e = refl
-
 module _ (c : CacheConfig) (now : ℕ) (k : List ℕ) where
   -- A verdict asks the writer, or ends at once.
 
-  live_acts : (action : Action) (answer : Option (List ℕ)) (x : Item) (p : Progress) →
-      act_live c now k x p action answer ≡ asked_run c.writer (asks_by k action) p (act_live (unhooked c) now k x p action answer)
-  live_acts Keep answer x p = refl
-  live_acts (Set v) answer x p = refl
-  live_acts Remove answer x p = refl
+  abbrev asks_of : Verdict → Bool → Option (List ℕ) → Option Request
+  asks_of v there loaded = written_by k (verdict_line v.action there).asks (decided loaded v.action)
 
-  absent_acts : (loaded : Option (List ℕ)) (action : Action) (answer : Option (List ℕ)) (p : Progress) →
-      act_absent c now k loaded p action answer ≡ asked_run c.writer (asks_by k action) p (act_absent (unhooked c) now k loaded p action answer)
-  absent_acts None Keep answer p = refl
-  absent_acts None (Set v) answer p = refl
-  absent_acts None Remove answer p = refl
-  absent_acts (Some u) Keep answer p = refl
-  absent_acts (Some u) (Set v) answer p = refl
-  absent_acts (Some u) Remove answer p = refl
+  copy_serves : (action : Action) (there : Bool) (loaded : Option (List ℕ)) → asks_writer c k (verdict_line action there).asks (hands_by c.writer action) ≡ asks_writer c k (verdict_line action there).asks (decided loaded action)
+  copy_serves Keep true loaded = refl
+  copy_serves Keep false loaded = refl
+  copy_serves (Set v) true loaded = go c.writer
+    where
+      go : (w : Bool) → (if w then written_by k (verdict_line (Set v) true).asks (if w then Some v else None) else None) ≡ (if w then written_by k (verdict_line (Set v) true).asks (Some v) else None)
+      go true = refl
+      go false = refl
+  copy_serves (Set v) false loaded = go c.writer
+    where
+      go : (w : Bool) → (if w then written_by k (verdict_line (Set v) false).asks (if w then Some v else None) else None) ≡ (if w then written_by k (verdict_line (Set v) false).asks (Some v) else None)
+      go true = refl
+      go false = refl
+  copy_serves Remove true loaded = refl
+  copy_serves Remove false loaded = refl
+
+  -- what is not asked of the writer is stored at once
+  pub stores_at_once : (loaded : Option (List ℕ)) (action : Action) (there : Bool) → asks_writer c k (verdict_line action there).asks (hands_by c.writer action) ≡ None → stores_by c.writer loaded action ≡ stores_by false loaded action
+  stores_at_once loaded Keep there e = refl
+  stores_at_once loaded (Set v) there e = go c.writer there (sym (copy_serves (Set v) there loaded) ∙ e)
+    where
+      go : (w there : Bool) → (if w then written_by k (verdict_line (Set v) there).asks (Some v) else None) ≡ None → (if w then None else Some v) ≡ Some v
+      go true true e = cc
+      go true false e = cc
+      go false there e = refl
+  stores_at_once loaded Remove there e = refl
+
+  pub decides : (loaded : Option (List ℕ)) (action : Action) → stores_by false loaded action ≡ decided loaded action
+  decides loaded Keep = refl
+  decides loaded (Set v) = refl
+  decides loaded Remove = refl
 
   acts : (row : Option Item) (loaded : Option (List ℕ)) (p : Progress) (v : Verdict) →
-      act_on c now k row loaded p v ≡ asked_run c.writer (asks_by k v.action) p (act_on (unhooked c) now k row loaded p v)
-  acts (Some x) loaded p v = live_acts v.action v.answer x p
-  acts None loaded p v = absent_acts loaded v.action v.answer p
+      act_on c now k row loaded p v ≡ asked_run c.writer (asks_of v (is_some row) loaded) p (done_on c now k row loaded p v)
+  acts row loaded p v = by row v.action v.answer
+    where
+      by : (row : Option Item) (action : Action) (answer : Option (List ℕ)) → act_on c now k row loaded p (record { action = action; answer = answer })
+          ≡ asked_run c.writer (written_by k (verdict_line action (is_some row)).asks (decided loaded action)) p (done_on c now k row loaded p (record { action = action; answer = answer }))
+      by (Some x) Keep answer = refl
+      by (Some x) (Set v) answer = refl
+      by (Some x) Remove answer = refl
+      by None Keep answer = refl
+      by None (Set v) answer = refl
+      by None Remove answer = refl
 
-  live_act_ends : (action : Action) (answer : Option (List ℕ)) (x : Item) (p : Progress) → IsEnded (act_live (unhooked c) now k x p action answer)
-  live_act_ends Keep answer x p = tt
-  live_act_ends (Set v) answer x p = tt
-  live_act_ends Remove answer x p = tt
+  pub act_none : (row : Option Item) (loaded : Option (List ℕ)) (p : Progress) (v : Verdict) → asks_writer c k (verdict_line v.action (is_some row)).asks (hands_by c.writer v.action) ≡ None → act_on c now k row loaded p v ≡ done_on c now k row loaded p v
+  act_none row loaded p v e =
+      acts row loaded p v ∙ asked_none c.writer (asks_of v (is_some row) loaded) p (done_on c now k row loaded p v) (sym (copy_serves v.action (is_some row) loaded) ∙ e)
 
-  absent_act_ends : (loaded : Option (List ℕ)) (action : Action) (answer : Option (List ℕ)) (p : Progress) → IsEnded (act_absent (unhooked c) now k loaded p action answer)
-  absent_act_ends None Keep answer p = tt
-  absent_act_ends None (Set v) answer p = tt
-  absent_act_ends None Remove answer p = tt
-  absent_act_ends (Some u) Keep answer p = tt
-  absent_act_ends (Some u) (Set v) answer p = tt
-  absent_act_ends (Some u) Remove answer p = tt
-
-  act_ends : (row : Option Item) (loaded : Option (List ℕ)) (p : Progress) (v : Verdict) → IsEnded (act_on (unhooked c) now k row loaded p v)
-  act_ends (Some x) loaded p v = live_act_ends v.action v.answer x p
-  act_ends None loaded p v = absent_act_ends loaded v.action v.answer p
-
-  pub act_none : (row : Option Item) (loaded : Option (List ℕ)) (p : Progress) (v : Verdict) → request_by c k v.action ≡ None → act_on c now k row loaded p v ≡ act_on (unhooked c) now k row loaded p v
-  act_none row loaded p v e = acts row loaded p v ∙ asked_none c.writer (asks_by k v.action) p (act_on (unhooked c) now k row loaded p v) e
-
-  pub act_some : (row : Option Item) (loaded : Option (List ℕ)) (p : Progress) (v : Verdict) (q : Request) → request_by c k v.action ≡ Some q →
+  pub act_some : (row : Option Item) (loaded : Option (List ℕ)) (p : Progress) (v : Verdict) (q : Request) → asks_writer c k (verdict_line v.action (is_some row)).asks (hands_by c.writer v.action) ≡ Some q →
       act_on c now k row loaded p v ≡ waiting q p (λ a. agreed_on c now k row loaded p v (is_written a))
-  act_some row loaded p v q e = acts row loaded p v ∙ asked_some c.writer (asks_by k v.action) q p (act_on (unhooked c) now k row loaded p v) e
+  act_some row loaded p v q e =
+      acts row loaded p v ∙ asked_some c.writer (asks_of v (is_some row) loaded) q p (done_on c now k row loaded p v) (sym (copy_serves v.action (is_some row) loaded) ∙ e)
 
-  pub act_resumed : (row : Option Item) (loaded : Option (List ℕ)) (p : Progress) (v : Verdict) (q : Request) (p' : Progress) (resumed : Answer → Run) (a : Answer) → act_on c now k row loaded p v ≡ waiting q p' resumed →
+  act_resumed : (row : Option Item) (loaded : Option (List ℕ)) (p : Progress) (v : Verdict) (q : Request) (p' : Progress) (resumed : Answer → Run) (a : Answer) → act_on c now k row loaded p v ≡ waiting q p' resumed →
       resume (act_on c now k row loaded p v) a ≡ agreed_on c now k row loaded p v (is_written a)
   act_resumed row loaded p v q p' resumed a e =
       ap (λ run. resume run a) (acts row loaded p v)
-      ∙ asked_resumed c.writer (asks_by k v.action) p (act_on (unhooked c) now k row loaded p v) q p' resumed a (act_ends row loaded p v) (sym (acts row loaded p v) ∙ e)
+      ∙ asked_resumed c.writer (asks_of v (is_some row) loaded) p (done_on c now k row loaded p v) q p' resumed a tt (sym (acts row loaded p v) ∙ e)
 
   -- A step over a progress from which the key's expired row is gone, by what it was given.
 
@@ -249,3 +253,16 @@ module _ (c : CacheConfig) (now : ℕ) (k : List ℕ) where
         let is : key_run c p (invoked now k processor argument (given_by loaded (Some v))) ≡ act_on c now k (find_row k p) (value_in loaded) p v
         = by_writer loaded (find_row k p) v (begun_at (find_row k p) (waits_purged c p (invoked now k processor argument (given_by loaded (Some v))) h) refl) h in
         ap (λ run. resume run a) is ∙ act_resumed (find_row k p) (value_in loaded) p v h.request p h.resumed a (sym is ∙ h.run_is)
+
+-- what the code asks of the writer, by its own names for the line, the configuration and the copy
+pub verdict_asks : (c : CacheConfig) (now : ℕ) (key : List ℕ) (action : Action) (k : Kept) (row : Option ℕ) (found : FoundRow key k row) (there : Bool) → is_some row ≡ there → (f : CacheConfig) → f ≡ c → (l : Line) → l ≡ verdict_line action there → (copy : Option (List ℕ)) → copy ≡ hands_by c.writer action →
+    asks_writer c key (verdict_line action (is_some (row_of key (items_of k.cells)))).asks (hands_by c.writer action) ≡ asks_writer f key l.asks copy
+verdict_asks c now key action k row found there is f same l line copy copied =
+    ap (λ (b : Bool). asks_writer c key (verdict_line action b).asks (hands_by c.writer action)) (row_is_there key k row found ∙ is)
+    ∙ (ap (λ (m : Line). asks_writer c key m.asks (hands_by c.writer action)) (sym line)
+    ∙ (ap (λ (o : Option (List ℕ)). asks_writer c key l.asks o) (sym copied) ∙ ap (λ (g : CacheConfig). asks_writer g key l.asks copy) (sym same)))
+
+pub hands_none : (action : Action) → None ≡ hands_by false action
+hands_none Keep = refl
+hands_none (Set v) = refl
+hands_none Remove = refl

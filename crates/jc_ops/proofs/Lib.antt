@@ -1,18 +1,6 @@
-mod Counts
-mod Vacancies
-mod Shelves
-mod Cells
-mod Hand
-pub mod Ties
-pub mod Found
-pub mod Progress
-pub mod Room
-mod ClockLaw
-pub mod KeptLaws
-pub mod Asked
-pub mod Starts
-pub mod Judged
-pub mod Acted
-pub mod Ended
-pub mod Made
-pub mod Walk
+mod Asked
+mod Lined
+pub mod Goes
+mod Answered
+mod Judged
+mod Made

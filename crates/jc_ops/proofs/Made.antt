@@ -11,9 +11,10 @@ use Rattle.jc_model.specs.State.{Item}
 use Rattle.jc_model.specs.Run.{is_written, loaded_by, verdict_of}
 use Rattle.jc_model.specs.Suspended.{KeyWait}
 use Rattle.jc_ops.specs.declared.supply.Supply.{Supply}
+use Rattle.jc_state.specs.Noted.{StoredIsTold}
 use Rattle.jc_ops.specs.Given.{loaded_in, verdict_in}
-use Rattle.jc_ops.specs.Lines.{loads}
-use Rattle.jc_ops.specs.Supply.{Covers, CoversLoaded, CoversVerdict, CoversAnswer, StoredIsTold, HasRoom, HasRoomBy, HasRoomAt}
+use Rattle.jc_ops.specs.Lines.{is_invoke}
+use Rattle.jc_ops.specs.Supply.{Covers, CoversLoaded, CoversVerdict, CoversAnswer, HasRoom, HasRoomBy, HasRoomAt}
 
 no_value : {A : Type 0} (P : Type 0) (o : Option A) (x : A) → o ≡ None → o ≡ Some x → P
 no_value P o x none some = cc
@@ -137,11 +138,11 @@ module _ (c : CacheConfig) (w : KeyWait) where
     })
     room_agreed v loaded (Err e) is same some h = h
 
-    pub room_loaded : (call : KeyCall) (o loaded : Option (List ℕ)) (r : Result Supply E) → a ≡ Loaded o → call ≡ w.call → loaded ≡ o → OnOk r (loads call.op ≡ true → is_some loaded ≡ true → 0 < n) → OnOk r (HasRoomAt c w a n)
+    pub room_loaded : (call : KeyCall) (o loaded : Option (List ℕ)) (r : Result Supply E) → a ≡ Loaded o → call ≡ w.call → loaded ≡ o → OnOk r (is_invoke call.op ≡ false → is_some loaded ≡ true → 0 < n) → OnOk r (HasRoomAt c w a n)
     room_loaded call o loaded (Ok s) is same one h = subst (λ (b : Answer). HasRoomAt c w b n) (sym is) (record {
       written = λ t none. cc;
       agreed = λ t u q. cc;
-      loaded = λ get v q. let some : o ≡ Some v = cc in h (ap (λ (k : KeyCall). loads k.op) same ∙ get) (ap is_some one ∙ ap is_some some);
+      loaded = λ get v q. let some : o ≡ Some v = cc in h (ap (λ (k : KeyCall). is_invoke k.op) same ∙ get) (ap is_some one ∙ ap is_some some);
       judged = λ v q. cc;
     })
     room_loaded call o loaded (Err e) is same one h = h

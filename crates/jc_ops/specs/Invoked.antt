@@ -9,7 +9,7 @@ use Rattle.jc_ops.specs.Stepped.{invoked}
 use Rattle.jc_ops.specs.declared.step.invoke.Invocation.{Invocation}
 
 abbrev pub part_of : Invocation → KeyCall
-part_of i = record { key = i.key; op = Invoke i.processor i.argument }
+part_of i = record { key = i.at.key; op = Invoke i.processor i.argument }
 
 abbrev pub wait_of : Invocation → Option Verdict → KeyWait
-wait_of i verdict = invoked i.at i.key i.processor i.argument (given_by i.loaded verdict)
+wait_of i verdict = invoked i.at.moment i.at.key i.processor i.argument (given_by i.loaded verdict)

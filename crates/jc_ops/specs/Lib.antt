@@ -1,13 +1,7 @@
-pub mod Noted
-pub mod Shelf
-pub mod Slots
-pub mod Tied
-pub mod Kept
-pub mod Clock
 pub mod Lines
 pub mod Given
 pub mod Verdicts
-pub mod Endings
+pub mod Heard
 pub mod Supply
 pub mod Stepped
 pub mod Invoked

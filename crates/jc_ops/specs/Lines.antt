@@ -1,133 +1,101 @@
--- The lines of the case table: what each asks its hooks, and the rest of it where there are none.
-use Rattle.std.specs.Prelude.{ℕ, Bool, true, false, if◌then◌else◌, slice_index_or, List, Option, Some, None}
+-- What a step asks and does by its line of the case table.
+use Rattle.std.specs.Prelude.{ℕ, Bool, true, false, if◌then◌else◌, slice_index_or, List, Option, Some, None, is_some}
 use Rattle.std.specs.Str.{bytes_eq}
 use Rattle.jc_model.specs.declared.call.Answer.{Answer}
 use Rattle.jc_model.specs.declared.call.Answer.TheVariants.{Loaded}
 use Rattle.jc_model.specs.declared.call.Op.{Op}
-use Rattle.jc_model.specs.declared.call.Op.TheVariants.{Get, Put, GetAndPut, PutIfAbsent, Replace, ReplaceIf, GetAndReplace, Remove, RemoveIf, GetAndRemove, Invoke, Load}
 use Rattle.jc_model.specs.declared.call.Request.{Request}
 use Rattle.jc_model.specs.declared.call.Request.TheVariants as request
-use Rattle.jc_model.specs.declared.call.By.TheVariants as by
-use Rattle.jc_model.specs.declared.call.Reply.{Reply}
-use Rattle.jc_model.specs.declared.call.Reply.TheVariants.{Done, Found, Fault}
 use Rattle.jc_model.specs.declared.config.CacheConfig.{CacheConfig}
-use Rattle.jc_model.specs.State.{Item}
-use Rattle.jc_model.specs.Changes.{Progress, miss, update, create}
-use Rattle.jc_model.specs.Run.{Run, ended}
+use Rattle.jc_model.specs.declared.table.Ask.{Ask}
+use Rattle.jc_model.specs.declared.table.Ask.TheVariants as ask
+use Rattle.jc_model.specs.declared.table.Change.{Change}
+use Rattle.jc_model.specs.declared.table.Change.TheVariants.{Store, Put}
+use Rattle.jc_model.specs.declared.table.Replied.{Replied}
+use Rattle.jc_model.specs.declared.table.Replied.TheVariants.{Shown}
+use Rattle.jc_model.specs.declared.table.Line.{Line}
+use Rattle.jc_model.specs.Table.{live_line, absent_line, otherwise, expected_by, value_of, invoked_by}
 
--- the same cache with no loader and no writer
-abbrev pub unhooked : CacheConfig → CacheConfig
-unhooked c = record c { loader = false; writer = false }
+abbrev pub is_shown : Replied → Bool
+is_shown Shown = true
+is_shown _ = false
 
--- the value that an operation stores
-abbrev pub value_of : Op → Option (List ℕ)
-value_of (Put v) = Some v
-value_of (GetAndPut v) = Some v
-value_of (PutIfAbsent v) = Some v
-value_of (Replace v) = Some v
-value_of (ReplaceIf expected v) = Some v
-value_of (GetAndReplace v) = Some v
-value_of _ = None
+abbrev pub is_load : Ask → Bool
+is_load ask.Load = true
+is_load _ = false
 
--- what an operation's first hook is given: a value for the writer, or the processor's argument
-abbrev pub handed : Bool → Op → Option (List ℕ)
-handed writer (Invoke processor argument) = Some argument
-handed writer o = if writer then value_of o else None
+-- whether a change stores a value
+abbrev pub stores : Change → Bool
+stores Store = true
+stores Put = true
+stores _ = false
 
--- whether an operation replies the live value
-abbrev pub shows : Op → Bool
-shows Get = true
-shows (GetAndPut v) = true
-shows (GetAndReplace v) = true
-shows GetAndRemove = true
-shows _ = false
+-- The line of an operation, by the key's live value.
 
--- whether an operation itself stores a key that is not there
-abbrev pub creates : Op → Bool
-creates (Put v) = true
-creates (GetAndPut v) = true
-creates (PutIfAbsent v) = true
-creates _ = false
+abbrev pub of_expected : Option (List ℕ) → List ℕ → Line → Line
+of_expected None live l = l
+of_expected (Some expected) live l = if bytes_eq live expected then l else otherwise
+
+abbrev pub line_at : Op → Option (List ℕ) → Line
+line_at o None = absent_line o
+line_at o (Some live) = of_expected (expected_by o) live (live_line o)
 
 abbrev pub is_invoke : Op → Bool
-is_invoke (Invoke processor argument) = true
-is_invoke _ = false
+is_invoke o = is_some (invoked_by o)
 
--- whether an operation asks the loader where the key has no row, and stores what it gives
-abbrev pub loads : Op → Bool
-loads Get = true
-loads (Load replace) = true
-loads _ = false
+-- whether it replies the live value
+abbrev pub shows : Op → Bool
+shows o = if is_invoke o then false else is_shown (live_line o).reply
 
--- and where it has a live row
-abbrev pub reloads : Op → Bool
-reloads (Load replace) = replace
-reloads _ = false
+-- whether it replies the loaded value
+abbrev pub shows_loaded : Op → Bool
+shows_loaded o = is_shown (absent_line o).reply
 
--- what a line asks the writer, where the key has this live value
-abbrev pub asks_live : List ℕ → Op → List ℕ → Option Request
-asks_live k (Put v) live = Some (request.Write k v)
-asks_live k (GetAndPut v) live = Some (request.Write k v)
-asks_live k (Replace v) live = Some (request.Write k v)
-asks_live k (ReplaceIf expected v) live = if bytes_eq live expected then Some (request.Write k v) else None
-asks_live k (GetAndReplace v) live = Some (request.Write k v)
-asks_live k Remove live = Some (request.Delete k)
-asks_live k (RemoveIf expected) live = if bytes_eq live expected then Some (request.Delete k) else None
-asks_live k GetAndRemove live = Some (request.Delete k)
-asks_live k _ live = None
+-- whether it itself stores a key that is not there
+abbrev pub creates_by : Ask → Change → Bool
+creates_by ask.Load change = false
+creates_by _ change = stores change
 
--- and where it has none
-abbrev pub asks_absent : List ℕ → Op → Option Request
-asks_absent k (Put v) = Some (request.Write k v)
-asks_absent k (GetAndPut v) = Some (request.Write k v)
-asks_absent k (PutIfAbsent v) = Some (request.Write k v)
-asks_absent k Remove = Some (request.Delete k)
-asks_absent k GetAndRemove = Some (request.Delete k)
-asks_absent k _ = None
+abbrev pub creates : Op → Bool
+creates o = creates_by (absent_line o).asks (absent_line o).change
+
+-- what its first hook is given: a value for the writer, or the processor's argument
+abbrev pub handed : Bool → Op → Option (List ℕ)
+handed writer o = elim (invoked_by o) [ None ↦ if writer then value_of o else None | Some i ↦ Some i.1 ]
+
+-- The first request of a step.
+
+abbrev pub written_by : List ℕ → Ask → Option (List ℕ) → Option Request
+written_by k ask.Write (Some v) = Some (request.Write k v)
+written_by k ask.Write None = None
+written_by k ask.Delete v = Some (request.Delete k)
+written_by k _ v = None
+
+abbrev pub asks_writer : CacheConfig → List ℕ → Ask → Option (List ℕ) → Option Request
+asks_writer c k asks v = if c.writer then written_by k asks v else None
+
+abbrev pub asks_loader : CacheConfig → List ℕ → Option Request
+asks_loader c k = if c.loader then Some (request.Load k) else None
 
 -- whether the loader is asked before this processor, where the key has no row
 abbrev pub loads_for : CacheConfig → ℕ → Bool
 loads_for c processor = if slice_index_or c.processors processor false then c.loader else false
 
-abbrev pub asks_loader : CacheConfig → List ℕ → Option Request
-asks_loader c k = if c.loader then Some (request.Load k) else None
+abbrev pub asks_processor : CacheConfig → List ℕ → ℕ → List ℕ → Option (List ℕ) → Request
+asks_processor c k processor argument (Some live) = request.Process k processor (Some live) argument
+asks_processor c k processor argument None =
+    if loads_for c processor then request.Load k else request.Process k processor None argument
 
--- what a cache asks first, by its hooks
-abbrev pub request_live : CacheConfig → List ℕ → Op → List ℕ → Option Request
-request_live c k (Invoke processor argument) live = Some (request.Process k processor (Some live) argument)
-request_live c k (Load replace) live = if replace then asks_loader c k else None
-request_live c k o live = if c.writer then asks_live k o live else None
+abbrev pub asks_hook : CacheConfig → List ℕ → Ask → Option (List ℕ) → Option Request
+asks_hook c k ask.Load v = asks_loader c k
+asks_hook c k asks v = asks_writer c k asks v
 
-abbrev pub request_absent : CacheConfig → List ℕ → Op → Option Request
-request_absent c k Get = asks_loader c k
-request_absent c k (Load replace) = asks_loader c k
-request_absent c k (Invoke processor argument) =
-    if loads_for c processor then Some (request.Load k) else Some (request.Process k processor None argument)
-request_absent c k o = if c.writer then asks_absent k o else None
+-- with the live value, if there is one
+abbrev pub first_request : CacheConfig → List ℕ → Op → Ask → Option (List ℕ) → Option Request
+first_request c k o asks live =
+    elim (invoked_by o) [ None ↦ asks_hook c k asks (value_of o) | Some i ↦ Some (asks_processor c k i.0 i.1 live) ]
 
 -- the value that the loader gave
 abbrev pub loaded_value : Answer → Option (List ℕ)
 loaded_value (Loaded v) = v
 loaded_value _ = None
-
--- A line that loads: what it counts where the key has no row, and what it replies.
-
-abbrev pub load_counted : Op → Progress → Progress
-load_counted Get p = miss p
-load_counted _ p = p
-
-abbrev pub load_reply : Op → Option (List ℕ) → Reply
-load_reply Get v = Found v
-load_reply _ v = Done
-
--- what it does with its loader's answer where the key has no row
-abbrev pub got_by : CacheConfig → ℕ → List ℕ → Op → Progress → Option (Option (List ℕ)) → Run
-got_by c now k o p None = ended (load_counted o p) (Fault by.Loader None)
-got_by c now k o p (Some None) = ended (load_counted o p) (load_reply o None)
-got_by c now k o p (Some (Some v)) = ended (create c now k v (load_counted o p)) (load_reply o (Some v))
-
--- and where it has the live row x
-abbrev pub regot_by : CacheConfig → ℕ → Item → Progress → Option (Option (List ℕ)) → Run
-regot_by c now x p None = ended p (Fault by.Loader None)
-regot_by c now x p (Some None) = ended p Done
-regot_by c now x p (Some (Some v)) = ended (update c now x v p) Done

@@ -9,7 +9,7 @@ use Rattle.jc_model.specs.declared.config.CacheConfig.{CacheConfig}
 use Rattle.jc_model.specs.Changes.{Progress}
 use Rattle.jc_model.specs.Run.{Run, ended, waiting}
 use Rattle.jc_model.specs.Suspended.{KeyWait, key_run}
-use Rattle.jc_ops.specs.Kept.{Kept, progress_of}
+use Rattle.jc_state.specs.Kept.{Kept, progress_of}
 use Rattle.jc_ops.specs.declared.step.Next.{Next}
 use Rattle.jc_ops.specs.declared.step.Next.TheVariants.{Ended, Waiting}
 

@@ -1,5 +1,5 @@
 -- What a step is given before any change.
-use Rattle.std.specs.Prelude.{◌≡◌, ℕ, ◌<◌, Bool, true, false, List, Option, Some, None, is_some, option_map}
+use Rattle.std.specs.Prelude.{◌≡◌, ℕ, ◌<◌, Bool, true, false, if◌then◌else◌, List, Option, Some, None, is_some, option_map}
 use Rattle.jc_model.specs.declared.call.Answer.{Answer}
 use Rattle.jc_model.specs.declared.call.KeyCall.{KeyCall}
 use Rattle.jc_model.specs.declared.call.Op.{Op}
@@ -8,25 +8,17 @@ use Rattle.jc_model.specs.declared.config.CacheConfig.{CacheConfig}
 use Rattle.jc_model.specs.Run.{is_written, loaded_by, verdict_of}
 use Rattle.jc_model.specs.State.{Item, row_of}
 use Rattle.jc_model.specs.Suspended.{KeyWait}
-use Rattle.jc_ops.specs.declared.supply.Stored.{Stored}
 use Rattle.jc_ops.specs.declared.supply.Supply.{Supply}
 use Rattle.jc_ops.specs.Given.{loaded_in, verdict_in}
-use Rattle.jc_ops.specs.Lines.{value_of, handed, shows, creates, loads, is_invoke}
+use Rattle.jc_model.specs.Table.{value_of}
+use Rattle.jc_state.specs.Noted.{StoredIsTold}
+use Rattle.jc_ops.specs.Lines.{handed, shows, shows_loaded, creates, is_invoke}
 use Rattle.jc_ops.specs.Verdicts.{stores_by, hands_by}
-
--- listeners are told a value of its own
-abbrev pub IsTold : CacheConfig → Stored → Type 0
-IsTold c s = 0 < c.listeners → s.told ≡ Some s.value
-
--- what is stored is told, where there are listeners
-abbrev pub StoredIsTold : CacheConfig → Option Stored → Type 0
-StoredIsTold c None = Unit {0}
-StoredIsTold c (Some s) = IsTold c s
 
 -- The supply has the values for the step of this call, in a cache with these items.
 -- Where the writer is asked first, it is a copy for the writer; what is stored comes with his answer.
 pub record Covers (writer : Bool) (c : CacheConfig) (call : KeyCall) (items : List Item) (s : Supply) : Type 0 where
-  pub stored : writer ≡ false → option_map (λ t. t.value) s.stored ≡ value_of call.op
+  pub stored : option_map (λ t. t.value) s.stored ≡ (if writer then None else value_of call.op)
   pub told : StoredIsTold c s.stored
   pub copy : s.copy ≡ handed writer call.op
   pub shown : shows call.op ≡ true → (x : Item) → row_of call.key items ≡ Some x → s.shown ≡ Some x.value
@@ -34,9 +26,9 @@ pub record Covers (writer : Bool) (c : CacheConfig) (call : KeyCall) (items : Li
 
 -- for the loader's answer, which gave this, to a line that loads or to a call of a processor
 pub record CoversLoaded (c : CacheConfig) (o : Op) (loaded : Option (List ℕ)) (s : Supply) : Type 0 where
-  pub stored : loads o ≡ true → option_map (λ t. t.value) s.stored ≡ loaded
+  pub stored : is_invoke o ≡ false → option_map (λ t. t.value) s.stored ≡ loaded
   pub told : StoredIsTold c s.stored
-  pub shown : shows o ≡ true → s.shown ≡ loaded
+  pub shown : is_invoke o ≡ false → shows_loaded o ≡ true → s.shown ≡ loaded
   pub entry : is_invoke o ≡ true → s.entry ≡ loaded
   pub copy : is_invoke o ≡ true → s.copy ≡ handed false o
 
@@ -67,5 +59,5 @@ HasRoomBy writer loaded v spare = is_some (stores_by writer loaded v.action) ≡
 pub record HasRoomAt (c : CacheConfig) (w : KeyWait) (a : Answer) (spare : ℕ) : Type 0 where
   pub written : is_written a ≡ true → verdict_in w.given ≡ None → HasRoom false w.call.op spare
   pub agreed : is_written a ≡ true → (v : Verdict) → verdict_in w.given ≡ Some v → HasRoomBy false (loaded_in w.given) v spare
-  pub loaded : loads w.call.op ≡ true → (v : List ℕ) → loaded_by a ≡ Some (Some v) → 0 < spare
+  pub loaded : is_invoke w.call.op ≡ false → (v : List ℕ) → loaded_by a ≡ Some (Some v) → 0 < spare
   pub judged : (v : Verdict) → verdict_of a ≡ Some v → HasRoomBy c.writer (loaded_in w.given) v spare

@@ -1,38 +1,33 @@
 //! One key's step as a machine: it ends with its reply, or waits for the answer to one request.
 //!
 //! A step changes nothing before its writer has agreed: while it waits, the cache has only lost the key's expired row.
-mod answer;
 mod change;
-pub mod ending;
 mod invoke;
+mod line;
 pub mod reply;
 mod request;
-mod start;
 
-ghost use Rattle.std.specs.Prelude.{◌≡◌, ℕ, ◌+◌, ◌≤◌, option_map};
+ghost use Rattle.std.specs.Prelude.{◌≡◌, option_map};
 ghost use Rattle.jc_model.specs.Step.{step as step_of};
 ghost use Rattle.jc_model.specs.Run.{resume};
 ghost use Rattle.jc_model.specs.Suspended.{key_run};
-ghost use Rattle.jc_ops.specs.Tied.{SameElsewhere};
-ghost use Rattle.jc_ops.specs.Noted.{HasPlaces};
-ghost use Rattle.jc_ops.specs.Kept.{items_of, progress_of, IsKept};
-ghost use Rattle.jc_ops.specs.Given.{given_by, loaded_in, verdict_in};
+ghost use Rattle.jc_state.specs.Noted.{HasPlaces};
+ghost use Rattle.jc_state.specs.Kept.{items_of, progress_of, IsTied, Stays, FoundRow};
+ghost use Rattle.jc_ops.specs.Given.{loaded_in, verdict_in};
 ghost use Rattle.jc_ops.specs.Supply.{Covers, CoversAnswer, HasRoom, HasRoomAt};
-ghost use Rattle.jc_ops.specs.Stepped.{StepsTo, StaysAt, IsWaiting, waits_first, invoked};
+ghost use Rattle.jc_ops.specs.Stepped.{StepsTo, StaysAt, IsWaiting, waits_first};
 
-use crate::notices::Notices;
-use crate::state::CacheState;
-use crate::step::answer::answer_line;
+use crate::step::change::At;
 use crate::step::invoke::{Invocation, answer_invoke};
-use crate::step::start::{start_absent, start_live};
+use crate::step::line::{answer_line, begin};
 use crate::supply::Supply;
 use jc_model::call::{Answer, KeyCall, Op, Reply, Request, Verdict};
-use jc_model::config::CacheConfig;
-use jc_model::event::CacheId;
 use jc_model::thrice::Thrice;
 use jc_model::value::Value;
 use jc_ring::ring::Ring;
 use jc_rows::rows::Rows;
+use jc_state::notices::Notices;
+use jc_state::state::CacheState;
 use std::marker::Model;
 
 /// A key's step that waits, with what it was given so far.
@@ -113,57 +108,56 @@ impl KeyStep {
         }
     }
 
-    /// Begins a step. It takes no memory beside its supply, and so can't be refused.
+    /// Begins a step on the key that has this row, if it has one. It takes no memory beside its supply, and so can't be
+    /// refused.
     pub fn start<R: Rows, G: Ring>(
-        config: &CacheConfig,
         state: &mut CacheState<G>,
         rows: &mut R,
         notices: &mut Notices,
-        id: CacheId,
         now: u64,
         call: KeyCall,
+        row: Option<u32>,
         supply: Supply,
     ) -> Next
-        requires kept { IsKept config.now (R.contents rows.old) id state.old }
-        requires places { HasPlaces config.now 3 notices.old }
-        requires covered { Covers config.now.writer config.now call (items_of state.old.cells) supply }
-        requires room { HasRoom config.now.writer call.op (R.spare rows.old) }
-        ensures kept_after { IsKept config.now (R.contents rows.new) id state.new }
-        ensures elsewhere { SameElsewhere id (R.contents rows.old) (R.contents rows.new) }
-        ensures spare { R.spare rows.old ≤ R.spare rows.new + 1 }
-        ensures places { notices.old.spare ≤ notices.new.spare + 3 }
-        ensures next { StepsTo config.now (step_of config.now now call (progress_of state.old notices.old.told)) result state.new notices.new.told }
-        ensures stays { StaysAt now call result }
+        requires tied { IsTied (R.contents rows.old) state.old }
+        requires row { FoundRow call.key state.old row }
+        requires places { HasPlaces state.old.config 3 notices.old }
+        requires covered { Covers state.old.config.writer state.old.config call (items_of state.old.cells) supply }
+        requires room { HasRoom state.old.config.writer call.op (R.spare rows.old) }
+        ensures stays { Stays 1 3 (R.contents rows.old) (R.spare rows.old) state.old notices.old (R.contents rows.new) (R.spare rows.new) state.new notices.new }
+        ensures next { StepsTo state.old.config (step_of state.old.config now call (progress_of state.old notices.old.told)) result state.new notices.new.told }
+        ensures call_stays { StaysAt now call result }
     {
-        match state.find_live(config, rows, notices, id, now, &call.key) {
-            Some(row) => start_live(config, state, rows, notices, id, now, call, row, supply),
-            None => start_absent(config, state, rows, notices, id, now, call, supply),
-        }
+        let row = state.purge(rows, notices, now, row);
+        let KeyCall { key, op } = call;
+        let at = At {
+            moment: now,
+            key,
+            row,
+        };
+        begin(state, rows, notices, &at, op, supply)
     }
 
-    /// Goes on with the answer to the request for which the step waits. It takes no memory beside its supply, and so
-    /// can't be refused. The key's row is looked for anew: no row number is kept while a step waits.
+    /// Goes on with the answer to the request for which the step waits, where the key has this row. It takes no memory
+    /// beside its supply, and so can't be refused. No row number is kept while a step waits.
     pub fn answer<R: Rows, G: Ring>(
         self,
-        config: &CacheConfig,
         state: &mut CacheState<G>,
         rows: &mut R,
         notices: &mut Notices,
-        id: CacheId,
         answer: Answer,
+        row: Option<u32>,
         supply: Supply,
     ) -> Next
-        requires kept { IsKept config.now (R.contents rows.old) id state.old }
-        requires places { HasPlaces config.now 3 notices.old }
-        requires waits { IsWaiting config.now (progress_of state.old notices.old.told) self }
-        requires covered { CoversAnswer config.now self answer (items_of state.old.cells) supply }
-        requires room { HasRoomAt config.now self answer (R.spare rows.old) }
-        ensures kept_after { IsKept config.now (R.contents rows.new) id state.new }
-        ensures elsewhere { SameElsewhere id (R.contents rows.old) (R.contents rows.new) }
-        ensures spare { R.spare rows.old ≤ R.spare rows.new + 1 }
-        ensures places { notices.old.spare ≤ notices.new.spare + 3 }
-        ensures next { StepsTo config.now (resume (key_run config.now (progress_of state.old notices.old.told) self) answer) result state.new notices.new.told }
-        ensures stays { StaysAt self.now self.call result }
+        requires tied { IsTied (R.contents rows.old) state.old }
+        requires row { FoundRow self.call.key state.old row }
+        requires places { HasPlaces state.old.config 3 notices.old }
+        requires waits { IsWaiting state.old.config (progress_of state.old notices.old.told) self }
+        requires covered { CoversAnswer state.old.config self answer (items_of state.old.cells) supply }
+        requires room { HasRoomAt state.old.config self answer (R.spare rows.old) }
+        ensures stays { Stays 1 3 (R.contents rows.old) (R.spare rows.old) state.old notices.old (R.contents rows.new) (R.spare rows.new) state.new notices.new }
+        ensures next { StepsTo state.old.config (resume (key_run state.old.config (progress_of state.old notices.old.told) self) answer) result state.new notices.new.told }
+        ensures call_stays { StaysAt self.now self.call result }
     {
         let KeyStep {
             now,
@@ -172,29 +166,26 @@ impl KeyStep {
             verdict,
         } = self;
         let KeyCall { key, op } = call;
-        let row = state.find_live(config, rows, notices, id, now, &key);
+        let row = state.purge(rows, notices, now, row);
+        let at = At {
+            moment: now,
+            key,
+            row,
+        };
         match op {
             Op::Invoke {
                 processor,
                 argument,
             } => {
                 let invocation = Invocation {
-                    at: now,
-                    key,
+                    at,
                     processor,
                     argument,
                     loaded,
                 };
-                answer_invoke(
-                    config, state, rows, notices, id, invocation, verdict, row, answer, supply,
-                )
+                answer_invoke(state, rows, notices, invocation, verdict, answer, supply)
             }
-            op => {
-                let call = KeyCall { key, op };
-                answer_line(
-                    config, state, rows, notices, id, now, call, row, &answer, supply,
-                )
-            }
+            op => answer_line(state, rows, notices, &at, &op, &answer, supply),
         }
     }
 }

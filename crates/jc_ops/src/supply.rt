@@ -3,37 +3,33 @@
 //! Each value that a step leaves behind is shared beforehand: what it stores, the same for the notice of it, what
 //! it replies, and what its writer or processor is given. So the step itself can't be refused. Values may be kept
 //! while a call waits; room in the table may be used up by others meanwhile, and is made anew.
-pub(crate) mod needs;
+mod needs;
 
-ghost use Rattle.std.specs.Prelude.{◌≡◌, ◌<◌, ◌≤◌, true, Some, None, is_some, IfOk, OnOk, option_map};
+ghost use Rattle.std.specs.Prelude.{◌≡◌, ◌<◌, ◌≤◌, ◌+◌, ◌^◌, ℕ, List, true, false, Some, None, is_some, IfOk, OnOk, IsOk, option_map};
+ghost use Rattle.std.specs.FinMap as map;
 ghost use Rattle.jc_model.specs.State.{Item, row_of};
-ghost use Rattle.jc_ops.specs.Kept.{items_of};
-ghost use Rattle.jc_ops.specs.Lines.{loads};
-ghost use Rattle.jc_ops.specs.Noted.{HasPlaces};
-ghost use Rattle.jc_ops.specs.Supply.{IsTold, StoredIsTold, Covers, CoversLoaded, CoversVerdict, CoversAnswer, HasRoom, HasRoomBy, HasRoomAt};
-ghost use Rattle.jc_ops.specs.Tied.{Tied};
+ghost use Rattle.jc_state.specs.Kept.{items_of, FoundRow};
+ghost use Rattle.jc_state.specs.Noted.{HasPlaces};
+ghost use Rattle.jc_ops.specs.Lines.{is_invoke};
+ghost use Rattle.jc_ops.specs.Supply.{Covers, CoversLoaded, CoversVerdict, CoversAnswer, HasRoom, HasRoomBy, HasRoomAt};
 
-use crate::notices::Notices;
-use crate::state::CacheState;
 use crate::step::KeyStep;
-use crate::supply::needs::{creates, handed, handed_by, is_invoke, shows, stored_by, stored_now};
+pub use crate::supply::needs::creates;
+use crate::supply::needs::{
+    handed, handed_by, is_invoke, shows, shows_loaded, stored_by, stored_now,
+};
 use jc_model::OutOfMemory;
 use jc_model::call::{Answer, KeyCall, Op, Verdict};
 use jc_model::config::CacheConfig;
-use jc_model::event::CacheId;
 use jc_model::key::Key;
 use jc_model::thrice::Thrice;
 use jc_model::value::Value;
 use jc_ring::ring::Ring;
 use jc_rows::rows::Rows;
+use jc_state::notices::Notices;
+use jc_state::state::CacheState;
+use jc_state::stored::Stored;
 use std::alloc::AllocError;
-
-/// A value to be stored, with its copies for the notice where the cache has listeners.
-#[derive(Drop)]
-pub struct Stored {
-    pub value: Thrice<Value>,
-    pub told: Option<Thrice<Value>>,
-}
 
 /// The values of one step.
 #[derive(Drop)]
@@ -48,68 +44,20 @@ pub struct Supply {
     pub entry: Option<Value>,
 }
 
-/// Room in the table for so many rows more.
+/// Room in the table for so many rows more. It is there already where none are wanted, or where the table has it.
 pub fn make_room<R: Rows>(rows: &mut R, more: usize) -> Result<(), OutOfMemory>
     ensures same { R.contents rows.new ≡ R.contents rows.old }
     ensures room { OnOk result (more ≤ R.spare rows.new) }
     ensures kept { R.spare rows.old ≤ R.spare rows.new }
+    ensures none { more ≡ 0 → IsOk result }
+    ensures stands { more ≤ R.spare rows.old → map.len (R.contents rows.old) + more < 2 ^ 64 → IsOk result }
 {
+    if more == 0 {
+        return Ok(());
+    }
     match rows.len().checked_add(more) {
         Some(all) => rows.make_room(all),
         None => Err(AllocError),
-    }
-}
-
-/// Room in the table for one row more, where a step may need it.
-fn make_room_for<R: Rows>(rows: &mut R, adds: bool) -> Result<(), OutOfMemory>
-    ensures same { R.contents rows.new ≡ R.contents rows.old }
-    ensures room { OnOk result (adds ≡ true → 0 < R.spare rows.new) }
-{
-    if adds { make_room(rows, 1) } else { Ok(()) }
-}
-
-/// Places for the notices of one step, where there are listeners: its expired row, its victim and its own.
-fn make_places(config: &CacheConfig, notices: &mut Notices) -> Result<(), OutOfMemory>
-    ensures told { notices.new.told ≡ notices.old.told }
-    ensures places { OnOk result (HasPlaces config.now 3 notices.new) }
-{
-    if config.listeners > 0 {
-        notices.reserve(3)
-    } else {
-        Ok(())
-    }
-}
-
-/// Copies of a value to be stored.
-fn to_store(config: &CacheConfig, value: &Value) -> Result<Stored, OutOfMemory>
-    ensures value { IfOk result (λ s. s.value ≡ value.now) }
-    ensures told { IfOk result (λ s. IsTold config.now s) }
-{
-    let stored = Thrice::of(value)?;
-    if config.listeners > 0 {
-        let told = Thrice::of(value)?;
-        return Ok(Stored {
-            value: stored,
-            told: Some(told),
-        });
-    }
-    Ok(Stored {
-        value: stored,
-        told: None,
-    })
-}
-
-/// Copies of what is stored, if anything is.
-fn to_store_if(config: &CacheConfig, value: Option<&Value>) -> Result<Option<Stored>, OutOfMemory>
-    ensures value { IfOk result (λ s. option_map (λ t. t.value) s ≡ option_map (λ v. v.now) value.entry) }
-    ensures told { IfOk result (λ s. StoredIsTold config.now s) }
-{
-    match value {
-        None => Ok(None),
-        Some(value) => {
-            let stored = to_store(config, value)?;
-            Ok(Some(stored))
-        }
     }
 }
 
@@ -139,21 +87,21 @@ fn to_hand(value: Option<&Value>) -> Result<Option<Value>, OutOfMemory>
     }
 }
 
-/// The value that the key has, where it is wanted.
-fn value_if<'a, R: Rows, G: Ring>(
+/// The value of the key's row, where it is wanted.
+fn value_if<'a, G: Ring>(
     state: &'a CacheState<G>,
-    rows: &R,
-    id: CacheId,
     key: &Key,
+    row: Option<u32>,
     wanted: bool,
 ) -> Option<&'a Value>
-    requires tied { Tied (R.contents rows.now) id state.now.cells }
+    requires row { FoundRow key.now state.now row }
     ensures { wanted ≡ true → (x : Item) → row_of key.now (items_of state.now.cells) ≡ Some x → option_map (λ v. v.now) result ≡ Some x.value }
 {
     if !wanted {
         return None;
     }
-    match state.find(rows, id, key) {
+    let _key = key.text().len();
+    match row {
         None => None,
         Some(row) => Some(state.value(row).first()),
     }
@@ -173,20 +121,18 @@ impl Supply {
     }
 
     /// The values of a step that stores at once, or that asks its writer before: then he alone is given a copy.
-    pub fn values_for<R: Rows, G: Ring>(
-        config: &CacheConfig,
+    pub fn values_for<G: Ring>(
         state: &CacheState<G>,
-        rows: &R,
-        id: CacheId,
+        row: Option<u32>,
         call: &KeyCall,
         writer: bool,
     ) -> Result<Supply, OutOfMemory>
-        requires tied { Tied (R.contents rows.now) id state.now.cells }
-        ensures { IfOk result (λ s. Covers writer config.now call.now (items_of state.now.cells) s) }
+        requires row { FoundRow call.now.key state.now row }
+        ensures { IfOk result (λ s. Covers writer state.now.config call.now (items_of state.now.cells) s) }
     {
-        let shown = to_show(value_if(state, rows, id, &call.key, shows(&call.op)))?;
-        let entry = to_hand(value_if(state, rows, id, &call.key, is_invoke(&call.op)))?;
-        let stored = to_store_if(config, stored_now(&call.op, writer))?;
+        let shown = to_show(value_if(state, &call.key, row, shows(&call.op)))?;
+        let entry = to_hand(value_if(state, &call.key, row, is_invoke(&call.op)))?;
+        let stored = Stored::of_any(state.config(), stored_now(&call.op, writer))?;
         let copy = to_hand(handed(&call.op, writer))?;
         Ok(Supply {
             stored,
@@ -198,24 +144,23 @@ impl Supply {
 
     /// All that such a step may need: its values, the room for its row and the places for its notices.
     pub fn for_step<R: Rows, G: Ring>(
-        config: &CacheConfig,
         state: &CacheState<G>,
         rows: &mut R,
         notices: &mut Notices,
-        id: CacheId,
+        row: Option<u32>,
         call: &KeyCall,
         writer: bool,
     ) -> Result<Supply, OutOfMemory>
-        requires tied { Tied (R.contents rows.old) id state.now.cells }
+        requires row { FoundRow call.now.key state.now row }
         ensures same { R.contents rows.new ≡ R.contents rows.old }
         ensures told { notices.new.told ≡ notices.old.told }
-        ensures places { OnOk result (HasPlaces config.now 3 notices.new) }
+        ensures places { OnOk result (HasPlaces state.now.config 3 notices.new) }
         ensures room { OnOk result (HasRoom writer call.now.op (R.spare rows.new)) }
-        ensures covers { IfOk result (λ s. Covers writer config.now call.now (items_of state.now.cells) s) }
+        ensures covers { IfOk result (λ s. Covers writer state.now.config call.now (items_of state.now.cells) s) }
     {
-        make_places(config, notices)?;
-        make_room_for(rows, !writer && creates(&call.op))?;
-        Supply::values_for(config, state, rows, id, call, writer)
+        notices.reserve_for(state.config(), 3)?;
+        make_room(rows, usize::from(!writer && creates(&call.op)))?;
+        Supply::values_for(state, row, call, writer)
     }
 
     /// What a step may need on its loader's answer: a line that loads to store it, and a get to reply it; a processor's
@@ -227,7 +172,7 @@ impl Supply {
         loaded: Option<&Value>,
     ) -> Result<Supply, OutOfMemory>
         ensures same { R.contents rows.new ≡ R.contents rows.old }
-        ensures room { OnOk result (loads op.now ≡ true → is_some (option_map (λ v. v.now) loaded.entry) ≡ true → 0 < R.spare rows.new) }
+        ensures room { OnOk result (is_invoke op.now ≡ false → is_some (option_map (λ v. v.now) loaded.entry) ≡ true → 0 < R.spare rows.new) }
         ensures covers { IfOk result (λ s. CoversLoaded config.now op.now (option_map (λ v. v.now) loaded.entry) s) }
     {
         if is_invoke(op) {
@@ -240,9 +185,9 @@ impl Supply {
                 entry,
             });
         }
-        make_room_for(rows, loaded.is_some())?;
-        let stored = to_store_if(config, loaded)?;
-        let shown = to_show(if shows(op) { loaded } else { None })?;
+        make_room(rows, usize::from(loaded.is_some()))?;
+        let stored = Stored::of_any(config, loaded)?;
+        let shown = to_show(if shows_loaded(op) { loaded } else { None })?;
         Ok(Supply {
             stored,
             shown,
@@ -265,8 +210,8 @@ impl Supply {
         ensures covers { IfOk result (λ s. CoversVerdict writer config.now (option_map (λ v. v.now) loaded.entry) verdict.now s) }
     {
         let value = stored_by(&verdict.action, loaded, writer);
-        make_room_for(rows, value.is_some())?;
-        let stored = to_store_if(config, value)?;
+        make_room(rows, usize::from(value.is_some()))?;
+        let stored = Stored::of_any(config, value)?;
         let shown = to_show(verdict.answer.as_ref())?;
         let copy = to_hand(handed_by(&verdict.action, writer))?;
         Ok(Supply {
@@ -277,27 +222,27 @@ impl Supply {
         })
     }
 
-    /// What a step that waits may need at this answer.
+    /// What a step that waits may need at this answer, where its key has this row.
     pub fn for_answer<R: Rows, G: Ring>(
-        config: &CacheConfig,
         state: &CacheState<G>,
         rows: &mut R,
         notices: &mut Notices,
-        id: CacheId,
+        row: Option<u32>,
         step: &KeyStep,
         answer: &Answer,
     ) -> Result<Supply, OutOfMemory>
-        requires tied { Tied (R.contents rows.old) id state.now.cells }
+        requires row { FoundRow step.now.call.key state.now row }
         ensures same { R.contents rows.new ≡ R.contents rows.old }
         ensures told { notices.new.told ≡ notices.old.told }
-        ensures places { OnOk result (HasPlaces config.now 3 notices.new) }
-        ensures room { OnOk result (HasRoomAt config.now step.entry.now answer.now (R.spare rows.new)) }
-        ensures covers { IfOk result (λ s. CoversAnswer config.now step.entry.now answer.now (items_of state.now.cells) s) }
+        ensures places { OnOk result (HasPlaces state.now.config 3 notices.new) }
+        ensures room { OnOk result (HasRoomAt state.now.config step.entry.now answer.now (R.spare rows.new)) }
+        ensures covers { IfOk result (λ s. CoversAnswer state.now.config step.entry.now answer.now (items_of state.now.cells) s) }
     {
-        make_places(config, notices)?;
+        let config = state.config();
+        notices.reserve_for(config, 3)?;
         match answer {
             Answer::Written => match step.verdict() {
-                None => Supply::for_step(config, state, rows, notices, id, step.call(), false),
+                None => Supply::for_step(state, rows, notices, row, step.call(), false),
                 Some(verdict) => {
                     Supply::for_verdict(config, rows, step.loaded(), verdict, false)
                 }

@@ -23,13 +23,6 @@ use Rattle.jc_rows.proofs.Laws.{with_expiry_is, with_expiry_absent, same_rows, g
 abbrev pub place_eq : ℕ × List ℕ → ℕ × List ℕ → Bool
 place_eq x y = id_eq.ghosts.eq x.0 y.0 && key_eq.ghosts.eq x.1 y.1
 
-padded : List ℕ → List ℕ
-padded k = k ++ replicate (31 - length k) 0
-
-padded_tells : (k q : List ℕ) → k ++ replicate (31 - length k) 0 ≡ q ++ replicate (31 - length q) 0 → length k ≡ length q → k ≡ q
-padded_tells k q same long =
-    sym (take-append_seam k (replicate (31 - length k) 0)) ∙ (ap₂ take long same ∙ take-append_seam q (replicate (31 - length q) 0))
-
 both : (a b : Bool) → (a && b) ≡ true → (a ≡ true) × (b ≡ true)
 both true true h = (refl, refl)
 both true false h = cc
@@ -39,12 +32,10 @@ ids_same : (i j : ℕ) → id_eq.ghosts.eq i j ≡ true → i ≡ j
 ids_same i j h = eqb-true i j h
 
 keys_same : (k q : List ℕ) → key_eq.ghosts.eq k q ≡ true → k ≡ q
-keys_same k q h =
-    let parts = both (bytes_eq (k ++ replicate (31 - length k) 0) (q ++ replicate (31 - length q) 0)) (eqb (length k) (length q)) h in
-    padded_tells k q ((bytes_eq-Decides _ _).0 parts.0) (eqb-true _ _ parts.1)
+keys_same k q h = (bytes_eq-Decides k q).0 h
 
 key_itself : (k : List ℕ) → key_eq.ghosts.eq k k ≡ true
-key_itself k = ap₂ ◌&&◌ ((bytes_eq-Decides (k ++ replicate (31 - length k) 0) (k ++ replicate (31 - length k) 0)).1 refl) (eq-eqb (length k) (length k) refl)
+key_itself k = (bytes_eq-Decides k k).1 refl
 
 place_itself : (x : ℕ × List ℕ) → place_eq x x ≡ true
 place_itself x = ap₂ ◌&&◌ (eq-eqb x.0 x.0 refl) (key_itself x.1)

@@ -1,5 +1,5 @@
 -- What callbacks have answered, one after the other.
-use Rattle.std.proofs.Common.{◌≡◌, ℕ, Bool, true, false, IsTrue, List, [], ◌∷◌, ◌++◌, map, Option, Some, None, Result, slice_get, refl, sym, ap, ◌∙◌, subst, append_assoc, append-nil}
+use Rattle.std.proofs.Common.{◌≡◌, ℕ, List, [], ◌∷◌, ◌++◌, Option, Some, None, Result, slice_get, refl, sym, ap, ◌∙◌, subst, append_assoc, append-nil}
 use Rattle.std.proofs.lemmas.List.Elements.{filter-append}
 use Rattle.std.proofs.lemmas.Grind.{flat_map-append}
 use Rattle.jc_model.specs.declared.call.Answer.{Answer}
@@ -11,7 +11,7 @@ use Rattle.jc_model.specs.declared.call.Verdict.{Verdict}
 use Rattle.jc_model.specs.Run.{told_by}
 use Rattle.jc_hooks.specs.declared.cache_hooks.CacheHooks.{CacheHooks}
 use Rattle.jc_hooks.specs.declared.loader.Loaded.{Loaded}
-use Rattle.jc_runner.specs.Answering.{is_write, written_in, notices_in, load_by, verdict_by, IsStated, AllStated, MayGiveBy, states_after, Served, Heard, HeardAt}
+use Rattle.jc_runner.specs.Answering.{is_write, written_in, notices_in, load_by, verdict_by, IsStated, AllStated, MayGiveBy, states_after, Served, Heard}
 
 written-append : (xs ys : List (Request × Answer)) → written_in (xs ++ ys) ≡ written_in xs ++ written_in ys
 written-append xs ys = filter-append (λ x. is_write x.0) xs ys

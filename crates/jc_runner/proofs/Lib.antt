@@ -1,9 +1,13 @@
+pub mod Meters
+pub mod Playing
+pub mod Pushed
+pub mod Opening
 pub mod Known
 pub mod Answered
 pub mod Hearing
 pub mod Reached
 pub mod Bounds
-pub mod Telling
+pub mod InTurn
 pub mod Suiting
 pub mod Steps
 pub mod Told

@@ -1,5 +1,5 @@
 -- One call, from its beginning to its reply.
-use Rattle.std.proofs.Common.{◌≡◌, ℕ, zero, suc, ◌+◌, ◌-◌, ◌<◌, Bool, true, false, if◌then◌else◌, ◌==◌, IsTrue, List, [], ◌∷◌, ◌++◌, map, Option, Some, None, Result, refl, sym, ap, ◌∙◌, subst, arith, append-nil, length, length-append}
+use Rattle.std.proofs.Common.{◌≡◌, ℕ, ◌+◌, ◌-◌, ◌<◌, Bool, true, false, if◌then◌else◌, ◌==◌, IsTrue, List, [], ◌∷◌, ◌++◌, Option, Some, Result, refl, sym, ap, ◌∙◌, subst, arith, append-nil, length, length-append}
 use Rattle.std.specs.Prelude.{slice_get, slice_set, ◌&&◌}
 use Rattle.std.proofs.lemmas.Bool.Decides.{nat_tests}
 use Rattle.std.proofs.lemmas.Grind.{flat_map-append}
@@ -30,10 +30,10 @@ use Rattle.jc_engine.proofs.Entries.{set_set}
 use Rattle.jc_hooks.specs.declared.cache_hooks.CacheHooks.{CacheHooks}
 use Rattle.jc_hooks.specs.declared.loader.Loaded.{Loaded}
 use Rattle.jc_script.specs.declared.line.Line.{Line}
-use Rattle.jc_runner.specs.Alone.{exchanged, used, end_of, run_alone, entry_by}
+use Rattle.jc_runner.specs.Alone.{exchanged, end_of, run_alone, entry_by}
 use Rattle.jc_runner.specs.Answering.{Heard}
 use Rattle.jc_runner.specs.Halfway.{statuses_of, event_of, CanMove, Moves, NoneOpen, IsReady, ReachedFrom, Reached, Replies}
-use Rattle.jc_runner.proofs.Answered.{waits_for, Waits, awaits-need, exchanged-nil, exchanged-push, uses_all, entry-push, entry-first}
+use Rattle.jc_runner.proofs.Answered.{awaits-need, exchanged-nil, exchanged-push, entry-push, entry-first}
 use Rattle.jc_runner.proofs.Bounds.{within_whole, fewer_answers, answers_in, most_asked, most_at}
 use Rattle.jc_runner.proofs.Hearing.{heard_nothing, heard_more}
 
@@ -90,7 +90,7 @@ changes_last id f transcript e closed is =
 counted : (l : Line) (run : Run) (given : List Answer) (transcript transcript' : List Entry) → Fits run given → transcript' ≡ transcript ++ entry_by l run given ∷ [] → length (answers_in transcript') ≡ length (answers_in transcript) + length given
 counted l run given transcript transcript' fit is =
     ap (λ (es : List Entry). length (answers_in es)) is ∙ ap length (flat_map-append (λ (e : Entry). e.answers) transcript (entry_by l run given ∷ []))
-    ∙ length-append (answers_in transcript) (used run given ++ []) ∙ ap (λ (gave : List Answer). length (answers_in transcript) + length gave) (append-nil (used run given) ∙ uses_all run given fit)
+    ∙ length-append (answers_in transcript) (given ++ []) ∙ ap (λ (gave : List Answer). length (answers_in transcript) + length gave) (append-nil given)
 
 module _ {L W P K : Type 0} (load_of : L → List ℕ → Loaded) (may : W → List (Request × Answer) → Type 0) (verdict_of : P → Option (List ℕ) → List ℕ → Result Verdict ProcessorFault) (state_after : K → List Notice → List ℕ) where
   -- a call has begun
@@ -143,7 +143,7 @@ module _ {L W P K : Type 0} (load_of : L → List ℕ → Loaded) (may : W → L
         let f : Entry → Entry = λ e. with_outcome (Stepped step) (with_answer a e) in
         let e : Entry = entry_by l first_run r.answers in
         (m 0).transcript ∙ ap (on_open l.id f) r.transcript ∙ changes_last l.id f old.transcript e closed is_open_now
-        ∙ ap (λ (d : Entry). old.transcript ++ d ∷ []) (ap (λ (o : Outcome). with_outcome o (with_answer a e)) ((m 0).outcome ∙ replies_now) ∙ entry-push l first_run r.answers a q r.fit r.shows)
+        ∙ ap (λ (d : Entry). old.transcript ++ d ∷ []) (ap (λ (o : Outcome). with_outcome o (with_answer a e)) ((m 0).outcome ∙ replies_now) ∙ entry-push l first_run r.answers a)
 
     -- and has been answered
     pub goes_on : NoneOpen old.transcript → (next : Recording) (h2 : CacheHooks L W P K) (step : Step) → Heard load_of may verdict_of state_after h1 h2 ((q, a) ∷ []) → ((session : ℕ) → Moves now next session (Answered l.id a) step)

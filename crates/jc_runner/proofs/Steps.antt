@@ -1,5 +1,5 @@
 -- One line more.
-use Rattle.std.proofs.Common.{◌≡◌, ◌≢◌, ℕ, ◌+◌, ◌<◌, ◌==◌, Bool, true, false, if◌then◌else◌, List, [], ◌∷◌, ◌++◌, length, map, Option, Some, None, Result, refl, sym, ap, ◌∙◌, subst, append_assoc, append-nil, arith}
+use Rattle.std.proofs.Common.{◌≡◌, ◌≢◌, ℕ, ◌<◌, ◌==◌, Bool, true, false, if◌then◌else◌, List, [], ◌∷◌, ◌++◌, length, map, Option, Some, None, Result, refl, sym, ap, ◌∙◌, subst, append_assoc, append-nil, arith}
 use Rattle.std.specs.Prelude.{slice_get, slice_set, ◌&&◌}
 use Rattle.std.proofs.lemmas.Bool.Decides.{nat_tests}
 use Rattle.std.proofs.lemmas.Bool.{false≢true}
@@ -16,15 +16,15 @@ use Rattle.jc_model.specs.declared.call.Verdict.{Verdict}
 use Rattle.jc_model.specs.declared.config.CacheConfig.{CacheConfig}
 use Rattle.jc_model.specs.declared.event.Cause.TheVariants.{NoSuchProcessor}
 use Rattle.jc_model.specs.declared.event.Entry.{Entry}
-use Rattle.jc_model.specs.declared.event.Outcome.{Outcome}
 use Rattle.jc_model.specs.declared.event.Outcome.TheVariants.{Step as Stepped, Refused}
 use Rattle.jc_model.specs.declared.event.Step.{Step}
 use Rattle.jc_model.specs.declared.event.Step.TheVariants.{Done}
-use Rattle.jc_model.specs.State.{State, first_state}
-use Rattle.jc_model.specs.Run.{Run, answered, progress}
+use Rattle.jc_model.specs.Changes.{Progress}
+use Rattle.jc_model.specs.State.{State}
+use Rattle.jc_model.specs.Run.{Run, ended, answered}
 use Rattle.jc_model.specs.Runs.{Status, Standing, idle, begins, shown, standing_of, has_processor, refuse_last, answer_of}
-use Rattle.jc_model.specs.Solo.{state_of}
-use Rattle.jc_model.specs.Legal.{is_waiting, is_open, on_open, entries_of}
+use Rattle.jc_model.specs.Solo.{Played, state_of, run_of, left_by, after_call, standing_from, fresh}
+use Rattle.jc_model.specs.Legal.{is_waiting, is_open, entries_of, was_given_up, played}
 use Rattle.jc_model.proofs.EachCache.{at_same, at_other, reply_kept}
 use Rattle.jc_model.proofs.Legal as legal
 use Rattle.jc_engine.specs.Caches.{Cache, configs_of, status_of}
@@ -35,10 +35,10 @@ use Rattle.jc_hooks.specs.declared.cache_hooks.CacheHooks.{CacheHooks}
 use Rattle.jc_hooks.specs.declared.loader.Loaded.{Loaded}
 use Rattle.jc_script.specs.declared.line.Line.{Line}
 use Rattle.jc_script.specs.Named.{Names}
-use Rattle.jc_runner.specs.Alone.{lines_of, exchanged, unused, end_of, HasEnded, run_alone, entry_by, state_by, entries_alone, exchanges_alone, AllReply}
+use Rattle.jc_runner.specs.Alone.{lines_of, line_of, IsReply, AllReplied, exchanged, exchanges, end_of, run_alone, entry_by}
 use Rattle.jc_runner.specs.Answering.{Heard, HeardAt}
-use Rattle.jc_runner.specs.Halfway.{statuses_of, event_of, CanMove, NoneOpen, IsReady, ReachedFrom, Reached, Replies, RepliesAt, Goes, Halfway, CanRun}
-use Rattle.jc_runner.proofs.Answered.{Enough, enough, entry_enough, Ends, ends_with}
+use Rattle.jc_runner.specs.Halfway.{statuses_of, NoneOpen, IsReady, ReachedFrom, Reached, RepliesAt, Goes, Halfway, CanRun}
+use Rattle.jc_runner.proofs.Answered.{Ends, ends_with}
 use Rattle.jc_runner.proofs.Hearing.{heard_more}
 use Rattle.jc_runner.proofs.Reached.{step_shown, shows_step}
 
@@ -79,6 +79,26 @@ none_open_more transcript e closed over id f =
 over : (l : Line) (run : Run) (given : List Answer) (reply : Reply) → Ends (answered run given) reply → is_waiting (entry_by l run given).end ≡ false
 over l run given reply e = ap (λ (now : Run). is_waiting (end_of now)) e.is
 
+-- One entry more of a cache.
+
+standing_push : (c : CacheConfig) (standing : Standing) (ps : List Played) (p : Played) → standing_from c standing (ps ++ p ∷ []) ≡ after_call c (state_of (standing_from c standing ps)) p
+standing_push c standing [] p = refl
+standing_push c standing (q ∷ ps) p = standing_push c (after_call c (state_of standing) q) ps p
+
+exchanges_push : (c : CacheConfig) (standing : Standing) (es : List Entry) (e : Entry) → exchanges c standing (es ++ e ∷ []) ≡ exchanges c standing es ++ exchanged (run_of c (state_of (standing_from c standing (map played es))) (played e)) e.answers
+exchanges_push c standing [] e = append-nil (exchanged (run_of c (state_of standing) (played e)) e.answers)
+exchanges_push c standing (d ∷ es) e =
+    let here : List (Request × Answer) = exchanged (run_of c (state_of standing) (played d)) d.answers in
+    let next : Standing = after_call c (state_of standing) (played d) in
+    ap (λ (xs : List (Request × Answer)). here ++ xs) (exchanges_push c next es e) ∙ sym (append_assoc here (exchanges c next es) (exchanged (run_of c (state_of (standing_from c next (map played es))) (played e)) e.answers))
+
+replied_push : (es : List Entry) (e : Entry) → AllReplied es → IsReply e.end → AllReplied (es ++ e ∷ [])
+replied_push [] e all last = (last, tt)
+replied_push (d ∷ es) e all last = (all.0, replied_push es e all.1 last)
+
+left_ended : (run : Run) (p : Progress) (reply : Reply) → run ≡ ended p reply → left_by run (was_given_up (end_of run)) ≡ idle p.state
+left_ended run p reply e = ap (λ (x : Run). left_by x (was_given_up (end_of x))) e
+
 -- No call changes a configuration.
 
 pub configs_by : (caches : List Cache) → legal.configs_of (map status_of caches) ≡ configs_of caches
@@ -114,78 +134,52 @@ module _ {L W P K : Type 0} (load_of : L → List ℕ → Loaded) (may : W → L
     abbrev run : Run
     run = run_alone c g.state l
 
+    abbrev added_entry : Entry
+    added_entry = entry_by l run r.answers
+
+    abbrev before : List Entry
+    before = entries_of l.id old.transcript
+
     ends : Ends (answered run r.answers) reply
     ends = ends_with (answered run r.answers) reply r.shows
-
-    enough_here : (more : List Answer) → Enough run r.answers more ends.finally reply
-    enough_here more = enough run r.answers more ends.finally reply r.fit ends.is
 
     own : (l.id == l.id) ≡ true
     own = id_is_id l.id
 
-    -- what the lines behind it add, under more answers
-    adds_entries : (more : List Answer) → entries_alone c g.state (lines_of l.id (l ∷ rest)) (r.answers ++ more) ≡ entry_by l run r.answers ∷ entries_alone c ends.finally.state (lines_of l.id rest) more
-    adds_entries more =
-        ap (λ (ls : List Line). entries_alone c g.state ls (r.answers ++ more)) (line_of_same l.id l rest own)
-        ∙ ap (λ (e : Entry). e ∷ entries_alone c (state_by run (r.answers ++ more)) (lines_of l.id rest) (unused run (r.answers ++ more))) (entry_enough l run r.answers more ends.finally reply (enough_here more) ends.is)
-        ∙ ap (λ (now : Run). entry_by l run r.answers ∷ entries_alone c (progress now).state (lines_of l.id rest) (unused run (r.answers ++ more))) (enough_here more).ends
-        ∙ ap (λ (left : List Answer). entry_by l run r.answers ∷ entries_alone c ends.finally.state (lines_of l.id rest) left) (enough_here more).left
-
-    adds_exchanges : (more : List Answer) → exchanges_alone c g.state (lines_of l.id (l ∷ rest)) (r.answers ++ more) ≡ exchanged run r.answers ++ exchanges_alone c ends.finally.state (lines_of l.id rest) more
-    adds_exchanges more =
-        ap (λ (ls : List Line). exchanges_alone c g.state ls (r.answers ++ more)) (line_of_same l.id l rest own)
-        ∙ ap (λ (xs : List (Request × Answer)). xs ++ exchanges_alone c (state_by run (r.answers ++ more)) (lines_of l.id rest) (unused run (r.answers ++ more))) (enough_here more).exchanges
-        ∙ ap (λ (now : Run). exchanged run r.answers ++ exchanges_alone c (progress now).state (lines_of l.id rest) (unused run (r.answers ++ more))) (enough_here more).ends
-        ∙ ap (λ (left : List Answer). exchanged run r.answers ++ exchanges_alone c ends.finally.state (lines_of l.id rest) left) (enough_here more).left
-
-    adds_replies : (more : List Answer) → AllReply c ends.finally.state (lines_of l.id rest) more → AllReply c g.state (lines_of l.id (l ∷ rest)) (r.answers ++ more)
-    adds_replies more rests =
-        let now : Run = answered run (r.answers ++ more) in
-        let ended_now : HasEnded now = subst HasEnded (sym (enough_here more).ends) tt in
-        let rests' : AllReply c (state_by run (r.answers ++ more)) (lines_of l.id rest) (unused run (r.answers ++ more)) =
-        subst (λ (x : Run). AllReply c (progress x).state (lines_of l.id rest) (unused run (r.answers ++ more))) (sym (enough_here more).ends)
-        (subst (λ (left : List Answer). AllReply c ends.finally.state (lines_of l.id rest) left) (sym (enough_here more).left) rests) in
-        subst (λ (ls : List Line). AllReply c g.state ls (r.answers ++ more)) (sym (line_of_same l.id l rest own)) (ended_now, rests')
-
-    regrouped : (more : List Answer) → g.answers ++ (r.answers ++ more) ≡ (g.answers ++ r.answers) ++ more
-    regrouped more = sym (append_assoc g.answers r.answers more)
+    added : entries_of l.id new.transcript ≡ before ++ added_entry ∷ []
+    added = ap (entries_of l.id) r.transcript ∙ entry_of_same l.id old.transcript added_entry own
 
     pub goes_same : GoesHere c l.id all rest handed (Some h') (statuses_of new) new.transcript
     goes_same = record {
       state = ends.finally.state;
-      answers = g.answers ++ r.answers;
-      given = g.given ++ exchanged run r.answers;
       stands = ap (λ (ks : List Status). slice_get ks l.id) r.statuses ∙ at_same (statuses_of old) l.id (record { config = c; standing = idle g.state }) (record { config = c; standing = standing_of (answered run r.answers) }) g.stands
           ∙ ap (λ (now : Run). Some (record { config = c; standing = standing_of now })) ends.is;
-      entries = λ more.
-          let tail : List Entry = entries_alone c ends.finally.state (lines_of l.id rest) more in
-          let added : entries_of l.id new.transcript ≡ entries_of l.id old.transcript ++ entry_by l run r.answers ∷ [] = ap (entries_of l.id) r.transcript ∙ entry_of_same l.id old.transcript (entry_by l run r.answers) own in
-          ap (λ (es : List Entry). es ++ tail) added ∙ append_assoc (entries_of l.id old.transcript) (entry_by l run r.answers ∷ []) tail
-          ∙ ap (λ (es : List Entry). entries_of l.id old.transcript ++ es) (sym (adds_entries more)) ∙ g.entries (r.answers ++ more)
-          ∙ ap (entries_alone c first_state (lines_of l.id all)) (regrouped more);
-      exchanges = λ more.
-          append_assoc g.given (exchanged run r.answers) (exchanges_alone c ends.finally.state (lines_of l.id rest) more)
-          ∙ ap (λ (xs : List (Request × Answer)). g.given ++ xs) (sym (adds_exchanges more)) ∙ g.exchanges (r.answers ++ more)
-          ∙ ap (exchanges_alone c first_state (lines_of l.id all)) (regrouped more);
-      replies = λ more rests. subst (AllReply c first_state (lines_of l.id all)) (regrouped more) (g.replies (r.answers ++ more) (adds_replies more rests));
-      heard = heard_at_more handed h h' g.given (exchanged run r.answers) g.heard r.heard;
+      left = ap (λ (es : List Entry). standing_from c fresh (map played es)) added ∙ ap (standing_from c fresh) (map_push played before added_entry)
+          ∙ standing_push c fresh (map played before) (played added_entry) ∙ ap (λ (standing : Standing). after_call c (state_of standing) (played added_entry)) g.left
+          ∙ left_ended (answered run r.answers) ends.finally reply ends.is;
+      calls = ap (λ (es : List Entry). map line_of es ++ lines_of l.id rest) added ∙ ap (λ (ls : List Line). ls ++ lines_of l.id rest) (map_push line_of before added_entry)
+          ∙ append_assoc (map line_of before) (l ∷ []) (lines_of l.id rest) ∙ ap (λ (ls : List Line). map line_of before ++ ls) (sym (line_of_same l.id l rest own)) ∙ g.calls;
+      replied = subst AllReplied (sym added) (replied_push before added_entry g.replied (subst (λ (now : Run). IsReply (end_of now)) (sym ends.is) tt));
+      heard =
+          let exchanged_here : exchanges c fresh (entries_of l.id new.transcript) ≡ exchanges c fresh before ++ exchanged run r.answers =
+          ap (exchanges c fresh) added ∙ exchanges_push c fresh before added_entry
+          ∙ ap (λ (standing : Standing). exchanges c fresh before ++ exchanged (run_of c (state_of standing) (played added_entry)) r.answers) g.left in
+          subst (HeardAt load_of may verdict_of state_after handed (Some h')) (sym exchanged_here) (heard_at_more handed h h' (exchanges c fresh before) (exchanged run r.answers) g.heard r.heard);
     }
 
   -- another cache
   goes_other : (c : CacheConfig) (id : ℕ) (all rest : List Line) (l : Line) (e : Entry) (handed hooks hooks' : Option (CacheHooks L W P K)) (statuses statuses' : List Status) (transcript transcript' : List Entry) → (l.id == id) ≡ false
       → (e.id == id) ≡ false → hooks' ≡ hooks → slice_get statuses' id ≡ slice_get statuses id → transcript' ≡ transcript ++ e ∷ [] → GoesHere c id all (l ∷ rest) handed hooks statuses transcript → GoesHere c id all rest handed hooks' statuses' transcript'
   goes_other c id all rest l e handed hooks hooks' statuses statuses' transcript transcript' apart apart' same stays more g =
-      let lines_same : lines_of id rest ≡ lines_of id (l ∷ rest) = sym (line_of_other id l rest apart) in
       let entries_same : entries_of id transcript' ≡ entries_of id transcript = ap (entries_of id) more ∙ entry_of_other id transcript e apart' in
       record {
         state = g.state;
-        answers = g.answers;
-        given = g.given;
         stands = stays ∙ g.stands;
-        entries = λ more. ap (λ (es : List Entry). es ++ entries_alone c g.state (lines_of id rest) more) entries_same ∙ ap (λ (ls : List Line). entries_of id transcript ++ entries_alone c g.state ls more) lines_same ∙ g.entries more;
-        exchanges = λ more. ap (λ (ls : List Line). g.given ++ exchanges_alone c g.state ls more) lines_same ∙ g.exchanges more;
-        replies = λ more rests. g.replies more (subst (λ (ls : List Line). AllReply c g.state ls more) lines_same rests);
-        heard = subst (λ (o : Option (CacheHooks L W P K)). HeardAt load_of may verdict_of state_after handed o g.given) (sym same) g.heard;
+        left = ap (λ (es : List Entry). standing_from c fresh (map played es)) entries_same ∙ g.left;
+        calls = ap (λ (es : List Entry). map line_of es ++ lines_of id rest) entries_same ∙ ap (λ (ls : List Line). map line_of (entries_of id transcript) ++ ls) (sym (line_of_other id l rest apart)) ∙ g.calls;
+        replied = subst AllReplied (sym entries_same) g.replied;
+        heard = subst (λ (es : List Entry). HeardAt load_of may verdict_of state_after handed hooks' (exchanges c fresh es)) (sym entries_same)
+            (subst (λ (o : Option (CacheHooks L W P K)). HeardAt load_of may verdict_of state_after handed o (exchanges c fresh (entries_of id transcript))) (sym same) g.heard);
       }
 
   module _ (caches : List CacheConfig) (handed : List (CacheHooks L W P K)) (all rest : List Line) (l : Line) (old new : Recording) (hooks hooks' : List (CacheHooks L W P K))

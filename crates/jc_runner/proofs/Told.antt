@@ -1,5 +1,5 @@
 -- A run's first and last moments.
-use Rattle.std.proofs.Common.{◌≡◌, ℕ, zero, suc, ◌+◌, List, [], ◌∷◌, ◌++◌, length, map, Bool, Option, Some, None, Result, refl, sym, ap, ◌∙◌, subst, append-nil, arith}
+use Rattle.std.proofs.Common.{◌≡◌, ℕ, zero, suc, ◌+◌, List, [], ◌∷◌, ◌++◌, map, Bool, Option, Some, None, Result, refl, sym, ap, ◌∙◌, subst, append-nil}
 use Rattle.std.specs.Prelude.{slice_get, IfSome, Ok}
 use Rattle.std.proofs.lemmas.Option.{none-some, same_Some}
 use Rattle.std.specs.List.{flat_map}
@@ -12,8 +12,8 @@ use Rattle.jc_model.specs.declared.config.CacheConfig.{CacheConfig}
 use Rattle.jc_model.specs.declared.event.Entry.{Entry}
 use Rattle.jc_model.specs.State.{first_state}
 use Rattle.jc_model.specs.Runs.{Status}
-use Rattle.jc_model.specs.Solo.{opened}
-use Rattle.jc_model.specs.Legal.{entries_of}
+use Rattle.jc_model.specs.Solo.{opened, standing_from, fresh as unused}
+use Rattle.jc_model.specs.Legal.{IsLegal, entries_of, played}
 use Rattle.jc_model.proofs.Legal as legal
 use Rattle.jc_engine.specs.Caches.{Cache, configs_of, names_of}
 use Rattle.jc_engine.specs.Recording.{Recording}
@@ -23,11 +23,11 @@ use Rattle.jc_script.specs.declared.line.Line.{Line}
 use Rattle.jc_script.specs.Named.{AllName}
 use Rattle.jc_script.specs.Script.{lines}
 use Rattle.jc_script.specs.Report.{header, entry_text, text_from, text}
-use Rattle.jc_runner.specs.Alone.{lines_of, entries_alone, exchanges_alone, AllReply, alone_from, alone}
+use Rattle.jc_runner.specs.Alone.{lines_of, line_of, AllReplied, exchanges, alone_from}
 use Rattle.jc_runner.specs.Answering.{Heard, HeardAt}
 use Rattle.jc_runner.specs.Halfway.{statuses_of, NoneOpen, Goes, Halfway, CanRun}
 use Rattle.jc_runner.specs.Hooks.{AllSuit}
-use Rattle.jc_runner.specs.Reports.{AnswersBy, Reports, ReportsOf}
+use Rattle.jc_runner.specs.Reports.{Reports, ReportsOf}
 use Rattle.jc_runner.specs.Streams.{IsAll}
 use Rattle.jc_runner.proofs.Hearing.{heard_nothing, has_served}
 use Rattle.jc_runner.proofs.Steps.{configs_by}
@@ -43,15 +43,9 @@ opened_stands (d ∷ ds) zero c at = ap (λ (x : CacheConfig). Some (opened x)) 
 opened_stands (d ∷ ds) (suc id) c at = opened_stands ds id c at
 
 -- the caches from number id on
-each_text : (answers : ℕ → List Answer) (id : ℕ) (caches : List CacheConfig) (transcript : List Entry) (all : List Line)
-    → ((n : ℕ) (c : CacheConfig) → slice_get caches n ≡ Some c → (i : ℕ) → i ≡ id + n → entries_of i transcript ≡ entries_alone c first_state (lines_of i all) (answers i))
-    → text_from id (map (λ c. c.name) caches) transcript ≡ alone_from answers id caches all
-each_text answers id [] transcript all same = refl
-each_text answers id (c ∷ cs) transcript all same =
-    let first : entries_of id transcript ≡ entries_alone c first_state (lines_of id all) (answers id) = same 0 c refl id (omega arith) in
-    let rest : text_from (id + 1) (map (λ d. d.name) cs) transcript ≡ alone_from answers (id + 1) cs all = each_text answers (id + 1) cs transcript all (λ n d at i e. same (suc n) d at i (omega (arith, e))) in
-    ap (λ (es : List Entry). header c.name ++ flat_map entry_text es ++ text_from (id + 1) (map (λ d. d.name) cs) transcript) first
-    ∙ ap (λ (t : List ℕ). header c.name ++ flat_map entry_text (entries_alone c first_state (lines_of id all) (answers id)) ++ t) rest
+each_text : (id : ℕ) (caches : List CacheConfig) (transcript : List Entry) → text_from id (map (λ c. c.name) caches) transcript ≡ alone_from (λ i. entries_of i transcript) id caches
+each_text id [] transcript = refl
+each_text id (c ∷ cs) transcript = ap (λ (rest : List ℕ). header c.name ++ flat_map entry_text (entries_of id transcript) ++ rest) (each_text (id + 1) cs transcript)
 
 names_by : (caches : List Cache) → names_of caches ≡ map (λ c. c.name) (configs_of caches)
 names_by [] = refl
@@ -68,13 +62,11 @@ module _ {L W P K : Type 0} (load_of : L → List ℕ → Loaded) (may : W → L
     closed = subst NoneOpen (sym empty) (λ id f. refl);
     each = λ id c at. record {
       state = first_state;
-      answers = [];
-      given = [];
       stands = ap (λ (ks : List Status). slice_get ks id) fresh ∙ opened_stands caches id c at;
-      entries = λ more. ap (λ (es : List Entry). entries_of id es ++ entries_alone c first_state (lines_of id all) more) empty;
-      exchanges = λ more. refl;
-      replies = λ more rests. rests;
-      heard = heard_at_first (slice_get hooks id);
+      left = ap (λ (es : List Entry). standing_from c unused (map played (entries_of id es))) empty;
+      calls = ap (λ (es : List Entry). map line_of (entries_of id es) ++ lines_of id all) empty;
+      replied = subst (λ (es : List Entry). AllReplied (entries_of id es)) (sym empty) tt;
+      heard = subst (λ (es : List Entry). HeardAt load_of may verdict_of state_after (slice_get hooks id) (slice_get hooks id) (exchanges c unused (entries_of id es))) (sym empty) (heard_at_first (slice_get hooks id));
     };
   }
 
@@ -90,51 +82,26 @@ module _ {L W P K : Type 0} (load_of : L → List ℕ → Loaded) (may : W → L
   }
 
   module _ (caches : List CacheConfig) (handed : List (CacheHooks L W P K)) (all : List Line) (r : Recording) (hooks : List (CacheHooks L W P K)) (half : Halfway load_of may verdict_of state_after caches handed all [] r hooks) where
-    -- what is true of a cache and its answers
-    record Ended (id : ℕ) (c : CacheConfig) (answers : List Answer) : Type 0 where
-      entries : entries_of id r.transcript ≡ entries_alone c first_state (lines_of id all) answers
-      enough : AllReply c first_state (lines_of id all) answers
-      heard : HeardAt load_of may verdict_of state_after (slice_get handed id) (slice_get hooks id) (exchanges_alone c first_state (lines_of id all) answers)
-
-    ended : (id : ℕ) (c : CacheConfig) (g : Goes load_of may verdict_of state_after c id all [] (slice_get handed id) (slice_get hooks id) (statuses_of r) r.transcript) → Ended id c (g.answers ++ [])
-    ended id c g = record {
-      entries = sym (append-nil (entries_of id r.transcript)) ∙ g.entries [];
-      enough = g.replies [] refl;
-      heard = subst (HeardAt load_of may verdict_of state_after (slice_get handed id) (slice_get hooks id)) (sym (append-nil g.given) ∙ g.exchanges []) g.heard;
-    }
-
-    record Picked (id : ℕ) (found : Option CacheConfig) : Type 0 where
-      answers : List Answer
-      facts : (c : CacheConfig) → found ≡ Some c → Ended id c answers
-
-    pick : (id : ℕ) (found : Option CacheConfig) → slice_get caches id ≡ found → Picked id found
-    pick id None at = record { answers = []; facts = λ c is. absurd (none-some c is) }
-    pick id (Some d) at =
-        let g : Goes load_of may verdict_of state_after d id all [] (slice_get handed id) (slice_get hooks id) (statuses_of r) r.transcript = half.each id d at in
-        record { answers = g.answers ++ []; facts = λ c is. subst (λ (x : CacheConfig). Ended id x (g.answers ++ [])) (same_Some d c is) (ended id d g) }
-
-    picked : (id : ℕ) → Picked id (slice_get caches id)
-    picked id = pick id (slice_get caches id) refl
-
     heard_here : (old new : Option (CacheHooks L W P K)) (h h' : CacheHooks L W P K) (given : List (Request × Answer)) → HeardAt load_of may verdict_of state_after old new given → old ≡ Some h → new ≡ Some h' → Heard load_of may verdict_of state_after h h' given
     heard_here None new h h' given x is is' = absurd (none-some h is)
     heard_here (Some old) None h h' given x is is' = absurd x
     heard_here (Some old) (Some new) h h' given x is is' =
         subst (λ (y : CacheHooks L W P K). Heard load_of may verdict_of state_after y h' given) (same_Some old h is) (subst (λ (y : CacheHooks L W P K). Heard load_of may verdict_of state_after old y given) (same_Some new h' is') x)
 
-    pub last_moment : Reports load_of may verdict_of state_after caches all handed hooks (text (names_of r.caches) r.transcript)
-    last_moment = record {
-      answers = λ id. (picked id).answers;
-      told = ap (λ (ns : List (List ℕ)). text_from 0 ns r.transcript) (names_by r.caches ∙ ap (map (λ (c : CacheConfig). c.name)) half.configs)
-          ∙ each_text (λ id. (picked id).answers) 0 caches r.transcript all (λ n c at i e.
-          let P : ℕ → Type 0 = λ j. entries_of j r.transcript ≡ entries_alone c first_state (lines_of j all) (picked j).answers in
-          subst P (omega (arith, e)) ((picked n).facts c at).entries);
+    pub last_moment : IsLegal (configs_of r.caches) r.transcript → Reports load_of may verdict_of state_after caches all handed hooks (text (names_of r.caches) r.transcript)
+    last_moment legal = record {
+      entries = λ id. entries_of id r.transcript;
+      told = ap (λ (ns : List (List ℕ)). text_from 0 ns r.transcript) (names_by r.caches ∙ ap (map (λ (c : CacheConfig). c.name)) half.configs) ∙ each_text 0 caches r.transcript;
       each = λ id c h h' at is is'.
-          let e : Ended id c (picked id).answers = (picked id).facts c at in
+          let g : Goes load_of may verdict_of state_after c id all [] (slice_get handed id) (slice_get hooks id) (statuses_of r) r.transcript = half.each id c at in
           record {
-            enough = e.enough;
-            served = has_served load_of may verdict_of state_after h h' (exchanges_alone c first_state (lines_of id all) (picked id).answers)
-                (heard_here (slice_get handed id) (slice_get hooks id) h h' (exchanges_alone c first_state (lines_of id all) (picked id).answers) e.heard is is');
+            alone = record {
+              calls = sym (append-nil (map line_of (entries_of id r.transcript))) ∙ g.calls;
+              legal = legal.each id c (ap (λ (cs : List CacheConfig). slice_get cs id) half.configs ∙ at);
+              replied = g.replied;
+            };
+            served = has_served load_of may verdict_of state_after h h' (exchanges c unused (entries_of id r.transcript))
+                (heard_here (slice_get handed id) (slice_get hooks id) h h' (exchanges c unused (entries_of id r.transcript)) g.heard is is');
           };
     }
 

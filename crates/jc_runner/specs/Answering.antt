@@ -1,5 +1,5 @@
 -- What the callbacks of a cache answer to its requests, and how that leaves them.
-use Rattle.std.specs.Prelude.{◌≡◌, ℕ, Bool, true, false, IsTrue, List, [], ◌∷◌, ◌++◌, map, slice_get, Option, Some, None, Result, Err, ⊤}
+use Rattle.std.specs.Prelude.{◌≡◌, ℕ, Bool, true, false, IsTrue, List, [], ◌∷◌, ◌++◌, map, slice_get, slice_set, Option, Some, None, Result, Err, ⊤}
 use Rattle.std.specs.List.{filter, flat_map}
 use Rattle.jc_model.specs.declared.call.Answer.{Answer}
 use Rattle.jc_model.specs.declared.call.Answer.TheVariants.{LoadFailed, Processed, Told}
@@ -44,6 +44,11 @@ MayGiveBy may (Some writer) given = MayGive (may writer) given
 -- the states of all listeners
 abbrev pub states_after : {K : Type 0} → (K → List Notice → List ℕ) → List K → List Notice → List (List ℕ)
 states_after state_after listeners notices = map (λ k. state_after k notices) listeners
+
+-- the listener at this place was told, and no other
+abbrev pub TellsAt : {K : Type 0} → (K → List Notice → List ℕ) → List K → List K → ℕ → Notice → Type 0
+TellsAt {K} state_after old new place notice =
+    (before after : K) × (slice_get old place ≡ Some before) × (new ≡ slice_set old place after) × ((rest : List Notice) → state_after after rest ≡ state_after before (notice ∷ rest))
 
 module _ {L W P K : Type 0} (load_of : L → List ℕ → Loaded) (may : W → List (Request × Answer) → Type 0) (verdict_of : P → Option (List ℕ) → List ℕ → Result Verdict ProcessorFault) (state_after : K → List Notice → List ℕ) where
   -- the answers of loader and processors are their functions of the request

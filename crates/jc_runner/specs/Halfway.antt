@@ -10,21 +10,21 @@ use Rattle.jc_model.specs.declared.config.CacheConfig.{CacheConfig}
 use Rattle.jc_model.specs.declared.event.Entry.{Entry}
 use Rattle.jc_model.specs.declared.event.Event.{Event}
 use Rattle.jc_model.specs.declared.event.Event.TheVariants.{Begin}
-use Rattle.jc_model.specs.declared.event.Outcome.{Outcome}
 use Rattle.jc_model.specs.declared.event.Outcome.TheVariants.{Step as Stepped}
 use Rattle.jc_model.specs.declared.event.Step.{Step}
 use Rattle.jc_model.specs.declared.event.Step.TheVariants.{Done}
-use Rattle.jc_model.specs.State.{State, first_state}
+use Rattle.jc_model.specs.State.{State}
 use Rattle.jc_model.specs.Run.{answered}
 use Rattle.jc_model.specs.Runs.{Status, idle, shown, standing_of, answer_to, statuses_after}
-use Rattle.jc_model.specs.Legal.{Fits, entries_of, on_open, recorded}
+use Rattle.jc_model.specs.Solo.{standing_from, fresh}
+use Rattle.jc_model.specs.Legal.{Fits, played, entries_of, on_open, recorded}
 use Rattle.jc_engine.specs.Caches.{configs_of, status_of}
 use Rattle.jc_engine.specs.Recording.{Recording}
 use Rattle.jc_hooks.specs.declared.cache_hooks.CacheHooks.{CacheHooks}
 use Rattle.jc_hooks.specs.declared.loader.Loaded.{Loaded}
 use Rattle.jc_script.specs.declared.line.Line.{Line}
 use Rattle.jc_script.specs.Named.{AllName}
-use Rattle.jc_runner.specs.Alone.{lines_of, exchanged, run_alone, entry_by, entries_alone, exchanges_alone, AllReply}
+use Rattle.jc_runner.specs.Alone.{lines_of, line_of, AllReplied, exchanged, exchanges, run_alone, entry_by}
 use Rattle.jc_runner.specs.Answering.{Heard, HeardAt}
 
 abbrev pub statuses_of : Recording → List Status
@@ -85,16 +85,14 @@ module _ {L W P K : Type 0} (load_of : L → List ℕ → Loaded) (may : W → L
     pub others : hooks' ≡ slice_set hooks l.id after
     pub replies : Replies old new before after l
 
-  -- no call is open; what was recorded of the cache, with what the lines that are left will add under any answers, is what all of its lines give alone
+  -- no call of the cache is open; what was recorded of it, with the lines that are left, are all of its lines
   pub record Goes (c : CacheConfig) (id : ℕ) (all rest : List Line) (handed hooks : Option (CacheHooks L W P K)) (statuses : List Status) (transcript : List Entry) : Type 0 where
     pub state : State
-    pub answers : List Answer
-    pub given : List (Request × Answer)
     pub stands : slice_get statuses id ≡ Some (record { config = c; standing = idle state })
-    pub entries : (more : List Answer) → entries_of id transcript ++ entries_alone c state (lines_of id rest) more ≡ entries_alone c first_state (lines_of id all) (answers ++ more)
-    pub exchanges : (more : List Answer) → given ++ exchanges_alone c state (lines_of id rest) more ≡ exchanges_alone c first_state (lines_of id all) (answers ++ more)
-    pub replies : (more : List Answer) → AllReply c state (lines_of id rest) more → AllReply c first_state (lines_of id all) (answers ++ more)
-    pub heard : HeardAt load_of may verdict_of state_after handed hooks given
+    pub left : standing_from c fresh (map played (entries_of id transcript)) ≡ idle state
+    pub calls : map line_of (entries_of id transcript) ++ lines_of id rest ≡ lines_of id all
+    pub replied : AllReplied (entries_of id transcript)
+    pub heard : HeardAt load_of may verdict_of state_after handed hooks (exchanges c fresh (entries_of id transcript))
 
   pub record Halfway (caches : List CacheConfig) (handed : List (CacheHooks L W P K)) (all rest : List Line) (r : Recording) (hooks : List (CacheHooks L W P K)) : Type 0 where
     pub configs : configs_of r.caches ≡ caches

@@ -1,3 +1,4 @@
+pub mod Meters
 pub mod Streams
 pub mod Faults
 pub mod Demonstration
@@ -6,3 +7,8 @@ pub mod Answering
 pub mod Halfway
 pub mod Hooks
 pub mod Reports
+pub mod Disks
+pub mod Endings
+pub mod Naming
+pub mod Opens
+pub mod Program

@@ -1,9 +1,8 @@
 -- What is read from a reader and written to a writer.
 use Rattle.std.specs.Prelude.{◌≡◌, ℕ, ◌==◌, List, ◌++◌, Bool, true, Option, Result, Ok, Err}
 use Rattle.std.specs.Io.KnownBytes.{Consumes, IsAtEnd, Appends}
-use Rattle.jc_script.specs.declared.fault.ScriptFault.{ScriptFault}
 use Rattle.jc_runner.specs.declared.fault.RunFault.{RunFault}
-use Rattle.jc_runner.specs.declared.fault.RunFault.TheVariants.{Read, TooLong, Script, Open, Memory}
+use Rattle.jc_runner.specs.declared.fault.RunFault.TheVariants.{Read, TooLong, Script, Open, Write, Memory}
 use Rattle.jc_runner.specs.declared.fault.ProgramFault.{ProgramFault}
 use Rattle.jc_runner.specs.declared.fault.ProgramFault.TheVariants.{ConfigRead, Config, Run}
 
@@ -44,3 +43,17 @@ abbrev pub IsOfConfiguring : ProgramFault → Type 0
 IsOfConfiguring ConfigRead = Unit {0}
 IsOfConfiguring (Config f) = Unit {0}
 IsOfConfiguring (Run f) = f ≡ Memory
+
+-- the faults before the first call
+abbrev pub IsBeforeCalls : RunFault → Type 0
+IsBeforeCalls Read = Unit {0}
+IsBeforeCalls TooLong = Unit {0}
+IsBeforeCalls (Script f) = Unit {0}
+IsBeforeCalls Open = Unit {0}
+IsBeforeCalls _ = ⊥
+
+-- all calls were made, and the report was written or not
+abbrev pub HasRun : {T : Type 0} → Result T RunFault → Type 0
+HasRun (Ok done) = Unit {0}
+HasRun (Err Write) = Unit {0}
+HasRun (Err _) = ⊥

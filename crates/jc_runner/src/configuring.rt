@@ -1,14 +1,17 @@
 //! Reading the configuration.
-ghost use Rattle.std.specs.Prelude.{◌≡◌, ◌≤◌, ◌<◌, ◌+◌, true, length, IfOk, IfErr, IfSome, OnOk, Ok, Err};
+ghost use Rattle.std.specs.Prelude.{◌≡◌, ◌<◌, length, IfOk, IfErr, IfSome, OnOk, Ok, Err};
 ghost use Rattle.std.specs.Io.KnownBytes.{IsAtEnd};
 ghost use Rattle.jc_config.specs.Config.{configuration_of};
 ghost use Rattle.jc_config.specs.declared.fault.ConfigFault.{ConfigFault as TextFault};
 ghost use Rattle.jc_config.specs.declared.fault.ConfigFault.TheVariants.{TooLong};
+ghost use Rattle.jc_runner.specs.Meters.{next, AddsAtMost};
+ghost use Rattle.jc_runner.specs.Opens.{Opens};
 ghost use Rattle.jc_runner.specs.Streams.{IsAll, IsOfConfiguring};
 ghost use Rattle.jc_runner.specs.declared.fault.ProgramFault.TheVariants.{ConfigRead, Config};
 
 use crate::fault::{ProgramFault, RunFault};
-use crate::reading::{Watched, read_bytes};
+use crate::reading::read_bytes;
+use crate::watched::Watched;
 use jc_config::{ConfigFault, Configuration, read_config};
 use std::alloc::Global;
 use std::io::Read;
@@ -16,9 +19,9 @@ use std::io::Read;
 fn text_of<R: Read>(alloc: Global, reader: &mut Watched<R>) -> Result<Vec<u8>, ProgramFault>
     ensures all { IfOk result (λ v. IsAll (R.remaining reader.old.inner) (R.remaining reader.new.inner) v.items) }
     ensures long { IfErr result (λ e. (f : TextFault) → e ≡ Config f → (f ≡ TooLong) × IfSome (R.remaining reader.old.inner) (λ input. 8388608 < length input)) }
-    ensures failed { result ≡ Err ConfigRead → reader.new.failed ≡ true }
+    ensures failed { result ≡ Err ConfigRead → reader.new.failures ≡ next reader.old.failures }
     ensures others { IfErr result IsOfConfiguring }
-    ensures reads { reader.new.reads ≤ reader.old.reads + 8388609 }
+    ensures reads { AddsAtMost 8388609 reader.old.reads reader.new.reads }
 {
     match read_bytes(alloc, reader) {
         Ok(bytes) => Ok(bytes),
@@ -30,6 +33,7 @@ fn text_of<R: Read>(alloc: Global, reader: &mut Watched<R>) -> Result<Vec<u8>, P
 
 fn configuration_in(alloc: Global, bytes: &[u8]) -> Result<Configuration, ProgramFault>
     ensures ok { IfOk result (λ c. configuration_of bytes.now ≡ Ok c) }
+    ensures opens { IfOk result Opens }
     ensures config { (f : TextFault) → result ≡ Err (Config f) → configuration_of bytes.now ≡ Err f }
     ensures others { IfErr result (λ e. (e ≡ ConfigRead → ⊥) × IsOfConfiguring e) }
 {
@@ -48,11 +52,12 @@ pub fn read_configuration<R: Read>(
     reader: &mut Watched<R>,
 ) -> Result<Configuration, ProgramFault>
     ensures ok { IfOk result (λ c. IfSome (R.remaining reader.old.inner) (λ input. configuration_of input ≡ Ok c)) }
+    ensures opens { IfOk result Opens }
     ensures end { OnOk result (IsAtEnd (R.remaining reader.new.inner)) }
     ensures config { (f : TextFault) → result ≡ Err (Config f) → IfSome (R.remaining reader.old.inner) (λ input. configuration_of input ≡ Err f) }
-    ensures failed { result ≡ Err ConfigRead → reader.new.failed ≡ true }
+    ensures failed { result ≡ Err ConfigRead → reader.new.failures ≡ next reader.old.failures }
     ensures others { IfErr result IsOfConfiguring }
-    ensures reads { reader.new.reads ≤ reader.old.reads + 8388609 }
+    ensures reads { AddsAtMost 8388609 reader.old.reads reader.new.reads }
 {
     let bytes = text_of(alloc, reader)?;
     configuration_in(alloc, bytes.as_slice())

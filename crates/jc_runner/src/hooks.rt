@@ -1,19 +1,19 @@
 //! The callbacks of a cache: whether they are those that its configuration names, and their answer to one request.
-ghost use Rattle.std.specs.Prelude.{◌≡◌, ◌↔◌, ◌++◌, ◌∷◌, [], List, IsTrue, IfOk, map, slice_get, option_map};
-ghost use Rattle.jc_model.specs.declared.call.Notice.{Notice as Told};
+ghost use Rattle.std.specs.Prelude.{◌≡◌, ◌↔◌, ◌∷◌, [], List, IsTrue, IfOk, map, slice_get, option_map};
 ghost use Rattle.jc_model.specs.declared.call.Answer.{Answer as Given};
 ghost use Rattle.jc_model.specs.declared.call.Request.{Request as Asked};
 ghost use Rattle.jc_model.specs.declared.call.Request.TheVariants.{Write, Delete};
 ghost use Rattle.jc_model.specs.Run.{for_write, fits, is_answer_to};
-ghost use Rattle.jc_runner.specs.Answering.{load_by, verdict_by, MayGiveBy, states_after, Heard};
+ghost use Rattle.jc_runner.specs.Answering.{load_by, verdict_by, MayGiveBy, Heard};
 ghost use Rattle.jc_runner.specs.Hooks.{Suits, AllSuit};
 
+use crate::telling::tell_all;
 use jc_config::Settings;
 use jc_hooks::{
     CacheHooks, Listener, Loader, Processor, Writer, load_answer, process_answer, write_answer,
 };
 use jc_model::OutOfMemory;
-use jc_model::call::{Answer, Notice, ProcessorFault, Request};
+use jc_model::call::{Answer, ProcessorFault, Request};
 use jc_model::config::CacheConfig;
 use jc_model::key::Key;
 use jc_model::value::Value;
@@ -115,24 +115,6 @@ fn delete<W: Writer>(
     match writer {
         Some(writer) => Ok(write_answer(writer.delete(alloc, key)?)),
         None => Ok(Answer::WriteFailed),
-    }
-}
-
-/// Tells a notice to the listeners in their order.
-fn tell<K: Listener>(listeners: &mut [K], notice: &Notice)
-    ensures { (rest : List Told) → states_after K.state_after listeners.new rest ≡ states_after K.state_after listeners.old (notice.now ∷ rest) }
-{
-    for listener in listeners.iter_mut() {
-        listener.tell(notice);
-    }
-}
-
-/// Tells each notice to all listeners before the next one.
-fn tell_all<K: Listener>(listeners: &mut [K], notices: &[Notice])
-    ensures { (rest : List Told) → states_after K.state_after listeners.new rest ≡ states_after K.state_after listeners.old (notices.now ++ rest) }
-{
-    for notice in notices {
-        tell(listeners, notice);
     }
 }
 

@@ -3,24 +3,32 @@
 
 mod calls;
 mod configuring;
+mod disk;
+mod ending;
 mod fault;
+mod files;
 mod hooks;
+mod naming;
+mod obeying;
 mod presets;
 mod reading;
 mod run;
+mod saying;
+mod streams;
+mod telling;
+mod watched;
 mod writing;
 
 pub use configuring::read_configuration;
+pub use disk::{Disk, HostDisk, OpenFault, words_fault};
+pub use ending::{Ended, Ending, WordsFault};
 pub use fault::{ProgramFault, RunFault, write_fault};
+pub use files::run_files;
+pub use hooks::all_suit;
 pub use jc_words::{Run, read_words};
+pub use obeying::program;
 pub use presets::demonstration;
-pub use reading::{Watched, read_bytes};
-pub use run::serial;
-pub use writing::WatchedWriter;
-
-#[cfg(test)]
-mod configuring_tests;
-#[cfg(test)]
-mod hooked;
-#[cfg(test)]
-mod tests;
+pub use reading::read_bytes;
+pub use run::{report_on, serial};
+pub use streams::{Opened, Standard};
+pub use watched::{Watched, WatchedWriter};

@@ -1,61 +1,29 @@
 //! Reading to the end.
-ghost use Rattle.std.specs.Prelude.{◌≡◌, false, ◌≤◌, ◌<◌, ◌+◌, ◌↔◌, length, IfOk, IfErr, IfSome, Err, IsTrue, is_err, ◌≢◌};
-ghost use Rattle.std.specs.Io.KnownBytes.{ReadConsumes};
-ghost use Rattle.std.specs.Io.{ReadsAtMost};
+ghost use Rattle.std.specs.Prelude.{◌≡◌, ◌≢◌, ◌≤◌, ◌<◌, length, IfOk, IfErr, IfSome, Err};
+ghost use Rattle.jc_runner.specs.Meters.{next, AddsAtMost};
 ghost use Rattle.jc_runner.specs.Streams.{IsAll, IsOfReading};
 ghost use Rattle.jc_runner.specs.declared.fault.RunFault.TheVariants as faults;
 
 use crate::fault::RunFault;
+use crate::watched::Watched;
 use std::alloc::Global;
-use std::io;
 use std::io::Read;
 
 /// The most bytes that are read.
 const MOST: usize = 8_388_608;
 
-/// A reader, with how often it was read and whether its last reading failed.
-#[derive(Drop)]
-pub struct Watched<R> {
-    pub inner: R,
-    pub reads: u64,
-    pub failed: bool,
-}
-
-impl<R: Read> Watched<R> {
-    /// A reader that was not read yet.
-    pub fn new(inner: R) -> Watched<R>
-        ensures { result ≡ record { inner = inner; reads = 0; failed = false } }
-    {
-        Watched {
-            inner,
-            reads: 0,
-            failed: false,
-        }
-    }
-
-    fn read(&mut self, buf: &mut [u8]) -> io::Result<usize>
-        ensures bound { ReadsAtMost result buf.new }
-        ensures bytes { ReadConsumes (R.remaining self.old.inner) (R.remaining self.new.inner) result buf.new }
-        ensures reads { self.new.reads ≤ self.old.reads + 1 }
-        ensures failed { self.new.failed ≡ is_err result }
-    {
-        let result = self.inner.read(buf);
-        self.reads = self.reads.saturating_add(1);
-        self.failed = result.is_err();
-        result
-    }
-}
-
 /// All that a reader has left, where that is at most 8,388,608 bytes.
 ///
-/// `Read` where the reader failed, an interruption too; `TooLong`; `Memory`.
+/// `Read` where the reader failed, an interruption too; `TooLong`; `Memory`. The clauses on failures tell this call's
+/// from those before: `Read` comes with one failure more, anything else with none.
 pub fn read_bytes<R: Read>(alloc: Global, reader: &mut Watched<R>) -> Result<Vec<u8>, RunFault>
     ensures all { IfOk result (λ v. IsAll (R.remaining reader.old.inner) (R.remaining reader.new.inner) v.items) }
     ensures fits { IfOk result (λ v. length v.items ≤ 8388608) }
     ensures long { result ≡ Err faults.TooLong → IfSome (R.remaining reader.old.inner) (λ input. 8388608 < length input) }
-    ensures failed { IsTrue reader.new.failed ↔ (result ≡ Err faults.Read) }
+    ensures failed { result ≡ Err faults.Read → reader.new.failures ≡ next reader.old.failures }
+    ensures unfailed { result ≢ Err faults.Read → reader.new.failures ≡ reader.old.failures }
     ensures others { IfErr result IsOfReading }
-    ensures reads { reader.new.reads ≤ reader.old.reads + 8388609 }
+    ensures reads { AddsAtMost 8388609 reader.old.reads reader.new.reads }
 {
     let mut bytes = Vec::new(alloc);
     let mut chunk = [0; 16384];

@@ -1,6 +1,8 @@
 //! One run: a script in, a report out.
-ghost use Rattle.std.specs.Prelude.{◌≡◌, ◌≤◌, ◌<◌, ◌+◌, ◌≢◌, List, IsTrue, true, IfOk, IfErr, IfSome, IsSome, OnOk, IsOk, Ok, Err, [], length, map, string_bytes};
+ghost use Rattle.std.specs.Prelude.{◌≡◌, ◌<◌, ◌≢◌, List, true, IfOk, IfErr, IfSome, IsSome, OnOk, IsOk, Ok, Err, [], length, map, string_bytes};
+ghost use Rattle.std.specs.FinMap as finite;
 ghost use Rattle.std.specs.Io.KnownBytes.{Appends, IsAtEnd, Keeps};
+ghost use Rattle.jc_cuckoo.specs.Cells.{rows_in};
 ghost use Rattle.jc_script.specs.Script.{lines};
 ghost use Rattle.jc_script.specs.declared.fault.ScriptFault.{ScriptFault as TextFault};
 ghost use Rattle.jc_script.specs.declared.line.Line.{Line as ScriptLine};
@@ -11,20 +13,25 @@ ghost use Rattle.jc_model.specs.Solo.{opened};
 ghost use Rattle.jc_runner.specs.Halfway.{statuses_of};
 ghost use Rattle.jc_runner.specs.Hooks.{AllSuit, CannotOpen};
 ghost use Rattle.jc_runner.specs.Reports.{Reports, ReportsOf};
-ghost use Rattle.jc_runner.specs.Streams.{WritesFront, IsOfRunning, IsOfScript};
+ghost use Rattle.jc_runner.specs.Meters.{next, AddsAtMost};
+ghost use Rattle.jc_runner.specs.Streams.{WritesFront, IsOfRunning, IsOfScript, IsBeforeCalls, HasRun};
 ghost use Rattle.jc_runner.specs.declared.fault.RunFault.TheVariants as faults;
 
 use crate::calls::run_all;
 use crate::fault::RunFault;
 use crate::hooks::all_suit;
-use crate::reading::{Watched, read_bytes};
-use crate::writing::{WatchedWriter, write_text};
+use crate::reading::read_bytes;
+use crate::watched::{Watched, WatchedWriter};
+use crate::writing::write_text;
 use jc_config::Settings;
+use jc_cuckoo::cuckoo::{Cuckoo, TableRefusal};
+use jc_cuckoo::mirror::NoMirror;
 use jc_engine::open::OpenRefusal;
 use jc_engine::recorded::Recorded;
 use jc_hooks::{CacheHooks, Listener, Loader, Processor, Writer};
-use jc_ring::list_ring::ListRing;
-use jc_rows::list_rows::ListRows;
+use jc_place::seeded::SeededPlacer;
+use jc_ring::link_ring::LinkRing;
+use jc_rows::rows::Rows;
 use jc_script::{Line, ScriptFault, read_script, report};
 use std::alloc::Global;
 use std::io::{Read, Write};
@@ -42,26 +49,50 @@ fn lines_of(alloc: Global, bytes: &[u8], settings: &Settings) -> Result<Vec<Line
     }
 }
 
-fn opened(alloc: Global, settings: Settings) -> Result<Recorded<ListRows, ListRing>, RunFault>
+/// How many buckets a table has at first.
+const BUCKETS: u32 = 16;
+
+/// The table that all caches of a run share.
+fn table(alloc: Global, seed: u64) -> Result<Cuckoo<SeededPlacer, NoMirror>, RunFault>
+    ensures empty { IfOk result (λ table. rows_in table.cells ≡ finite.empty) }
+    ensures faults { IfErr result (λ e. e ≡ faults.Memory) }
+{
+    match Cuckoo::new(alloc, SeededPlacer::new(seed), NoMirror, BUCKETS) {
+        Ok(table) => Ok(table),
+        Err(TableRefusal::OutOfMemory) => Err(RunFault::Memory),
+        Err(TableRefusal::BadBuckets) => unreachable!(),
+    }
+}
+
+fn opened<T: Rows>(
+    alloc: Global,
+    rows: T,
+    settings: Settings,
+) -> Result<Recorded<T, LinkRing>, RunFault>
+    requires empty { T.contents rows ≡ finite.empty }
     ensures fresh { IfOk result (λ r. statuses_of r ≡ map opened settings) }
     ensures unrecorded { IfOk result (λ r. r.transcript ≡ []) }
     ensures faults { IfErr result IsOfRunning }
     ensures refused { result ≡ Err faults.Open → IsSome (open_refusal settings) }
 {
-    match Recorded::open(alloc, ListRows::new(alloc), settings.into_caches()) {
+    match Recorded::open(alloc, rows, settings.into_caches()) {
         Ok(recorded) => Ok(recorded),
         Err(OpenRefusal::OutOfMemory) => Err(RunFault::Memory),
         Err(_) => Err(RunFault::Open),
     }
 }
 
-/// Makes the calls of the lines on caches of these settings. The result is the report.
-fn report_of<L: Loader, W: Writer, P: Processor, K: Listener>(
+/// Makes the calls of the lines on caches of these settings, which share this empty table. The result is the report.
+///
+/// `Memory`, also where a callback finds none; `Open` where the manager does not open.
+pub fn report_on<T: Rows, L: Loader, W: Writer, P: Processor, K: Listener>(
     alloc: Global,
+    rows: T,
     settings: Settings,
     hooks: &mut [CacheHooks<L, W, P, K>],
     lines: Vec<Line>,
 ) -> Result<String, RunFault>
+    requires empty { T.contents rows ≡ finite.empty }
     requires named { AllName settings lines.items }
     requires suit { AllSuit P.wants settings hooks.old }
     ensures untouched { result ≡ Err faults.Open → hooks.new ≡ hooks.old }
@@ -69,7 +100,7 @@ fn report_of<L: Loader, W: Writer, P: Processor, K: Listener>(
     ensures faults { IfErr result IsOfRunning }
     ensures refused { result ≡ Err faults.Open → IsSome (open_refusal settings) }
 {
-    let mut recorded = opened(alloc, settings)?;
+    let mut recorded = opened(alloc, rows, settings)?;
     run_all(alloc, &mut recorded, hooks, lines)?;
     let text = report(alloc, recorded.names(), recorded.transcript())?;
     Ok(text)
@@ -80,12 +111,13 @@ fn report_of<L: Loader, W: Writer, P: Processor, K: Listener>(
 ///
 /// `Read`, `TooLong`; `Script` with the first fault; `Open` where the callbacks are not those that the settings name,
 /// or where the manager does not open; `Memory`, also where a callback finds none; `Write`. Only after `Write` may a
-/// part of the report have been written. No seed has an effect.
+/// part of the report have been written. The seed picks the places in the
+/// table and changes nothing of the report.
 pub fn serial<L: Loader, W: Writer, P: Processor, K: Listener, R: Read, O: Write>(
     alloc: Global,
     settings: Settings,
     hooks: &mut [CacheHooks<L, W, P, K>],
-    _seed: u64,
+    seed: u64,
     reader: &mut Watched<R>,
     writer: &mut WatchedWriter<O>,
 ) -> Result<(), RunFault>
@@ -95,20 +127,22 @@ pub fn serial<L: Loader, W: Writer, P: Processor, K: Listener, R: Read, O: Write
     ensures long { result ≡ Err faults.TooLong → IfSome (R.remaining reader.old.inner) (λ input. 8388608 < length input) }
     ensures open { result ≡ Err faults.Open → CannotOpen P.wants settings hooks.old }
     ensures good { result ≡ Err faults.Open → IfSome (R.remaining reader.old.inner) (λ input. IsOk (lines settings input)) }
-    ensures untouched { result ≡ Err faults.Open → hooks.new ≡ hooks.old }
-    ensures suit { OnOk result (AllSuit P.wants settings hooks.old) }
+    ensures untouched { IfErr result (λ e. IsBeforeCalls e → hooks.new ≡ hooks.old) }
+    ensures suit { HasRun result → AllSuit P.wants settings hooks.old }
+    ensures flushed { OnOk result ((writer.new.flushed ≡ true) × (writer.new.failures ≡ writer.old.failures)) }
     ensures closed { result ≢ Err faults.Close }
     ensures front { result ≡ Err faults.Write → IfSome (R.remaining reader.old.inner) (λ input. ReportsOf L.load_of W.may P.verdict_of K.state_after settings input hooks.old hooks.new (λ text. WritesFront (O.contents writer.old.inner) (O.contents writer.new.inner) text)) }
     ensures nothing { IfErr result (λ e. e ≢ faults.Write → Keeps (O.contents writer.old.inner) (O.contents writer.new.inner)) }
-    ensures read_failed { result ≡ Err faults.Read → reader.new.failed ≡ true }
-    ensures write_failed { result ≡ Err faults.Write → writer.new.failed ≡ true }
-    ensures reads { reader.new.reads ≤ reader.old.reads + 8388609 }
+    ensures read_failed { result ≡ Err faults.Read → reader.new.failures ≡ next reader.old.failures }
+    ensures write_failed { result ≡ Err faults.Write → writer.new.failures ≡ next writer.old.failures }
+    ensures reads { AddsAtMost 8388609 reader.old.reads reader.new.reads }
 {
     let bytes = read_bytes(alloc, reader)?;
     let lines = lines_of(alloc, bytes.as_slice(), &settings)?;
     if !all_suit(&settings, hooks) {
         return Err(RunFault::Open);
     }
-    let text = report_of(alloc, settings, hooks, lines)?;
+    let rows = table(alloc, seed)?;
+    let text = report_on(alloc, rows, settings, hooks, lines)?;
     write_text(writer, text.as_bytes())
 }

@@ -14,8 +14,6 @@ mod quote;
 mod reply;
 mod report_text;
 mod script;
-#[cfg(test)]
-mod tests;
 
 pub use fault::{Member, ScriptFault};
 pub use line::Line;

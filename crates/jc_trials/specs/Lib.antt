@@ -1,1 +1,1 @@
-pub mod Processors
+pub mod Places

@@ -2,10 +2,9 @@
 
 ghost use Rattle.std.specs.Prelude.{◌≡◌, IfOk};
 ghost use Rattle.jc_hooks.specs.Program.{echoed};
-ghost use Rattle.jc_trials.specs.Processors.{verdict_by};
+ghost use Rattle.jc_hooks.specs.Processors.{verdict_by};
 
-use crate::hooks::ProgramProcessor;
-use jc_hooks::program::EchoLoader;
+use jc_hooks::program::{EchoLoader, ProgramProcessor};
 use jc_hooks::{
     ClosureLoader, ClosureProcessor, LoadClosure, Loaded, Loader, ProcessClosure, Processor,
 };

@@ -1,26 +1,34 @@
-//! Trials of the manager and of `serial`: worked examples, refusals, and callbacks that record what they are asked.
+//! Trials of what files can't give: callbacks that note what they are asked, readers and writers that fail, what is
+//! large, and refusals that no configuration and no script meets.
 #![tactic(auto)]
 
-mod hooks;
-mod recording;
-mod trial;
+mod fakes;
+mod log;
+mod placers;
+mod trouble;
 
-pub use hooks::{PlainHooks, ProgramProcessor, answer};
-pub use recording::{
-    Asked, Count, Heard, Record, RecordingListener, RecordingLoader, RecordingProcessor,
-    RecordingWriter,
+pub use fakes::{
+    NotedListener, NotedLoader, NotedProcessor, NotedWriter, PoorLoader,
 };
-pub use trial::{Trial, Trouble, key, plain_cache, value_of};
+pub use log::{Log, Text};
+pub use placers::{ConstantPlacer, RefusingMirror, TablePlacer};
+pub use trouble::{Trouble, key, no_hooks, plain_cache, value_of};
 
 #[cfg(test)]
-mod answered;
+mod callbacks;
 #[cfg(test)]
 mod closures;
 #[cfg(test)]
-mod engine;
+mod large;
 #[cfg(test)]
-mod one_cache;
+mod manager;
 #[cfg(test)]
-mod serial;
+mod places;
 #[cfg(test)]
-mod worked;
+mod rings;
+#[cfg(test)]
+mod shapes;
+#[cfg(test)]
+mod streams;
+#[cfg(test)]
+mod tables;

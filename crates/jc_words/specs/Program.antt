@@ -27,9 +27,9 @@ serial_rule = record (new_rule (codes "serial")) { long = Some (codes "serial");
 abbrev pub run_app : App
 run_app = with_rule (with_rule (with_rule (with_rule (with_rule (new_app (codes "run")) (path_rule (codes "CONFIG"))) (path_rule (codes "SCRIPT"))) workers_rule) seed_rule) serial_rule
 
--- the words begin after the program's name, and one of them has to be a subcommand
+-- the words begin after the program's name, one of them has to be a subcommand, and there is a version to print
 abbrev pub bare_app : App
-bare_app = record (new_app (codes "jcache")) { top = record (new_app (codes "jcache")).top { no_binary_name = true; subcommand_required = true } }
+bare_app = record (new_app (codes "jcache")) { top = record (new_app (codes "jcache")).top { has_version = true; no_binary_name = true; subcommand_required = true } }
 
 abbrev pub program : App
 program = with_subcommand bare_app run_app.top

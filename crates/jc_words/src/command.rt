@@ -26,7 +26,7 @@ fn workers<'a>(alloc: Global) -> Arg<'a>
     Arg::new(alloc, "workers")
         .long("workers")
         .value_name("N")
-        .help("How many threads run the script, from 1 to 8")
+        .help(help::WORKERS)
         .action(ArgAction::Set)
         .value_parser(value_parser!(u8).range(1..=8))
         .default_value("1")
@@ -39,7 +39,7 @@ fn seed<'a>(alloc: Global) -> Arg<'a>
     Arg::new(alloc, "seed")
         .long("seed")
         .value_name("N")
-        .help("Seed of the places in the table, from 0 to 9223372036854775807")
+        .help(help::SEED)
         .action(ArgAction::Set)
         .value_parser(value_parser!(i64).range(0..))
         .default_value("0")
@@ -51,19 +51,17 @@ fn serial<'a>(alloc: Global) -> Arg<'a>
 {
     Arg::new(alloc, "serial")
         .long("serial")
-        .help(
-            "Makes all calls in the script's order in one thread; the number of workers is ignored",
-        )
+        .help(help::SERIAL)
         .action(ArgAction::SetTrue)
 }
 
 /// A command with the help's texts.
-fn described<'a>(alloc: Global, name: &'a str) -> Command<'a>
+fn described<'a>(alloc: Global, name: &'a str, about: &'a str) -> Command<'a>
     ensures app { app_of result ≡ new_app name.entry.now }
     ensures local { (out-Command result).has_globals ≡ false }
 {
     Command::new(alloc, name)
-        .about(help::ABOUT)
+        .about(about)
         .after_help(help::AFTER)
 }
 
@@ -71,9 +69,9 @@ fn run<'a>(alloc: Global) -> Result<Command<'a>, AllocError>
     ensures app { IfOk result (λ c. app_of c ≡ run_app) }
     ensures local { IfOk result (λ c. (out-Command c).has_globals ≡ false) }
 {
-    described(alloc, "run")
-        .arg(path(alloc, "CONFIG", "Path of the configuration"))?
-        .arg(path(alloc, "SCRIPT", "Path of the script"))?
+    described(alloc, "run", help::RUN)
+        .arg(path(alloc, "CONFIG", help::CONFIG))?
+        .arg(path(alloc, "SCRIPT", help::SCRIPT))?
         .arg(workers(alloc))?
         .arg(seed(alloc))?
         .arg(serial(alloc))
@@ -83,7 +81,9 @@ fn run<'a>(alloc: Global) -> Result<Command<'a>, AllocError>
 fn bare<'a>(alloc: Global) -> Result<Command<'a>, AllocError>
     ensures app { IfOk result (λ c. app_of c ≡ bare_app) }
 {
-    described(alloc, "jcache")
+    described(alloc, "jcache", help::ABOUT)
+        .version(help::VERSION)
+        .override_usage(help::USAGE)
         .no_binary_name(true)
         .subcommand_required(true)
         .bin_name("jcache")

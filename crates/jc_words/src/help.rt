@@ -1,7 +1,27 @@
 //! The texts of help.
 
+pub const VERSION: &str = "0.1.0";
+
 /// What the program does, in a line.
 pub const ABOUT: &str = "Runs a script of cache calls and prints what each cache answered";
+
+/// What `run` does, in a line.
+pub const RUN: &str = "Runs the calls of SCRIPT on the caches of CONFIG";
+
+/// Both ways to start the program.
+pub const USAGE: &str = "\
+jcache run [OPTIONS] <CONFIG> <SCRIPT>
+       jcache < SCRIPT";
+
+pub const CONFIG: &str = "Path of the configuration, a TOML file";
+
+pub const SCRIPT: &str = "Path of the script, one JSON object a line";
+
+pub const WORKERS: &str = "From 1 to 8; has no effect yet: one thread makes all calls";
+
+pub const SEED: &str = "From 0 to 9223372036854775807; has no effect yet";
+
+pub const SERIAL: &str = "Has no effect yet: all calls are made in the script's order";
 
 /// What stands below the arguments.
 pub const AFTER: &str = "\
@@ -9,31 +29,47 @@ Without any words the script is read from standard input, and its caches are a,
 with room for 2 rows that never expire, and b, with room for 1 row that expires
 100 milliseconds after its creation.
 
-CONFIG is a TOML file that lists the caches. Of a table's members only name and
-capacity have to be there, and duration where expiry is not \"eternal\":
+CONFIG lists the caches. Of a table's members only name and capacity have to be
+there, and duration where expiry is not \"eternal\":
 
     [[cache]]
     name = \"a\"
-    capacity = 100
-    expiry = \"accessed\"
-    duration = 60000
+    capacity = 100              # rows, 1 to 65536
+    expiry = \"accessed\"         # eternal, created, accessed, modified, touched
+    duration = 60000            # milliseconds
     loader = \"echo\"
     writer = \"check\"
-    processors = [\"append\", \"peek\"]
-    listeners = 1
+    processors = [\"append\", \"peek\", \"drop\", \"fail\"]
+    listeners = 1               # 0 to 8
 
     [[cache]]
     name = \"b\"
     capacity = 1
 
-SCRIPT is a file of calls, one JSON object a line: the session s (0 to 63), the
-cache c, the moment at in milliseconds, the op, and what the op needs:
+SCRIPT is a line for each call: the session s (0 to 63), the cache c, the moment
+at in milliseconds, the op, and what the op needs:
 
     {\"s\":0,\"c\":\"a\",\"at\":0,\"op\":\"put\",\"k\":\"x\",\"v\":\"1\"}
     {\"s\":0,\"c\":\"a\",\"at\":5,\"op\":\"get\",\"k\":\"x\"}
 
+Ops and what they need besides:
+    k               get contains remove get_and_remove
+    k v             put get_and_put put_if_absent replace get_and_replace
+    k expect        remove_if
+    k expect v      replace_if
+    k p arg         invoke
+    ks              get_all remove_keys
+    ks replace      load_all
+    ks p arg        invoke_all
+    kvs             put_all
+    nothing         remove_all clear entries stats clear_stats
+
+k is a key, v and expect are values, ks is a list of keys, kvs a list of pairs
+of a key and a value, replace is true or false, p is the place of a processor
+from 0, and arg is its argument.
+
 Status:
-    0  the report was printed, or help was asked for
+    0  the report was printed, or help or the version was asked for
     1  a file is faulty, or reading, writing or memory failed; standard error
        has one line that says which
     2  the command line was refused; standard error says why";

@@ -8,6 +8,3 @@ mod run;
 
 pub use reading::read_words;
 pub use run::Run;
-
-#[cfg(test)]
-mod tests;

@@ -1,106 +1,83 @@
-//! Endings carried out.
-ghost use Rattle.std.specs.Prelude.{◌≡◌, ◌+◌, ◌<◌, ◌≤◌, true, Some, None, List, if◌then◌else◌, option_map};
-ghost use Rattle.std.specs.FinMap as map;
-ghost use Rattle.jc_model.specs.State.{Item, row_of};
-ghost use Rattle.jc_ops.specs.Tied.{SameElsewhere};
-ghost use Rattle.jc_ops.specs.Noted.{HasPlaces};
-ghost use Rattle.jc_ops.specs.Kept.{items_of, progress_of, IsKept, FoundRow};
-ghost use Rattle.jc_ops.specs.Supply.{IsTold, StoredIsTold};
-ghost use Rattle.jc_ops.specs.Endings.{changed_live, changed_absent, ended_live, ended_absent, adds};
-ghost use Rattle.jc_model.specs.Run.{ended};
+//! A line of the case table carried out.
+ghost use Rattle.std.specs.Prelude.{◌≡◌, ℕ, ◌<◌, true, false, List, Option, Some, None, is_some, option_map};
 ghost use Rattle.jc_model.specs.declared.call.Notice.{Notice};
-ghost use Rattle.jc_model.specs.Changes.{update, create_by_put, hit as hit_of, miss as miss_of};
+ghost use Rattle.jc_model.specs.State.{Item, row_of};
+ghost use Rattle.jc_model.specs.Changes.{create_by_put};
+ghost use Rattle.jc_model.specs.Run.{ended};
+ghost use Rattle.jc_model.specs.Step.{counted, changed, ended_by};
+ghost use Rattle.jc_state.specs.Shelf.{has_row};
+ghost use Rattle.jc_state.specs.Noted.{HasPlaces, IsTold, StoredIsTold};
+ghost use Rattle.jc_state.specs.Kept.{items_of, progress_of, IsTied, Stays, IsRow, FoundRow};
+ghost use Rattle.jc_ops.specs.Lines.{stores};
 
-use crate::notices::Notices;
-use crate::state::CacheState;
-use crate::step::ending::{AbsentChange, AbsentEnding, LiveChange, LiveEnding};
 use crate::step::reply::reply_of;
-use crate::supply::Stored;
 use jc_model::call::Reply;
-use jc_model::config::CacheConfig;
-use jc_model::event::CacheId;
 use jc_model::key::Key;
+use jc_model::table::{Change, Line};
 use jc_model::thrice::Thrice;
 use jc_model::value::Value;
 use jc_ring::ring::Ring;
 use jc_rows::rows::Rows;
+use jc_state::notices::Notices;
+use jc_state::state::CacheState;
+use jc_state::stored::Stored;
 
-/// The key's live row is given another value.
-fn update_live<R: Rows, G: Ring>(
-    config: &CacheConfig,
-    state: &mut CacheState<G>,
-    rows: &mut R,
-    notices: &mut Notices,
-    id: CacheId,
-    now: u64,
-    key: &Key,
-    row: u32,
-    stored: Stored,
-)
-    requires kept { IsKept config.now (R.contents rows.old) id state.old }
-    requires row { FoundRow (R.contents rows.old) id key.now state.old (Some row) }
-    requires places { HasPlaces config.now 1 notices.old }
-    requires told { IsTold config.now stored }
-    ensures kept_after { IsKept config.now (R.contents rows.new) id state.new }
-    ensures elsewhere { SameElsewhere id (R.contents rows.old) (R.contents rows.new) }
-    ensures spare { R.spare rows.old ≤ R.spare rows.new }
-    ensures places { notices.old.spare ≤ notices.new.spare + 1 }
-    ensures progress { (x : Item) → row_of key.now (items_of state.old.cells) ≡ Some x →
-        progress_of state.new notices.new.told ≡ update config.now now x stored.value (progress_of state.old notices.old.told) }
-{
-    state.update(
-        config,
-        rows,
-        notices,
-        id,
-        now,
-        key,
-        row,
-        stored.value,
-        stored.told,
-    );
+/// Where a step stands: its moment, its key, and the number of the key's row, if it has one.
+#[derive(Drop)]
+pub(crate) struct At {
+    pub(crate) moment: u64,
+    pub(crate) key: Key,
+    pub(crate) row: Option<u32>,
 }
 
-/// What becomes of the key's live row.
+/// Counts a hit where the key has a row, else a miss, if the line counts.
+pub(crate) fn count<G: Ring>(state: &mut CacheState<G>, counts: bool, there: bool)
+    ensures same { state.new ≡ record state.old { counts = state.new.counts } }
+    ensures progress { (row : Option Item) (told : List Notice) → is_some row ≡ there → progress_of state.new told ≡ counted counts row (progress_of state.old told) }
+{
+    if counts {
+        if there {
+            state.hit();
+        } else {
+            state.miss();
+        }
+    }
+}
+
+/// What becomes of a live row.
 fn change_live<R: Rows, G: Ring>(
-    config: &CacheConfig,
     state: &mut CacheState<G>,
     rows: &mut R,
     notices: &mut Notices,
-    id: CacheId,
     now: u64,
-    key: &Key,
     row: u32,
-    change: LiveChange,
+    change: Change,
     stored: Option<Stored>,
 )
-    requires kept { IsKept config.now (R.contents rows.old) id state.old }
-    requires row { FoundRow (R.contents rows.old) id key.now state.old (Some row) }
-    requires places { HasPlaces config.now 1 notices.old }
-    requires told { StoredIsTold config.now stored }
-    ensures kept_after { IsKept config.now (R.contents rows.new) id state.new }
-    ensures elsewhere { SameElsewhere id (R.contents rows.old) (R.contents rows.new) }
-    ensures spare { R.spare rows.old ≤ R.spare rows.new }
-    ensures places { notices.old.spare ≤ notices.new.spare + 1 }
-    ensures progress { (x : Item) → row_of key.now (items_of state.old.cells) ≡ Some x →
-        progress_of state.new notices.new.told ≡ changed_live config.now now x change (option_map (λ s. s.value) stored) (progress_of state.old notices.old.told) }
+    requires tied { IsTied (R.contents rows.old) state.old }
+    requires there { has_row row state.old.cells ≡ true }
+    requires places { HasPlaces state.old.config 1 notices.old }
+    requires told { StoredIsTold state.old.config stored }
+    ensures stays { Stays 0 1 (R.contents rows.old) (R.spare rows.old) state.old notices.old (R.contents rows.new) (R.spare rows.new) state.new notices.new }
+    ensures progress { (key : List ℕ) (x : Item) → IsRow key state.old row x →
+        progress_of state.new notices.new.told ≡ changed state.old.config now key change (Some x) (option_map (λ s. s.value) stored) (progress_of state.old notices.old.told) }
 {
     match change {
-        LiveChange::Keep => {}
-        LiveChange::Access => state.access(config, rows, id, now, key, row),
-        LiveChange::Update => {
+        Change::Keep => {}
+        Change::Access => state.access(rows, now, row),
+        Change::Store => {
             if let Some(stored) = stored {
-                update_live(config, state, rows, notices, id, now, key, row, stored);
+                state.update(rows, notices, now, row, stored);
             }
         }
-        LiveChange::Put => {
+        Change::Put => {
             if let Some(stored) = stored {
-                update_live(config, state, rows, notices, id, now, key, row, stored);
+                state.update(rows, notices, now, row, stored);
                 state.put();
             }
         }
-        LiveChange::Delete => {
-            state.delete(config, rows, notices, id, now, key, row);
+        Change::Remove => {
+            state.delete(rows, notices, row);
             state.removal();
         }
     }
@@ -108,185 +85,103 @@ fn change_live<R: Rows, G: Ring>(
 
 /// A key without a row is put, and counted where it stores.
 fn put_absent<R: Rows, G: Ring>(
-    config: &CacheConfig,
     state: &mut CacheState<G>,
     rows: &mut R,
     notices: &mut Notices,
-    id: CacheId,
     now: u64,
     key: Key,
     stored: Stored,
 )
-    requires kept { IsKept config.now (R.contents rows.old) id state.old }
-    requires absent { map.get (R.contents rows.old) (id, key) ≡ None }
-    requires places { HasPlaces config.now 2 notices.old }
-    requires told { IsTold config.now stored }
+    requires tied { IsTied (R.contents rows.old) state.old }
+    requires absent { row_of key (items_of state.old.cells) ≡ None }
+    requires places { HasPlaces state.old.config 2 notices.old }
+    requires told { IsTold state.old.config stored }
     requires room { 0 < R.spare rows.old }
-    ensures kept_after { IsKept config.now (R.contents rows.new) id state.new }
-    ensures elsewhere { SameElsewhere id (R.contents rows.old) (R.contents rows.new) }
-    ensures spare { R.spare rows.old ≤ R.spare rows.new + 1 }
-    ensures places { notices.old.spare ≤ notices.new.spare + 2 }
-    ensures progress { progress_of state.new notices.new.told ≡ create_by_put config.now now key stored.value (progress_of state.old notices.old.told) }
+    ensures stays { Stays 1 2 (R.contents rows.old) (R.spare rows.old) state.old notices.old (R.contents rows.new) (R.spare rows.new) state.new notices.new }
+    ensures progress { progress_of state.new notices.new.told ≡ create_by_put state.old.config now key stored.value (progress_of state.old notices.old.told) }
 {
-    if state.create(
-        config,
-        rows,
-        notices,
-        id,
-        now,
-        key,
-        stored.value,
-        stored.told,
-    ) {
+    if state.create(rows, notices, now, key, stored) {
         state.put();
     }
 }
 
-/// What becomes of the key without a row.
+/// What becomes of a key without a row.
 fn change_absent<R: Rows, G: Ring>(
-    config: &CacheConfig,
     state: &mut CacheState<G>,
     rows: &mut R,
     notices: &mut Notices,
-    id: CacheId,
     now: u64,
     key: Key,
-    change: AbsentChange,
+    change: Change,
     stored: Option<Stored>,
 )
-    requires kept { IsKept config.now (R.contents rows.old) id state.old }
-    requires absent { map.get (R.contents rows.old) (id, key) ≡ None }
-    requires places { HasPlaces config.now 2 notices.old }
-    requires told { StoredIsTold config.now stored }
-    requires room { adds change ≡ true → 0 < R.spare rows.old }
-    ensures kept_after { IsKept config.now (R.contents rows.new) id state.new }
-    ensures elsewhere { SameElsewhere id (R.contents rows.old) (R.contents rows.new) }
-    ensures spare { R.spare rows.old ≤ R.spare rows.new + 1 }
-    ensures places { notices.old.spare ≤ notices.new.spare + 2 }
-    ensures progress { progress_of state.new notices.new.told ≡ changed_absent config.now now key change (option_map (λ s. s.value) stored) (progress_of state.old notices.old.told) }
+    requires tied { IsTied (R.contents rows.old) state.old }
+    requires absent { row_of key (items_of state.old.cells) ≡ None }
+    requires places { HasPlaces state.old.config 2 notices.old }
+    requires told { StoredIsTold state.old.config stored }
+    requires room { stores change ≡ true → is_some stored ≡ true → 0 < R.spare rows.old }
+    ensures stays { Stays 1 2 (R.contents rows.old) (R.spare rows.old) state.old notices.old (R.contents rows.new) (R.spare rows.new) state.new notices.new }
+    ensures progress { progress_of state.new notices.new.told ≡ changed state.old.config now key change None (option_map (λ s. s.value) stored) (progress_of state.old notices.old.told) }
 {
     match change {
-        AbsentChange::Keep => {}
-        AbsentChange::Create => {
+        Change::Keep => {}
+        Change::Access => {}
+        Change::Store => {
             if let Some(stored) = stored {
-                let _stored = state.create(
-                    config,
-                    rows,
-                    notices,
-                    id,
-                    now,
-                    key,
-                    stored.value,
-                    stored.told,
-                );
+                let _stored = state.create(rows, notices, now, key, stored);
             }
         }
-        AbsentChange::Put => {
+        Change::Put => {
             if let Some(stored) = stored {
-                put_absent(config, state, rows, notices, id, now, key, stored);
+                put_absent(state, rows, notices, now, key, stored);
             }
         }
+        Change::Remove => {}
     }
 }
 
-/// Counts a hit where it is one.
-fn count_hit<G: Ring>(state: &mut CacheState<G>, hit: bool)
-    ensures cells { state.new.cells ≡ state.old.cells }
-    ensures limit { state.new.limit ≡ state.old.limit }
-    ensures progress { (told : List Notice) → progress_of state.new told ≡ (if hit then hit_of (progress_of state.old told) else progress_of state.old told) }
-{
-    if hit {
-        state.hit();
-    }
-}
-
-/// Counts a miss where it is one.
-fn count_miss<G: Ring>(state: &mut CacheState<G>, miss: bool)
-    ensures cells { state.new.cells ≡ state.old.cells }
-    ensures limit { state.new.limit ≡ state.old.limit }
-    ensures progress { (told : List Notice) → progress_of state.new told ≡ (if miss then miss_of (progress_of state.old told) else progress_of state.old told) }
-{
-    if miss {
-        state.miss();
-    }
-}
-
-/// Carries an ending out on the key's live row, and gives its reply.
-pub fn end_live<R: Rows, G: Ring>(
-    config: &CacheConfig,
+/// What becomes of the key's row.
+fn change<R: Rows, G: Ring>(
     state: &mut CacheState<G>,
     rows: &mut R,
     notices: &mut Notices,
-    id: CacheId,
-    now: u64,
-    key: &Key,
-    row: u32,
-    ending: LiveEnding,
+    at: &At,
+    change: Change,
     stored: Option<Stored>,
-    shown: Option<Thrice<Value>>,
-) -> Thrice<Reply>
-    requires kept { IsKept config.now (R.contents rows.old) id state.old }
-    requires row { FoundRow (R.contents rows.old) id key.now state.old (Some row) }
-    requires places { HasPlaces config.now 1 notices.old }
-    requires told { StoredIsTold config.now stored }
-    ensures kept_after { IsKept config.now (R.contents rows.new) id state.new }
-    ensures elsewhere { SameElsewhere id (R.contents rows.old) (R.contents rows.new) }
-    ensures spare { R.spare rows.old ≤ R.spare rows.new }
-    ensures places { notices.old.spare ≤ notices.new.spare + 1 }
-    ensures run { (x : Item) → row_of key.now (items_of state.old.cells) ≡ Some x →
-        ended_live config.now now x ending (option_map (λ s. s.value) stored) shown (progress_of state.old notices.old.told) ≡ ended (progress_of state.new notices.new.told) result }
+)
+    requires tied { IsTied (R.contents rows.old) state.old }
+    requires row { FoundRow at.now.key state.old at.now.row }
+    requires places { HasPlaces state.old.config 2 notices.old }
+    requires told { StoredIsTold state.old.config stored }
+    requires room { is_some at.now.row ≡ false → stores change ≡ true → is_some stored ≡ true → 0 < R.spare rows.old }
+    ensures stays { Stays 1 2 (R.contents rows.old) (R.spare rows.old) state.old notices.old (R.contents rows.new) (R.spare rows.new) state.new notices.new }
+    ensures progress { progress_of state.new notices.new.told ≡ changed state.old.config at.now.moment at.now.key change (row_of at.now.key (items_of state.old.cells)) (option_map (λ s. s.value) stored) (progress_of state.old notices.old.told) }
 {
-    count_hit(state, ending.hit);
-    change_live(
-        config,
-        state,
-        rows,
-        notices,
-        id,
-        now,
-        key,
-        row,
-        ending.change,
-        stored,
-    );
-    reply_of(ending.reply, shown)
+    match at.row {
+        Some(row) => change_live(state, rows, notices, at.moment, row, change, stored),
+        None => change_absent(state, rows, notices, at.moment, at.key, change, stored),
+    }
 }
 
-/// Carries an ending out on a key without a row, and gives its reply.
-pub fn end_absent<R: Rows, G: Ring>(
-    config: &CacheConfig,
+/// Carries a line out, and gives its reply.
+pub(crate) fn end<R: Rows, G: Ring>(
     state: &mut CacheState<G>,
     rows: &mut R,
     notices: &mut Notices,
-    id: CacheId,
-    now: u64,
-    key: Key,
-    ending: AbsentEnding,
+    at: &At,
+    line: Line,
     stored: Option<Stored>,
     shown: Option<Thrice<Value>>,
 ) -> Thrice<Reply>
-    requires kept { IsKept config.now (R.contents rows.old) id state.old }
-    requires absent { map.get (R.contents rows.old) (id, key) ≡ None }
-    requires places { HasPlaces config.now 2 notices.old }
-    requires told { StoredIsTold config.now stored }
-    requires room { adds ending.change ≡ true → 0 < R.spare rows.old }
-    ensures kept_after { IsKept config.now (R.contents rows.new) id state.new }
-    ensures elsewhere { SameElsewhere id (R.contents rows.old) (R.contents rows.new) }
-    ensures spare { R.spare rows.old ≤ R.spare rows.new + 1 }
-    ensures places { notices.old.spare ≤ notices.new.spare + 2 }
-    ensures run { ended_absent config.now now key ending (option_map (λ s. s.value) stored) shown (progress_of state.old notices.old.told) ≡ ended (progress_of state.new notices.new.told) result }
+    requires tied { IsTied (R.contents rows.old) state.old }
+    requires row { FoundRow at.now.key state.old at.now.row }
+    requires places { HasPlaces state.old.config 2 notices.old }
+    requires told { StoredIsTold state.old.config stored }
+    requires room { is_some at.now.row ≡ false → stores line.change ≡ true → is_some stored ≡ true → 0 < R.spare rows.old }
+    ensures stays { Stays 1 2 (R.contents rows.old) (R.spare rows.old) state.old notices.old (R.contents rows.new) (R.spare rows.new) state.new notices.new }
+    ensures run { ended_by state.old.config at.now.moment at.now.key line (row_of at.now.key (items_of state.old.cells)) (option_map (λ s. s.value) stored) shown (progress_of state.old notices.old.told) ≡ ended (progress_of state.new notices.new.told) result }
 {
-    count_miss(state, ending.miss);
-    change_absent(
-        config,
-        state,
-        rows,
-        notices,
-        id,
-        now,
-        key,
-        ending.change,
-        stored,
-    );
-    reply_of(ending.reply, shown)
+    count(state, line.counts, at.row.is_some());
+    change(state, rows, notices, at, line.change, stored);
+    reply_of(line.reply, shown)
 }

@@ -1,9 +1,9 @@
 //! Replies in three equal copies.
 ghost use Rattle.std.specs.Prelude.{◌≡◌, None};
-ghost use Rattle.jc_ops.specs.Endings.{reply_by};
+ghost use Rattle.jc_model.specs.Step.{reply_by};
 
-use crate::step::ending::Replied;
 use jc_model::call::{By, Reply};
+use jc_model::table::Replied;
 use jc_model::thrice::Thrice;
 use jc_model::value::Value;
 
@@ -42,28 +42,24 @@ fn found(value: Option<Thrice<Value>>) -> Thrice<Reply>
     }
 }
 
-fn fault_by(by: By) -> Reply
-    ensures { result ≡ Reply.Fault by None }
+/// A hook's fault; of a call on many keys with the number of keys that were done before.
+pub fn fault(by: By, done: Option<u32>) -> Thrice<Reply>
+    ensures { result ≡ Reply.Fault by done }
 {
-    Reply::Fault { by, done: None }
+    Thrice::new(
+        Reply::Fault { by, done },
+        Reply::Fault { by, done },
+        Reply::Fault { by, done },
+    )
 }
 
-/// A hook's fault, which ends a call on one key.
-pub fn fault(by: By) -> Thrice<Reply>
-    ensures { result ≡ Reply.Fault by None }
-{
-    Thrice::new(fault_by(by), fault_by(by), fault_by(by))
-}
-
-/// The reply, where `shown` is the value to be shown.
-pub fn reply_of(replied: Replied, shown: Option<Thrice<Value>>) -> Thrice<Reply>
+/// The reply of a line, where `shown` is the value to be shown.
+pub(crate) fn reply_of(replied: Replied, shown: Option<Thrice<Value>>) -> Thrice<Reply>
     ensures { result ≡ reply_by replied shown }
 {
     match replied {
         Replied::Shown => found(shown),
         Replied::Done => done(),
         Replied::Truth(answer) => truth(answer),
-        Replied::Missing => found(None),
-        Replied::Fault(by) => fault(by),
     }
 }

@@ -1,58 +1,58 @@
-//! What a step asks its hooks first.
+//! What a step asks its hooks.
 ghost use Rattle.std.specs.Prelude.{◌≡◌, ℕ, List, true, Some};
-ghost use Rattle.jc_ops.specs.Lines.{value_of, handed, is_invoke, loads_for, asks_live, asks_absent, asks_loader, request_live, request_absent};
-ghost use Rattle.jc_ops.specs.Verdicts.{hands_by, request_by};
+ghost use Rattle.jc_ops.specs.Lines.{handed, loads_for, asks_writer, asks_loader, asks_hook, asks_processor, first_request};
 
-use jc_model::call::{Action, Op, Request};
+use jc_model::call::{Op, Request};
 use jc_model::config::CacheConfig;
 use jc_model::key::Key;
+use jc_model::table::{Ask, value_of};
 use jc_model::value::Value;
 
-/// A value for the writer.
-fn write(key: &Key, copy: Option<Value>) -> Option<Request>
-    ensures { (v : List ℕ) → copy ≡ Some v → result ≡ Some (Request.Write key.now v) }
+/// A request to the writer, who is given this value.
+pub(crate) fn ask_writer(
+    config: &CacheConfig,
+    key: &Key,
+    asks: Ask,
+    copy: Option<Value>,
+) -> Option<Request>
+    ensures { result ≡ asks_writer config.now key.now asks copy }
 {
-    match copy {
-        Some(value) => Some(Request::Write(*key, value)),
-        None => None,
+    if !config.writer {
+        return None;
     }
-}
-
-/// What the line asks the writer where the key has this live value.
-fn asked_live(key: &Key, op: &Op, live: &Value, copy: Option<Value>) -> Option<Request>
-    requires copy { copy ≡ value_of op.now }
-    ensures { result ≡ asks_live key.now op.now live.now }
-{
-    match op {
-        Op::Put(_) => write(key, copy),
-        Op::GetAndPut(_) => write(key, copy),
-        Op::Replace(_) => write(key, copy),
-        Op::ReplaceIf { expected, .. } if live == expected => write(key, copy),
-        Op::GetAndReplace(_) => write(key, copy),
-        Op::Remove => Some(Request::Delete(*key)),
-        Op::RemoveIf { expected } if live == expected => Some(Request::Delete(*key)),
-        Op::GetAndRemove => Some(Request::Delete(*key)),
+    match asks {
+        Ask::Write => match copy {
+            Some(value) => Some(Request::Write(*key, value)),
+            None => None,
+        },
+        Ask::Delete => Some(Request::Delete(*key)),
         _ => None,
     }
 }
 
-/// And where it has no row.
-fn asked_absent(key: &Key, op: &Op, copy: Option<Value>) -> Option<Request>
-    requires copy { copy ≡ value_of op.now }
-    ensures { result ≡ asks_absent key.now op.now }
+/// The loader is asked, where there is one.
+fn ask_loader(config: &CacheConfig, key: &Key) -> Option<Request>
+    ensures { result ≡ asks_loader config.now key.now }
 {
-    match op {
-        Op::Put(_) => write(key, copy),
-        Op::GetAndPut(_) => write(key, copy),
-        Op::PutIfAbsent(_) => write(key, copy),
-        Op::Remove => Some(Request::Delete(*key)),
-        Op::GetAndRemove => Some(Request::Delete(*key)),
-        _ => None,
+    if config.loader {
+        Some(Request::Load(*key))
+    } else {
+        None
+    }
+}
+
+/// Whether the loader is asked before this processor, where the key has no row.
+pub(crate) fn loads_for(config: &CacheConfig, processor: u8) -> bool
+    ensures { result ≡ loads_for config.now processor }
+{
+    match config.processors.items().get(processor as usize) {
+        Some(wants) => *wants && config.loader,
+        None => false,
     }
 }
 
 /// A key's entry for its processor.
-pub fn process(
+pub(crate) fn process(
     key: &Key,
     processor: u8,
     value: Option<Value>,
@@ -71,100 +71,54 @@ pub fn process(
     }
 }
 
-/// Whether the loader is asked before this processor, where the key has no row.
-pub fn loads_for(config: &CacheConfig, processor: u8) -> bool
-    ensures { result ≡ loads_for config.now processor }
-{
-    match config.processors.items().get(processor as usize) {
-        Some(wants) => *wants && config.loader,
-        None => false,
-    }
-}
-
-/// The loader is asked, where there is one.
-fn load(config: &CacheConfig, key: &Key) -> Option<Request>
-    ensures { result ≡ asks_loader config.now key.now }
-{
-    if config.loader {
-        Some(Request::Load(*key))
-    } else {
-        None
-    }
-}
-
-/// What a cache asks first where the key has this live value; `copy` is what that hook is given, and `entry` the live
-/// value for a processor.
-pub fn request_live(
+/// The processor is asked for the key's live value, or before him the loader.
+fn ask_processor(
     config: &CacheConfig,
     key: &Key,
-    op: &Op,
-    live: &Value,
-    copy: Option<Value>,
-    entry: Option<Value>,
+    processor: u8,
+    live: Option<Value>,
+    argument: Option<Value>,
 ) -> Option<Request>
-    requires copy { copy ≡ handed config.now.writer op.now }
-    requires entry { is_invoke op.now ≡ true → entry ≡ Some live.now }
-    ensures { result ≡ request_live config.now key.now op.now live.now }
+    ensures { (v : List ℕ) → argument ≡ Some v → result ≡ Some (asks_processor config.now key.now processor v live) }
 {
-    match op {
-        Op::Invoke { processor, .. } => process(key, *processor, entry, copy),
-        Op::Load { replace } => { if *replace { load(config, key) } else { None } }
-        _ => {
-            if config.writer {
-                asked_live(key, op, live, copy)
-            } else {
-                None
-            }
-        }
-    }
-}
-
-/// What a cache asks first where the key has no row; `copy` is what that hook is given.
-pub fn request_absent(
-    config: &CacheConfig,
-    key: &Key,
-    op: &Op,
-    copy: Option<Value>,
-) -> Option<Request>
-    requires copy { copy ≡ handed config.now.writer op.now }
-    ensures { result ≡ request_absent config.now key.now op.now }
-{
-    match op {
-        Op::Get => load(config, key),
-        Op::Load { .. } => load(config, key),
-        Op::Invoke { processor, .. } => {
-            if loads_for(config, *processor) {
+    match live {
+        Some(live) => process(key, processor, Some(live), argument),
+        None => {
+            if loads_for(config, processor) {
                 Some(Request::Load(*key))
             } else {
-                process(key, *processor, None, copy)
-            }
-        }
-        _ => {
-            if config.writer {
-                asked_absent(key, op, copy)
-            } else {
-                None
+                process(key, processor, None, argument)
             }
         }
     }
 }
 
-/// What a verdict asks the writer; `copy` is what he is given.
-pub fn request_by(
+/// The loader or the writer, as the line says.
+fn ask_hook(config: &CacheConfig, key: &Key, asks: Ask, copy: Option<Value>) -> Option<Request>
+    ensures { result ≡ asks_hook config.now key.now asks copy }
+{
+    match asks {
+        Ask::Load => ask_loader(config, key),
+        asks => ask_writer(config, key, asks, copy),
+    }
+}
+
+/// What a step asks first, by its line; `copy` is what that hook is given, and `live` the key's live value for a
+/// processor.
+pub(crate) fn first_request(
     config: &CacheConfig,
     key: &Key,
-    action: &Action,
+    op: &Op,
+    asks: Ask,
     copy: Option<Value>,
+    live: Option<Value>,
 ) -> Option<Request>
-    requires copy { copy ≡ hands_by config.now.writer action.now }
-    ensures { result ≡ request_by config.now key.now action.now }
+    requires copy { copy ≡ handed config.now.writer op.now }
+    ensures { result ≡ first_request config.now key.now op.now asks live }
 {
-    if !config.writer {
-        return None;
-    }
-    match action {
-        Action::Keep => None,
-        Action::Set(_) => write(key, copy),
-        Action::Remove => Some(Request::Delete(*key)),
+    let _stored = value_of(op);
+    match op {
+        Op::Invoke { processor, .. } => ask_processor(config, key, *processor, live, copy),
+        _ => ask_hook(config, key, asks, copy),
     }
 }

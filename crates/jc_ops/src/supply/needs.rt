@@ -1,79 +1,56 @@
 //! Which values an operation or a verdict stores, replies and hands to its hooks.
 ghost use Rattle.std.specs.Prelude.{◌≡◌, if◌then◌else◌, None, option_map};
-ghost use Rattle.jc_ops.specs.Lines.{value_of, handed, shows, creates, is_invoke, loads, reloads};
+ghost use Rattle.jc_model.specs.Table.{value_of};
+ghost use Rattle.jc_ops.specs.Lines.{is_shown, stores, handed, shows, shows_loaded, creates, is_invoke};
 ghost use Rattle.jc_ops.specs.Verdicts.{stores_by, hands_by};
 
 use jc_model::call::{Action, Op};
+use jc_model::table::{Ask, Change, Replied, absent_line, live_line, value_of};
 use jc_model::value::Value;
 
-/// The value that an operation stores, if any.
-pub(super) fn value_of(op: &Op) -> Option<&Value>
-    ensures { option_map (λ v. v.now) result ≡ value_of op.now }
+/// Whether a value is replied.
+fn is_shown(reply: Replied) -> bool
+    ensures { result ≡ is_shown reply }
 {
-    match op {
-        Op::Put(value) => Some(value),
-        Op::GetAndPut(value) => Some(value),
-        Op::PutIfAbsent(value) => Some(value),
-        Op::Replace(value) => Some(value),
-        Op::ReplaceIf { value, .. } => Some(value),
-        Op::GetAndReplace(value) => Some(value),
-        _ => None,
-    }
-}
-
-/// Whether an operation replies the live value.
-pub(super) fn shows(op: &Op) -> bool
-    ensures { result ≡ shows op.now }
-{
-    match op {
-        Op::Get => true,
-        Op::GetAndPut(_) => true,
-        Op::GetAndReplace(_) => true,
-        Op::GetAndRemove => true,
-        _ => false,
-    }
+    matches!(reply, Replied::Shown)
 }
 
 /// Whether an operation hands its entry to a processor.
 pub(super) fn is_invoke(op: &Op) -> bool
     ensures { result ≡ is_invoke op.now }
 {
-    match op {
-        Op::Invoke { .. } => true,
-        _ => false,
-    }
+    matches!(op, Op::Invoke { .. })
 }
 
-/// Whether an operation asks the loader where the key has no row, and stores what it gives.
-pub(crate) fn loads(op: &Op) -> bool
-    ensures { result ≡ loads op.now }
+/// Whether an operation replies the live value.
+pub(super) fn shows(op: &Op) -> bool
+    ensures { result ≡ shows op.now }
 {
-    match op {
-        Op::Get => true,
-        Op::Load { .. } => true,
-        _ => false,
-    }
+    !is_invoke(op) && is_shown(live_line(op).reply)
 }
 
-/// Whether an operation does so where the key has a live row.
-pub(crate) fn reloads(op: &Op) -> bool
-    ensures { result ≡ reloads op.now }
+/// Whether an operation replies the loaded value.
+pub(super) fn shows_loaded(op: &Op) -> bool
+    ensures { result ≡ shows_loaded op.now }
 {
-    match op {
-        Op::Load { replace } => *replace,
-        _ => false,
-    }
+    is_shown(absent_line(op).reply)
+}
+
+/// Whether a change stores a value.
+fn stores(change: Change) -> bool
+    ensures { result ≡ stores change }
+{
+    matches!(change, Change::Store | Change::Put)
 }
 
 /// Whether an operation itself stores a key that is not there.
-pub(super) fn creates(op: &Op) -> bool
+pub fn creates(op: &Op) -> bool
     ensures { result ≡ creates op.now }
 {
-    match op {
-        Op::Put(_) => true,
-        Op::GetAndPut(_) => true,
-        Op::PutIfAbsent(_) => true,
-        _ => false,
+    let line = absent_line(op);
+    match line.asks {
+        Ask::Load => false,
+        _ => stores(line.change),
     }
 }
 

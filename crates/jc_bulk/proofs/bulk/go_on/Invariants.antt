@@ -1,7 +1,6 @@
 use Rattle.std.proofs.Common.{◌≡◌, length}
 use Rattle.jc_model.specs.Whole.{each}
-use Rattle.jc_ops.specs.Kept.{items_of, progress_of, IsKept}
-use Rattle.jc_ops.specs.Tied.{SameElsewhere}
+use Rattle.jc_state.specs.Kept.{items_of, progress_of, Remains}
 use Rattle.jc_bulk.specs.Provided.{calls_in, IsReady}
 use Rattle.jc_bulk.specs.Tallied.{sum_of}
 use Rattle.jc_bulk.proofs.bulk.go_on.Given as goal
@@ -9,11 +8,10 @@ use Rattle.jc_bulk.proofs.bulk.go_on.Given as goal
 -- the steps that are left, from here, make the run of all
 abbrev pub invariant-steps : goal.invariant-steps
 invariant-steps g l = record {
-  kept : IsKept l.config (g.R.Rows.contents l.rows) l.id l.state;
-  elsewhere : SameElsewhere l.id (g.R.Rows.contents l.fn.rows) (g.R.Rows.contents l.rows);
-  ready : IsReady l.config (items_of l.state.cells) l.notices (g.R.Rows.spare l.rows) l.ahead.rest.items l.ahead.sum l.ahead.adds;
-  run : each l.config l.now (calls_in l.ahead.rest.items) (sum_of l.ahead.sum) (progress_of l.state l.notices.told)
-      ≡ each l.config l.now (calls_in l.fn.ahead.rest.items) (sum_of l.fn.ahead.sum) (progress_of l.fn.state l.fn.notices.told);
+  remains : Remains (g.R.Rows.contents l.fn.rows) l.fn.state (g.R.Rows.contents l.rows) l.state;
+  ready : IsReady l.fn.state.config (items_of l.state.cells) l.notices (g.R.Rows.spare l.rows) l.ahead.rest.items l.ahead.sum l.ahead.adds;
+  run : each l.fn.state.config l.now (calls_in l.ahead.rest.items) (sum_of l.ahead.sum) (progress_of l.state l.notices.told)
+      ≡ each l.fn.state.config l.now (calls_in l.fn.ahead.rest.items) (sum_of l.fn.ahead.sum) (progress_of l.fn.state l.fn.notices.told);
 }
 
 abbrev pub decreases-steps : goal.decreases-steps

@@ -1,7 +1,7 @@
 use Rattle.std.proofs.Common.{◌≡◌, ◌<◌, ◌+◌, ◌++◌, List, ℕ, length, get_or, drop, Option, ap, ◌∙◌, subst, arith}
 use Rattle.jc_model.specs.State.{Item}
 use Rattle.jc_model.specs.Whole.{contents}
-use Rattle.jc_ops.specs.Kept.{items_of}
+use Rattle.jc_state.specs.Kept.{items_of}
 use Rattle.jc_bulk.specs.Tallied.{pushed}
 use Rattle.jc_bulk.proofs.Rows.{RowAt, row_at, listed_row}
 use Rattle.jc_bulk.proofs.TiedKeys.{tied_keys}
@@ -13,12 +13,12 @@ loop-key-preserved g c =
     let i : ℕ = c.loop-key.key-index in
     let key : List ℕ = c.key-item.result in
     let row : RowAt ring i key =
-    row_at ring i key (tied_keys _ _ _ c.requires.kept.tied) (subst (λ (l : List (List ℕ)). i < length l) c.requires.keys c.loop-key-test.true) (subst (λ (l : List (List ℕ)). key ≡ get_or l i key) c.requires.keys c.key-item.is) in
-    let left : List (List ℕ × List ℕ) = contents c.args.config.now c.args.now (drop (i + 1) ring) in
+    row_at ring i key (tied_keys _ _ _ c.requires.tied) (subst (λ (l : List (List ℕ)). i < length l) c.requires.keys c.loop-key-test.true) (subst (λ (l : List (List ℕ)). key ≡ get_or l i key) c.requires.keys c.key-item.is) in
+    let left : List (List ℕ × List ℕ) = contents c.args.state.now.config c.args.now (drop (i + 1) ring) in
     record {
       listed =
           ap (λ (l : List (List ℕ × List ℕ)). l ++ left) c.in_ok-list.ensures.items
           ∙ (ap (λ (o : Option (List ℕ)). pushed c.loop-key.pairs.items key o ++ left) c.live_value.ensures
-          ∙ (listed_row c.args.config.now c.args.now ring i key row c.loop-key.pairs.items ∙ c.loop-key.invariant.listed));
+          ∙ (listed_row c.args.state.now.config c.args.now ring i key row c.loop-key.pairs.items ∙ c.loop-key.invariant.listed));
       room = omega (arith, c.in_ok-list.ensures.spare, c.loop-key.invariant.room);
     }

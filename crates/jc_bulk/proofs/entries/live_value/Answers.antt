@@ -1,11 +1,11 @@
 use Rattle.std.proofs.Common.{◌≡◌, true, false, Some, sym, ap, ◌∙◌}
 use Rattle.jc_model.specs.State.{Item, is_live}
-use Rattle.jc_ops.specs.Kept.{items_of, record_of}
+use Rattle.jc_state.specs.Kept.{items_of, record_of}
 use Rattle.jc_bulk.proofs.Rows.{value_found, value_absent}
 use Rattle.jc_bulk.proofs.entries.live_value.Goals as goal
 
 pub returns-in-None : goal.returns-in-None
-returns-in-None g c = sym (value_absent c.args.now c.args.key.now (items_of c.args.state.now.cells) c.in-None.ensures.found.0)
+returns-in-None g c = sym (value_absent c.args.now c.args.key.now (items_of c.args.state.now.cells) c.in-None.ensures.found)
 
 pub returns-then-is_live : goal.returns-then-is_live
 returns-then-is_live g c =

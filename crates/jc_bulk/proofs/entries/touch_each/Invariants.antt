@@ -1,15 +1,13 @@
 use Rattle.std.proofs.Common.{◌≡◌, drop}
 use Rattle.jc_model.specs.Changes.{begun}
 use Rattle.jc_model.specs.Whole.{touch_each}
-use Rattle.jc_ops.specs.Kept.{items_of, state_of, IsKept}
-use Rattle.jc_ops.specs.Tied.{SameElsewhere}
+use Rattle.jc_state.specs.Kept.{items_of, state_of, Remains}
 use Rattle.jc_bulk.proofs.Touched.{AreLeft}
 use Rattle.jc_bulk.proofs.entries.touch_each.Given as goal
 
 abbrev pub invariant-loop-key : goal.invariant-loop-key
 invariant-loop-key g l = record {
-  kept : IsKept l.config (g.R.Rows.contents l.rows) l.id l.state;
-  elsewhere : SameElsewhere l.id (g.R.Rows.contents l.fn.rows) (g.R.Rows.contents l.rows);
+  remains : Remains (g.R.Rows.contents l.fn.rows) l.fn.state (g.R.Rows.contents l.rows) l.state;
   left : AreLeft (drop l.key-index (items_of l.fn.state.cells)) (items_of l.state.cells);
-  progress : touch_each l.config l.now (drop l.key-index (items_of l.fn.state.cells)) (begun (state_of l.state)) ≡ touch_each l.config l.now (items_of l.fn.state.cells) (begun (state_of l.fn.state));
+  progress : touch_each l.fn.state.config l.now (drop l.key-index (items_of l.fn.state.cells)) (begun (state_of l.state)) ≡ touch_each l.fn.state.config l.now (items_of l.fn.state.cells) (begun (state_of l.fn.state));
 }

@@ -1,10 +1,10 @@
 use Rattle.std.proofs.Common.{◌≡◌}
-use Rattle.jc_ops.specs.Kept.{items_of}
+use Rattle.jc_state.specs.Kept.{items_of}
 use Rattle.jc_bulk.specs.Provided.{calls_in, AreCovered}
 use Rattle.jc_bulk.proofs.provide.with_values.Given as goal
 
 abbrev pub invariant-loop-call : goal.invariant-loop-call
 invariant-loop-call g l = record {
   calls : calls_in l.rest.items ≡ l.yielded;
-  covered : AreCovered l.config (items_of l.state.cells) l.rest.items;
+  covered : AreCovered l.state.config (items_of l.state.cells) l.rest.items;
 }

@@ -1,6 +1,6 @@
 use Rattle.std.proofs.Common.{◌≡◌, ◌++◌, drop}
 use Rattle.jc_model.specs.Bulk.{remove_each}
-use Rattle.jc_ops.specs.Kept.{items_of}
+use Rattle.jc_state.specs.Kept.{items_of}
 use Rattle.jc_bulk.proofs.steps.each_row.Given as goal
 
 abbrev pub invariant-loop-key : goal.invariant-loop-key

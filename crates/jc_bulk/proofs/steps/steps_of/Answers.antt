@@ -1,7 +1,7 @@
 use Rattle.std.proofs.Common.{List, ℕ, map, sym, subst}
 use Rattle.jc_model.specs.declared.call.Op.TheVariants.{Get, Remove, Invoke, Load}
 use Rattle.jc_model.specs.Lists.{AreKeys}
-use Rattle.jc_ops.specs.Kept.{items_of}
+use Rattle.jc_state.specs.Kept.{items_of}
 use Rattle.jc_bulk.proofs.Apart.{if_made, same_apart, put_apart, row_apart}
 use Rattle.jc_bulk.proofs.TiedKeys.{tied_keys}
 use Rattle.jc_bulk.proofs.steps.steps_of.Goals as goal
@@ -24,7 +24,7 @@ returns-in-RemoveKeys-clause-apart g c =
 
 pub returns-in-RemoveAll-clause-apart : goal.returns-in-RemoveAll-clause-apart
 returns-in-RemoveAll-clause-apart g c =
-    if_made (λ v. v.items) c.each_row.result _ c.each_row.ensures (row_apart c.args.now (items_of c.args.state.now.cells) (tied_keys _ _ _ c.requires.kept.tied))
+    if_made (λ v. v.items) c.each_row.result _ c.each_row.ensures (row_apart c.args.now (items_of c.args.state.now.cells) (tied_keys _ _ _ c.requires.tied))
 
 pub returns-in-LoadAll-clause-apart : goal.returns-in-LoadAll-clause-apart
 returns-in-LoadAll-clause-apart g c =

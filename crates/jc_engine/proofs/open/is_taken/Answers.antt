@@ -1,5 +1,4 @@
-use Rattle.std.proofs.Common.{◌≡◌, Some, is_some, ap, subst, ◌∙◌}
-use Rattle.std.specs.Prelude.{Option}
+use Rattle.std.proofs.Common.{Some, is_some, ap, subst, ◌∙◌}
 use Rattle.std.specs.Str.{bytes_eq}
 use Rattle.jc_model.specs.declared.config.CacheConfig.{CacheConfig}
 use Rattle.jc_engine.specs.Opening.{names_in}

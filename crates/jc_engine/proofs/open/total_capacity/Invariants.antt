@@ -1,4 +1,4 @@
-use Rattle.std.proofs.Common.{◌≡◌, ◌≤◌, ◌*◌, ◌^◌, take, sum}
+use Rattle.std.proofs.Common.{◌≡◌, ◌≤◌, ◌*◌, take, sum}
 use Rattle.jc_engine.specs.Opening.{capacities}
 use Rattle.jc_engine.proofs.open.total_capacity.Given as goal
 

@@ -1,4 +1,4 @@
-use Rattle.std.proofs.Common.{◌≡◌, Some, subst}
+use Rattle.std.proofs.Common.{subst}
 use Rattle.jc_engine.specs.Fresh.{AreIds}
 use Rattle.jc_engine.proofs.Names.{ids_with}
 use Rattle.jc_engine.proofs.open.with_id.Goals as goal

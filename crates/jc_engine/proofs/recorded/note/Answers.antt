@@ -1,6 +1,5 @@
-use Rattle.std.proofs.Common.{◌≡◌, List, subst, sym, ap, ◌∙◌}
+use Rattle.std.proofs.Common.{subst, sym, ap, ◌∙◌}
 use Rattle.std.specs.Prelude.{slice_set}
-use Rattle.jc_model.specs.declared.event.Entry.{Entry}
 use Rattle.jc_model.specs.declared.event.Outcome.TheVariants.{Step}
 use Rattle.jc_model.specs.Legal.{with_outcome}
 use Rattle.jc_engine.specs.declared.cache.Advance.{Advance}

@@ -6,7 +6,7 @@ use Rattle.jc_model.specs.declared.event.Entry.{Entry}
 use Rattle.jc_model.specs.declared.event.Outcome.TheVariants as outcome
 use Rattle.jc_model.specs.Legal.{with_outcome}
 use Rattle.jc_model.proofs.EachCache.{at_same}
-use Rattle.jc_ops.specs.Noted.{Noted}
+use Rattle.jc_state.specs.Noted.{Noted}
 use Rattle.jc_engine.specs.Recording.{left_in}
 use Rattle.jc_engine.proofs.Entries.{some_at, length_set, set_set}
 use Rattle.jc_engine.proofs.recorded.note_given_up.Goals as goal

@@ -1,8 +1,8 @@
-use Rattle.std.proofs.Common.{sym, ap, subst, refl, ◌∙◌, length, List, arith}
+use Rattle.std.proofs.Common.{sym, ap, subst, ◌∙◌, length, List, arith}
 use Rattle.std.proofs.lemmas.Bool.{false≢true}
 use Rattle.jc_model.specs.declared.config.CacheConfig.{CacheConfig}
 use Rattle.jc_runner.specs.Hooks.{AllSuit}
-use Rattle.jc_runner.proofs.Suiting.{same_count, suits_at, one_more_suits, all_there}
+use Rattle.jc_runner.proofs.Suiting.{same_count, suits_at, one_more_suits}
 use Rattle.jc_runner.proofs.hooks.all_suit.Goals as goal
 
 pub returns-then-caches-hooks : goal.returns-then-caches-hooks

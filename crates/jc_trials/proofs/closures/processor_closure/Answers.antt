@@ -1,7 +1,7 @@
 use denote.Param.Object.{read_made}
 use Rattle.std.proofs.Common.{Ok, refl, subst, sym, inl}
 use Rattle.jc_hooks.proofs.Stated.{processes_by}
-use Rattle.jc_trials.specs.Processors.{verdict_by}
+use Rattle.jc_hooks.specs.Processors.{verdict_by}
 use Rattle.jc_trials.proofs.closures.processor_closure.Hides as hides
 use Rattle.jc_trials.proofs.closures.processor_closure.Goals as goal
 

@@ -1,4 +1,4 @@
-use Rattle.std.proofs.Common.{◌≡◌, ◌<◌, length, Some, refl, sym, ap, subst, ◌∙◌, List, ℕ, false, arith, rules}
+use Rattle.std.proofs.Common.{◌≡◌, Some, refl, sym, ap, subst, ◌∙◌, List, ℕ, false, rules}
 use Rattle.std.specs.Prelude.{slice_get, slice_set, map, IfOk, OnOk}
 use Rattle.std.specs.HashMap.{get}
 use Rattle.std.specs.Str.{bytes_eq}
@@ -7,7 +7,7 @@ use Rattle.jc_model.specs.Runs.{answer_to, statuses_after}
 use Rattle.jc_engine.specs.Caches.{Cache, status_of}
 use Rattle.jc_engine.specs.Managed.{cache_in}
 use Rattle.jc_engine.specs.Advances.{of_abandon, LeavesAt, ClosedAt}
-use Rattle.jc_engine.proofs.Moving.{read_at, managed_here, sound_after, one_after}
+use Rattle.jc_engine.proofs.Moving.{read_at, managed_own, sound_after, one_after}
 use Rattle.jc_engine.proofs.GivingUp.{abandoned, left_here, managed_after, config_after, closed_here, always}
 use Rattle.jc_engine.proofs.engine.Engine.abandon.Given as given
 use Rattle.jc_engine.proofs.engine.Engine.abandon.Goals as goal
@@ -20,8 +20,8 @@ invariant_of-self g c =
     let m = g.R.Rows.contents c.self.inside.rows in
     sound_after c.self.inside.caches.items c.args.self.now c.self.view_is (GiveUp c.args.id) c.number-2.result c.number-2.ensures c.index_mut-cache.result.now (found g c) c.abandon.new.self
     m m c.self.inside.names.items (get bytes_eq c.self.inside.ids) c.self.invariant
-    (managed_after m c.args.id c.index_mut-cache.result.now c.abandon.new.self c.abandon.result
-    (managed_here c.self.inside.caches.items c.args.self.now c.self.view_is (GiveUp c.args.id) c.number-2.result c.number-2.ensures c.index_mut-cache.result.now (found g c) m c.self.inside.names.items (get bytes_eq c.self.inside.ids) c.self.invariant)
+    (managed_after m c.index_mut-cache.result.now.state.id c.index_mut-cache.result.now c.abandon.new.self c.abandon.result
+    (managed_own c.self.inside.caches.items c.args.self.now c.self.view_is (GiveUp c.args.id) c.number-2.result c.number-2.ensures c.index_mut-cache.result.now (found g c) m c.self.inside.names.items (get bytes_eq c.self.inside.ids) c.self.invariant)
     c.abandon.ensures)
     (config_after c.index_mut-cache.result.now c.abandon.new.self c.abandon.result c.abandon.ensures)
     (λ other k differ. refl)

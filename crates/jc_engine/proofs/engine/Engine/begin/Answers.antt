@@ -1,4 +1,3 @@
-use Rattle.std.proofs.Common.{◌≡◌, false}
 use Rattle.std.specs.Prelude.{map}
 use Rattle.jc_model.specs.declared.event.Event.TheVariants.{Begin}
 use Rattle.jc_model.specs.declared.event.Outcome.TheVariants.{Refused}

@@ -1,13 +1,10 @@
-use Rattle.std.proofs.Common.{◌≡◌, List, ℕ, Option, Some, None, ap, sym, ◌∙◌}
+use Rattle.std.proofs.Common.{Some, ap, sym, ◌∙◌}
 use Rattle.std.specs.Prelude.{position}
 use Rattle.std.specs.Str.{bytes_eq}
-use Rattle.std.specs.Map.{lookup}
-use Rattle.jc_model.specs.contracts.key.KeyPartialEq.TheImpl.{eq-value}
 use Rattle.jc_engine.specs.Caches.{Cache, names_of}
 use Rattle.jc_engine.specs.Managed.{cache_in}
 use Rattle.jc_engine.proofs.Places.{map_map}
 use Rattle.jc_engine.proofs.Names.{same_get}
-use Rattle.jc_engine.proofs.engine.Engine.cache.Given as given
 use Rattle.jc_engine.proofs.engine.Engine.cache.Goals as goal
 
 pub returns-in-Some : goal.returns-in-Some

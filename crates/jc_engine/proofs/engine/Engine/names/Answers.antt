@@ -1,4 +1,4 @@
-use Rattle.std.proofs.Common.{◌≡◌, List, map, ap, sym, ◌∙◌}
+use Rattle.std.proofs.Common.{ap, sym, ◌∙◌}
 use Rattle.jc_engine.specs.Caches.{Cache, names_of}
 use Rattle.jc_engine.specs.Managed.{cache_in}
 use Rattle.jc_engine.proofs.Places.{map_map}

@@ -1,4 +1,3 @@
-use Rattle.std.proofs.Common.{◌≡◌, Some, None}
 use Rattle.std.specs.Prelude.{map}
 use Rattle.jc_model.specs.declared.event.Event.TheVariants.{Answer as Answered}
 use Rattle.jc_engine.specs.Caches.{status_of}

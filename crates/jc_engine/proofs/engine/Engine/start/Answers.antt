@@ -1,9 +1,9 @@
-use Rattle.std.proofs.Common.{◌≡◌, ◌<◌, length, Some, refl}
+use Rattle.std.proofs.Common.{◌≡◌, Some, refl}
 use Rattle.std.specs.Prelude.{slice_get}
 use Rattle.std.specs.HashMap.{get}
 use Rattle.std.specs.Str.{bytes_eq}
 use Rattle.jc_model.specs.declared.event.Event.TheVariants.{Begin}
-use Rattle.jc_engine.proofs.Moving.{read_at, within, allowed_here, managed_here, sound_after, one_after, outcome_after, statuses_later, fits_after}
+use Rattle.jc_engine.proofs.Moving.{read_at, managed_own, within, allowed_here, sound_after, one_after, outcome_after, statuses_later, fits_after}
 use Rattle.jc_engine.proofs.engine.Engine.start.Given as given
 use Rattle.jc_engine.proofs.engine.Engine.start.Goals as goal
 
@@ -42,3 +42,10 @@ pub returns-clause-fits : goal.returns-clause-fits
 returns-clause-fits g c =
     fits_after c.self.inside.caches.items c.args.self.now c.self.view_is (Begin c.args.id c.args.now c.args.call) c.number.result c.number.ensures c.index_mut-cache.result.now (found g c) c.start.new.self
     c.start.result c.requires c.start.ensures.ok c.start.ensures.same
+
+pub start-requires-clause-managed : goal.start-requires-clause-managed
+start-requires-clause-managed g c =
+    managed_own c.self.inside.caches.items c.args.self.now c.self.view_is (Begin c.args.id c.args.now c.args.call) c.number.result c.number.ensures c.index_mut-cache.result.now
+    (read_at c.self.inside.caches.items c.self.inside.caches.items c.number.result c.args.id c.index_mut-cache.result.now refl c.number.ensures
+    (within c.self.inside.caches.items c.args.self.now c.self.view_is (Begin c.args.id c.args.now c.args.call) c.number.result c.number.ensures c.requires) c.index_mut-cache.ensures.value)
+    (g.R.Rows.contents c.self.inside.rows) c.self.inside.names.items (get bytes_eq c.self.inside.ids) c.self.invariant

@@ -5,14 +5,12 @@ use Rattle.jc_model.specs.declared.event.Event.TheVariants.{Begin}
 use Rattle.jc_model.specs.declared.event.Step.{Step}
 use Rattle.jc_model.specs.declared.event.Outcome.TheVariants as outcome
 use Rattle.jc_model.specs.Runs.{for_memory, answer_to}
-use Rattle.jc_model.specs.Legal.{with_outcome, with_answer, on_open}
-use Rattle.jc_model.proofs.EachCache.{at_same}
+use Rattle.jc_model.specs.Legal.{with_outcome}
 use Rattle.jc_engine.specs.Caches.{status_of}
 use Rattle.jc_engine.specs.Managed.{step_of, is_step}
-use Rattle.jc_engine.specs.Recording.{Recording, IsRecorded, blank, left_in}
+use Rattle.jc_engine.specs.Recording.{Recording, IsRecorded, blank}
 use Rattle.jc_engine.proofs.Moving.{refused_anyway}
-use Rattle.jc_engine.proofs.Places.{same_set}
-use Rattle.jc_engine.proofs.Entries.{some_at, get_last, set_last, set_set, length_set}
+use Rattle.jc_engine.proofs.Entries.{some_at, get_last, set_last}
 use Rattle.jc_engine.proofs.Recordings.{begun, memory_last, has_place, blank_tells, restored, same_recording, popped_back, on_ok}
 use Rattle.jc_engine.proofs.recorded.Recorded.begin.Given as given
 use Rattle.jc_engine.proofs.recorded.Recorded.begin.Goals as goal

@@ -1,20 +1,15 @@
-use Rattle.std.proofs.Common.{◌≡◌, ◌<◌, ◌++◌, ◌∷◌, ℕ, List, [], length, map, Some, None, false, true, refl, sym, ap, subst, ◌∙◌, arith}
-use Rattle.std.specs.Prelude.{slice_get, slice_set}
+use Rattle.std.proofs.Common.{◌≡◌, List, map, sym, ap, subst, ◌∙◌}
+use Rattle.std.specs.Prelude.{slice_set}
 use Rattle.std.proofs.lemmas.Option.{slice_get_within}
 use Rattle.jc_model.specs.declared.call.Notice.{Notice}
 use Rattle.jc_model.specs.declared.event.Entry.{Entry}
 use Rattle.jc_model.specs.declared.event.Event.TheVariants.{GiveUp}
-use Rattle.jc_model.specs.declared.event.Step.{Step}
 use Rattle.jc_model.specs.declared.event.Outcome.TheVariants as outcome
 use Rattle.jc_model.specs.Runs.{statuses_after}
-use Rattle.jc_model.specs.Legal.{with_outcome, with_answer, on_open}
-use Rattle.jc_model.proofs.EachCache.{at_same}
+use Rattle.jc_model.specs.Legal.{with_outcome, on_open}
 use Rattle.jc_engine.specs.Caches.{status_of}
 use Rattle.jc_engine.specs.Advances.{LeavesAt}
-use Rattle.jc_engine.specs.Recording.{Recording, IsRecorded, blank, left_in}
-use Rattle.jc_engine.proofs.Moving.{refused_anyway}
-use Rattle.jc_engine.proofs.Places.{same_set}
-use Rattle.jc_engine.proofs.Entries.{some_at, get_last, set_last, set_set, length_set}
+use Rattle.jc_engine.specs.Recording.{Recording, IsRecorded, left_in}
 use Rattle.jc_engine.proofs.Recordings.{FindsOpen, give_up_finds, given_up, given_up_writes, of_left, untold_left}
 use Rattle.jc_engine.proofs.recorded.Recorded.give_up.Given as given
 use Rattle.jc_engine.proofs.recorded.Recorded.give_up.Goals as goal

@@ -1,6 +1,6 @@
-use Rattle.std.proofs.Common.{◌≡◌, List, [], length, map, ap, subst, sym, ◌∙◌, arith}
+use Rattle.std.proofs.Common.{◌≡◌, List, length, map, ap, subst, sym, ◌∙◌, arith}
 use Rattle.jc_model.specs.declared.event.Entry.{Entry}
-use Rattle.jc_engine.specs.Caches.{Cache, status_of, fresh_cache}
+use Rattle.jc_engine.specs.Caches.{status_of, fresh_cache}
 use Rattle.jc_engine.specs.Recording.{IsRecorded}
 use Rattle.jc_engine.proofs.Places.{map_map}
 use Rattle.jc_engine.proofs.Openings.{never_refused, first_recorded}

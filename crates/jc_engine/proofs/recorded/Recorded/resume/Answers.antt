@@ -1,19 +1,15 @@
-use Rattle.std.proofs.Common.{◌≡◌, ◌<◌, ◌++◌, ◌∷◌, ℕ, List, [], length, map, Some, None, false, true, refl, sym, ap, subst, ◌∙◌, arith}
+use Rattle.std.proofs.Common.{◌≡◌, ◌<◌, ℕ, List, length, Some, sym, ap, subst, ◌∙◌}
 use Rattle.std.specs.Prelude.{slice_get, slice_set}
 use Rattle.std.proofs.lemmas.Option.{slice_get_within}
 use Rattle.jc_model.specs.declared.event.Entry.{Entry}
-use Rattle.jc_model.specs.declared.event.Event.TheVariants.{Answer as Answered}
 use Rattle.jc_model.specs.declared.event.Step.{Step}
 use Rattle.jc_model.specs.declared.event.Outcome.TheVariants as outcome
-use Rattle.jc_model.specs.Runs.{for_memory, answer_to}
 use Rattle.jc_model.specs.Legal.{with_outcome, with_answer, on_open}
 use Rattle.jc_model.proofs.EachCache.{at_same}
-use Rattle.jc_engine.specs.Caches.{status_of}
 use Rattle.jc_engine.specs.Managed.{step_of}
-use Rattle.jc_engine.specs.Recording.{Recording, IsRecorded, blank, left_in}
-use Rattle.jc_engine.proofs.Moving.{refused_anyway}
+use Rattle.jc_engine.specs.Recording.{Recording, IsRecorded}
 use Rattle.jc_engine.proofs.Places.{same_set}
-use Rattle.jc_engine.proofs.Entries.{some_at, get_last, set_last, set_set, length_set}
+use Rattle.jc_engine.proofs.Entries.{set_set, length_set}
 use Rattle.jc_engine.proofs.Recordings.{FindsOpen, answer_finds, resumed, resumed_writes, can_tell, restored, same_recording, on_ok}
 use Rattle.jc_engine.proofs.recorded.Recorded.resume.Given as given
 use Rattle.jc_engine.proofs.recorded.Recorded.resume.Goals as goal
@@ -63,7 +59,7 @@ returns-in-Ok-clause-transcript g c = λ session.
     ∙ ap (λ (s : Step). on_open c.args.id (λ d. with_outcome (outcome.Step s) (with_answer c.args.answer d)) c.self.inside.transcript) (sym c.note.ensures.shown)
     ∙ ap (λ (r : Recording). on_open c.args.id (λ d. with_outcome (outcome.Step c.note.result.0) (with_answer c.args.answer d)) r.transcript) c.self.view_is
 
-taken_back : (g : given.Over) (c : goal.Joined-pop_answer g) → c.pop_answer.new.self ≡ c.self.inside.transcript
+taken_back : (g : given.Over) (c : goal.After-pop_answer g) → c.pop_answer.new.self ≡ c.self.inside.transcript
 taken_back g c =
     let f = answer_finds c.self.inside.engine c.self.inside.transcript c.self.inside.places.items c.self.invariant c.args.id c.number.result c.index-place.result.now c.number.ensures c.index-place.ensures c.args.answer c.in_default.ensures in
     let entered = on_ok c.enter_answer.result c.enter_answer.ensures.ok (sym c.is_err.ensures.value ∙ c.if-is_err.false) f.opened.entry f.opened.there in

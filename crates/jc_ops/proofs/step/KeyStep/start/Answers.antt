@@ -1,40 +1,37 @@
-use Rattle.std.proofs.Common.{sym, ◌∙◌, ap, subst}
+use Rattle.std.proofs.Common.{◌≡◌, sym, ◌∙◌, ap, subst}
+use Rattle.jc_model.specs.declared.config.CacheConfig.{CacheConfig}
 use Rattle.jc_model.specs.Changes.{purge}
 use Rattle.jc_model.specs.Step.{step}
 use Rattle.jc_model.specs.Run.{Run}
 use Rattle.jc_model.proofs.Purge.{purge-again, step-purged}
-use Rattle.jc_ops.specs.Kept.{progress_of}
+use Rattle.jc_state.specs.Kept.{progress_of, items_of}
 use Rattle.jc_ops.specs.Stepped.{StepsTo}
-use Rattle.jc_ops.proofs.Starts.{covers_purged, has_room}
+use Rattle.jc_ops.specs.Supply.{Covers}
+use Rattle.jc_ops.proofs.Goes.{covers_purged}
 use Rattle.jc_ops.proofs.step.KeyStep.start.Goals as goal
 
-pub start_live-requires-clause-covered : goal.start_live-requires-clause-covered
-start_live-requires-clause-covered g c =
-    covers_purged c.args.config.now c.args.now c.args.call (progress_of c.args.state.now c.args.notices.now.told) (progress_of c.find_live.new.self c.find_live.new.notices.told) _ _ c.in-Some.ensures.progress c.requires.covered
+pub begin-requires-clause-row : goal.begin-requires-clause-row
+begin-requires-clause-row g c = c.purge-row.ensures.found c.args.call.key c.requires.row
 
-pub start_live-requires-clause-purged : goal.start_live-requires-clause-purged
-start_live-requires-clause-purged g c =
-    ap (purge c.args.config.now c.args.now c.args.call.key) c.in-Some.ensures.progress
-    ∙ (purge-again c.args.config.now c.args.now c.args.call.key (progress_of c.args.state.now c.args.notices.now.told) ∙ sym c.in-Some.ensures.progress)
+pub begin-requires-clause-covered : goal.begin-requires-clause-covered
+begin-requires-clause-covered g c =
+    let p = progress_of c.args.state.now c.args.notices.now.told in
+    let q = progress_of c.purge-row.new.self c.purge-row.new.notices.told in
+    subst (λ (f : CacheConfig). Covers f.writer f c.args.call (items_of c.purge-row.new.self.cells) c.args.supply) (sym c.purge-row.ensures.stays.keeps.config)
+    (covers_purged c.args.state.now.config c.args.now c.args.call p q _ c.args.supply (c.purge-row.ensures.progress c.args.call.key c.requires.row) c.requires.covered)
 
-pub returns-in-Some-clause-next : goal.returns-in-Some-clause-next
-returns-in-Some-clause-next g c =
-    let same = ap (step c.args.config.now c.args.now c.args.call) c.in-Some.ensures.progress ∙ step-purged c.args.config.now c.args.now c.args.call (progress_of c.args.state.now c.args.notices.now.told) in
-    subst (λ (run : Run). StepsTo c.args.config.now run c.start_live.result c.start_live.new.state c.start_live.new.notices.told) same c.start_live.ensures.next
+pub begin-requires-clause-purged : goal.begin-requires-clause-purged
+begin-requires-clause-purged g c =
+    let p = progress_of c.args.state.now c.args.notices.now.told in
+    let q = progress_of c.purge-row.new.self c.purge-row.new.notices.told in
+    let is : q ≡ purge c.args.state.now.config c.args.now c.args.call.key p = c.purge-row.ensures.progress c.args.call.key c.requires.row in
+    subst (λ (f : CacheConfig). purge f c.args.now c.args.call.key q ≡ q) (sym c.purge-row.ensures.stays.keeps.config)
+    (ap (purge c.args.state.now.config c.args.now c.args.call.key) is ∙ (purge-again c.args.state.now.config c.args.now c.args.call.key p ∙ sym is))
 
-pub start_absent-requires-clause-covered : goal.start_absent-requires-clause-covered
-start_absent-requires-clause-covered g c =
-    covers_purged c.args.config.now c.args.now c.args.call (progress_of c.args.state.now c.args.notices.now.told) (progress_of c.find_live.new.self c.find_live.new.notices.told) _ _ c.in-None.ensures.progress c.requires.covered
-
-pub start_absent-requires-clause-purged : goal.start_absent-requires-clause-purged
-start_absent-requires-clause-purged g c =
-    ap (purge c.args.config.now c.args.now c.args.call.key) c.in-None.ensures.progress
-    ∙ (purge-again c.args.config.now c.args.now c.args.call.key (progress_of c.args.state.now c.args.notices.now.told) ∙ sym c.in-None.ensures.progress)
-
-pub returns-in-None-clause-next : goal.returns-in-None-clause-next
-returns-in-None-clause-next g c =
-    let same = ap (step c.args.config.now c.args.now c.args.call) c.in-None.ensures.progress ∙ step-purged c.args.config.now c.args.now c.args.call (progress_of c.args.state.now c.args.notices.now.told) in
-    subst (λ (run : Run). StepsTo c.args.config.now run c.start_absent.result c.start_absent.new.state c.start_absent.new.notices.told) same c.start_absent.ensures.next
-
-pub start_absent-requires-clause-room : goal.start_absent-requires-clause-room
-start_absent-requires-clause-room g c = has_room c.args.config.now.writer c.args.call.op _ _ c.in-None.ensures.room c.requires.room
+pub returns-clause-next : goal.returns-clause-next
+returns-clause-next g c =
+    let p = progress_of c.args.state.now c.args.notices.now.told in
+    let q = progress_of c.purge-row.new.self c.purge-row.new.notices.told in
+    let is : q ≡ purge c.args.state.now.config c.args.now c.args.call.key p = c.purge-row.ensures.progress c.args.call.key c.requires.row in
+    subst (λ (run : Run). StepsTo c.args.state.now.config run c.begin.result c.begin.new.state c.begin.new.notices.told) (ap (step c.args.state.now.config c.args.now c.args.call) is ∙ step-purged c.args.state.now.config c.args.now c.args.call p)
+    (subst (λ (f : CacheConfig). StepsTo f (step f c.args.now c.args.call q) c.begin.result c.begin.new.state c.begin.new.notices.told) c.purge-row.ensures.stays.keeps.config c.begin.ensures.next)

@@ -1,23 +1,25 @@
-use Rattle.std.proofs.Common.{sym, ◌∙◌}
+use Rattle.std.proofs.Common.{sym, ◌∙◌, ap}
+use Rattle.std.specs.Prelude.{option_map}
+use Rattle.jc_model.specs.declared.table.Line.{Line}
+use Rattle.jc_model.specs.Changes.{find_row}
+use Rattle.jc_model.specs.Step.{ended_by}
+use Rattle.jc_model.specs.Table.{decided}
+use Rattle.jc_state.specs.Kept.{progress_of}
 use Rattle.jc_ops.specs.Given.{value_in}
-use Rattle.jc_ops.specs.Kept.{progress_of}
-use Rattle.jc_ops.proofs.Acted.{found_there, found_none, acted_there, acted_nowhere}
+use Rattle.jc_ops.specs.Verdicts.{verdict_line}
+use Rattle.jc_ops.proofs.Judged.{row_is_there, decides}
 use Rattle.jc_ops.proofs.step.invoke.end_verdict.Goals as goal
 
-pub end_absent-requires-clause-room : goal.end_absent-requires-clause-room
-end_absent-requires-clause-room g c =
-    λ adds. c.requires.room (sym (c.acted_absent-ending.ensures.adds (value_in c.args.loaded.now) (sym c.has_value.ensures)) ∙ adds)
-
-pub returns-in-Some-clause-run : goal.returns-in-Some-clause-run
-returns-in-Some-clause-run g c =
-    let p = progress_of c.args.state.now c.args.notices.now.told in
-    let f = found_there _ c.args.id c.args.key c.args.state.now c.args.row _ c.in-Some.is c.requires.row in
-    acted_there c.args.config.now c.args.now c.args.key (value_in c.args.loaded.now) c.args.verdict.now _ c.args.shown p _ _ c.requires.stored c.requires.shown _ f.0 c.acted_live.result f.1.found
-    (c.acted_live.ensures c.args.config.now c.args.now c.args.key f.0 (value_in c.args.loaded.now) p c.args.verdict.now.answer) (c.end_live.ensures.run f.0 f.1.found)
-
-pub returns-in-None-clause-run : goal.returns-in-None-clause-run
-returns-in-None-clause-run g c =
-    let p = progress_of c.args.state.now c.args.notices.now.told in
-    let f = found_none _ c.args.id c.args.key c.args.state.now c.args.row c.in-None.is c.requires.row in
-    acted_nowhere c.args.config.now c.args.now c.args.key (value_in c.args.loaded.now) c.args.verdict.now _ c.args.shown p _ _ c.requires.stored c.requires.shown _ c.acted_absent-ending.result f.0
-    (c.acted_absent-ending.ensures.line c.args.config.now c.args.now c.args.key (value_in c.args.loaded.now) p c.args.verdict.now.answer (sym c.has_value.ensures)) c.end_absent.ensures.run
+pub returns-clause-run : goal.returns-clause-run
+returns-clause-run g c =
+    let s = c.args.state.now in
+    let k = c.args.at.now.key in
+    let now = c.args.at.now.moment in
+    let p = progress_of s c.args.notices.now.told in
+    let row = find_row k p in
+    let v = c.args.verdict.now in
+    let stored = option_map (λ t. t.value) c.args.supply.stored in
+    let line = ap (verdict_line v.action) (row_is_there k s c.args.at.now.row c.requires.row ∙ sym c.is_some.ensures) ∙ sym c.verdict_line-line.ensures in
+    ap (λ (l : Line). ended_by s.config now k l row (decided (value_in c.args.loaded.now) v.action) v.answer p) line
+    ∙ (ap (λ t. ended_by s.config now k c.verdict_line-line.result row t v.answer p) (sym (c.requires.covered.stored ∙ decides s.config now k (value_in c.args.loaded.now) v.action))
+    ∙ (ap (λ t. ended_by s.config now k c.verdict_line-line.result row stored t p) (sym c.requires.covered.shown) ∙ c.end.ensures.run))

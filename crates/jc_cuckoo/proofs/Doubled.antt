@@ -1,0 +1,121 @@
+-- A table of twice as many buckets has the rows that were brought into it.
+use Rattle.std.proofs.Common.{◌≡◌, ℕ, ◌+◌, ◌*◌, ◌<◌, ◌≤◌, List, length, take, replicate, Option, Some, None, sym, ap, ap₂, ◌∙◌, subst, arith}
+use Rattle.std.specs.FinMap as map
+use Rattle.std.specs.Option.{option_map}
+use Rattle.std.proofs.lemmas.List.{get_or-take, length-replicate}
+use Rattle.jc_model.specs.declared.config.Expiry.{Expiry}
+use Rattle.jc_cuckoo.specs.declared.held.Held.{Held}
+use Rattle.jc_cuckoo.specs.Cells.{place_of, row_of, cell, rows_in}
+use Rattle.jc_cuckoo.specs.Images.{Shown, Covers, image_of, shown, slot}
+use Rattle.jc_cuckoo.specs.Table.{Table}
+use Rattle.jc_cuckoo.specs.Double.{IsAdded, IsBlank, IsDoubled, HasSlots, HasStash}
+use Rattle.jc_cuckoo.proofs.Blank.{blank_on}
+use Rattle.jc_cuckoo.proofs.Cells.{Once, Found, get_some, get_found}
+use Rattle.jc_cuckoo.proofs.Changes.{inside}
+use Rattle.jc_cuckoo.proofs.Covers.{covers_more}
+use Rattle.jc_cuckoo.proofs.Empty.{rows_none, none_there}
+use Rattle.jc_cuckoo.proofs.Taken.{taken_none, taken_some, taken_absent, taken_all, once_taken}
+use Rattle.jc_cuckoo.proofs.Told.{behind, slot_is}
+
+-- one cell more
+
+pub rows_brought : {P M N : Type 0} (t : Table P M) (at : ℕ) (u v : Table P N) (h : Held) → Once t.cells → at < length t.cells → cell t.cells at ≡ Some h → rows_in u.cells ≡ rows_in (take at t.cells) → IsAdded u v h → rows_in v.cells ≡ rows_in (take (at + 1) t.cells)
+rows_brought t at u v h once below is rows added =
+    added.rows ∙ (ap (λ m. map.insert m (place_of h) (row_of h)) rows ∙ sym (taken_some t.cells at h below once is))
+
+pub brought_absent : (cs ds : List (Option Held)) (at : ℕ) (h : Held) → Once cs → at < length cs → cell cs at ≡ Some h → rows_in ds ≡ rows_in (take at cs) → map.get (rows_in ds) (place_of h) ≡ None
+brought_absent cs ds at h once below is rows = ap (λ m. map.get m (place_of h)) rows ∙ taken_absent cs at h below once is
+
+pub slot_brought : {P M N : Type 0} (t : Table P M) (at : ℕ) (u v : Table P N) (h : Held) → Once t.cells → at < length t.cells → cell t.cells at ≡ Some h → HasSlots t at u → IsAdded u v h → length v.cells ≡ 8 * t.buckets → IsBlank t.buckets v.cells (at + 1) → HasSlots t (at + 1) v
+slot_brought t at u v h once below is has added slots blank = record {
+  placer = added.placer ∙ has.placer;
+  buckets = added.buckets ∙ has.buckets;
+  rows = rows_brought t at u v h once below is has.rows added;
+  slots = slots;
+  blank = blank;
+}
+
+pub slot_passed : {P M N : Type 0} (t : Table P M) (at : ℕ) (u : Table P N) → at < length t.cells → cell t.cells at ≡ None → HasSlots t at u → HasSlots t (at + 1) u
+slot_passed t at u below is has = record {
+  placer = has.placer;
+  buckets = has.buckets;
+  rows = has.rows ∙ sym (taken_none t.cells at below is);
+  slots = has.slots;
+  blank = blank_on t.buckets at u.cells has.blank;
+}
+
+pub stash_brought : {P M N : Type 0} (t : Table P M) (at : ℕ) (u v : Table P N) (h : Held) → Once t.cells → at < length t.cells → cell t.cells at ≡ Some h → HasStash t at u → IsAdded u v h → HasStash t (at + 1) v
+stash_brought t at u v h once below is has added = record {
+  placer = added.placer ∙ has.placer;
+  buckets = added.buckets ∙ has.buckets;
+  rows = rows_brought t at u v h once below is has.rows added;
+  short = let short = has.short in let longer = added.longer in omega arith;
+  covers = covers_more (image_of t.buckets t.cells) (image_of u.buckets u.cells) (image_of v.buckets v.cells) has.covers added.covers;
+}
+
+pub stash_passed : {P M N : Type 0} (t : Table P M) (at : ℕ) (u : Table P N) → at < length t.cells → cell t.cells at ≡ None → HasStash t at u → HasStash t (at + 1) u
+stash_passed t at u below is has = record {
+  placer = has.placer;
+  buckets = has.buckets;
+  rows = has.rows ∙ sym (taken_none t.cells at below is);
+  short = let short = has.short in omega arith;
+  covers = has.covers;
+}
+
+-- none, all slots, all cells
+
+no_slots : (n at : ℕ) (cs ds : List (Option Held)) → ds ≡ replicate (8 * n) None → (rows_in ds ≡ rows_in (take 0 cs)) × (length ds ≡ 8 * n) × IsBlank n ds at
+unfolding rows_in
+no_slots n at cs ds empty = (
+  ap rows_in empty ∙ rows_none (8 * n),
+  ap length empty ∙ length-replicate (8 * n) None,
+  record { blank = λ j a b. (ap (λ l. cell l j) empty ∙ none_there (8 * n) j, ap (λ l. cell l (4 * n + j)) empty ∙ none_there (8 * n) (4 * n + j)) },
+)
+
+pub slots_first : {P M N : Type 0} (t : Table P M) (u : Table P N) → u.placer ≡ t.placer → u.buckets ≡ 2 * t.buckets → u.cells ≡ replicate (8 * t.buckets) None → HasSlots t 0 u
+slots_first t u placer buckets empty = let first = no_slots t.buckets 0 t.cells u.cells empty in record {
+  placer = placer;
+  buckets = buckets;
+  rows = first.0;
+  slots = first.1;
+  blank = first.2;
+}
+
+-- each row of the first cells stands somewhere
+
+shown_again : (m : ℕ) (ds : List (Option Held)) (h : Held) (s : Shown) → length ds ≡ 4 * m → shown h ≡ s → Found ds (place_of h) (row_of h) → (j : ℕ) × (slot (image_of m ds) j ≡ Some s)
+shown_again m ds h s long shows f =
+    let below = inside ds f.stands.at f.held f.stands.is in
+    let same : shown f.held ≡ s = ap₂ (λ (x : ℕ × List ℕ) (y : ℕ × Expiry). (x, y.1)) f.at f.gives ∙ shows in
+    (f.stands.at, slot_is m ds f.stands.at (omega arith) (omega arith) ∙ (ap (option_map shown) f.stands.is ∙ ap (λ (x : Shown). Some x) same))
+
+covers_slots : (n : ℕ) (cs ds : List (Option Held)) → Once cs → 4 * n ≤ length cs → rows_in ds ≡ rows_in (take (4 * n) cs) → length ds ≡ 8 * n → Covers (image_of n cs) (image_of (2 * n) ds)
+covers_slots n cs ds once wide rows slots = record {
+  kept = λ i s is. (
+      let b = behind n cs i s wide is in
+      let taken : cell (take (4 * n) cs) i ≡ Some b.held = get_or-take (4 * n) cs i None b.below ∙ b.is in
+      let held : map.get (rows_in ds) (place_of b.held) ≡ Some (row_of b.held) = ap (λ m. map.get m (place_of b.held)) rows ∙ get_some (take (4 * n) cs) i b.held (once_taken cs (4 * n) wide once) taken in
+      shown_again (2 * n) ds b.held s (omega arith) b.shows (get_found ds (place_of b.held) (row_of b.held) held));
+}
+
+pub slots_all : {P M N : Type 0} (t : Table P M) (at : ℕ) (u : Table P N) → Once t.cells → 4 * t.buckets ≤ length t.cells → at ≡ 4 * t.buckets → HasSlots t at u → HasStash t (4 * t.buckets) u
+slots_all t at u once wide end has = record {
+  placer = has.placer;
+  buckets = has.buckets;
+  rows = rows;
+  short = let slots = has.slots in omega arith;
+  covers = subst (λ (m : ℕ). Covers (image_of t.buckets t.cells) (image_of m u.cells)) (sym has.buckets) (covers_slots t.buckets t.cells u.cells once wide rows has.slots);
+}
+  where
+    rows : rows_in u.cells ≡ rows_in (take (4 * t.buckets) t.cells)
+    rows = has.rows ∙ ap (λ (m : ℕ). rows_in (take m t.cells)) end
+
+pub stash_all : {P M N : Type 0} (t : Table P M) (at total : ℕ) (u : Table P N) → at ≡ length t.cells → u.room + length u.cells ≡ total → 4 * t.buckets + length t.cells + t.room ≤ total → HasStash t at u → IsDoubled t u
+stash_all t at total u end same enough has = let short = has.short in let buckets = has.buckets in record {
+  placer = has.placer;
+  buckets = has.buckets;
+  rows = has.rows ∙ taken_all t.cells at (omega arith);
+  stash = omega arith;
+  room = omega arith;
+  covers = has.covers;
+}

@@ -1,0 +1,70 @@
+-- A table of twice as many buckets, and how far it is filled.
+use Rattle.std.specs.Prelude.{◌≡◌, ℕ, ◌+◌, ◌-◌, ◌*◌, ◌<◌, ◌≤◌, List, length, take, slice_set, Option, Some, None}
+use Rattle.std.specs.FinMap as map
+use Rattle.jc_cuckoo.specs.declared.held.Held.{Held}
+use Rattle.jc_cuckoo.specs.Cells.{place_of, row_of, cell, rows_in, IsVacant}
+use Rattle.jc_cuckoo.specs.Images.{Image, Covers, image_of}
+use Rattle.jc_cuckoo.specs.Table.{Table}
+
+-- the first slot of a bucket that holds none
+pub record IsFirstVacant (cells : List (Option Held)) (bucket : ℕ) (i : ℕ) : Type 0 where
+  pub vacant : IsVacant cells bucket i
+  pub first : (j : ℕ) → 4 * bucket ≤ j → j < i → cell cells j ≡ None → ⊥
+
+-- a row was put into the first empty slot of a bucket
+pub record IsFilled (before after : List (Option Held)) (bucket : ℕ) (held : Held) : Type 0 where
+  pub at : ℕ
+  pub first : IsFirstVacant before bucket at
+  pub cells : after ≡ slice_set before at (Some held)
+
+-- a row was added, and all rows that were placed still are
+pub record IsAdded {P M : Type 0} (before after : Table P M) (held : Held) : Type 0 where
+  pub placer : after.placer ≡ before.placer
+  pub buckets : after.buckets ≡ before.buckets
+  pub rows : rows_in after.cells ≡ map.insert (rows_in before.cells) (place_of held) (row_of held)
+  pub total : after.room + length after.cells ≡ before.room + length before.cells
+  pub longer : length after.cells ≤ length before.cells + 1
+  pub covers : Covers (image_of before.buckets before.cells) (image_of after.buckets after.cells)
+
+-- of a table of 2n buckets: from a slot of a table of n on, both buckets of that slot's bucket are empty from that slot on
+pub record IsBlank (n : ℕ) (cells : List (Option Held)) (at : ℕ) : Type 0 where
+  pub blank : (j : ℕ) → at ≤ j → j < 4 * n → (cell cells j ≡ None) × (cell cells (4 * n + j) ≡ None)
+
+-- a table of twice as many buckets has the rows of the first slots of one
+pub record HasSlots {P M N : Type 0} (table : Table P M) (at : ℕ) (twice : Table P N) : Type 0 where
+  pub placer : twice.placer ≡ table.placer
+  pub buckets : twice.buckets ≡ 2 * table.buckets
+  pub rows : rows_in twice.cells ≡ rows_in (take at table.cells)
+  pub slots : length twice.cells ≡ 8 * table.buckets
+  pub blank : IsBlank table.buckets twice.cells at
+
+-- it has the rows of all slots and of the first cells of the stash
+pub record HasStash {P M N : Type 0} (table : Table P M) (at : ℕ) (twice : Table P N) : Type 0 where
+  pub placer : twice.placer ≡ table.placer
+  pub buckets : twice.buckets ≡ 2 * table.buckets
+  pub rows : rows_in twice.cells ≡ rows_in (take at table.cells)
+  pub short : length twice.cells ≤ 4 * table.buckets + at
+  pub covers : Covers (image_of table.buckets table.cells) (image_of twice.buckets twice.cells)
+
+-- it has the same rows: each that was placed still is, the stash is no longer, and the room no less
+pub record IsDoubled {P M N : Type 0} (table : Table P M) (twice : Table P N) : Type 0 where
+  pub placer : twice.placer ≡ table.placer
+  pub buckets : twice.buckets ≡ 2 * table.buckets
+  pub rows : rows_in twice.cells ≡ rows_in table.cells
+  pub stash : length twice.cells - 4 * twice.buckets ≤ length table.cells - 4 * table.buckets
+  pub room : table.room ≤ twice.room
+  pub covers : Covers (image_of table.buckets table.cells) (image_of twice.buckets twice.cells)
+
+-- nothing changed, and no image was told
+pub record IsLeft {P M : Type 0} (told : M → Option (List Image)) (before after : Table P M) : Type 0 where
+  pub placer : after.placer ≡ before.placer
+  pub buckets : after.buckets ≡ before.buckets
+  pub cells : after.cells ≡ before.cells
+  pub room : after.room ≡ before.room
+  pub images : told after.mirror ≡ told before.mirror
+
+-- the buckets became twice as many: only where there were fewer than 65,536, and rows for half of their slots
+pub record Doubles {P M : Type 0} (before after : Table P M) : Type 0 where
+  pub twice : after.buckets ≡ 2 * before.buckets
+  pub below : before.buckets < 65536
+  pub half : 2 * before.buckets ≤ map.len (rows_in before.cells)

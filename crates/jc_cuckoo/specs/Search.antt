@@ -1,0 +1,112 @@
+-- A search for a path: buckets in the order in which they were reached.
+use Rattle.std.specs.Prelude.{◌≡◌, ◌⊎◌, ℕ, zero, suc, ◌+◌, ◌*◌, ◌/◌, ◌%◌, ◌<◌, ◌≤◌, List, length, slice_index_or, Option, Some}
+use Rattle.jc_place.specs.declared.place.Place.{Place}
+use Rattle.jc_place.specs.Place.{alternate_of}
+use Rattle.jc_cuckoo.specs.declared.held.Held.{Held}
+use Rattle.jc_cuckoo.specs.declared.queue.Queue.{Queue}
+use Rattle.jc_cuckoo.specs.Cells.{place_of, cell, first_bucket, second_bucket, IsBucketOf, IsFull, IsVacant}
+
+abbrev pub bucket_at : Queue → ℕ → ℕ
+bucket_at q j = slice_index_or q.buckets j 0
+
+abbrev pub slot_at : Queue → ℕ → ℕ
+slot_at q j = slice_index_or q.slots j 0
+
+abbrev pub tag_at : Queue → ℕ → ℕ
+tag_at q j = slice_index_or q.tags j 0
+
+abbrev pub parent_at : Queue → ℕ → ℕ
+parent_at q j = slice_index_or q.parents j 0
+
+abbrev pub depth_at : Queue → ℕ → ℕ
+depth_at q j = slice_index_or q.depths j 0
+
+-- the row in a slot of an earlier bucket could move to this one
+pub record IsStep (p : ℕ → List ℕ → Place) (n : ℕ) (cells : List (Option Held)) (q : Queue) (j : ℕ) : Type 0 where
+  pub parent : parent_at q j < j
+  pub slot : slot_at q j / 4 ≡ bucket_at q (parent_at q j)
+  pub below : slot_at q j < 4 * n
+  pub held : Held
+  pub is : cell cells (slot_at q j) ≡ Some held
+  pub tag : tag_at q j ≡ (p held.id held.key).tag
+  pub other : bucket_at q j ≡ alternate_of n (tag_at q j) (slot_at q j / 4)
+  pub home : IsBucketOf p n (place_of held) (bucket_at q j)
+  pub depth : depth_at q j ≡ depth_at q (parent_at q j) + 1
+
+pub record IsSized (q : Queue) : Type 0 where
+  pub buckets : length q.buckets ≡ 64
+  pub slots : length q.slots ≡ 64
+  pub tags : length q.tags ≡ 64
+  pub parents : length q.parents ≡ 64
+  pub depths : length q.depths ≡ 64
+
+-- two buckets at first, each other one reached from an earlier one by at most five moves; no bucket twice
+pub record IsQueue (p : ℕ → List ℕ → Place) (n : ℕ) (cells : List (Option Held)) (q : Queue) : Type 0 where
+  pub wide : IsSized q
+  pub first_depth : depth_at q 0 ≡ 0
+  pub second_depth : depth_at q 1 ≡ 0
+  pub some : 2 ≤ q.count
+  pub few : q.count ≤ 64
+  pub below : (j : ℕ) → j < q.count → bucket_at q j < n
+  pub near : (j : ℕ) → j < q.count → depth_at q j ≤ 5
+  pub apart : (i j : ℕ) → i < q.count → j < q.count → bucket_at q i ≡ bucket_at q j → i ≡ j
+  pub steps : (j : ℕ) → 2 ≤ j → j < q.count → IsStep p n cells q j
+
+-- what was reached stays
+pub record Grows (q r : Queue) : Type 0 where
+  pub count : q.count ≤ r.count
+  pub buckets : (j : ℕ) → j < q.count → bucket_at r j ≡ bucket_at q j
+  pub depths : (j : ℕ) → j < q.count → depth_at r j ≡ depth_at q j
+
+-- the slot looked at as number j
+abbrev pub looked_slot : Queue → ℕ → ℕ
+looked_slot q j = 4 * bucket_at q (j / 4) + j % 4
+
+-- the end of a path: a bucket of the queue with an empty slot
+pub record IsEnd (cells : List (Option Held)) (q : Queue) (found : ℕ × ℕ) : Type 0 where
+  pub queued : found.0 < q.count
+  pub vacant : IsVacant cells (bucket_at q found.0) found.1
+
+-- The buckets that a row can reach by so many moves. A move leads from a bucket to the other bucket of a row in it.
+
+abbrev pub IsMove : (ℕ → List ℕ → Place) → ℕ → List (Option Held) → ℕ → ℕ → Type 0
+IsMove p n cells from to = (i : ℕ) × (h : Held) × (i < 4 * n) × (i / 4 ≡ from) × (cell cells i ≡ Some h) × (to ≡ alternate_of n (p h.id h.key).tag from)
+
+abbrev pub Reaches : (ℕ → List ℕ → Place) → ℕ → List (Option Held) → ℕ → ℕ → ℕ → ℕ → Type 0
+Reaches p n cells one two zero b = (b ≡ one) ⊎ (b ≡ two)
+Reaches p n cells one two (suc k) b = Reaches p n cells one two k b ⊎ ((a : ℕ) × Reaches p n cells one two k a × IsMove p n cells a b)
+
+abbrev pub IsAmong : List ℕ → ℕ → Type 0
+IsAmong bs b = (j : ℕ) × (j < length bs) × (slice_index_or bs j 0 ≡ b)
+
+-- sixty-four full buckets, with each that is reached by fewer moves than one of them
+pub record IsWide (p : ℕ → List ℕ → Place) (n : ℕ) (cells : List (Option Held)) (one two : ℕ) (bs : List ℕ) : Type 0 where
+  pub many : length bs ≡ 64
+  pub apart : (i j : ℕ) → i < 64 → j < 64 → slice_index_or bs i 0 ≡ slice_index_or bs j 0 → i ≡ j
+  pub full : (b : ℕ) → IsAmong bs b → IsFull cells b
+  pub nearest : (b a k : ℕ) → IsAmong bs b → Reaches p n cells one two k a → (Reaches p n cells one two k b → ⊥) → IsAmong bs a
+
+-- no empty slot is near two buckets: both are full, and so is every bucket within five moves, or sixty-four of the nearest
+pub record IsExhausted (p : ℕ → List ℕ → Place) (n : ℕ) (cells : List (Option Held)) (one two : ℕ) : Type 0 where
+  pub first : IsFull cells one
+  pub second : IsFull cells two
+  pub far : ((b : ℕ) → Reaches p n cells one two 5 b → IsFull cells b) ⊎ ((bs : List ℕ) × IsWide p n cells one two bs)
+
+-- when a row may go to the stash: no empty slot is near its two buckets
+abbrev pub IsLastResort : (ℕ → List ℕ → Place) → ℕ → List (Option Held) → ℕ × List ℕ → Type 0
+IsLastResort p n cells place = IsExhausted p n cells (first_bucket p n place) (second_bucket p n place)
+
+-- a bucket was reached, by no more than so many moves
+abbrev pub IsIn : Queue → ℕ → ℕ → Type 0
+IsIn q b d = (m : ℕ) × (m < q.count) × (bucket_at q m ≡ b) × (depth_at q m ≤ d)
+
+-- of each slot looked at, the row's other bucket was reached by one move more at most, or 64 buckets were reached that are no farther
+pub record IsClosed (p : ℕ → List ℕ → Place) (n : ℕ) (cells : List (Option Held)) (q : Queue) (looked : ℕ) : Type 0 where
+  pub closed : (j : ℕ) (h : Held) → j < looked → depth_at q (j / 4) < 5 → cell cells (looked_slot q j) ≡ Some h
+      → IsIn q (alternate_of n (p h.id h.key).tag (bucket_at q (j / 4))) (depth_at q (j / 4) + 1) ⊎ ((q.count ≡ 64) × ((m : ℕ) → m < q.count → depth_at q m ≤ depth_at q (j / 4) + 1))
+
+-- how far a search is: depths do not fall along the queue, and no bucket is farther than a move from the one that is looked at, or from a later one
+pub record IsSearched (p : ℕ → List ℕ → Place) (n : ℕ) (cells : List (Option Held)) (q : Queue) (looked : ℕ) : Type 0 where
+  pub sorted : (i j : ℕ) → i ≤ j → j < q.count → depth_at q i ≤ depth_at q j
+  pub ahead : (m k : ℕ) → m < q.count → k < q.count → looked ≤ 4 * k + 3 → depth_at q m ≤ depth_at q k + 1
+  pub closed : IsClosed p n cells q looked

@@ -1,0 +1,148 @@
+//! The changes of one row, each told as one image.
+ghost use Rattle.std.specs.Prelude.{◌≡◌, ◌+◌, ◌-◌, ◌*◌, ◌/◌, ◌≤◌, ◌<◌, None, Some, [], ◌∷◌, ◌++◌, length, slice_set};
+ghost use Rattle.std.specs.List.{remove};
+ghost use Rattle.std.specs.FinMap as map;
+ghost use Rattle.jc_cuckoo.specs.Cells.{cell, rows_in, IsBucketOf, place_of, row_of};
+ghost use Rattle.jc_cuckoo.specs.Images.{Covers};
+ghost use Rattle.jc_cuckoo.specs.Table.{longest, Follows, Touches, image};
+
+use crate::cuckoo::Cuckoo;
+use crate::held::Held;
+use crate::mirror::Mirror;
+use jc_model::config::Expiry;
+use jc_place::place::Placer;
+
+/// How many cells stand behind the slots.
+pub(crate) fn stashed(tags: &[u8], cells: &[Option<Held>]) -> u32
+    requires { (length tags.now ≤ length cells.now) × (length cells.now ≤ longest) }
+    ensures { result ≡ length cells.now - length tags.now }
+{
+    (cells.len() - tags.len()) as u32
+}
+
+impl<P: Placer + Drop, M: Mirror> Cuckoo<P, M> {
+    /// Puts a row into an empty slot of one of its buckets.
+    pub(crate) fn fill(&mut self, at: usize, tag: u8, held: Held)
+        requires slot { at < 4 * self.old.buckets }
+        requires empty { cell self.old.cells at ≡ None }
+        requires bucket { IsBucketOf (P.placing self.old.placer) self.old.buckets (place_of held) (at / 4) }
+        requires tag { tag ≡ (P.placing self.old.placer held.id held.key).tag }
+        requires absent { map.get (rows_in self.old.cells) (place_of held) ≡ None }
+        ensures cells { self.new.cells ≡ slice_set self.old.cells at (Some held) }
+        ensures rows { rows_in self.new.cells ≡ map.insert (rows_in self.old.cells) (place_of held) (row_of held) }
+        ensures room { self.new.room ≡ self.old.room }
+        ensures follows { Follows M.images self.old self.new }
+        ensures covers { Covers (image self.old) (image self.new) }
+    {
+        self.cells[at] = Some(held.same());
+        let writes = [(at as u32, Some(held))];
+        self.tags[at] = tag;
+        self.held += 1;
+        let stash = stashed(&self.tags, &self.cells);
+        self.mirror.commit(&writes, stash);
+    }
+
+    /// Puts a row at the end of the stash.
+    pub(crate) fn stow(&mut self, held: Held)
+        requires room { 0 < self.old.room }
+        requires absent { map.get (rows_in self.old.cells) (place_of held) ≡ None }
+        ensures cells { self.new.cells ≡ self.old.cells ++ Some held ∷ [] }
+        ensures rows { rows_in self.new.cells ≡ map.insert (rows_in self.old.cells) (place_of held) (row_of held) }
+        ensures room { self.new.room + 1 ≡ self.old.room }
+        ensures follows { Follows M.images self.old self.new }
+        ensures covers { Covers (image self.old) (image self.new) }
+    {
+        self.cells.push_reserved(Some(held));
+        self.held += 1;
+        let stash = stashed(&self.tags, &self.cells);
+        self.mirror.commit(&[], stash);
+    }
+
+    /// Moves a row to an empty slot of its other bucket.
+    pub(crate) fn shift(&mut self, from: usize, to: usize, tag: u8, held: Held)
+        requires from { from < 4 * self.old.buckets }
+        requires to { to < 4 * self.old.buckets }
+        requires held { cell self.old.cells from ≡ Some held }
+        requires empty { cell self.old.cells to ≡ None }
+        requires bucket { IsBucketOf (P.placing self.old.placer) self.old.buckets (place_of held) (to / 4) }
+        requires tag { tag ≡ (P.placing self.old.placer held.id held.key).tag }
+        ensures cells { self.new.cells ≡ slice_set (slice_set self.old.cells from None) to (Some held) }
+        ensures rows { rows_in self.new.cells ≡ rows_in self.old.cells }
+        ensures room { self.new.room ≡ self.old.room }
+        ensures follows { Follows M.images self.old self.new }
+        ensures covers { Covers (image self.old) (image self.new) }
+    {
+        self.cells[from] = None;
+        self.tags[from] = 0;
+        self.cells[to] = Some(held.same());
+        let writes = [(from as u32, None), (to as u32, Some(held))];
+        self.tags[to] = tag;
+        let stash = stashed(&self.tags, &self.cells);
+        self.mirror.commit(&writes, stash);
+    }
+
+    /// Empties a slot.
+    pub(crate) fn clear(&mut self, at: usize, held: Held)
+        requires slot { at < 4 * self.old.buckets }
+        requires held { cell self.old.cells at ≡ Some held }
+        ensures rows { rows_in self.new.cells ≡ map.remove (rows_in self.old.cells) (place_of held) }
+        ensures room { self.new.room ≡ self.old.room }
+        ensures touches { Touches M.images self.old self.new (place_of held) None }
+    {
+        self.cells[at] = None;
+        self.tags[at] = 0;
+        self.held -= 1;
+        let stash = stashed(&self.tags, &self.cells);
+        self.mirror.commit(&[(at as u32, None)], stash);
+    }
+
+    /// Takes a row out of the stash.
+    pub(crate) fn pull(&mut self, at: usize, held: Held)
+        requires stash { 4 * self.old.buckets ≤ at }
+        requires held { cell self.old.cells at ≡ Some held }
+        ensures rows { rows_in self.new.cells ≡ map.remove (rows_in self.old.cells) (place_of held) }
+        ensures room { self.new.room ≡ self.old.room + 1 }
+        ensures touches { Touches M.images self.old self.new (place_of held) None }
+    {
+        let _ = self.cells.remove(at);
+        self.held -= 1;
+        let stash = stashed(&self.tags, &self.cells);
+        self.mirror.commit(&[], stash);
+    }
+
+    /// Changes the expiry of a row in a slot.
+    pub(crate) fn renew(&mut self, at: usize, held: Held, expiry: Expiry)
+        requires slot { at < 4 * self.old.buckets }
+        requires held { cell self.old.cells at ≡ Some held }
+        ensures rows { rows_in self.new.cells ≡ map.insert (rows_in self.old.cells) (place_of held) (held.row, expiry) }
+        ensures room { self.new.room ≡ self.old.room }
+        ensures touches { Touches M.images self.old self.new (place_of held) (Some (place_of held, expiry)) }
+    {
+        let renewed = Held {
+            id: held.id,
+            key: held.key,
+            row: held.row,
+            expiry,
+        };
+        self.cells[at] = Some(renewed.same());
+        let writes = [(at as u32, Some(renewed))];
+        let stash = stashed(&self.tags, &self.cells);
+        self.mirror.commit(&writes, stash);
+    }
+
+    /// Changes the expiry of a row in the stash, of which no image tells.
+    pub(crate) fn renew_stashed(&mut self, at: usize, held: Held, expiry: Expiry)
+        requires stash { 4 * self.old.buckets ≤ at }
+        requires held { cell self.old.cells at ≡ Some held }
+        ensures rows { rows_in self.new.cells ≡ map.insert (rows_in self.old.cells) (place_of held) (held.row, expiry) }
+        ensures room { self.new.room ≡ self.old.room }
+        ensures touches { Touches M.images self.old self.new (place_of held) (Some (place_of held, expiry)) }
+    {
+        self.cells[at] = Some(Held {
+            id: held.id,
+            key: held.key,
+            row: held.row,
+            expiry,
+        });
+    }
+}

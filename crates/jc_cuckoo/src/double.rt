@@ -1,0 +1,208 @@
+//! Doubling: a table of twice as many buckets is filled with the rows, and takes the place of the old one.
+ghost use Rattle.std.specs.Prelude.{◌≡◌, ◌+◌, ◌*◌, ◌/◌, ◌≤◌, ◌<◌, None, Some, IfOk, length, true, false, replicate};
+ghost use Rattle.std.specs.FinMap as map;
+ghost use Rattle.jc_place.specs.Place.{IsTableSize};
+ghost use Rattle.jc_cuckoo.specs.Cells.{cell, rows_in, place_of, row_of, IsBucketOf, IsFull};
+ghost use Rattle.jc_cuckoo.specs.Double.{IsAdded, IsBlank, IsDoubled, IsFilled, IsLeft, HasSlots, HasStash, Doubles};
+ghost use Rattle.jc_cuckoo.specs.Table.{Extends, image};
+ghost use Rattle.jc_cuckoo.specs.Images.{grown};
+
+use crate::change::stashed;
+use crate::cuckoo::{Cuckoo, MOST_BUCKETS};
+use crate::held::Held;
+use crate::mirror::{Mirror, NoMirror};
+use crate::scan::first_empty;
+use crate::table::LONGEST;
+use jc_model::OutOfMemory;
+use jc_place::place::{Placer, alternate};
+use std::alloc::AllocError;
+
+impl<P: Placer + Drop, M: Mirror> Cuckoo<P, M> {
+    /// Puts a row into the first empty slot of one of its buckets, where it has one.
+    fn fill_first(&mut self, bucket: u32, tag: u8, held: Held) -> bool
+        requires below { bucket < self.old.buckets }
+        requires bucket { IsBucketOf (P.placing self.old.placer) self.old.buckets (place_of held) bucket }
+        requires tag { tag ≡ (P.placing self.old.placer held.id held.key).tag }
+        requires absent { map.get (rows_in self.old.cells) (place_of held) ≡ None }
+        ensures added { result ≡ true → IsAdded self.old self.new held }
+        ensures filled { result ≡ true → IsFilled self.old.cells self.new.cells bucket held }
+        ensures full { result ≡ false → IsFull self.old.cells bucket }
+        ensures same { result ≡ false → self.new ≡ self.old }
+    {
+        match first_empty(&self.cells, bucket) {
+            Some(at) => {
+                self.fill(at, tag, held);
+                true
+            }
+            None => false,
+        }
+    }
+
+    /// Puts a row from a slot of a table of half the size into that one of its two buckets which the slot's bucket
+    /// became part of.
+    fn bring(&mut self, half: u32, at: usize, held: Held)
+        requires size { IsTableSize half }
+        requires twice { self.old.buckets ≡ 2 * half }
+        requires at { at < 4 * half }
+        requires bucket { IsBucketOf (P.placing self.old.placer) half (place_of held) (at / 4) }
+        requires absent { map.get (rows_in self.old.cells) (place_of held) ≡ None }
+        requires slots { length self.old.cells ≡ 8 * half }
+        requires blank { IsBlank half self.old.cells at }
+        ensures added { IsAdded self.old self.new held }
+        ensures slots { length self.new.cells ≡ 8 * half }
+        ensures blank { IsBlank half self.new.cells (at + 1) }
+    {
+        // At most four rows come to a bucket, so it has an empty slot.
+        let place = self.placer.place(held.id, &held.key);
+        let first = place.first % self.buckets;
+        if first % half == (at / 4) as u32 {
+            let _ = self.fill_first(first, place.tag, held);
+            return;
+        }
+        let second = alternate(first, place.tag, self.buckets);
+        let _ = self.fill_first(second, place.tag, held);
+    }
+
+    /// Brings the row of a slot into a table of twice as many buckets.
+    fn bring_slot(&self, at: usize, twice: &mut Cuckoo<P, NoMirror>)
+        requires at { at < 4 * self.now.buckets }
+        requires slots { HasSlots self.now at twice.old }
+        ensures slots { HasSlots self.now (at + 1) twice.new }
+        ensures room { twice.new.room ≡ twice.old.room }
+    {
+        if let Some(held) = self.row_in(at) {
+            twice.bring(self.buckets, at, held);
+        }
+    }
+
+    /// Brings the rows of all slots into an empty table of twice as many buckets.
+    fn bring_slots(&self, twice: &mut Cuckoo<P, NoMirror>)
+        requires placer { twice.old.placer ≡ self.now.placer }
+        requires buckets { twice.old.buckets ≡ 2 * self.now.buckets }
+        requires empty { twice.old.cells ≡ replicate (8 * self.now.buckets) None }
+        ensures slots { HasSlots self.now (4 * self.now.buckets) twice.new }
+        ensures room { twice.new.room ≡ twice.old.room }
+    {
+        let mut at = 0;
+        'slots: while at < self.slots() {
+            self.bring_slot(at, twice);
+            at += 1;
+        }
+    }
+
+    /// Puts a row into the first empty slot of its first bucket, else of its second, else at the end of the stash.
+    fn admit(&mut self, held: Held)
+        requires room { 0 < self.old.room }
+        requires absent { map.get (rows_in self.old.cells) (place_of held) ≡ None }
+        ensures { IsAdded self.old self.new held }
+    {
+        let place = self.placer.place(held.id, &held.key);
+        let first = place.first % self.buckets;
+        if self.fill_first(first, place.tag, held.same()) {
+            return;
+        }
+        let second = alternate(first, place.tag, self.buckets);
+        if self.fill_first(second, place.tag, held.same()) {
+            return;
+        }
+        self.stow(held);
+    }
+
+    /// Brings a row of the stash into a table of twice as many buckets.
+    fn bring_stashed(&self, at: usize, twice: &mut Cuckoo<P, NoMirror>)
+        requires at { (4 * self.now.buckets ≤ at) × (at < length self.now.cells) }
+        requires stash { HasStash self.now at twice.old }
+        requires room { 0 < twice.old.room }
+        ensures stash { HasStash self.now (at + 1) twice.new }
+        ensures total { twice.new.room + length twice.new.cells ≡ twice.old.room + length twice.old.cells }
+    {
+        if let Some(held) = &self.cells[at] {
+            twice.admit(held.same());
+        }
+    }
+
+    /// Brings the rows of the stash into a table of twice as many buckets.
+    fn bring_stash(&self, twice: &mut Cuckoo<P, NoMirror>)
+        requires stash { HasStash self.now (4 * self.now.buckets) twice.old }
+        requires room { 4 * self.now.buckets + length self.now.cells + self.now.room ≤ twice.old.room + length twice.old.cells }
+        ensures { IsDoubled self.now twice.new }
+    {
+        let mut at = self.slots();
+        'stash: while at < self.cells.len() {
+            self.bring_stashed(at, twice);
+            at += 1;
+        }
+    }
+
+    /// A table of twice as many buckets with the same rows.
+    fn doubled(&self) -> Result<Cuckoo<P, NoMirror>, OutOfMemory>
+        requires { self.now.buckets < 65536 }
+        ensures { IfOk result (λ twice. IsDoubled self.now twice) }
+    {
+        let capacity = self.cells.capacity();
+        let slots = self.slots();
+        if capacity > LONGEST - slots {
+            return Err(AllocError);
+        }
+        let alloc = *self.cells.allocator();
+        let mut twice = Cuckoo::with_capacity(
+            alloc,
+            self.placer,
+            NoMirror,
+            2 * self.buckets,
+            capacity + slots,
+        )?;
+        self.bring_slots(&mut twice);
+        self.bring_stash(&mut twice);
+        Ok(twice)
+    }
+
+    /// The slots, and how many rows the stash holds: what an image tells.
+    fn told(&self) -> (&[Option<Held>], u32)
+        ensures image { grown result.0.now result.1 ≡ image self.now }
+        ensures slots { length result.0.now ≡ 4 * self.now.buckets }
+    {
+        let stash = stashed(&self.tags, &self.cells);
+        (&self.cells.as_slice()[..self.slots()], stash)
+    }
+
+    /// Holds the rows from now on as a table of twice as many buckets does, unless the mirror finds no memory for it.
+    fn take_over(&mut self, twice: Cuckoo<P, NoMirror>) -> bool
+        requires few { 2 * self.old.buckets ≤ 65536 }
+        requires doubled { IsDoubled self.old twice }
+        ensures doubled { result ≡ true → IsDoubled self.old self.new }
+        ensures images { result ≡ true → Extends M.images self.old self.new 1 }
+        ensures refused { result ≡ false → IsLeft M.images self.old self.new }
+        ensures work { self.new.work ≡ self.old.work }
+        ensures wide { 4 * self.new.buckets ≤ length self.new.cells }
+    {
+        let (slots, stash) = twice.told();
+        match self.mirror.grow(slots, stash) {
+            Ok(()) => {
+                self.buckets = twice.buckets;
+                self.tags = twice.tags;
+                self.cells = twice.cells;
+                true
+            }
+            Err(_) => false,
+        }
+    }
+
+    /// Doubles the buckets where rows for half of their slots are held, memory is found, and there are not too many.
+    pub(crate) fn double(&mut self) -> bool
+        ensures allowed { result ≡ true → Doubles self.old self.new }
+        ensures doubled { result ≡ true → IsDoubled self.old self.new }
+        ensures images { result ≡ true → Extends M.images self.old self.new 1 }
+        ensures refused { result ≡ false → IsLeft M.images self.old self.new }
+        ensures work { self.new.work ≡ self.old.work }
+        ensures wide { 4 * self.new.buckets ≤ length self.new.cells }
+    {
+        if self.buckets >= MOST_BUCKETS || self.held < 2 * self.buckets as usize {
+            return false;
+        }
+        match self.doubled() {
+            Ok(twice) => self.take_over(twice),
+            Err(_) => false,
+        }
+    }
+}

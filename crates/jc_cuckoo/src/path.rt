@@ -1,0 +1,139 @@
+//! Paths: rows that move, each to its other bucket, until the last one finds an empty slot (MemC3, section 3).
+ghost use Rattle.std.specs.Prelude.{◌≡◌, ◌≢◌, ◌⊎◌, ◌+◌, ◌-◌, ◌*◌, ◌/◌, ◌≤◌, ◌<◌, None, Some, true, false, MatchOption, length};
+ghost use Rattle.std.specs.FinMap as map;
+ghost use Rattle.jc_cuckoo.specs.Cells.{cell, rows_in, place_of};
+ghost use Rattle.jc_cuckoo.specs.Images.{Covers};
+ghost use Rattle.jc_cuckoo.specs.Table.{Extends, Settles, Stays, image};
+ghost use Rattle.jc_cuckoo.specs.Search.{IsQueue, IsSearched, IsExhausted, Grows, IsEnd, bucket_at, looked_slot};
+
+use crate::cuckoo::Cuckoo;
+use crate::held::Held;
+use crate::mirror::Mirror;
+use crate::queue::Queue;
+use jc_place::place::{Placer, alternate};
+
+impl<P: Placer + Drop, M: Mirror> Cuckoo<P, M> {
+    /// Adds the bucket that a row could move into, where it is near and new and there is room for it. The row stands in
+    /// the slot that the search comes to after so many.
+    pub(crate) fn reach(&self, queue: &mut Queue, looked: usize)
+        requires queue { IsQueue (P.placing self.now.placer) self.now.buckets self.now.cells queue.old }
+        requires searched { IsSearched (P.placing self.now.placer) self.now.buckets self.now.cells queue.old looked }
+        requires looked { looked < 4 * queue.old.count }
+        requires row { cell self.now.cells (looked_slot queue.old looked) ≢ None }
+        ensures queue { IsQueue (P.placing self.now.placer) self.now.buckets self.now.cells queue.new }
+        ensures searched { IsSearched (P.placing self.now.placer) self.now.buckets self.now.cells queue.new (looked + 1) }
+        ensures grows { Grows queue.old queue.new }
+    {
+        let head = looked / 4;
+        if queue.depths[head] >= 5 {
+            return;
+        }
+        if queue.count >= 64 {
+            return;
+        }
+        let bucket = queue.buckets[head];
+        let at = 4 * bucket as usize + looked % 4;
+        let tag = self.tags[at];
+        let other = alternate(bucket, tag, self.buckets);
+        if queue.has(other) {
+            return;
+        }
+        queue.push(other, at as u32, tag, head as u8);
+    }
+
+    /// Looks for a path, 256 slots at most: the bucket of the queue in which it ends, and that bucket's empty slot.
+    pub(crate) fn search(&self, queue: &mut Queue) -> (Option<(usize, usize)>, u32)
+        requires queue { IsQueue (P.placing self.now.placer) self.now.buckets self.now.cells queue.old }
+        requires start { queue.old.count ≡ 2 }
+        ensures queue { IsQueue (P.placing self.now.placer) self.now.buckets self.now.cells queue.new }
+        ensures buckets { (bucket_at queue.new 0 ≡ bucket_at queue.old 0) × (bucket_at queue.new 1 ≡ bucket_at queue.old 1) }
+        ensures looked { (1 ≤ result.1) × (result.1 ≤ 256) }
+        ensures counted { MatchOption result.0 (result.1 ≡ 4 * queue.new.count) (λ found. found.1 ≡ looked_slot queue.new (result.1 - 1)) }
+        ensures found { MatchOption result.0 (IsExhausted (P.placing self.now.placer) self.now.buckets self.now.cells (bucket_at queue.old 0) (bucket_at queue.old 1)) (λ found. IsEnd self.now.cells queue.new found) }
+    {
+        let mut looked = 0;
+        'slots: while looked < 4 * queue.count {
+            let head = looked / 4;
+            let at = 4 * queue.buckets[head] as usize + looked % 4;
+            if self.cells[at].is_none() {
+                return (Some((head, at)), looked as u32 + 1);
+            }
+            self.reach(queue, looked);
+            looked += 1;
+        }
+        (None, looked as u32)
+    }
+
+    /// The row in a slot.
+    pub(crate) fn row_in(&self, at: usize) -> Option<Held>
+        requires { at < 4 * self.now.buckets }
+        ensures { result ≡ cell self.now.cells at }
+    {
+        match &self.cells[at] {
+            Some(held) => Some(held.same()),
+            None => None,
+        }
+    }
+
+    /// Moves the rows on a path, each into the slot that the one before it left, the last one first. It returns the
+    /// slot that is empty then, and how many rows it moved.
+    pub(crate) fn displace(&mut self, queue: &Queue, end: usize, empty: usize) -> (usize, u32)
+        requires queue { IsQueue (P.placing self.old.placer) self.old.buckets self.old.cells queue.now }
+        requires end { IsEnd self.old.cells queue.now (end, empty) }
+        ensures rows { rows_in self.new.cells ≡ rows_in self.old.cells }
+        ensures slot { result.0 < 4 * self.old.buckets }
+        ensures empty { cell self.new.cells result.0 ≡ None }
+        ensures bucket { (result.0 / 4 ≡ bucket_at queue.now 0) ⊎ (result.0 / 4 ≡ bucket_at queue.now 1) }
+        ensures placer { (self.new.placer ≡ self.old.placer) × (self.new.buckets ≡ self.old.buckets) }
+        ensures room { self.new.room ≡ self.old.room }
+        ensures moves { result.1 ≤ 5 }
+        ensures work { self.new.work ≡ self.old.work }
+        ensures length { length self.new.cells ≡ length self.old.cells }
+        ensures images { Extends M.images self.old self.new result.1 }
+        ensures covers { Covers (image self.old) (image self.new) }
+    {
+        let mut node = end;
+        let mut gap = empty;
+        let mut moves = 0;
+        'moves: while node >= 2 {
+            let from = queue.slots[node] as usize;
+            match self.row_in(from) {
+                Some(held) => {
+                    self.shift(from, gap, queue.tags[node], held);
+                    gap = from;
+                    node = queue.parents[node] as usize;
+                    moves += 1;
+                }
+                None => return (gap, moves),
+            }
+        }
+        (gap, moves)
+    }
+
+    /// Puts a row into a slot where a path leads to one, and says whether one did. Where none did, only `work` changes.
+    pub(crate) fn settle(&mut self, held: Held) -> bool
+        requires absent { map.get (rows_in self.old.cells) (place_of held) ≡ None }
+        requires work { (self.old.work.searches ≤ 1) × (self.old.work.looked ≤ 256) × (self.old.work.moves ≡ 0) }
+        ensures settled { result ≡ true → Settles M.images self.old self.new held }
+        ensures stays { result ≡ false → Stays (P.placing self.old.placer) self.old self.new (place_of held) }
+        ensures searches { self.new.work.searches ≡ self.old.work.searches + 1 }
+        ensures looked { (self.old.work.looked < self.new.work.looked) × (self.new.work.looked ≤ self.old.work.looked + 256) }
+    {
+        let place = self.placer.place(held.id, &held.key);
+        let first = place.first % self.buckets;
+        let second = alternate(first, place.tag, self.buckets);
+        let mut queue = Queue::new(first, second);
+        let (path, looked) = self.search(&mut queue);
+        self.work.searches += 1;
+        self.work.looked += looked;
+        match path {
+            Some((end, empty)) => {
+                let (gap, moves) = self.displace(&queue, end, empty);
+                self.work.moves = moves;
+                self.fill(gap, place.tag, held);
+                true
+            }
+            None => false,
+        }
+    }
+}

@@ -1,0 +1,135 @@
+//! The table as the rows of all caches.
+ghost use Rattle.std.specs.Prelude.{◌≡◌, ◌⊎◌, ◌+◌, ◌-◌, ◌*◌, ◌/◌, ◌≤◌, ◌<◌, None, Some, IsSome, IsOk, OnOk, option_map};
+ghost use Rattle.std.specs.FinMap as map;
+ghost use Rattle.jc_rows.specs.Rows.{with_expiry};
+ghost use Rattle.jc_cuckoo.specs.Cells.{rows_in, IsPlaced};
+ghost use Rattle.jc_cuckoo.specs.Table.{IsStill, Tells, Touches};
+ghost use Rattle.jc_cuckoo.specs.Double.{Doubles};
+ghost use Rattle.jc_cuckoo.specs.Search.{IsLastResort};
+
+use crate::cuckoo::Cuckoo;
+use crate::held::{Held, Work};
+use crate::mirror::Mirror;
+use jc_model::OutOfMemory;
+use jc_model::config::Expiry;
+use jc_model::event::CacheId;
+use jc_model::key::Key;
+use jc_place::place::Placer;
+use jc_rows::rows::Rows;
+use std::alloc::AllocError;
+
+/// So many cells and no more: the stash's count is kept in 32 bits.
+pub(crate) const LONGEST: usize = 4_294_967_295;
+
+impl<P: Placer + Drop, M: Mirror> Rows for Cuckoo<P, M> {
+    ghost contents = { λ t. rows_in t.cells };
+
+    ghost spare = { λ t. t.room };
+
+    fn len(&self) -> usize {
+        self.held
+    }
+
+    fn make_room(&mut self, n: usize) -> Result<(), OutOfMemory>
+        ensures same { rows_in self.new.cells ≡ rows_in self.old.cells }
+        ensures ok { OnOk result (n ≤ map.len (rows_in self.new.cells) + self.new.room) }
+        ensures succeeds { n ≤ map.len (rows_in self.old.cells) + self.old.room → IsOk result }
+        ensures kept { self.old.room ≤ self.new.room }
+        ensures still { IsStill self.old self.new }
+    {
+        if n <= self.held {
+            return Ok(());
+        }
+        let more = n - self.held;
+        if more > LONGEST - self.cells.len() {
+            return Err(AllocError);
+        }
+        self.cells.reserve(more)
+    }
+
+    fn find(&self, id: CacheId, key: &Key) -> Option<u32> {
+        match self.seek_row(id, key) {
+            Some((_, held)) => Some(held.row),
+            None => None,
+        }
+    }
+
+    fn put(&mut self, id: CacheId, key: Key, row: u32, expiry: Expiry)
+        requires absent { map.get (rows_in self.old.cells) (id, key) ≡ None }
+        requires room { 0 < self.old.room }
+        ensures put { rows_in self.new.cells ≡ map.insert (rows_in self.old.cells) (id, key) (row, expiry) }
+        ensures kept { self.old.room ≤ self.new.room + 1 }
+
+        // As many images on the way as rows were moved, and one more where the buckets doubled; none of them has the new
+        // row. Then the last one.
+        ensures images { ((self.new.buckets ≡ self.old.buckets) × (self.new.work.searches ≡ 1) × Tells M.images self.old self.new self.new.work.moves) ⊎ (Doubles self.old self.new × (self.new.work.searches ≡ 2) × Tells M.images self.old self.new (1 + self.new.work.moves)) }
+        ensures work { (self.new.work.searches ≤ self.new.work.looked) × (self.new.work.looked ≤ 256 * self.new.work.searches) × (self.new.work.moves ≤ 5) }
+        ensures stash { IsPlaced self.new.buckets self.new.cells (id, key) ⊎ IsLastResort (P.placing self.new.placer) self.new.buckets self.new.cells (id, key) }
+        ensures placer { self.new.placer ≡ self.old.placer }
+    {
+        let held = Held {
+            id,
+            key,
+            row,
+            expiry,
+        };
+        self.work = Work {
+            searches: 0,
+            looked: 0,
+            moves: 0,
+        };
+        if self.settle(held.same()) {
+            return;
+        }
+        if !self.double() {
+            self.stow(held);
+            return;
+        }
+        if self.settle(held.same()) {
+            return;
+        }
+        self.stow(held);
+    }
+
+    fn remove(&mut self, id: CacheId, key: &Key) -> Option<u32>
+        ensures found { result ≡ option_map (λ row. row.0) (map.get (rows_in self.old.cells) (id, key.now)) }
+        ensures removed { rows_in self.new.cells ≡ map.remove (rows_in self.old.cells) (id, key.now) }
+        ensures kept { self.old.room ≤ self.new.room }
+        ensures touches { Touches M.images self.old self.new (id, key.now) None }
+    {
+        let slots = self.slots();
+        match self.seek_row(id, key) {
+            Some((at, held)) => {
+                let row = held.row;
+                let held = held.same();
+                if at < slots {
+                    self.clear(at, held);
+                    return Some(row);
+                }
+                self.pull(at, held);
+                Some(row)
+            }
+            None => None,
+        }
+    }
+
+    fn set_expiry(&mut self, id: CacheId, key: &Key, expiry: Expiry)
+        requires { IsSome (map.get (rows_in self.old.cells) (id, key.now)) }
+        ensures set { rows_in self.new.cells ≡ with_expiry (rows_in self.old.cells) (id, key.now) expiry }
+        ensures kept { self.old.room ≤ self.new.room }
+        ensures touches { Touches M.images self.old self.new (id, key.now) (Some ((id, key.now), expiry)) }
+    {
+        let slots = self.slots();
+        if let Some((at, held)) = self.seek_row(id, key) {
+            if held.expiry == expiry {
+                return;
+            }
+            let held = held.same();
+            if at < slots {
+                self.renew(at, held, expiry);
+                return;
+            }
+            self.renew_stashed(at, held, expiry);
+        }
+    }
+}

@@ -1,0 +1,188 @@
+//! Events on a manager, one a line: a call begins, what it asks is answered, or it is given up.
+
+use crate::texts::{asked_text, notices_text};
+use jc_config::{Settings, read_config};
+use jc_cuckoo::cuckoo::Cuckoo;
+use jc_cuckoo::mirror::NoMirror;
+use jc_engine::recorded::Recorded;
+use jc_model::call::{Action, Answer, ProcessorFault, Verdict};
+use jc_model::event::{CacheId, Cause, Step};
+use jc_model::key::Key;
+use jc_model::value::Value;
+use jc_ring::link_ring::LinkRing;
+use jc_ring::list_ring::ListRing;
+use jc_ring::ring::Ring;
+use jc_rows::list_rows::ListRows;
+use jc_rows::rows::Rows;
+use jc_script::{read_script, reply_text, report};
+use jc_trials::ConstantPlacer;
+use std::alloc::{AllocError, Global};
+use std::{fs, io};
+
+/// The value with this text; nothing where it is too long.
+fn value_of(alloc: Global, text: &str) -> Result<Option<Value>, AllocError> {
+    let bytes = text.as_bytes().to_vec(alloc)?;
+    Ok(Value::new(alloc, bytes).ok())
+}
+
+/// A processor's verdict with this answer.
+fn verdict(action: Action, answer: Option<Value>) -> Answer {
+    Answer::Processed(Ok(Verdict { action, answer }))
+}
+
+/// The answer that these words give.
+fn answer_of(alloc: Global, words: &[&str]) -> Result<Option<Answer>, AllocError> {
+    Ok(match words {
+        ["loaded", "nothing"] => Some(Answer::Loaded(None)),
+        ["loaded", text] => Some(Answer::Loaded(value_of(alloc, text)?)),
+        ["not", "loaded"] => Some(Answer::LoadFailed),
+        ["written"] => Some(Answer::Written),
+        ["not", "written"] => Some(Answer::WriteFailed),
+        ["told"] => Some(Answer::Told),
+        ["kept"] => Some(verdict(Action::Keep, None)),
+        ["set", text] => match value_of(alloc, text)? {
+            Some(value) => Some(verdict(Action::Set(value), value_of(alloc, text)?)),
+            None => None,
+        },
+        ["removed"] => Some(verdict(Action::Remove, None)),
+        ["not", "processed"] => Some(Answer::Processed(Err(ProcessorFault {}))),
+        _ => None,
+    })
+}
+
+/// The id of the cache with this name, else one that no cache has.
+fn id_of<R: Rows, G: Ring>(manager: &Recorded<R, G>, name: &str) -> CacheId {
+    let known = match Key::from_text(name) {
+        Ok(name) => manager.cache(&name),
+        Err(_) => None,
+    };
+    known.unwrap_or(CacheId::new(1024))
+}
+
+/// What a call does next: it replies, or it asks.
+fn step_text(alloc: Global, step: &Step) -> Result<String, AllocError> {
+    match step {
+        Step::Done(reply) => format!(in alloc; "replies {}", reply_text(alloc, reply)?),
+        Step::Need(request) => asked_text(alloc, request),
+    }
+}
+
+fn refused_text(alloc: Global, cause: Cause) -> Result<String, AllocError> {
+    format!(in alloc; "refused: {cause:?}")
+}
+
+/// What becomes of the call of a line.
+fn begun<R: Rows, G: Ring>(
+    alloc: Global,
+    manager: &mut Recorded<R, G>,
+    settings: &Settings,
+    call: &str,
+) -> Result<String, AllocError> {
+    let mut lines = match read_script(alloc, call.as_bytes(), settings) {
+        Ok(lines) => lines,
+        Err(fault) => return format!(in alloc; "{fault:?}"),
+    };
+    match lines.pop() {
+        Some(line) => match manager.begin(line.session, line.id, line.at, line.call) {
+            Ok((step, _)) => step_text(alloc, &step),
+            Err((cause, _)) => refused_text(alloc, cause),
+        },
+        None => format!(in alloc; "no call"),
+    }
+}
+
+/// What becomes of an open call.
+fn resumed<R: Rows, G: Ring>(
+    alloc: Global,
+    manager: &mut Recorded<R, G>,
+    id: CacheId,
+    words: &[&str],
+) -> Result<String, AllocError> {
+    match words {
+        ["given", "up"] => match manager.give_up(id) {
+            Ok(left) => format!(in alloc; "gave up{}", notices_text(alloc, left.items())?),
+            Err(cause) => refused_text(alloc, cause),
+        },
+        words => match answer_of(alloc, words)? {
+            Some(answer) => match manager.resume(id, answer) {
+                Ok((step, _)) => step_text(alloc, &step),
+                Err((cause, _)) => refused_text(alloc, cause),
+            },
+            None => format!(in alloc; "no answer"),
+        },
+    }
+}
+
+/// What an event comes to.
+fn outcome<R: Rows, G: Ring>(
+    alloc: Global,
+    manager: &mut Recorded<R, G>,
+    settings: &Settings,
+    event: &str,
+) -> Result<String, AllocError> {
+    if event.starts_with("{") {
+        return begun(alloc, manager, settings, event);
+    }
+    let words: Vec<&str> = event.split_whitespace().collect(alloc)?;
+    match words.split_first() {
+        Some((name, words)) => {
+            let id = id_of(manager, name);
+            resumed(alloc, manager, id, words)
+        }
+        None => format!(in alloc; "no event"),
+    }
+}
+
+/// What each event comes to, a line each, and the report.
+fn played<R: Rows, G: Ring>(
+    alloc: Global,
+    manager: &mut Recorded<R, G>,
+    settings: &Settings,
+    events: &str,
+) -> Result<String, AllocError> {
+    let mut text = String::new(alloc);
+    for event in events.lines() {
+        text.push_str(outcome(alloc, manager, settings, event)?.as_str())?;
+        text.push_str("\n")?;
+    }
+    text.push_str(report(alloc, manager.names(), manager.transcript())?.as_str())?;
+    Ok(text)
+}
+
+/// The settings of a configuration; those of no caches where it is faulty.
+fn settings_of(alloc: Global, config: &[u8]) -> Option<Settings> {
+    match read_config(alloc, config) {
+        Ok(configuration) => Some(configuration.settings),
+        Err(_) => None,
+    }
+}
+
+/// Prints what each event of a file comes to, and the report. Over the cuckoo table and the linked ring it is the same,
+/// also where all keys share two buckets.
+pub fn play_events(rt: &HostRuntime, config: &str, events: &str) -> io::Result<()> {
+    let alloc = rt.alloc();
+    let config = fs::read(rt, config)?;
+    let events = fs::read_to_string(rt, events)?;
+    let all = || settings_of(alloc, config.as_slice());
+    let (Some(settings), Some(first), Some(second)) = (all(), all(), all()) else {
+        return println!(rt; "a faulty configuration");
+    };
+    let Ok(table) = Cuckoo::new(alloc, ConstantPlacer, NoMirror, 16) else {
+        return println!(rt; "no table");
+    };
+    let plain = Recorded::<ListRows, ListRing>::open(
+        alloc,
+        ListRows::new(alloc),
+        first.into_caches(),
+    );
+    let crowded = Recorded::<_, LinkRing>::open(alloc, table, second.into_caches());
+    let (Ok(mut plain), Ok(mut crowded)) = (plain, crowded) else {
+        return println!(rt; "the manager does not open");
+    };
+    let text = played(alloc, &mut plain, &settings, events.as_str())?;
+    print!(rt; "{text}")?;
+    if played(alloc, &mut crowded, &settings, events.as_str())? == text {
+        return Ok(());
+    }
+    println!(rt; "another text over the cuckoo table")
+}

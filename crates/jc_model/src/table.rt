@@ -1,0 +1,162 @@
+//! The case table: for each operation on one key, its line where the key has a live row, and its line where it has none.
+ghost use Rattle.std.specs.Prelude.{◌≡◌, Bool, option_map};
+ghost use Rattle.jc_model.specs.Table.{live_line, absent_line, otherwise, expected_by, value_of, live_verdict, absent_verdict};
+
+use crate::call::{Action, Op};
+use crate::value::Value;
+
+/// Whom a line asks before it changes anything. A hook that is not configured is passed over.
+#[derive(Clone, Copy, Debug, PartialEq, Eq)]
+pub enum Ask {
+    Nothing,
+    /// The loader, for the value that is stored and shown.
+    Load,
+    /// The writer, with the value that is stored.
+    Write,
+    /// The writer, to delete the key.
+    Delete,
+    /// The processor, before him the loader where he wants a value and there is none. His verdict has a line of its own.
+    Process,
+}
+
+/// What becomes of the key's row. Without a value nothing is stored.
+#[derive(Clone, Copy, Debug, PartialEq, Eq)]
+pub enum Change {
+    Keep,
+    /// A live row is used.
+    Access,
+    /// A live row gets the value, else a row is made for it. It is not counted.
+    Store,
+    /// The same, counted as a put where it stores.
+    Put,
+    /// A live row goes, which is counted as a removal.
+    Remove,
+}
+
+/// What is replied.
+#[derive(Clone, Copy, Debug, PartialEq, Eq)]
+pub enum Replied {
+    Done,
+    Truth(bool),
+    /// The live value or the loaded one, or what a processor answered; nothing where there is none.
+    Shown,
+}
+
+/// One line of the table.
+#[derive(Clone, Copy, Debug, PartialEq, Eq)]
+pub struct Line {
+    pub asks: Ask,
+    /// Whether a hit is counted, or a miss where the key has no row. Where the writer fails, nothing is counted.
+    pub counts: bool,
+    pub change: Change,
+    pub reply: Replied,
+}
+
+fn line_of(asks: Ask, counts: bool, change: Change, reply: Replied) -> Line
+    ensures { result ≡ record { asks = asks; counts = counts; change = change; reply = reply } }
+{
+    Line {
+        asks,
+        counts,
+        change,
+        reply,
+    }
+}
+
+/// An operation's line where the key has a live row; of the expected value, where it expects one.
+pub fn live_line(op: &Op) -> Line
+    ensures { result ≡ live_line op.now }
+{
+    match op {
+        Op::Get => line_of(Ask::Nothing, true, Change::Access, Replied::Shown),
+        Op::Put(_) => line_of(Ask::Write, false, Change::Put, Replied::Done),
+        Op::GetAndPut(_) => line_of(Ask::Write, true, Change::Put, Replied::Shown),
+        Op::PutIfAbsent(_) => line_of(Ask::Nothing, true, Change::Keep, Replied::Truth(false)),
+        Op::Replace(_) => line_of(Ask::Write, true, Change::Put, Replied::Truth(true)),
+        Op::ReplaceIf { .. } => line_of(Ask::Write, true, Change::Put, Replied::Truth(true)),
+        Op::GetAndReplace(_) => line_of(Ask::Write, true, Change::Put, Replied::Shown),
+        Op::Remove => line_of(Ask::Delete, false, Change::Remove, Replied::Truth(true)),
+        Op::RemoveIf { .. } => line_of(Ask::Delete, true, Change::Remove, Replied::Truth(true)),
+        Op::GetAndRemove => line_of(Ask::Delete, true, Change::Remove, Replied::Shown),
+        Op::Invoke { .. } => line_of(Ask::Process, true, Change::Keep, Replied::Shown),
+        Op::Load { replace: true } => line_of(Ask::Load, false, Change::Store, Replied::Done),
+        Op::Load { replace: false } => line_of(Ask::Nothing, false, Change::Keep, Replied::Done),
+        Op::Expire => line_of(Ask::Nothing, false, Change::Keep, Replied::Done),
+    }
+}
+
+/// The line of an operation that finds another live value than it expects.
+pub fn otherwise() -> Line
+    ensures { result ≡ otherwise }
+{
+    line_of(Ask::Nothing, true, Change::Access, Replied::Truth(false))
+}
+
+/// The live value that an operation expects.
+pub fn expected(op: &Op) -> Option<&Value>
+    ensures { option_map (λ v. v.now) result ≡ expected_by op.now }
+{
+    match op {
+        Op::ReplaceIf { expected, .. } => Some(expected),
+        Op::RemoveIf { expected } => Some(expected),
+        _ => None,
+    }
+}
+
+/// An operation's line where the key has no row.
+pub fn absent_line(op: &Op) -> Line
+    ensures { result ≡ absent_line op.now }
+{
+    match op {
+        Op::Get => line_of(Ask::Load, true, Change::Store, Replied::Shown),
+        Op::Put(_) => line_of(Ask::Write, false, Change::Put, Replied::Done),
+        Op::GetAndPut(_) => line_of(Ask::Write, true, Change::Put, Replied::Shown),
+        Op::PutIfAbsent(_) => line_of(Ask::Write, true, Change::Put, Replied::Truth(true)),
+        Op::Replace(_) => line_of(Ask::Nothing, true, Change::Keep, Replied::Truth(false)),
+        Op::ReplaceIf { .. } => line_of(Ask::Nothing, true, Change::Keep, Replied::Truth(false)),
+        Op::GetAndReplace(_) => line_of(Ask::Nothing, true, Change::Keep, Replied::Shown),
+        Op::Remove => line_of(Ask::Delete, false, Change::Keep, Replied::Truth(false)),
+        Op::RemoveIf { .. } => line_of(Ask::Nothing, true, Change::Keep, Replied::Truth(false)),
+        Op::GetAndRemove => line_of(Ask::Delete, true, Change::Keep, Replied::Shown),
+        Op::Invoke { .. } => line_of(Ask::Process, true, Change::Keep, Replied::Shown),
+        Op::Load { .. } => line_of(Ask::Load, false, Change::Store, Replied::Done),
+        Op::Expire => line_of(Ask::Nothing, false, Change::Keep, Replied::Done),
+    }
+}
+
+/// The value that an operation stores.
+pub fn value_of(op: &Op) -> Option<&Value>
+    ensures { option_map (λ v. v.now) result ≡ value_of op.now }
+{
+    match op {
+        Op::Put(value) => Some(value),
+        Op::GetAndPut(value) => Some(value),
+        Op::PutIfAbsent(value) => Some(value),
+        Op::Replace(value) => Some(value),
+        Op::ReplaceIf { value, .. } => Some(value),
+        Op::GetAndReplace(value) => Some(value),
+        _ => None,
+    }
+}
+
+/// A verdict's line where the key has a live row.
+pub fn live_verdict(action: &Action) -> Line
+    ensures { result ≡ live_verdict action.now }
+{
+    match action {
+        Action::Keep => line_of(Ask::Nothing, true, Change::Access, Replied::Shown),
+        Action::Set(_) => line_of(Ask::Write, true, Change::Put, Replied::Shown),
+        Action::Remove => line_of(Ask::Delete, true, Change::Remove, Replied::Shown),
+    }
+}
+
+/// A verdict's line where the key has no row; a `Keep` stores what was loaded.
+pub fn absent_verdict(action: &Action) -> Line
+    ensures { result ≡ absent_verdict action.now }
+{
+    match action {
+        Action::Keep => line_of(Ask::Nothing, true, Change::Store, Replied::Shown),
+        Action::Set(_) => line_of(Ask::Write, true, Change::Put, Replied::Shown),
+        Action::Remove => line_of(Ask::Delete, true, Change::Keep, Replied::Shown),
+    }
+}

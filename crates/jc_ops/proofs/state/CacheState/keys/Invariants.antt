@@ -1,9 +1,0 @@
-use Rattle.std.proofs.Common.{◌-◌, length}
-use Rattle.jc_ops.proofs.Walk.{WalkedTo}
-use Rattle.jc_ops.proofs.state.CacheState.keys.Given as goal
-
-abbrev pub invariant-rows : goal.invariant-rows
-invariant-rows g l = WalkedTo l.self.cells l.keys.items l.next
-
-abbrev pub decreases-rows : goal.decreases-rows
-decreases-rows g l = length l.self.cells - length l.keys.items

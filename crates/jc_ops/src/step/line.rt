@@ -1,0 +1,190 @@
+//! A step of a line of the case table: as it begins, and at the answer of its writer or loader.
+ghost use Rattle.std.specs.Prelude.{◌≡◌, ◌<◌, ℕ, List, Option, true, false, Some, None, is_some, option_map};
+ghost use Rattle.jc_model.specs.Run.{resume, is_written, loaded_by};
+ghost use Rattle.jc_model.specs.State.{row_of};
+ghost use Rattle.jc_model.specs.Changes.{find_row, purge};
+ghost use Rattle.jc_model.specs.Step.{step as step_of, live_in, on_row, ended_by};
+ghost use Rattle.jc_model.specs.Suspended.{key_run};
+ghost use Rattle.jc_state.specs.Noted.{HasPlaces, StoredIsTold};
+ghost use Rattle.jc_state.specs.Shelf.{has_row};
+ghost use Rattle.jc_state.specs.Kept.{items_of, progress_of, IsTied, Stays, FoundRow};
+ghost use Rattle.jc_model.specs.declared.call.KeyCall.{KeyCall};
+ghost use Rattle.jc_ops.specs.Heard.{heard};
+ghost use Rattle.jc_ops.specs.Lines.{is_invoke, is_load, is_shown, line_at};
+ghost use Rattle.jc_ops.specs.Supply.{Covers, CoversAnswer, HasRoom, HasRoomAt};
+ghost use Rattle.jc_ops.specs.Stepped.{StepsTo, StaysAt, IsWaiting, waits_first};
+
+use crate::step::change::{At, count, end};
+use crate::step::reply::fault;
+use crate::step::request::first_request;
+use crate::step::{KeyStep, Next};
+use crate::supply::Supply;
+use jc_model::call::{Answer, By, KeyCall, Op};
+use jc_model::table::{Ask, Line, absent_line, expected, live_line, otherwise};
+use jc_model::thrice::Thrice;
+use jc_model::value::Value;
+use jc_ring::ring::Ring;
+use jc_rows::rows::Rows;
+use jc_state::notices::Notices;
+use jc_state::state::CacheState;
+
+/// The line of an operation, by the key's live value.
+fn line_at(op: &Op, live: Option<&Value>) -> Line
+    ensures { result ≡ line_at op.now (option_map (λ v. v.now) live.entry) }
+{
+    match live {
+        None => absent_line(op),
+        Some(live) => match expected(op) {
+            None => live_line(op),
+            Some(expected) => {
+                if live == expected {
+                    live_line(op)
+                } else {
+                    otherwise()
+                }
+            }
+        },
+    }
+}
+
+/// The value of the key's row.
+pub(crate) fn live_at<'a, G: Ring>(state: &'a CacheState<G>, at: &At) -> Option<&'a Value>
+    requires row { FoundRow at.now.key state.now at.now.row }
+    ensures { option_map (λ v. v.now) result ≡ live_in (row_of at.now.key (items_of state.now.cells)) }
+{
+    match at.row {
+        Some(row) => Some(state.value(row).first()),
+        None => None,
+    }
+}
+
+/// What is only there where the key has a row.
+fn where_there<T: Drop>(there: bool, value: Option<T>) -> Option<T>
+    ensures there { there ≡ true → result ≡ value }
+    ensures absent { there ≡ false → result ≡ None }
+{
+    if there { value } else { None }
+}
+
+/// Whether a line asks the loader.
+fn is_load(asks: Ask) -> bool
+    ensures { result ≡ is_load asks }
+{
+    matches!(asks, Ask::Load)
+}
+
+/// Whether the writer agreed.
+pub(crate) fn is_written(answer: &Answer) -> bool
+    ensures { result ≡ is_written answer.now }
+{
+    match answer {
+        Answer::Written => true,
+        _ => false,
+    }
+}
+
+/// The step as it begins, once the key's expired row is gone.
+pub(super) fn begin<R: Rows, G: Ring>(
+    state: &mut CacheState<G>,
+    rows: &mut R,
+    notices: &mut Notices,
+    at: &At,
+    op: Op,
+    supply: Supply,
+) -> Next
+    requires tied { IsTied (R.contents rows.old) state.old }
+    requires row { FoundRow at.now.key state.old at.now.row }
+    requires places { HasPlaces state.old.config 2 notices.old }
+    requires covered { Covers state.old.config.writer state.old.config (record { key = at.now.key; op = op }) (items_of state.old.cells) supply }
+    requires room { HasRoom state.old.config.writer op (R.spare rows.old) }
+    requires purged { purge state.old.config at.now.moment at.now.key (progress_of state.old notices.old.told) ≡ progress_of state.old notices.old.told }
+    ensures stays { Stays 1 2 (R.contents rows.old) (R.spare rows.old) state.old notices.old (R.contents rows.new) (R.spare rows.new) state.new notices.new }
+    ensures next { StepsTo state.old.config (step_of state.old.config at.now.moment (record { key = at.now.key; op = op }) (progress_of state.old notices.old.told)) result state.new notices.new.told }
+    ensures call_stays { StaysAt at.now.moment (record { key = at.now.key; op = op }) result }
+{
+    let Supply {
+        stored,
+        shown,
+        copy,
+        entry,
+    } = supply;
+    let there = at.row.is_some();
+    let line = line_at(&op, live_at(state, at));
+    let entry = where_there(there, entry);
+    match first_request(state.config(), &at.key, &op, line.asks, copy, entry) {
+        Some(request) => {
+            let call = KeyCall { key: at.key, op };
+            Next::Waiting(request, KeyStep::begun(at.moment, call))
+        }
+        None => {
+            let shown = where_there(there, shown);
+            Next::Ended(end(state, rows, notices, at, line, stored, shown))
+        }
+    }
+}
+
+/// The loader's answer to a line that loads.
+fn answer_loaded<R: Rows, G: Ring>(
+    state: &mut CacheState<G>,
+    rows: &mut R,
+    notices: &mut Notices,
+    at: &At,
+    line: Line,
+    answer: &Answer,
+    supply: Supply,
+) -> Next
+    requires tied { IsTied (R.contents rows.old) state.old }
+    requires row { FoundRow at.now.key state.old at.now.row }
+    requires places { HasPlaces state.old.config 2 notices.old }
+    requires told { StoredIsTold state.old.config supply.stored }
+    requires stored { (v : Option (List ℕ)) → loaded_by answer.now ≡ Some v → option_map (λ s. s.value) supply.stored ≡ v }
+    requires shown { (v : Option (List ℕ)) → loaded_by answer.now ≡ Some v → is_shown line.reply ≡ true → supply.shown ≡ v }
+    requires room { (v : List ℕ) → loaded_by answer.now ≡ Some (Some v) → 0 < R.spare rows.old }
+    ensures stays { Stays 1 2 (R.contents rows.old) (R.spare rows.old) state.old notices.old (R.contents rows.new) (R.spare rows.new) state.new notices.new }
+    ensures next { StepsTo state.old.config (heard state.old.config at.now.moment at.now.key line (row_of at.now.key (items_of state.old.cells)) (progress_of state.old notices.old.told) (loaded_by answer.now)) result state.new notices.new.told }
+    ensures call_stays { (call : KeyCall) → StaysAt at.now.moment call result }
+{
+    match answer {
+        Answer::Loaded(_) => {
+            let Supply { stored, shown, .. } = supply;
+            Next::Ended(end(state, rows, notices, at, line, stored, shown))
+        }
+        _ => {
+            count(state, line.counts, at.row.is_some());
+            Next::Ended(fault(By::Loader, None))
+        }
+    }
+}
+
+/// The answer to a step of any operation but a processor's.
+pub(super) fn answer_line<R: Rows, G: Ring>(
+    state: &mut CacheState<G>,
+    rows: &mut R,
+    notices: &mut Notices,
+    at: &At,
+    op: &Op,
+    answer: &Answer,
+    supply: Supply,
+) -> Next
+    requires tied { IsTied (R.contents rows.old) state.old }
+    requires row { FoundRow at.now.key state.old at.now.row }
+    requires places { HasPlaces state.old.config 2 notices.old }
+    requires invoke { is_invoke op.now ≡ false }
+    requires covered { CoversAnswer state.old.config (waits_first at.now.moment (record { key = at.now.key; op = op.now })) answer.now (items_of state.old.cells) supply }
+    requires room { HasRoomAt state.old.config (waits_first at.now.moment (record { key = at.now.key; op = op.now })) answer.now (R.spare rows.old) }
+    requires waits { IsWaiting state.old.config (progress_of state.old notices.old.told) (waits_first at.now.moment (record { key = at.now.key; op = op.now })) }
+    ensures stays { Stays 1 2 (R.contents rows.old) (R.spare rows.old) state.old notices.old (R.contents rows.new) (R.spare rows.new) state.new notices.new }
+    ensures next { StepsTo state.old.config (resume (key_run state.old.config (progress_of state.old notices.old.told) (waits_first at.now.moment (record { key = at.now.key; op = op.now }))) answer.now) result state.new notices.new.told }
+    ensures call_stays { StaysAt at.now.moment (record { key = at.now.key; op = op.now }) result }
+{
+    let line = line_at(op, live_at(state, at));
+    if is_load(line.asks) {
+        return answer_loaded(state, rows, notices, at, line, answer, supply);
+    }
+    if !is_written(answer) {
+        return Next::Ended(fault(By::Writer, None));
+    }
+    let Supply { stored, shown, .. } = supply;
+    let shown = where_there(at.row.is_some(), shown);
+    Next::Ended(end(state, rows, notices, at, line, stored, shown))
+}

@@ -1,0 +1,252 @@
+-- A configuration that was read opens a manager, and the callbacks that it names are those that its caches are to have.
+use Rattle.std.proofs.Common.{◌≡◌, ℕ, ◌+◌, ◌≤◌, Bool, true, false, List, [], ◌∷◌, ◌++◌, length, map, Option, Some, None, option_map, Result, Ok, Err, refl, sym, ap, ◌∙◌, subst, arith, nat_le, add-one}
+use Rattle.std.specs.Prelude.{◌||◌, ◌&&◌, ltb, if◌then◌else◌, is_some, sum, option_and_then, ⊤}
+use Rattle.std.specs.Option.{ok_or}
+use Rattle.std.specs.List.{list_any, fold}
+use Rattle.std.specs.Str.{bytes_eq}
+use Rattle.std.proofs.lemmas.Bool.Decides.{nat_tests}
+use Rattle.std.proofs.lemmas.List.{length-map, length-replicate}
+use Rattle.toml.specs.Data.{Data, Items, no_items, item, get, as_array}
+use Rattle.jc_config.specs.Config.{document_of, tables_of, cache_of, caches_of, check_totals, check_names, duplicate_from, total_of, provided, configuration_of}
+use Rattle.jc_config.specs.Faults.{◌>>=◌, name_of}
+use Rattle.jc_config.specs.Kinds.{loader_of, writer_of, processor_of, wants_value_of}
+use Rattle.jc_config.specs.Members.{whole, number, name_text, text_kind, kinds_of, count_of, few_kinds, processor_list, needed, found_or, optional, policy_of, no_other_entry}
+use Rattle.jc_config.specs.declared.fault.Member.TheVariants as members
+use Rattle.jc_config.specs.declared.fault.ConfigFault.{ConfigFault}
+use Rattle.jc_config.specs.declared.fault.ConfigFault.TheVariants.{NotToml}
+use Rattle.jc_config.specs.declared.kinds.CacheSettings.{CacheSettings}
+use Rattle.jc_config.specs.declared.kinds.Configuration.{Configuration}
+use Rattle.jc_config.specs.declared.kinds.HookKinds.{HookKinds}
+use Rattle.jc_config.specs.declared.kinds.LoaderKind.{LoaderKind}
+use Rattle.jc_config.specs.declared.kinds.LoaderKind.TheVariants.{Echo}
+use Rattle.jc_config.specs.declared.kinds.WriterKind.{WriterKind}
+use Rattle.jc_config.specs.declared.kinds.WriterKind.TheVariants.{Check}
+use Rattle.jc_config.specs.declared.kinds.ProcessorKind.{ProcessorKind}
+use Rattle.jc_config.specs.declared.kinds.ProcessorKind.TheVariants as kind
+use Rattle.jc_engine.specs.Opening.{is_taken, limit_refusal, refusal_from, capacities, open_refusal}
+use Rattle.jc_hooks.specs.Processors.{wants_of}
+use Rattle.jc_hooks.specs.Tallies.{no_notices}
+use Rattle.jc_model.specs.declared.config.CacheConfig.{CacheConfig}
+use Rattle.jc_runner.specs.Hooks.{Suits, AllSuit}
+use Rattle.jc_runner.specs.Naming.{ProgramHooks, loader_named, writer_named, processor_named, IsNamed, AllNamed}
+use Rattle.jc_runner.specs.Opens.{HasKinds, AllHaveKinds, Opens}
+use Rattle.jc_runner.specs.Program.{demonstration}
+
+-- A reading that succeeded.
+
+bind_ok : {A B : Type 0} (r : Result A ConfigFault) (f : A → Result B ConfigFault) (y : B) → (r >>= f) ≡ Ok y → (x : A) × (r ≡ Ok x) × (f x ≡ Ok y)
+bind_ok (Ok x) f y e = (x, refl, e)
+bind_ok (Err w) f y e = cc
+
+ok_same : {A : Type 0} (x y : A) → ◌≡◌ {A = Result A ConfigFault} (Ok x) (Ok y) → x ≡ y
+ok_same x y e = cc
+
+provided_ok : (b : Bool) (w : ConfigFault) (u : Unit {0}) → provided b w ≡ Ok u → b ≡ true
+provided_ok true w u e = refl
+provided_ok false w u e = cc
+
+ok_or_some : {A : Type 0} (o : Option A) (w : ConfigFault) (x : A) → ok_or o w ≡ Ok x → o ≡ Some x
+ok_or_some (Some y) w x e = ap Some (ok_same y x e)
+ok_or_some None w x e = cc
+
+then_some : {A B : Type 0} (f : A → Option B) (o : Option A) (y : B) → option_and_then f o ≡ Some y → (x : A) × (f x ≡ Some y)
+then_some f (Some x) y e = (x, e)
+then_some f None y e = cc
+
+some_same : {A : Type 0} (x y : A) → Some x ≡ Some y → x ≡ y
+some_same x y e = cc
+
+map_some : {A B : Type 0} (f : A → B) (o : Option A) (y : B) → option_map f o ≡ Some y → (x : A) × (o ≡ Some x) × (f x ≡ y)
+map_some f (Some x) y e = (x, refl, some_same (f x) y e)
+map_some f None y e = cc
+
+if_some : {A : Type 0} (b : Bool) (o : Option A) (y : A) → (if b then o else None) ≡ Some y → (b ≡ true) × (o ≡ Some y)
+if_some true o y e = (refl, e)
+if_some false o y e = cc
+
+both : (a b : Bool) → (a && b) ≡ true → (a ≡ true) × (b ≡ true)
+both true b e = (refl, e)
+both false b e = absurd cc
+
+not_above : (m n : ℕ) → nat_le m n ≡ true → ltb n m ≡ false
+not_above m n e = grind (arith, nat_tests)
+
+-- The members of a table.
+
+number_within : (low high : ℕ) (d : Data) (v : ℕ) → number low high d ≡ Some v → (nat_le low v ≡ true) × (nat_le v high ≡ true)
+number_within low high d v e =
+    let (n, found) = then_some (λ n. if nat_le low n && nat_le n high then Some n else None) (whole d) v e in
+    let (test, same) = if_some (nat_le low n && nat_le n high) (Some n) v found in
+    both (nat_le low v) (nat_le v high) (subst (λ m. (nat_le low m && nat_le m high) ≡ true) (some_same n v same) test)
+
+capacity_within : (n : ℕ) (d : Data) (v : ℕ) → needed (number 1 65536) n members.Capacity d ≡ Ok v → (nat_le 1 v ≡ true) × (nat_le v 65536 ≡ true)
+capacity_within n d v e =
+    let (x, found) = then_some (number 1 65536) (get (name_of members.Capacity) d) v (ok_or_some _ _ v e) in
+    number_within 1 65536 x v found
+
+listeners_within : (n : ℕ) (o : Option Data) (v : ℕ) → found_or 0 (number 0 8) n members.Listeners o ≡ Ok v → nat_le v 8 ≡ true
+listeners_within n None v e = rw (← ok_same 0 v e) refl
+listeners_within n (Some d) v e = (number_within 0 8 d v (ok_or_some _ _ v e)).1
+
+kinds_count : (ds : Items) (ks : List ProcessorKind) → kinds_of ds ≡ Some ks → count_of ds ≡ length ks
+kinds_count no_items [] e = refl
+kinds_count no_items (k ∷ ks) e = cc
+kinds_count (item d ds) ks e =
+    let (kind, one) = then_some (λ (kind : ProcessorKind). option_map (λ kinds. kind ∷ kinds) (kinds_of ds)) (text_kind processor_of d) ks e in
+    let (rest, more, same) = map_some (λ (kinds : List ProcessorKind). kind ∷ kinds) (kinds_of ds) ks one in
+    rw (← same, kinds_count ds rest more) (add-one (length rest))
+
+few : (n : ℕ) (o : Option Data) (ks : List ProcessorKind) → found_or [] processor_list n members.Processors o ≡ Ok ks → nat_le (length ks) 16 ≡ true
+few n None ks e = rw (← ok_same [] ks e) refl
+few n (Some v) ks e =
+    let (items, found) = then_some few_kinds (as_array v) ks (ok_or_some _ _ ks e) in
+    let (short, read) = if_some (nat_le (count_of items) 16) (kinds_of items) ks found in
+    rw (kinds_count items ks read) at short
+
+-- One cache.
+
+record Sound (c : CacheSettings) : Type 0 where
+  some : nat_le 1 c.config.capacity ≡ true
+  most : nat_le c.config.capacity 65536 ≡ true
+  listeners : nat_le c.config.listeners 8 ≡ true
+  processors : nat_le (length c.config.processors) 16 ≡ true
+  kinds : HasKinds c.config c.hooks
+
+sound_cache : (n : ℕ) (d : Data) (c : CacheSettings) → cache_of n d ≡ Ok c → Sound c
+unfolding cache_of
+sound_cache n d c e =
+    let (name, e1, k1) = bind_ok (needed name_text n members.Name d) _ c e in
+    let (capacity, e2, k2) = bind_ok (needed (number 1 65536) n members.Capacity d) _ c k1 in
+    let (policy, e3, k3) = bind_ok (policy_of n d) _ c k2 in
+    let (loader, e4, k4) = bind_ok (optional (text_kind loader_of) n members.Loader d) _ c k3 in
+    let (writer, e5, k5) = bind_ok (optional (text_kind writer_of) n members.Writer d) _ c k4 in
+    let (kinds, e6, k6) = bind_ok (found_or [] processor_list n members.Processors (get (name_of members.Processors) d)) _ c k5 in
+    let (listeners, e7, k7) = bind_ok (found_or 0 (number 0 8) n members.Listeners (get (name_of members.Listeners) d)) _ c k6 in
+    let (none, e8, k8) = bind_ok (no_other_entry n d) _ c k7 in
+    subst Sound (ok_same _ c k8) (record {
+      some = (capacity_within n d capacity e2).0;
+      most = (capacity_within n d capacity e2).1;
+      listeners = listeners_within n (get (name_of members.Listeners) d) listeners e7;
+      processors = rw (length-map kinds wants_value_of) (few n (get (name_of members.Processors) d) kinds e6);
+      kinds = record { loads = refl; writes = refl; processes = refl };
+    })
+
+abbrev AllSound : List CacheSettings → Type 0
+AllSound [] = ⊤
+AllSound (c ∷ cs) = Sound c × AllSound cs
+
+sound_caches : (n : ℕ) (ds : Items) (cs : List CacheSettings) → caches_of n ds ≡ Ok cs → AllSound cs
+sound_caches n no_items cs e = subst AllSound (ok_same [] cs e) tt
+sound_caches n (item d ds) cs e =
+    let (c, one, k) = bind_ok (cache_of n d) _ cs e in
+    let (rest, more, last) = bind_ok (caches_of (n + 1) ds) _ cs k in
+    subst AllSound (ok_same (c ∷ rest) cs last) (sound_cache n d c one, sound_caches (n + 1) ds rest more)
+
+-- The manager refuses none of them.
+
+limits_none : (place : ℕ) (c : CacheSettings) → Sound c → limit_refusal place c.config ≡ None
+limits_none place c s =
+    rw (not_above 1 c.config.capacity s.some, not_above c.config.capacity 65536 s.most, not_above c.config.listeners 8 s.listeners, not_above (length c.config.processors) 16 s.processors) refl
+
+or_swap : (a b c : Bool) → (a || (b || c)) ≡ (b || (a || c))
+or_swap true true c = refl
+or_swap true false c = refl
+or_swap false b c = refl
+
+any_push : {A : Type 0} (test : A → Bool) (xs : List A) (x : A) → list_any test (xs ++ x ∷ []) ≡ (test x || list_any test xs)
+any_push test [] x = refl
+any_push test (y ∷ ys) x = ap (λ (b : Bool). test y || b) (any_push test ys x) ∙ or_swap (test y) (test x) (list_any test ys)
+
+if_none : {A : Type 0} (b : Bool) (x : A) (o : Option A) → (if b then Some x else o) ≡ None → (b ≡ false) × (o ≡ None)
+if_none true x o e = absurd cc
+if_none false x o e = (refl, e)
+
+refused_none : (seen names : List (List ℕ)) (n place : ℕ) (cs : List CacheSettings) → ((x : List ℕ) → list_any (λ y. bytes_eq y x) seen ≡ is_taken x names) → AllSound cs
+    → duplicate_from seen n (map (λ c. c.config.name) cs) ≡ None → refusal_from names place (map (λ c. c.config) cs) ≡ None
+refused_none seen names n place [] same sound e = refl
+refused_none seen names n place (c ∷ cs) same sound e =
+    let name : List ℕ = c.config.name in
+    let (new, more) = if_none (list_any (λ y. bytes_eq y name) seen) n (duplicate_from (name ∷ seen) (n + 1) (map (λ c. c.config.name) cs)) e in
+    let free : is_taken name names ≡ false = sym (same name) ∙ new in
+    let rest : refusal_from (names ++ name ∷ []) (place + 1) (map (λ c. c.config) cs) ≡ None =
+    refused_none (name ∷ seen) (names ++ name ∷ []) (n + 1) (place + 1) cs (λ x. ap (λ (b : Bool). bytes_eq name x || b) (same x) ∙ sym (any_push (λ y. bytes_eq y x) names name)) sound.1 more in
+    rw (limits_none place c sound.0, free, rest) refl
+
+names_none : (o : Option ℕ) (u : Unit {0}) → check_names o ≡ Ok u → o ≡ None
+names_none None u e = refl
+names_none (Some n) u e = cc
+
+sum_from : (n : ℕ) (cs : List CacheSettings) → fold ◌+◌ n (capacities (map (λ c. c.config) cs)) ≡ n + total_of cs
+sum_from n [] = omega arith
+sum_from n (c ∷ cs) = sum_from (n + c.config.capacity) cs ∙ omega arith
+
+total_is_sum : (cs : List CacheSettings) → total_of cs ≡ sum (capacities (map (λ c. c.config) cs))
+total_is_sum cs = omega (arith, sum_from 0 cs)
+
+all_kinds : (cs : List CacheSettings) → AllSound cs → AllHaveKinds (map (λ c. c.config) cs) (map (λ c. c.hooks) cs)
+all_kinds [] s = tt
+all_kinds (c ∷ cs) s = (s.0.kinds, all_kinds cs s.1)
+
+opens_none : (cs : List CacheSettings) (u : Unit {0}) → AllSound cs → check_totals cs ≡ Ok u → open_refusal (map (λ c. c.config) cs) ≡ None
+opens_none cs u sound e =
+    let (counted, e1, k1) = bind_ok (provided (nat_le (length cs) 1024) _) _ u e in
+    let (distinct, e2, k2) = bind_ok (check_names (duplicate_from [] 1 (map (λ c. c.config.name) cs))) _ u k1 in
+    let fits : nat_le (length cs) 1024 ≡ true = provided_ok (nat_le (length cs) 1024) _ counted e1 in
+    let total : nat_le (sum (capacities (map (λ c. c.config) cs))) 262144 ≡ true = rw (← total_is_sum cs) (provided_ok (nat_le (total_of cs) 262144) _ u k2) in
+    let none : refusal_from [] 0 (map (λ c. c.config) cs) ≡ None = refused_none [] [] 1 0 cs (λ x. refl) sound (names_none _ distinct e2) in
+    rw (length-map cs (λ (c : CacheSettings). c.config), not_above (length cs) 1024 fits, none, not_above (sum (capacities (map (λ c. c.config) cs))) 262144 total) refl
+
+pub configuration_opens : (bytes : List ℕ) (c : Configuration) → configuration_of bytes ≡ Ok c → Opens c
+unfolding configuration_of
+configuration_opens bytes c e =
+    let (short, e1, k1) = bind_ok (provided (nat_le (length bytes) 8388608) _) _ c e in
+    let (document, e2, k2) = bind_ok (ok_or (document_of bytes) NotToml) _ c k1 in
+    let (tables, e3, k3) = bind_ok (tables_of document) _ c k2 in
+    let (cs, e4, k4) = bind_ok (caches_of 1 tables) _ c k3 in
+    let (within, e5, k5) = bind_ok (check_totals cs) _ c k4 in
+    let sound : AllSound cs = sound_caches 1 tables cs e4 in
+    subst Opens (ok_same _ c k5) (record { kinds = all_kinds cs sound; refuses_nothing = opens_none cs within sound e5 })
+
+pub demonstration_opens : Opens demonstration
+demonstration_opens = record {
+  kinds = (record { loads = refl; writes = refl; processes = refl }, (record { loads = refl; writes = refl; processes = refl }, tt));
+  refuses_nothing = refl;
+}
+
+-- The callbacks that are named are those that the caches are to have.
+
+same_loader : (o : Option LoaderKind) → is_some (loader_named o) ≡ is_some o
+same_loader None = refl
+same_loader (Some Echo) = refl
+
+same_writer : (o : Option WriterKind) → is_some (writer_named o) ≡ is_some o
+same_writer None = refl
+same_writer (Some Check) = refl
+
+same_wants : (ks : List ProcessorKind) → map wants_of (map processor_named ks) ≡ map wants_value_of ks
+same_wants [] = refl
+same_wants (kind.Append ∷ ks) = ap (λ (bs : List Bool). true ∷ bs) (same_wants ks)
+same_wants (kind.Fail ∷ ks) = ap (λ (bs : List Bool). false ∷ bs) (same_wants ks)
+same_wants (kind.Drop ∷ ks) = ap (λ (bs : List Bool). false ∷ bs) (same_wants ks)
+same_wants (kind.Peek ∷ ks) = ap (λ (bs : List Bool). true ∷ bs) (same_wants ks)
+
+named_suits : (c : CacheConfig) (k : HookKinds) (h : ProgramHooks) → HasKinds c k → IsNamed c k h → Suits wants_of c h
+named_suits c k h has named = record {
+  loads = has.loads ∙ sym (same_loader k.loader) ∙ ap is_some (sym named.loader);
+  writes = has.writes ∙ sym (same_writer k.writer) ∙ ap is_some (sym named.writer);
+  processes = has.processes ∙ sym (same_wants k.processors) ∙ ap (map wants_of) (sym named.processors);
+  listens = sym (length-replicate c.listeners no_notices) ∙ ap length (sym named.listeners);
+}
+
+pub all_named_suit : (caches : List CacheConfig) (kinds : List HookKinds) (hooks : List ProgramHooks) → AllHaveKinds caches kinds → AllNamed caches kinds hooks → AllSuit wants_of caches hooks
+all_named_suit [] [] [] has named = tt
+all_named_suit [] [] (h ∷ hooks) has named = absurd named
+all_named_suit [] (k ∷ kinds) hooks has named = absurd has
+all_named_suit (c ∷ caches) [] hooks has named = absurd has
+all_named_suit (c ∷ caches) (k ∷ kinds) [] has named = absurd named
+all_named_suit (c ∷ caches) (k ∷ kinds) (h ∷ hooks) has named = (named_suits c k h has.0 named.0, all_named_suit caches kinds hooks has.1 named.1)
+
+pub as_many_kinds : (caches : List CacheConfig) (kinds : List HookKinds) → AllHaveKinds caches kinds → length caches ≤ length kinds
+as_many_kinds [] kinds has = omega arith
+as_many_kinds (c ∷ caches) [] has = absurd has
+as_many_kinds (c ∷ caches) (k ∷ kinds) has = let more : length caches ≤ length kinds = as_many_kinds caches kinds has.1 in omega (arith, more)

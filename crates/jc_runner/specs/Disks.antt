@@ -1,0 +1,25 @@
+-- What a disk states of its paths.
+use Rattle.std.specs.Prelude.{◌≡◌, ℕ, List, [], ◌∷◌, ◌++◌, Option, Some, None, ⊤}
+
+-- a file that was opened, by what its path holds
+abbrev pub IsFound : Option (Option (List ℕ)) → Option (List ℕ) → Type 0
+IsFound None left = ⊤
+IsFound (Some None) left = ⊥
+IsFound (Some (Some bytes)) left = left ≡ Some bytes
+
+-- a path that does not open
+abbrev pub MayBeMissing : Option (Option (List ℕ)) → Type 0
+MayBeMissing (Some (Some bytes)) = ⊥
+MayBeMissing _ = ⊤
+
+-- this was asked for next
+abbrev pub Asks : Option (List (List ℕ)) → Option (List (List ℕ)) → List ℕ → Type 0
+Asks None None path = ⊤
+Asks (Some old) (Some new) path = new ≡ old ++ path ∷ []
+Asks _ _ path = ⊥
+
+-- what is true of the bytes of a path that was opened
+abbrev pub OfBytes : Option (Option (List ℕ)) → (List ℕ → Type 0) → Type 0
+OfBytes None P = ⊤
+OfBytes (Some None) P = ⊥
+OfBytes (Some (Some bytes)) P = P bytes

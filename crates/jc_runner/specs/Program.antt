@@ -1,0 +1,132 @@
+-- What the program does with its words, its files and its streams.
+use Rattle.std.specs.Prelude.{true, ◌≡◌, ◌≢◌, ◌⊎◌, ℕ, ◌<◌, List, [], ◌∷◌, length, Option, Some, None, IfSome, Result, Ok, Err, string_bytes}
+use Rattle.std.specs.Io.KnownBytes.{Appends, Keeps}
+use Rattle.clap.specs.Words.{Text, kind_of}
+use Rattle.clap.specs.declared.error.Error.{Error}
+use Rattle.clap.specs.declared.error.kind.ErrorKind.TheVariants.{OutOfMemory}
+use Rattle.jc_config.specs.Config.{configuration_of}
+use Rattle.jc_config.specs.declared.kinds.Configuration.{Configuration}
+use Rattle.jc_config.specs.declared.kinds.HookKinds.{HookKinds}
+use Rattle.jc_hooks.specs.Processors.{verdict_by}
+use Rattle.jc_hooks.specs.Program.{echoed, AllChecked}
+use Rattle.jc_hooks.specs.Tallies.{numbers, tallied}
+use Rattle.jc_script.specs.Script.{lines}
+use Rattle.jc_words.specs.Program.{AsksFor, MayRefuse}
+use Rattle.jc_words.specs.declared.run.Run.{Run}
+use Rattle.jc_runner.specs.Demonstration.{demonstration_caches}
+use Rattle.jc_runner.specs.Disks.{IsFound, MayBeMissing, Asks}
+use Rattle.jc_runner.specs.Endings.{ending_of, no_memory, HasStatus, SaysSo, Leaves}
+use Rattle.jc_runner.specs.Meters.{next, AddsAtMost}
+use Rattle.jc_runner.specs.Naming.{ProgramHooks, AllNamed}
+use Rattle.jc_runner.specs.Reports.{ReportsOf}
+use Rattle.jc_runner.specs.Streams.{WritesFront}
+use Rattle.jc_runner.specs.declared.ending.Ended.{Ended}
+use Rattle.jc_runner.specs.declared.ending.Ending.{Ending}
+use Rattle.jc_runner.specs.declared.ending.Ending.TheVariants.{Refused, NotText}
+use Rattle.jc_runner.specs.declared.ending.WordsFault.{WordsFault}
+use Rattle.jc_runner.specs.declared.ending.WordsFault.TheVariants as fault
+use Rattle.jc_runner.specs.declared.fault.ProgramFault.{ProgramFault}
+use Rattle.jc_runner.specs.declared.fault.ProgramFault.TheVariants as program
+use Rattle.jc_runner.specs.declared.fault.RunFault.{RunFault}
+use Rattle.jc_runner.specs.declared.fault.RunFault.TheVariants as run
+use Rattle.jc_runner.specs.declared.streams.Standard.{Standard}
+use Rattle.jc_runner.specs.declared.watched.Watched.{Watched}
+use Rattle.jc_runner.specs.declared.watched.WatchedWriter.{WatchedWriter}
+
+-- the report of a script, with fresh callbacks of the kinds that the configuration names, of which this is true
+pub record Reported (c : Configuration) (script : List ℕ) (IsSo : List ℕ → Type 0) : Type 0 where
+  pub hooks : List ProgramHooks
+  pub hooks' : List ProgramHooks
+  pub named : AllNamed c.settings c.hooks hooks
+  pub reports : ReportsOf (λ l. echoed) (λ w given. AllChecked given) verdict_by (λ t notices. numbers (tallied t notices)) c.settings script hooks hooks' IsSo
+
+abbrev pub failed_once : {F : Type 0} → Watched F → Watched F → Type 0
+failed_once old new = new.failures ≡ next old.failures
+
+-- a reader that was not read yet
+abbrev pub unread : {F : Type 0} → F → Watched F
+unread file = record { inner = file; reads = 0; failures = 0 }
+
+-- A script that is read and run: how that ends.
+module _ {I O : Type 0} (remaining : I → Option (List ℕ)) (contents : O → Option (List ℕ)) (c : Configuration) (reader reader' : Watched I) (writer writer' : WatchedWriter O) where
+  abbrev pub RunEnds : Result (Unit {0}) RunFault → Type 0
+  RunEnds (Ok done) = IfSome (remaining reader.inner) (λ script. Reported c script (Appends (contents writer.inner) (contents writer'.inner))) × (writer'.failures ≡ writer.failures) × (writer'.flushed ≡ true)
+  RunEnds (Err run.Read) = failed_once reader reader' × Keeps (contents writer.inner) (contents writer'.inner)
+  RunEnds (Err run.TooLong) = IfSome (remaining reader.inner) (λ script. 8388608 < length script) × Keeps (contents writer.inner) (contents writer'.inner)
+  RunEnds (Err (run.Script fault)) = IfSome (remaining reader.inner) (λ script. lines c.settings script ≡ Err fault) × Keeps (contents writer.inner) (contents writer'.inner)
+  RunEnds (Err run.Open) = ⊥
+  RunEnds (Err run.Close) = ⊥
+  RunEnds (Err run.Write) = IfSome (remaining reader.inner) (λ script. Reported c script (WritesFront (contents writer.inner) (contents writer'.inner))) × (writer'.failures ≡ next writer.failures)
+  RunEnds (Err run.Memory) = Keeps (contents writer.inner) (contents writer'.inner)
+
+-- A configuration that is read from a file.
+module _ {F : Type 0} (remaining : F → Option (List ℕ)) (held : Option (Option (List ℕ))) where
+  abbrev pub ConfigRead : F → Watched F → Result Configuration ProgramFault → Type 0
+  ConfigRead file reader (Ok c) = IfSome (remaining file) (λ bytes. configuration_of bytes ≡ Ok c)
+  ConfigRead file reader (Err program.ConfigRead) = failed_once (unread file) reader
+  ConfigRead file reader (Err (program.Config fault)) = IfSome (remaining file) (λ bytes. configuration_of bytes ≡ Err fault)
+  ConfigRead file reader (Err (program.Run fault)) = fault ≡ run.Memory
+
+  -- the file does not open, or it is read to its end or its fault
+  abbrev pub ConfigEnds : Option (Watched F) → Result Configuration ProgramFault → Type 0
+  ConfigEnds None result = ((result ≡ Err program.ConfigRead) × MayBeMissing held) ⊎ (result ≡ Err (program.Run run.Memory))
+  ConfigEnds (Some reader) result = (file : F) × IsFound held (remaining file) × AddsAtMost 8388609 0 reader.reads × ConfigRead file reader result
+
+  -- the same of the script
+  module _ {O : Type 0} (contents : O → Option (List ℕ)) (c : Configuration) (writer writer' : WatchedWriter O) where
+    abbrev pub ScriptEnds : Option (Watched F) → Result (Unit {0}) RunFault → Type 0
+    ScriptEnds None result = (((result ≡ Err run.Read) × MayBeMissing held) ⊎ (result ≡ Err run.Memory)) × Keeps (contents writer.inner) (contents writer'.inner)
+    ScriptEnds (Some reader) result = (file : F) × IsFound held (remaining file) × AddsAtMost 8388609 0 reader.reads × RunEnds remaining contents c (unread file) reader writer writer' result
+
+abbrev pub as_program : Result (Unit {0}) RunFault → Result (Unit {0}) ProgramFault
+as_program (Ok done) = Ok done
+as_program (Err fault) = Err (program.Run fault)
+
+-- the two files of a run: what the disk holds, what it was asked for, and how they were read
+module _ {F O : Type 0} (remaining : F → Option (List ℕ)) (contents : O → Option (List ℕ)) (holds : List ℕ → Option (Option (List ℕ))) (asked asked' : Option (List (List ℕ))) (run : Run)
+    (config script : Option (Watched F)) (writer writer' : WatchedWriter O) where
+  -- after the configuration's fault no script is asked for
+  abbrev pub GoesOn : Option (List (List ℕ)) → Result Configuration ProgramFault → Result (Unit {0}) ProgramFault → Type 0
+  GoesOn before (Err fault) result = (result ≡ Err fault) × (script ≡ None) × (asked' ≡ before) × Keeps (contents writer.inner) (contents writer'.inner)
+  GoesOn before (Ok c) result =
+      (ran : Result (Unit {0}) RunFault) × (result ≡ as_program ran) × Asks before asked' (string_bytes run.script) × ScriptEnds remaining (holds (string_bytes run.script)) contents c writer writer' script ran
+
+  pub record FilesEnd (result : Result (Unit {0}) ProgramFault) : Type 0 where
+    pub before : Option (List (List ℕ))
+    pub configuration : Result Configuration ProgramFault
+    pub asks : Asks asked before (string_bytes run.config)
+    pub reads : ConfigEnds remaining (holds (string_bytes run.config)) config configuration
+    pub goes_on : GoesOn before configuration result
+
+-- the demonstration's configuration
+abbrev pub no_kinds : HookKinds
+no_kinds = record { loader = None; writer = None; processors = [] }
+
+abbrev pub demonstration : Configuration
+demonstration = record { settings = demonstration_caches; hooks = no_kinds ∷ no_kinds ∷ [] }
+
+module _ {F I O : Type 0} (of_file : F → Option (List ℕ)) (of_input : I → Option (List ℕ)) (contents : O → Option (List ℕ)) (holds : List ℕ → Option (Option (List ℕ))) (asked asked' : Option (List (List ℕ)))
+    (config script : Option (Watched F)) (input input' : Watched I) (writer writer' : WatchedWriter O) where
+  -- What words ask for, and how that ends. Where they are mistaken, or memory is wanting, nothing is run.
+  module _ (words : List Text) (ending : Ending) where
+    pub data WordsEnd : Type 0 where
+      plays : words ≡ [] → (ran : Result (Unit {0}) RunFault) → RunEnds of_input contents demonstration input input' writer writer' ran → ending ≡ ending_of (as_program ran) → WordsEnd
+      runs : (run : Run) → AsksFor words run → (ran : Result (Unit {0}) ProgramFault) → FilesEnd of_file contents holds asked asked' run config script writer writer' ran → ending ≡ ending_of ran → WordsEnd
+      refuses : (e : Error) → MayRefuse words e → kind_of e ≢ OutOfMemory → ending ≡ Refused e → writer' ≡ writer → WordsEnd
+      lacks_memory : ending ≡ no_memory → writer' ≡ writer → WordsEnd
+
+  abbrev pub Obeys : Result (List Text) WordsFault → Ending → Type 0
+  Obeys (Ok words) ending = WordsEnd words ending
+  Obeys (Err fault.NotText) ending = (ending ≡ NotText) × (writer' ≡ writer)
+  Obeys (Err fault.OutOfMemory) ending = (ending ≡ no_memory) × (writer' ≡ writer)
+
+module _ {F I O E : Type 0} (of_file : F → Option (List ℕ)) (of_input : I → Option (List ℕ)) (contents : O → Option (List ℕ)) (said : E → Option (List ℕ)) (holds : List ℕ → Option (Option (List ℕ))) (asked asked' : Option (List (List ℕ)))
+    (config script : Option (Watched F)) (standard standard' : Standard I O E) where
+  -- the program has obeyed the words, and then said how that ended
+  pub record Ends (words : Result (List Text) WordsFault) (result : Ended) : Type 0 where
+    pub ending : Ending
+    pub written : WatchedWriter O
+    pub obeys : Obeys of_file of_input contents holds asked asked' config script standard.input standard'.input standard.output written words ending
+    pub status : HasStatus ending result.status
+    pub says : SaysSo ending result.told (said standard.errors) (said standard'.errors)
+    pub leaves : Leaves ending written standard'.output

@@ -1,0 +1,31 @@
+//! How the program ends.
+
+use crate::fault::ProgramFault;
+use clap::Error;
+
+/// How the program ends.
+#[derive(Drop)]
+pub enum Ending {
+    /// The report was printed.
+    Printed,
+    /// A fault, whose line is to be told on standard error.
+    Faulty(ProgramFault),
+    /// Help was asked for, or the words are mistaken.
+    Refused(Error),
+    /// One of the words is no text.
+    NotText,
+}
+
+/// The status, and whether all was written that is to be said.
+#[derive(Clone, Copy, Debug, PartialEq, Eq)]
+pub struct Ended {
+    pub status: u8,
+    pub told: bool,
+}
+
+/// Why the words can't be had.
+#[derive(Clone, Copy, Debug, PartialEq, Eq)]
+pub enum WordsFault {
+    NotText,
+    OutOfMemory,
+}

@@ -1,0 +1,143 @@
+//! The program over its words, a disk and the standard streams.
+ghost use Rattle.std.specs.Prelude.{◌≡◌, ◌↔◌, IsTrue, IfOk, IfErr, Ok, Err, map, string_bytes};
+ghost use Rattle.clap.specs.Words.{kind_of};
+ghost use Rattle.jc_runner.specs.Program.{RunEnds, WordsEnd, Obeys, Ends, no_kinds, demonstration as demonstration_read};
+
+use crate::disk::Disk;
+use crate::ending::{Ended, Ending, WordsFault};
+use crate::fault::{ProgramFault, RunFault};
+use crate::files::{play, run_files};
+use crate::presets::demonstration;
+use crate::saying::{ending_of, say};
+use crate::streams::{Opened, Standard};
+use crate::watched::{Watched, WatchedWriter};
+use clap::Error;
+use clap::error::ErrorKind;
+use jc_config::{Configuration, HookKinds};
+use jc_model::OutOfMemory;
+use jc_model::list::Sequence;
+use jc_words::read_words;
+use std::alloc::Global;
+use std::io::{Read, Write};
+
+fn no_kinds(alloc: Global) -> HookKinds
+    ensures { result ≡ no_kinds }
+{
+    HookKinds {
+        loader: None,
+        writer: None,
+        processors: Sequence::new(Vec::new(alloc)),
+    }
+}
+
+/// The demonstration's two caches, which have no callbacks.
+fn demonstrated(alloc: Global) -> Result<Configuration, OutOfMemory>
+    ensures { IfOk result (λ c. c ≡ demonstration_read) }
+{
+    let settings = demonstration(alloc)?;
+    let mut hooks = Vec::new(alloc);
+    hooks.push(no_kinds(alloc))?;
+    hooks.push(no_kinds(alloc))?;
+    Ok(Configuration {
+        settings,
+        hooks: Sequence::new(hooks),
+    })
+}
+
+/// Runs the script on standard input on the demonstration's caches.
+fn demonstrate<I: Read, O: Write>(
+    alloc: Global,
+    input: &mut Watched<I>,
+    output: &mut WatchedWriter<O>,
+) -> Result<(), RunFault>
+    ensures { RunEnds I.remaining O.contents demonstration_read input.old input.new output.old output.new result }
+{
+    let configuration = demonstrated(alloc)?;
+    play(alloc, configuration, 0, input, output)
+}
+
+/// The words as texts.
+fn texts_of<'a>(alloc: Global, words: &'a [String]) -> Result<Vec<&'a str>, OutOfMemory>
+    ensures { IfOk result (λ v. map (λ text. text.now) v.items ≡ map string_bytes words.entry.now) }
+{
+    let mut texts = Vec::with_capacity(alloc, words.len())?;
+    for word in words {
+        texts.push(word.as_str())?;
+    }
+    Ok(texts)
+}
+
+fn lacks_memory(error: &Error) -> bool
+    ensures { IsTrue result ↔ (kind_of error.now ≡ ErrorKind.OutOfMemory) }
+{
+    matches!(error.kind(), ErrorKind::OutOfMemory)
+}
+
+/// Does what the words behind the program's name ask for.
+fn obey<D: Disk, I: Read, O: Write>(
+    alloc: Global,
+    words: &[String],
+    disk: &mut D,
+    opened: &mut Opened<D::File>,
+    input: &mut Watched<I>,
+    output: &mut WatchedWriter<O>,
+) -> Ending
+    ensures { WordsEnd D.File.remaining I.remaining O.contents (D.holds disk.old) (D.asked disk.old) (D.asked disk.new) opened.new.config opened.new.script input.old input.new output.old output.new (map string_bytes words.now) result }
+{
+    let Ok(texts) = texts_of(alloc, words) else {
+        return Ending::Faulty(ProgramFault::Run(RunFault::Memory));
+    };
+    match read_words(alloc, texts.as_slice()) {
+        Ok(Some(run)) => ending_of(run_files(alloc, disk, opened, &run, output)),
+        Ok(None) => match demonstrate(alloc, input, output) {
+            Ok(()) => Ending::Printed,
+            Err(fault) => Ending::Faulty(ProgramFault::Run(fault)),
+        },
+        Err(error) => {
+            if lacks_memory(&error) {
+                return Ending::Faulty(ProgramFault::Run(RunFault::Memory));
+            }
+            Ending::Refused(error)
+        }
+    }
+}
+
+/// Does what the words ask for, where they are there.
+fn heed<D: Disk, I: Read, O: Write>(
+    alloc: Global,
+    words: Result<Vec<String>, WordsFault>,
+    disk: &mut D,
+    opened: &mut Opened<D::File>,
+    input: &mut Watched<I>,
+    output: &mut WatchedWriter<O>,
+) -> Ending
+    ensures obeys { IfOk words (λ v. Obeys D.File.remaining I.remaining O.contents (D.holds disk.old) (D.asked disk.old) (D.asked disk.new) opened.new.config opened.new.script input.old input.new output.old output.new (Ok (map string_bytes v.items)) result) }
+    ensures wordless { IfErr words (λ fault. Obeys D.File.remaining I.remaining O.contents (D.holds disk.old) (D.asked disk.old) (D.asked disk.new) opened.new.config opened.new.script input.old input.new output.old output.new (Err fault) result) }
+{
+    match words {
+        Ok(words) => obey(alloc, words.as_slice(), disk, opened, input, output),
+        Err(WordsFault::NotText) => Ending::NotText,
+        Err(WordsFault::OutOfMemory) => Ending::Faulty(ProgramFault::Run(RunFault::Memory)),
+    }
+}
+
+/// The program: it does what the words behind its name ask for, and says how that ended.
+///
+/// Without words the script on standard input is run on the demonstration's caches. Faults come in this order: the
+/// words, reading the configuration, its text, reading the script, its text, the run, the writing of the report.
+/// Standard output has the report and nothing else, and nothing at all after a fault, save a front of the report
+/// where it could not be written whole; help goes there too. The texts of help and of mistaken words are `clap`'s.
+pub fn program<D: Disk, I: Read, O: Write, E: Write>(
+    alloc: Global,
+    words: Result<Vec<String>, WordsFault>,
+    disk: &mut D,
+    opened: &mut Opened<D::File>,
+    standard: &mut Standard<I, O, E>,
+) -> Ended
+    ensures ends { IfOk words (λ v. Ends D.File.remaining I.remaining O.contents E.contents (D.holds disk.old) (D.asked disk.old) (D.asked disk.new) opened.new.config opened.new.script standard.old standard.new (Ok (map string_bytes v.items)) result) }
+    ensures wordless { IfErr words (λ fault. Ends D.File.remaining I.remaining O.contents E.contents (D.holds disk.old) (D.asked disk.old) (D.asked disk.new) opened.new.config opened.new.script standard.old standard.new (Err fault) result) }
+{
+    let input = &mut standard.input;
+    let ending = heed(alloc, words, disk, opened, input, &mut standard.output);
+    say(&ending, &mut standard.output, &mut standard.errors)
+}

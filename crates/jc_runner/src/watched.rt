@@ -1,0 +1,138 @@
+//! A reader and a writer that keep account of how they were used. Nothing else reads from them or writes to them.
+ghost use Rattle.std.specs.Prelude.{◌≡◌, false, not, is_err, is_ok};
+ghost use Rattle.std.specs.Io.{ReadsAtMost, WritesAtMost};
+ghost use Rattle.std.specs.Io.KnownBytes.{ReadConsumes, WriteAppends, Keeps};
+ghost use Rattle.jc_runner.specs.Meters.{next, next_if};
+ghost use Rattle.jc_runner.specs.Streams.{takes_nothing};
+
+use std::fmt::Display;
+use std::io;
+use std::io::{Read, Write};
+
+/// One more. A count goes round after `u64::MAX`, so that what was added to it is always seen in full.
+fn next(count: u64) -> u64
+    ensures { result ≡ next count }
+{
+    if count == u64::MAX { 0 } else { count + 1 }
+}
+
+/// The count, and one more where something failed.
+fn next_if(failed: bool, count: u64) -> u64
+    ensures { result ≡ next_if failed count }
+{
+    if failed { next(count) } else { count }
+}
+
+/// A reader, with how often it was read and how often that failed.
+#[derive(Drop)]
+pub struct Watched<R> {
+    inner: R,
+    reads: u64,
+    failures: u64,
+}
+
+impl<R: Read> Watched<R> {
+    /// A reader that was not read yet.
+    pub fn new(inner: R) -> Watched<R>
+        ensures { result ≡ record { inner = inner; reads = 0; failures = 0 } }
+    {
+        Watched {
+            inner,
+            reads: 0,
+            failures: 0,
+        }
+    }
+
+    /// How often it was read.
+    pub fn reads(&self) -> u64
+        ensures { result ≡ self.now.reads }
+    {
+        self.reads
+    }
+
+    /// How often that failed.
+    pub fn failures(&self) -> u64
+        ensures { result ≡ self.now.failures }
+    {
+        self.failures
+    }
+
+    pub(crate) fn read(&mut self, buf: &mut [u8]) -> io::Result<usize>
+        ensures bound { ReadsAtMost result buf.new }
+        ensures bytes { ReadConsumes (R.remaining self.old.inner) (R.remaining self.new.inner) result buf.new }
+        ensures reads { self.new.reads ≡ next self.old.reads }
+        ensures failures { self.new.failures ≡ next_if (is_err result) self.old.failures }
+    {
+        let result = self.inner.read(buf);
+        self.reads = next(self.reads);
+        self.failures = next_if(result.is_err(), self.failures);
+        result
+    }
+}
+
+/// A writer, with how often it failed, by a fault or by taking no byte, and whether what it took last was flushed.
+#[derive(Drop)]
+pub struct WatchedWriter<W> {
+    inner: W,
+    failures: u64,
+    flushed: bool,
+}
+
+impl<W: Write> WatchedWriter<W> {
+    /// A writer that was not called yet.
+    pub fn new(inner: W) -> WatchedWriter<W>
+        ensures { result ≡ record { inner = inner; failures = 0; flushed = false } }
+    {
+        WatchedWriter {
+            inner,
+            failures: 0,
+            flushed: false,
+        }
+    }
+
+    /// The writer itself.
+    pub fn into_inner(self) -> W
+        ensures { result ≡ self.inner }
+    {
+        let WatchedWriter { inner, .. } = self;
+        inner
+    }
+
+    /// Writes what is shown so; false where the writer failed.
+    pub(crate) fn print<T: Display>(&mut self, shown: &T) -> bool
+        ensures failures { self.new.failures ≡ next_if (not result) self.old.failures }
+        ensures flushed { self.new.flushed ≡ false }
+    {
+        let printed = write!(self.inner, "{shown}").is_ok();
+        self.failures = next_if(!printed, self.failures);
+        self.flushed = false;
+        printed
+    }
+
+    pub(crate) fn write(&mut self, buf: &[u8]) -> io::Result<usize>
+        ensures bound { WritesAtMost result buf.now }
+        ensures bytes { WriteAppends (W.contents self.old.inner) (W.contents self.new.inner) result buf.now }
+        ensures failures { self.new.failures ≡ next_if (takes_nothing result) self.old.failures }
+        ensures flushed { self.new.flushed ≡ false }
+    {
+        let result = self.inner.write(buf);
+        let failed = match &result {
+            Ok(taken) => *taken == 0,
+            Err(_) => true,
+        };
+        self.failures = next_if(failed, self.failures);
+        self.flushed = false;
+        result
+    }
+
+    pub(crate) fn flush(&mut self) -> io::Result<()>
+        ensures bytes { Keeps (W.contents self.old.inner) (W.contents self.new.inner) }
+        ensures failures { self.new.failures ≡ next_if (is_err result) self.old.failures }
+        ensures flushed { self.new.flushed ≡ is_ok result }
+    {
+        let result = self.inner.flush();
+        self.failures = next_if(result.is_err(), self.failures);
+        self.flushed = result.is_ok();
+        result
+    }
+}

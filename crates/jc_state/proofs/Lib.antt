@@ -1,0 +1,14 @@
+mod Counts
+mod Vacancies
+mod Shelves
+mod Cells
+mod Hand
+pub mod Ties
+pub mod Found
+pub mod Progress
+pub mod Room
+mod ClockLaw
+pub mod KeptLaws
+pub mod Changes
+mod Purges
+pub mod Walk

@@ -1,0 +1,16 @@
+use Rattle.std.proofs.Common.{subst, sym, ◌≡◌, List, ℕ, Some, None}
+use Rattle.jc_state.specs.Kept.{FoundRow}
+use Rattle.jc_state.proofs.Purges.{stayed_absent, stayed, gone, found_gone}
+use Rattle.jc_state.proofs.state.CacheState.purge.Goals as goal
+
+pub returns-in-None-clause-progress : goal.returns-in-None-clause-progress
+returns-in-None-clause-progress g c = λ key found. stayed_absent c.args.self.now.config c.args.now key c.args.self.now _ c.args.row c.in-None.is found
+
+pub returns-then-is_live-clause-progress : goal.returns-then-is_live-clause-progress
+returns-then-is_live-clause-progress g c = λ key found. stayed c.args.self.now.config c.args.now key c.args.self.now _ c.args.row c.in-Some.row c.in-Some.is found c.is_live.result c.is_live.ensures c.if-is_live.true
+
+pub returns-else-is_live-clause-progress : goal.returns-else-is_live-clause-progress
+returns-else-is_live-clause-progress g c = λ key found. gone c.args.self.now.config c.args.now key c.args.self.now _ c.args.row c.in-Some.row c.in-Some.is found c.is_live.result c.is_live.ensures c.if-is_live.false _ c.requires.tied c.remove_row.new.self _ c.remove_row.ensures.kept c.remove_row.ensures.told
+
+pub returns-else-is_live-clause-found : goal.returns-else-is_live-clause-found
+returns-else-is_live-clause-found g c = λ key found. found_gone key c.args.self.now c.args.row c.in-Some.row c.in-Some.is found _ c.remove_row.new.self c.remove_row.ensures.stays.keeps.id c.remove_row.ensures.stays.keeps.tied c.remove_row.ensures.gone

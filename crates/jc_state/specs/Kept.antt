@@ -1,0 +1,79 @@
+-- What a cache keeps, and what it means.
+use Rattle.std.specs.Prelude.{◌≡◌, ◌+◌, ◌≤◌, ℕ, List, length, map, Option, Some, None, true}
+use Rattle.jc_model.specs.declared.call.Counts.{Counts}
+use Rattle.jc_model.specs.declared.call.Notice.{Notice}
+use Rattle.jc_model.specs.declared.config.CacheConfig.{CacheConfig}
+use Rattle.jc_model.specs.State.{Item, State, row_of}
+use Rattle.jc_model.specs.Changes.{Progress}
+use Rattle.jc_rows.specs.Rows.{RowMap}
+use Rattle.jc_state.specs.declared.slots.Record.{Record}
+use Rattle.jc_state.specs.Noted.{Noted}
+use Rattle.jc_state.specs.Shelf.{Cell, seek, has_row}
+use Rattle.jc_state.specs.Tied.{Tied, SameElsewhere}
+
+-- its configuration, its id, the rows in the order of the ring, and the statistics
+pub record Kept : Type 0 where
+  pub config : CacheConfig
+  pub id : ℕ
+  pub cells : List Cell
+  pub counts : Counts
+
+abbrev pub item_of : Cell → Item
+item_of c = record { key = c.held.key; value = c.held.value; expiry = c.held.expiry; used = c.bit }
+
+abbrev pub items_of : List Cell → List Item
+items_of cs = map item_of cs
+
+abbrev pub state_of : Kept → State
+state_of k = record { ring = items_of k.cells; counts = k.counts }
+
+abbrev pub progress_of : Kept → List Notice → Progress
+progress_of k told = record { state = state_of k; notices = told }
+
+-- the cache and the table say the same of its rows
+abbrev pub IsTied : RowMap → Kept → Type 0
+IsTied m k = Tied m k.id k.cells
+
+-- What stays while a cache and the table change: it is the same cache, tied to the table and within its capacity, the
+-- table says the same of other caches, and no more than so many rows of its room are used.
+pub record Keeps (rows : ℕ) (m : RowMap) (spare : ℕ) (k : Kept) (n : RowMap) (left : ℕ) (k' : Kept) : Type 0 where
+  pub config : k'.config ≡ k.config
+  pub id : k'.id ≡ k.id
+  pub tied : IsTied n k'
+  pub elsewhere : SameElsewhere k.id m n
+  pub room : spare ≤ left + rows
+  pub within : length k.cells ≤ k.config.capacity → length k'.cells ≤ k'.config.capacity
+
+-- and no more than so many places for notices
+pub record Stays (rows most : ℕ) (m : RowMap) (spare : ℕ) (k : Kept) (s : Noted) (n : RowMap) (left : ℕ) (k' : Kept) (t : Noted) : Type 0 where
+  pub keeps : Keeps rows m spare k n left k'
+  pub places : s.spare ≤ t.spare + most
+
+-- what the row of an item holds
+abbrev pub record_of : Item → Record
+record_of x = record { key = x.key; value = x.value; expiry = x.expiry }
+
+-- the key's row is at this number, and x is its item
+pub record IsRow (key : List ℕ) (k : Kept) (row : ℕ) (x : Item) : Type 0 where
+  pub found : row_of key (items_of k.cells) ≡ Some x
+  pub key_is : x.key ≡ key
+  pub there : seek row k.cells ≡ Some (record_of x)
+  pub on : has_row row k.cells ≡ true
+
+-- where the key's row is, if it has one
+abbrev pub FoundRow : List ℕ → Kept → Option ℕ → Type 0
+FoundRow key k None = row_of key (items_of k.cells) ≡ None
+FoundRow key k (Some row) = (x : Item) × IsRow key k row x
+
+-- What stays while a call moves its cache, however much room it uses.
+pub record Remains (m : RowMap) (k : Kept) (n : RowMap) (k' : Kept) : Type 0 where
+  pub config : k'.config ≡ k.config
+  pub id : k'.id ≡ k.id
+  pub tied : IsTied n k'
+  pub elsewhere : SameElsewhere k.id m n
+  pub within : length k.cells ≤ k.config.capacity → length k'.cells ≤ k'.config.capacity
+
+-- nothing has moved
+pub record IsUnmoved (m : RowMap) (k : Kept) (n : RowMap) (k' : Kept) : Type 0 where
+  pub state : k' ≡ k
+  pub table : n ≡ m

@@ -1,0 +1,6 @@
+pub mod Noted
+pub mod Shelf
+pub mod Slots
+pub mod Tied
+pub mod Kept
+pub mod Clock

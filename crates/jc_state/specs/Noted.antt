@@ -1,0 +1,26 @@
+-- The notices of a call so far, and the places that are left for more.
+use Rattle.std.specs.Prelude.{◌≡◌, ℕ, ◌<◌, ◌≤◌, if◌then◌else◌, ltb, List, [], ◌∷◌, ◌++◌, Option, Some, None}
+use Rattle.jc_model.specs.declared.call.Notice.{Notice}
+use Rattle.jc_model.specs.declared.config.CacheConfig.{CacheConfig}
+use Rattle.jc_state.specs.declared.stored.Stored.{Stored}
+
+pub record Noted : Type 0 where
+  pub told : List Notice
+  pub spare : ℕ
+
+-- where there are listeners, there are n places
+abbrev pub HasPlaces : CacheConfig → ℕ → Noted → Type 0
+HasPlaces c n s = 0 < c.listeners → n ≤ s.spare
+
+-- without listeners no notices are made
+abbrev pub told_after : CacheConfig → Notice → List Notice → List Notice
+told_after c n told = if ltb 0 c.listeners then told ++ n ∷ [] else told
+
+-- listeners are told a value of its own
+abbrev pub IsTold : CacheConfig → Stored → Type 0
+IsTold c s = 0 < c.listeners → s.told ≡ Some s.value
+
+-- what is stored is told, where there are listeners
+abbrev pub StoredIsTold : CacheConfig → Option Stored → Type 0
+StoredIsTold c None = Unit {0}
+StoredIsTold c (Some s) = IsTold c s

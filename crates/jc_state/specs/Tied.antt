@@ -1,0 +1,26 @@
+-- The tie between the rows of one cache and the table that all caches share.
+use Rattle.std.specs.Prelude.{◌≡◌, ℕ, false, eqb, List, [], ◌∷◌, Some, option_map}
+use Rattle.std.specs.FinMap as table
+use Rattle.jc_model.specs.declared.config.Expiry.{Expiry}
+use Rattle.jc_rows.specs.Rows.{RowMap}
+use Rattle.jc_state.specs.Shelf.{Cell, seek, has_row}
+
+-- no two rows have one number
+abbrev pub Distinct : List Cell → Type 0
+Distinct [] = Unit {0}
+Distinct (c ∷ cs) = (has_row c.row cs ≡ false) × Distinct cs
+
+-- the table says of each row where it is and when it expires
+abbrev pub Placed : RowMap → ℕ → List Cell → Type 0
+Placed m id [] = Unit {0}
+Placed m id (c ∷ cs) = (table.get m (id, c.held.key) ≡ Some (c.row, c.held.expiry)) × Placed m id cs
+
+-- the table has each row of the cache, and no other of this cache
+pub record Tied (m : RowMap) (id : ℕ) (cs : List Cell) : Type 0 where
+  pub distinct : Distinct cs
+  pub placed : Placed m id cs
+  pub found : (k : List ℕ) (r : ℕ) (e : Expiry) → table.get m (id, k) ≡ Some (r, e) → option_map (λ it. it.key) (seek r cs) ≡ Some k
+
+-- what the table says of other caches stays
+abbrev pub SameElsewhere : ℕ → RowMap → RowMap → Type 0
+SameElsewhere id m n = (other : ℕ) (k : List ℕ) → eqb other id ≡ false → table.get n (other, k) ≡ table.get m (other, k)

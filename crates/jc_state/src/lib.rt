@@ -1,0 +1,9 @@
+//! The state of one cache, and its rows in the shared table.
+#![tactic(auto)]
+
+pub mod clock;
+pub mod notices;
+pub mod shelf;
+pub mod slots;
+pub mod state;
+pub mod stored;

@@ -1,0 +1,164 @@
+//! The notices of one call, in places that were made before any change.
+ghost use Rattle.std.specs.Prelude.{◌≡◌, ◌+◌, ◌<◌, ◌≤◌, ◌∷◌, ◌++◌, [], length, eqb, IfOk, OnOk, IsOk};
+ghost use Rattle.jc_state.specs.Noted.{HasPlaces, told_after};
+
+use jc_model::OutOfMemory;
+use jc_model::call::{Kind, Notice};
+use jc_model::config::CacheConfig;
+use jc_model::key::Key;
+use jc_model::list::Sequence;
+use jc_model::thrice::Thrice;
+use jc_model::value::Value;
+use std::alloc::Global;
+use std::marker::Model;
+
+/// The notices so far, kept twice: one list is told to the listeners, the other goes into the transcript.
+#[derive(Drop)]
+pub struct Notices {
+    told: Vec<Notice>,
+    kept: Vec<Notice>,
+}
+
+impl Model for Notices {
+    ghost use Rattle.std.specs.Prelude.{◌≡◌, ◌-◌, min};
+    ghost use Rattle.std.specs.Vec.{vec_len, vec_capacity};
+    ghost use Rattle.jc_state.specs.Noted.{Noted};
+
+    ghost Value = { Noted };
+
+    ghost view = { λ n. record { told = n.told.items; spare = min (vec_capacity n.told) (vec_capacity n.kept) - vec_len n.told } };
+
+    ghost invariant = { λ n. n.kept.items ≡ n.told.items };
+}
+
+impl Notices {
+    /// No notices, and no place for any. This takes no memory.
+    pub fn none(alloc: Global) -> Notices
+        ensures { result.told ≡ [] }
+    {
+        Notices {
+            told: Vec::new(alloc),
+            kept: Vec::new(alloc),
+        }
+    }
+
+    /// Makes places for so many more. Where memory runs out, the notices and their places stay.
+    pub fn reserve(&mut self, more: usize) -> Result<(), OutOfMemory>
+        ensures told { self.new.told ≡ self.old.told }
+        ensures places { OnOk result (more ≤ self.new.spare) }
+        ensures succeeds { more ≤ self.old.spare → IsOk result }
+    {
+        self.told.reserve(more)?;
+        self.kept.reserve(more)?;
+        Ok(())
+    }
+
+    /// Makes places for so many more where the cache has listeners, as `reserve`.
+    pub fn reserve_for(&mut self, config: &CacheConfig, more: usize) -> Result<(), OutOfMemory>
+        ensures told { self.new.told ≡ self.old.told }
+        ensures places { OnOk result (HasPlaces config.now more self.new) }
+        ensures succeeds { HasPlaces config.now more self.old → IsOk result }
+    {
+        if config.listeners == 0 {
+            return Ok(());
+        }
+        self.reserve(more)
+    }
+
+    /// How many there are.
+    pub fn len(&self) -> usize
+        ensures { result ≡ length self.now.told }
+    {
+        self.told.len()
+    }
+
+    /// Whether there are none.
+    pub fn is_empty(&self) -> bool
+        ensures { result ≡ eqb (length self.now.told) 0 }
+    {
+        self.told.is_empty()
+    }
+
+    /// Adds a notice. It needs a place, and takes no memory.
+    pub fn note(
+        &mut self,
+        kind: Kind,
+        key: Key,
+        value: Option<Thrice<Value>>,
+        before: Option<Thrice<Value>>,
+    )
+        requires { 0 < self.old.spare }
+        ensures told { self.new.told ≡ self.old.told ++ record { kind = kind; key = key; value = value; before = before } ∷ [] }
+        ensures spare { self.new.spare + 1 ≡ self.old.spare }
+    {
+        let (value, kept_value) = two(value);
+        let (before, kept_before) = two(before);
+        let (kind, kept_kind) = two_kinds(kind);
+        self.told.push_reserved(Notice {
+            kind,
+            key,
+            value,
+            before,
+        });
+        self.kept.push_reserved(Notice {
+            kind: kept_kind,
+            key,
+            value: kept_value,
+            before: kept_before,
+        });
+    }
+
+    /// Adds a notice where the cache has listeners.
+    pub fn note_for(
+        &mut self,
+        config: &CacheConfig,
+        kind: Kind,
+        key: Key,
+        value: Option<Thrice<Value>>,
+        before: Option<Thrice<Value>>,
+    )
+        requires { HasPlaces config.now 1 self.old }
+        ensures told { self.new.told ≡ told_after config.now (record { kind = kind; key = key; value = value; before = before }) self.old.told }
+        ensures spare { self.old.spare ≤ self.new.spare + 1 }
+    {
+        if config.listeners > 0 {
+            self.note(kind, key, value, before);
+        }
+    }
+
+    /// The notices, twice.
+    pub fn into_lists(self) -> (Sequence<Notice>, Sequence<Notice>)
+        ensures told { result.0 ≡ self.told }
+        ensures kept { result.1 ≡ self.told }
+    {
+        let Notices { told, kept } = self;
+        (Sequence::new(told), Sequence::new(kept))
+    }
+}
+
+/// Two of a value's copies, where there is one.
+fn two(value: Option<Thrice<Value>>) -> (Option<Value>, Option<Value>)
+    ensures first { result.0 ≡ value }
+    ensures second { result.1 ≡ value }
+{
+    match value {
+        Some(value) => {
+            let (first, second, _) = value.into_three();
+            (Some(first), Some(second))
+        }
+        None => (None, None),
+    }
+}
+
+/// A kind, twice.
+fn two_kinds(kind: Kind) -> (Kind, Kind)
+    ensures first { result.0 ≡ kind }
+    ensures second { result.1 ≡ kind }
+{
+    match kind {
+        Kind::Created => (Kind::Created, Kind::Created),
+        Kind::Updated => (Kind::Updated, Kind::Updated),
+        Kind::Removed => (Kind::Removed, Kind::Removed),
+        Kind::Expired => (Kind::Expired, Kind::Expired),
+    }
+}

@@ -1,0 +1,53 @@
+//! A value with the copies that its storing takes.
+ghost use Rattle.std.specs.Prelude.{◌≡◌, ◌<◌, Some, IfOk, option_map};
+ghost use Rattle.jc_state.specs.Noted.{IsTold, StoredIsTold};
+
+use jc_model::OutOfMemory;
+use jc_model::config::CacheConfig;
+use jc_model::thrice::Thrice;
+use jc_model::value::Value;
+
+/// A value to be stored, with its copies for the notice where the cache has listeners.
+#[derive(Drop)]
+pub struct Stored {
+    pub value: Thrice<Value>,
+    pub told: Option<Thrice<Value>>,
+}
+
+impl Stored {
+    /// Copies of a value to be stored.
+    fn of(config: &CacheConfig, value: &Value) -> Result<Stored, OutOfMemory>
+        ensures value { IfOk result (λ s. s.value ≡ value.now) }
+        ensures told { IfOk result (λ s. IsTold config.now s) }
+    {
+        let stored = Thrice::of(value)?;
+        if config.listeners > 0 {
+            let told = Thrice::of(value)?;
+            return Ok(Stored {
+                value: stored,
+                told: Some(told),
+            });
+        }
+        Ok(Stored {
+            value: stored,
+            told: None,
+        })
+    }
+
+    /// Copies of what is stored, if anything is.
+    pub fn of_any(
+        config: &CacheConfig,
+        value: Option<&Value>,
+    ) -> Result<Option<Stored>, OutOfMemory>
+        ensures value { IfOk result (λ s. option_map (λ t. t.value) s ≡ option_map (λ v. v.now) value.entry) }
+        ensures told { IfOk result (λ s. StoredIsTold config.now s) }
+    {
+        match value {
+            None => Ok(None),
+            Some(value) => {
+                let stored = Stored::of(config, value)?;
+                Ok(Some(stored))
+            }
+        }
+    }
+}

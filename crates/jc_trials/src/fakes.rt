@@ -1,0 +1,120 @@
+//! Callbacks that note what they are asked, and then do as another.
+
+use crate::log::{Log, Text};
+use jc_hooks::{Listener, Loaded, Loader, Processor, Writer};
+use jc_model::OutOfMemory;
+use jc_model::call::{Kind, Notice, ProcessorFault, Verdict};
+use jc_model::key::Key;
+use jc_model::value::Value;
+use std::alloc::{AllocError, Global};
+
+/// Notes `l` and the key.
+#[derive(Drop)]
+pub struct NotedLoader<L> {
+    pub loader: L,
+    pub log: Log,
+}
+
+impl<L: Loader> Loader for NotedLoader<L> {
+    ghost load_of = { λ s. L.load_of s.loader };
+
+    fn load(&self, alloc: Global, key: &Key) -> Result<Loaded, OutOfMemory> {
+        self.log.note(Text::of(b"l").and(key.text().as_bytes()));
+        self.loader.load(alloc, key)
+    }
+}
+
+/// Notes `w`, the key and the value, or `d` and the key.
+#[derive(Drop)]
+pub struct NotedWriter<W> {
+    pub writer: W,
+    pub log: Log,
+}
+
+impl<W: Writer> Writer for NotedWriter<W> {
+    ghost may = { λ s. W.may s.writer };
+
+    fn write(&mut self, alloc: Global, key: &Key, value: &Value) -> Result<bool, OutOfMemory> {
+        let written = Text::of(b"w").and(key.text().as_bytes());
+        self.log.note(written.and(b"=").and(value.bytes()));
+        self.writer.write(alloc, key, value)
+    }
+
+    fn delete(&mut self, alloc: Global, key: &Key) -> Result<bool, OutOfMemory> {
+        self.log.note(Text::of(b"d").and(key.text().as_bytes()));
+        self.writer.delete(alloc, key)
+    }
+}
+
+/// Notes its name, the value that it is given and the argument, since it is not told the key.
+#[derive(Drop)]
+pub struct NotedProcessor<P> {
+    pub name: &'static [u8],
+    pub processor: P,
+    pub log: Log,
+}
+
+impl<P: Processor> Processor for NotedProcessor<P> {
+    ghost wants = { λ s. P.wants s.processor };
+
+    ghost verdict_of = { λ s. P.verdict_of s.processor };
+
+    fn wants_value(&self) -> bool {
+        self.processor.wants_value()
+    }
+
+    fn process(
+        &self,
+        alloc: Global,
+        value: Option<&Value>,
+        argument: &Value,
+    ) -> Result<Result<Verdict, ProcessorFault>, OutOfMemory> {
+        let mut given = Text::of(self.name);
+        if let Some(value) = value {
+            given = given.and(b":").and(value.bytes());
+        }
+        self.log.note(given.and(b",").and(argument.bytes()));
+        self.processor.process(alloc, value, argument)
+    }
+}
+
+/// Notes its name, the kind's first letter and the key.
+#[derive(Drop)]
+pub struct NotedListener {
+    pub name: u8,
+    pub log: Log,
+}
+
+fn letter(kind: Kind) -> &'static [u8] {
+    match kind {
+        Kind::Created => b"c",
+        Kind::Updated => b"u",
+        Kind::Removed => b"r",
+        Kind::Expired => b"x",
+    }
+}
+
+impl Listener for NotedListener {
+    ghost use Rattle.std.specs.Prelude.{[]};
+
+    ghost state_after = { λ _ _. [] };
+
+    fn tell(&mut self, notice: &Notice) {
+        let told = Text::of(&[self.name]).and(letter(notice.kind));
+        self.log.note(told.and(notice.key.text().as_bytes()));
+    }
+}
+
+/// A loader that never finds memory.
+#[derive(Drop)]
+pub struct PoorLoader;
+
+impl Loader for PoorLoader {
+    ghost use Rattle.jc_hooks.specs.declared.loader.Loaded.TheVariants.{Failed};
+
+    ghost load_of = { λ _ _. Failed };
+
+    fn load(&self, _alloc: Global, _key: &Key) -> Result<Loaded, OutOfMemory> {
+        Err(AllocError)
+    }
+}

@@ -1,0 +1,66 @@
+//! Places that a trial picks, and a mirror whose memory is always refused.
+
+use jc_cuckoo::held::Held;
+use jc_cuckoo::mirror::Mirror;
+use jc_model::OutOfMemory;
+use jc_model::event::CacheId;
+use jc_model::key::Key;
+use jc_place::place::{Place, Placer};
+use std::alloc::AllocError;
+
+/// All keys have the buckets of 3 and the tag 1.
+#[derive(Clone, Copy, Debug)]
+pub struct ConstantPlacer;
+
+impl Placer for ConstantPlacer {
+    ghost placing = { λ placer id key. record { first = 3; tag = 1 } };
+
+    fn place(&self, _id: CacheId, _key: &Key) -> Place {
+        Place { first: 3, tag: 1 }
+    }
+}
+
+/// The place of a key stands in a list, at the number of the key's first byte.
+#[derive(Clone, Copy, Debug)]
+pub struct TablePlacer {
+    pub firsts: [u32; 128],
+    pub tags: [u8; 128],
+}
+
+impl Placer for TablePlacer {
+    ghost use Rattle.jc_trials.specs.Places.{listed_place};
+
+    ghost placing = { λ placer id key. listed_place placer.firsts placer.tags key };
+
+    fn place(&self, _id: CacheId, key: &Key) -> Place {
+        let at = (key.text().as_bytes()[0] % 128) as usize;
+        Place {
+            first: self.firsts[at],
+            tag: self.tags[at].max(1),
+        }
+    }
+}
+
+/// It takes no larger table so many times, as if memory were refused.
+#[derive(Clone, Copy, Debug, Drop)]
+pub struct RefusingMirror {
+    pub refusals: u32,
+}
+
+impl Mirror for RefusingMirror {
+    ghost use Rattle.std.specs.Prelude.{None};
+
+    ghost images = { λ mirror. None };
+
+    ghost placing = { λ mirror id key. record { first = 0; tag = 1 } };
+
+    fn commit(&mut self, _writes: &[(u32, Option<Held>)], _stash: u32) {}
+
+    fn grow(&mut self, _slots: &[Option<Held>], _stash: u32) -> Result<(), OutOfMemory> {
+        if self.refusals == 0 {
+            return Ok(());
+        }
+        self.refusals -= 1;
+        Err(AllocError)
+    }
+}

@@ -1,0 +1,251 @@
+//! Readers and writers that fail, scripts that are cut, and the lines of faults that no file has.
+
+use crate::trouble::{Trouble, no_hooks};
+use jc_config::ConfigFault;
+use jc_hooks::program::ProgramHooks;
+use jc_runner::{
+    ProgramFault, RunFault, Watched, WatchedWriter, demonstration, read_configuration, serial,
+    write_fault,
+};
+use jc_script::ScriptFault;
+use std::alloc::Global;
+use std::io;
+use std::io::{ErrorKind, Read, Write};
+
+/// A script for the demonstration's caches.
+const SCRIPT: &str = r#"{"s":0,"c":"a","at":0,"op":"put","k":"x","v":"1"}
+{"s":0,"c":"a","at":1,"op":"get","k":"x"}
+{"s":0,"c":"a","at":1,"op":"stats"}
+"#;
+
+/// What its first lines report, from none to all.
+const REPORTS: [&str; 4] = [
+    "cache a\ncache b\n",
+    "cache a\n0 put ok\ncache b\n",
+    "cache a\n0 put ok\n0 get some \"1\"\ncache b\n",
+    "cache a\n0 put ok\n0 get some \"1\"\n0 stats 1 0 1 0 0\ncache b\n",
+];
+
+/// The fault of a run of the demonstration's caches, with the callbacks of so many caches.
+fn fault_of<R: Read, O: Write>(
+    alloc: Global,
+    caches: usize,
+    reader: &mut Watched<R>,
+    writer: &mut WatchedWriter<O>,
+) -> Result<Option<RunFault>, Trouble> {
+    let mut hooks: Vec<ProgramHooks> = Vec::new(alloc);
+    for _ in 0..caches {
+        hooks.push(no_hooks(alloc))?;
+    }
+    let settings = demonstration(alloc)?;
+    Ok(serial(alloc, settings, hooks.as_mut_slice(), 0, reader, writer).err())
+}
+
+/// The fault of a run of this script, and what was written.
+fn run(
+    alloc: Global,
+    caches: usize,
+    script: &[u8],
+) -> Result<(Option<RunFault>, Vec<u8>), Trouble> {
+    let mut reader = Watched::new(script);
+    let mut writer = WatchedWriter::new(Vec::new(alloc));
+    let fault = fault_of(alloc, caches, &mut reader, &mut writer)?;
+    Ok((fault, writer.into_inner()))
+}
+
+/// What comes of the first bytes of the script: its lines up to a cut one, which is no JSON.
+fn cut(front: &str) -> (Option<RunFault>, &'static str) {
+    let whole = front.matches('}').count();
+    if front.is_empty() || front.ends_with("}") || front.ends_with("\n") {
+        (None, REPORTS.get(whole).copied().unwrap_or(""))
+    } else {
+        let line = whole.saturating_add(1);
+        (Some(RunFault::Script(ScriptFault::NotJson { line })), "")
+    }
+}
+
+#[test]
+fn every_front_of_a_script_runs_or_is_faulty(rt: HostRuntime) -> Result<(), Trouble> {
+    for end in 0..=SCRIPT.len() {
+        let front = SCRIPT.get(0..end).unwrap_or("");
+        let (wanted, report) = cut(front);
+        let (fault, written) = run(rt.alloc(), 2, front.as_bytes())?;
+        assert_eq!(rt; fault, wanted, "{front}");
+        assert_eq!(rt; written.as_slice(), report.as_bytes(), "{front}");
+    }
+    Ok(())
+}
+
+#[test]
+fn callbacks_of_other_caches_do_not_open(rt: HostRuntime) -> Result<(), Trouble> {
+    for caches in [0, 1, 3] {
+        let (fault, written) = run(rt.alloc(), caches, SCRIPT.as_bytes())?;
+        assert_eq!(rt; fault, Some(RunFault::Open));
+        assert!(rt; written.is_empty());
+    }
+    Ok(())
+}
+
+/// A reader that gives a space so often, and then fails.
+#[derive(Drop)]
+struct FailingReader {
+    left: u64,
+}
+
+impl Read for FailingReader {
+    fn read(&mut self, buf: &mut [u8]) -> io::Result<usize> {
+        if self.left == 0 {
+            return Err(io::Error::from(ErrorKind::BrokenPipe));
+        }
+        if buf.is_empty() {
+            return Ok(0);
+        }
+        self.left -= 1;
+        buf[0] = b' ';
+        Ok(1)
+    }
+}
+
+#[test]
+fn a_reader_fails_at_each_read(rt: HostRuntime) -> Result<(), Trouble> {
+    let alloc = rt.alloc();
+    for left in 0..20 {
+        let mut config = Watched::new(FailingReader { left });
+        let fault = read_configuration(alloc, &mut config).err();
+        assert_eq!(rt; fault, Some(ProgramFault::ConfigRead));
+        let mut script = Watched::new(FailingReader { left });
+        let mut writer = WatchedWriter::new(Vec::new(alloc));
+        let fault = fault_of(alloc, 2, &mut script, &mut writer)?;
+        assert_eq!(rt; fault, Some(RunFault::Read));
+        assert_eq!(rt; (config.reads(), script.reads()), (left + 1, left + 1));
+        assert!(rt; writer.into_inner().is_empty());
+    }
+    Ok(())
+}
+
+/// A reader of so many spaces.
+#[derive(Drop)]
+struct Spaces {
+    left: usize,
+}
+
+impl Read for Spaces {
+    fn read(&mut self, buf: &mut [u8]) -> io::Result<usize> {
+        let count = buf.len().min(self.left);
+        for byte in &mut buf[..count] {
+            *byte = b' ';
+        }
+        self.left -= count;
+        Ok(count)
+    }
+}
+
+#[test]
+fn texts_have_at_most_eight_megabytes(rt: HostRuntime) -> Result<(), Trouble> {
+    let alloc = rt.alloc();
+    let long = Some(ProgramFault::Config(ConfigFault::TooLong));
+    let lengths = [
+        (8_388_608, None, None),
+        (8_388_609, long, Some(RunFault::TooLong)),
+        (
+            usize::MAX,
+            Some(ProgramFault::Config(ConfigFault::TooLong)),
+            Some(RunFault::TooLong),
+        ),
+    ];
+    for (left, config_fault, script_fault) in &lengths {
+        let mut config = Watched::new(Spaces { left: *left });
+        let fault = read_configuration(alloc, &mut config).err();
+        assert_eq!(rt; &fault, config_fault);
+        let mut script = Watched::new(Spaces { left: *left });
+        let mut writer = WatchedWriter::new(Vec::new(alloc));
+        let fault = fault_of(alloc, 2, &mut script, &mut writer)?;
+        assert_eq!(rt; &fault, script_fault);
+    }
+    Ok(())
+}
+
+/// A writer that takes so many bytes, one at a time, and then fails.
+#[derive(Drop)]
+struct FailingWriter {
+    left: usize,
+    taken: Vec<u8>,
+}
+
+impl Write for FailingWriter {
+    fn write(&mut self, buf: &[u8]) -> io::Result<usize> {
+        if self.left == 0 {
+            return Err(io::Error::from(ErrorKind::BrokenPipe));
+        }
+        if buf.is_empty() {
+            return Ok(0);
+        }
+        self.left -= 1;
+        match self.taken.push(buf[0]) {
+            Ok(()) => Ok(1),
+            Err(_) => Err(io::Error::from(ErrorKind::OutOfMemory)),
+        }
+    }
+
+    fn flush(&mut self) -> io::Result<()> {
+        Ok(())
+    }
+}
+
+fn failing(alloc: Global, left: usize) -> FailingWriter {
+    FailingWriter {
+        left,
+        taken: Vec::new(alloc),
+    }
+}
+
+#[test]
+fn a_writer_fails_at_each_byte(rt: HostRuntime) -> Result<(), Trouble> {
+    let alloc = rt.alloc();
+    let report = REPORTS[3].as_bytes();
+    for left in 0..report.len() {
+        let mut reader = Watched::new(SCRIPT.as_bytes());
+        let mut writer = WatchedWriter::new(failing(alloc, left));
+        let fault = fault_of(alloc, 2, &mut reader, &mut writer)?;
+        assert_eq!(rt; fault, Some(RunFault::Write));
+        assert_eq!(rt; writer.into_inner().taken.as_slice(), &report[..left]);
+    }
+    Ok(())
+}
+
+#[test]
+fn faults_have_their_lines(rt: HostRuntime) -> Result<(), Trouble> {
+    let alloc = rt.alloc();
+    let faults = [
+        (
+            ProgramFault::Config(ConfigFault::TooLong),
+            "config: too long\n",
+        ),
+        (
+            ProgramFault::Config(ConfigFault::OutOfMemory),
+            "out of memory\n",
+        ),
+        (ProgramFault::Run(RunFault::TooLong), "script: too long\n"),
+        (
+            ProgramFault::Run(RunFault::Open),
+            "manager: cannot be opened\n",
+        ),
+        (
+            ProgramFault::Run(RunFault::Close),
+            "sessions and transcript differ\n",
+        ),
+        (
+            ProgramFault::Run(RunFault::Write),
+            "report: cannot be written\n",
+        ),
+        (ProgramFault::Run(RunFault::Memory), "out of memory\n"),
+    ];
+    for (fault, line) in &faults {
+        for left in 0..=line.len() {
+            let mut writer = failing(alloc, left);
+            assert_eq!(rt; write_fault(fault, &mut writer), left == line.len());
+            assert_eq!(rt; writer.taken.as_slice(), &line.as_bytes()[..left]);
+        }
+    }
+    Ok(())
+}

@@ -1,0 +1,121 @@
+//! Why a trial did not go on, and what all trials make.
+
+use jc_config::ConfigFault;
+use jc_cuckoo::cuckoo::TableRefusal;
+use jc_engine::open::OpenRefusal;
+use jc_hooks::CacheHooks;
+use jc_model::OutOfMemory;
+use jc_model::config::{CacheConfig, Policy};
+use jc_model::key::{Key, KeyFault};
+use jc_model::keys::ListFault;
+use jc_model::list::Sequence;
+use jc_model::value::{Value, ValueFault};
+use jc_runner::{ProgramFault, RunFault};
+use std::alloc::{AllocFailed, Global};
+
+#[derive(Debug, Drop, PartialEq, Eq)]
+pub enum Trouble {
+    Memory,
+    Opening(OpenRefusal),
+    NoConfig(ConfigFault),
+    NoKey(KeyFault),
+    NoValue(ValueFault),
+    NoList(ListFault),
+    NoTable(TableRefusal),
+    Program(ProgramFault),
+    Running(RunFault),
+}
+
+impl From<OutOfMemory> for Trouble {
+    fn from(_: OutOfMemory) -> Trouble {
+        Trouble::Memory
+    }
+}
+
+impl<T: Drop> From<AllocFailed<T>> for Trouble {
+    fn from(_: AllocFailed<T>) -> Trouble {
+        Trouble::Memory
+    }
+}
+
+impl From<OpenRefusal> for Trouble {
+    fn from(refusal: OpenRefusal) -> Trouble {
+        Trouble::Opening(refusal)
+    }
+}
+
+impl From<ConfigFault> for Trouble {
+    fn from(fault: ConfigFault) -> Trouble {
+        Trouble::NoConfig(fault)
+    }
+}
+
+impl From<KeyFault> for Trouble {
+    fn from(fault: KeyFault) -> Trouble {
+        Trouble::NoKey(fault)
+    }
+}
+
+impl From<ValueFault> for Trouble {
+    fn from(fault: ValueFault) -> Trouble {
+        Trouble::NoValue(fault)
+    }
+}
+
+impl From<ListFault> for Trouble {
+    fn from(fault: ListFault) -> Trouble {
+        Trouble::NoList(fault)
+    }
+}
+
+impl From<TableRefusal> for Trouble {
+    fn from(refusal: TableRefusal) -> Trouble {
+        Trouble::NoTable(refusal)
+    }
+}
+
+impl From<ProgramFault> for Trouble {
+    fn from(fault: ProgramFault) -> Trouble {
+        Trouble::Program(fault)
+    }
+}
+
+impl From<RunFault> for Trouble {
+    fn from(fault: RunFault) -> Trouble {
+        Trouble::Running(fault)
+    }
+}
+
+/// The key with this text.
+pub fn key(text: &str) -> Result<Key, Trouble> {
+    Ok(Key::from_text(text)?)
+}
+
+/// The value with this text.
+pub fn value_of(alloc: Global, text: &str) -> Result<Value, Trouble> {
+    let bytes = text.as_bytes().to_vec(alloc)?;
+    Ok(Value::new(alloc, bytes)?)
+}
+
+/// A cache whose rows never expire, without callbacks.
+pub fn plain_cache(alloc: Global, name: &str, capacity: u32) -> Result<CacheConfig, Trouble> {
+    Ok(CacheConfig {
+        name: key(name)?,
+        capacity,
+        policy: Policy::Eternal,
+        loader: false,
+        writer: false,
+        processors: Sequence::new(Vec::new(alloc)),
+        listeners: 0,
+    })
+}
+
+/// No callbacks.
+pub fn no_hooks<L, W, P, K>(alloc: Global) -> CacheHooks<L, W, P, K> {
+    CacheHooks {
+        loader: None,
+        writer: None,
+        processors: Vec::new(alloc),
+        listeners: Vec::new(alloc),
+    }
+}
