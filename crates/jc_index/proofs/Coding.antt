@@ -1,9 +1,9 @@
 -- Rows and their words.
 use Rattle.std.proofs.Common.{◌≡◌, ℕ, zero, suc, ◌+◌, ◌-◌, ◌*◌, ◌%◌, ◌^◌, ◌<◌, ◌≤◌, Bool, true, false, List, [], ◌∷◌, ◌++◌, length, take, drop, replicate, get_or, set, nat_lt, if◌then◌else◌, Option, Some, None, refl, sym, ap, ◌∙◌, arith, append_assoc, length-append, length-drop}
-use Rattle.std.specs.Int.{to_le_bytes, w64}
+use Rattle.std.specs.Int.{from_le_bytes, to_le_bytes, w64}
 use Rattle.std.proofs.Math.Seq.{take-append_seam}
 use Rattle.std.proofs.lemmas.Nat.{le_bytes_8}
-use Rattle.jc_model.specs.Key.{bytes_of, word_at, words_of}
+use Rattle.jc_model.specs.Key.{bytes_of, words_of}
 use Rattle.jc_model.specs.declared.config.Expiry.{Expiry}
 use Rattle.jc_model.specs.declared.config.Expiry.TheVariants.{Never, At}
 use Rattle.jc_stripes.specs.Stripes.{set_all}
@@ -76,8 +76,11 @@ pieces bs long =
     let two : q ++ (r ++ take 8 (drop 24 bs)) ≡ drop 8 bs = ap (λ l. q ++ l) (three ∙ sym (drop_drop 8 8 16 bs refl)) ∙ take_drop 8 (drop 8 bs) in
     append_assoc (p ++ q) r (take 8 (drop 24 bs)) ∙ (append_assoc p q (r ++ take 8 (drop 24 bs)) ∙ (ap (λ l. p ++ l) two ∙ take_drop 8 bs))
 
-word_back : (n : ℕ) (bs : List ℕ) → n + 8 ≤ length bs → ((i : ℕ) → get_or bs i 0 < 256) → to_le_bytes w64 (word_at n bs) ≡ take 8 (drop n bs)
-word_back n bs inside small = le_bytes_8 (take 8 (drop n bs)) (word_at n bs) (long_take 8 (drop n bs) (omega (arith, length-drop n bs))) (at_take 8 (drop n bs) (at_drop n bs small)) refl
+abbrev word_from : ℕ → List ℕ → ℕ
+word_from n bs = from_le_bytes w64 (take 8 (drop n bs))
+
+word_back : (n : ℕ) (bs : List ℕ) → n + 8 ≤ length bs → ((i : ℕ) → get_or bs i 0 < 256) → to_le_bytes w64 (word_from n bs) ≡ take 8 (drop n bs)
+word_back n bs inside small = le_bytes_8 (take 8 (drop n bs)) (word_from n bs) (long_take 8 (drop n bs) (omega (arith, length-drop n bs))) (at_take 8 (drop n bs) (at_drop n bs small)) refl
 
 small_head : (n : ℕ) (text : List ℕ) → n < 256 → ((i : ℕ) → get_or text i 0 < 256) → (i : ℕ) → get_or (n ∷ text) i 0 < 256
 small_head n text few small zero = few
@@ -90,7 +93,7 @@ key_back text few small =
     let bs : List ℕ = bytes_of text in
     let long : length bs ≡ 32 = omega (arith, length-append text zeros, long_zeros (31 - length text)) in
     let all : (i : ℕ) → get_or bs i 0 < 256 = small_head (length text) (text ++ zeros) (omega arith) (at_append (λ x. x < 256) text zeros 0 small (at_zeros (31 - length text))) in
-    let bytes : to_le_bytes w64 (word_at 0 bs) ++ to_le_bytes w64 (word_at 8 bs) ++ to_le_bytes w64 (word_at 16 bs) ++ to_le_bytes w64 (word_at 24 bs) ≡ bs =
+    let bytes : to_le_bytes w64 (word_from 0 bs) ++ to_le_bytes w64 (word_from 8 bs) ++ to_le_bytes w64 (word_from 16 bs) ++ to_le_bytes w64 (word_from 24 bs) ≡ bs =
     (λ i. word_back 0 bs (omega (arith, long)) all i ++ word_back 8 bs (omega (arith, long)) all i ++ word_back 16 bs (omega (arith, long)) all i ++ word_back 24 bs (omega (arith, long)) all i) ∙ pieces bs long in
     ap (λ (l : List ℕ). take (get_or l 0 0) (drop 1 l)) bytes ∙ take-append_seam text zeros
 
