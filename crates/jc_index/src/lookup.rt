@@ -1,13 +1,13 @@
 //! A lookup that never waits.
 ghost use Rattle.std.specs.Prelude.{◌≡◌, ◌⊎◌, ◌≢◌, suc, ◌+◌, ◌*◌, ◌%◌, ◌<◌, Bool, true, false, [], ◌∷◌, length, Some, None};
 ghost use Rattle.jc_place.specs.Place.{IsTableSize};
-ghost use Rattle.jc_stripes.specs.Stripes.{glance_of};
+ghost use Rattle.jc_stripes.specs.Stripes.{Stayed, glance_of};
 ghost use Rattle.jc_cuckoo.specs.Images.{last_image};
 ghost use Rattle.jc_index.specs.Spelling.{buckets_of};
 ghost use Rattle.jc_index.specs.Found.{found};
 ghost use Rattle.jc_index.specs.declared.lookup.Lookup.TheVariants.{Sure, Unsure};
 ghost use Rattle.jc_index.specs.Versions.{versions_of};
-ghost use Rattle.jc_index.specs.Passes.{IsLookup, Moved, images_of};
+ghost use Rattle.jc_index.specs.Passes.{IsLookup, Moved, begun_of, checked_of, images_of};
 
 use crate::look::look;
 use crate::placed::{Placed, buckets_of};
@@ -37,6 +37,7 @@ fn probe<P: Placer>(
     requires alike { length versions.old ≡ length stripes.now }
     requires rests { (glance_of reader.old.seat.me.0).settled ≡ true }
     ensures sure { result.0 ≡ true → found (last_image (images_of reader.new)) sought.now.id sought.now.key sought.now.moment ≡ result.1 }
+    ensures stays { result.0 ≡ true → Stayed (begun_of reader.new) (checked_of reader.new) }
     ensures unsure { result.0 ≡ false → Moved reader.new }
     ensures reads { IsLookup (one, two) reader.old reader.new }
 {
@@ -72,6 +73,7 @@ pub(crate) fn look_up<P: Placer>(
     requires size { IsTableSize buckets }
     requires rests { (glance_of reader.old.seat.me.0).settled ≡ true }
     ensures sure { (b : Bool) → result ≡ Sure b → found (last_image (images_of reader.new)) sought.now.id sought.now.key sought.now.moment ≡ Some b }
+    ensures stays { (b : Bool) → result ≡ Sure b → Stayed (begun_of reader.new) (checked_of reader.new) }
     ensures unsure { result ≡ Unsure → Moved reader.new ⊎ (found (last_image (images_of reader.new)) sought.now.id sought.now.key sought.now.moment ≡ None) }
     ensures reads { IsLookup (buckets_of (P.placing placer.now) buckets (sought.now.id, sought.now.key)) reader.old reader.new }
 {

@@ -1,7 +1,7 @@
 //! A reader of the index.
 ghost use Rattle.std.specs.Prelude.{◌≡◌, ◌⊎◌, ◌≢◌, suc, Bool, true, false, None, Some, IfOk, IfErr};
 ghost use mathlib.Core.List.{IsPrefix};
-ghost use Rattle.jc_stripes.specs.Stripes.{SomeOdd, stripes_in};
+ghost use Rattle.jc_stripes.specs.Stripes.{SomeOdd, Stayed, stripes_in};
 ghost use Rattle.jc_cuckoo.specs.Images.{last_image};
 ghost use Rattle.jc_index.specs.Spelling.{buckets_of};
 ghost use Rattle.jc_index.specs.Found.{found};
@@ -42,6 +42,7 @@ impl<P: Placer + Drop> Pass<P> {
     /// Whether a key is there and live, without waiting. It is sure only of the last image that it has seen.
     pub fn lookup(&mut self, id: CacheId, key: &Key, now: u64) -> Lookup
         ensures sure { (b : Bool) → result ≡ Sure b → found (last_image self.new.images) id key.now now ≡ Some b }
+        ensures stays { (b : Bool) → result ≡ Sure b → Stayed self.new.begun self.new.checked }
         ensures unsure { result ≡ Unsure → (self.old.met ≡ false) ⊎ ((SomeOdd self.new.begun ⊎ (self.new.begun ≢ self.new.checked)) ⊎ (found (last_image self.new.images) id key.now now ≡ None)) }
         ensures stripes { self.old.met ≡ true → (stripes_in self.new.begun ≡ read_for (buckets_of (P.placing self.old.placer) self.old.buckets (id, key.now))) × (stripes_in self.new.checked ≡ stripes_in self.new.begun) }
         ensures counted { self.old.met ≡ true → self.new.lookups ≡ suc self.old.lookups }

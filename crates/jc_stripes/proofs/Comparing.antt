@@ -2,7 +2,7 @@
 use Rattle.std.proofs.Common.{◌≡◌, ◌≢◌, ◌⊎◌, ℕ, zero, suc, ◌+◌, ◌%◌, ◌<◌, Bool, if◌then◌else◌, true, false, length, take, get_or, set, List, [], ◌∷◌, ◌++◌, refl, ap, sym, subst, ◌∙◌, inl, inr, ⊎_elim, arith}
 use Rattle.jc_stripes.specs.declared.board.View.{View}
 use Rattle.jc_stripes.specs.declared.board.Role.{Role}
-use Rattle.jc_stripes.specs.Stripes.{begun_view, glance, glance_in, glance_of, Among, Reads, ReadsIn, Shows, SomeOdd, stacked, stripes_in}
+use Rattle.jc_stripes.specs.Stripes.{begun_view, glance, glance_in, glance_of, Among, Reads, ReadsIn, Shows, SomeOdd, Stayed, stacked, stripes_in}
 use Rattle.jc_stripes.proofs.Opening.{taken_more, among_less}
 
 -- one more stripe and its version
@@ -86,10 +86,11 @@ module _ (group : ℕ → ℕ) where
   pub record Compared (js vs : List ℕ) (i : ℕ) (words : List ℕ) (notes checked : List (ℕ × ℕ)) (same : Bool) : Type 0 where
     pub again : stripes_in checked ≡ stripes_in (stacked (take i js) (take i vs) [])
     pub reads : same ≡ true → ReadsIn group (take i js) words notes
+    pub stays : same ≡ true → Stayed (stacked (take i js) (take i vs) []) checked
     pub differs : same ≡ false → SomeOdd (stacked js vs []) ⊎ (stacked (take i js) (take i vs) [] ≢ checked)
 
   pub compared_none : (js vs words : List ℕ) (notes : List (ℕ × ℕ)) → Compared js vs 0 words notes [] true
-  compared_none js vs words notes = record { again = refl; reads = λ _. reads_none words notes; differs = λ e. absurd cc }
+  compared_none js vs words notes = record { again = refl; reads = λ _. reads_none words notes; stays = λ _. (λ o. o, refl); differs = λ e. absurd cc }
 
   pub compared_next : (js vs : List ℕ) (i : ℕ) (words : List ℕ) (notes checked : List (ℕ × ℕ)) (n : ℕ) (same now more : Bool) → length vs ≡ length js → i < length js → Compared js vs i words notes checked same
       → Shows group (get_or js i 0) n words notes (stacked js vs []) → (now ≡ true → (get_or vs i 0 ≡ n) × (get_or vs i 0 % 2 ≡ 0)) → (now ≡ false → (get_or vs i 0 ≢ n) ⊎ (get_or vs i 0 % 2 ≡ 1))
@@ -99,6 +100,9 @@ module _ (group : ℕ → ℕ) where
         again = ap (λ l. get_or js i 0 ∷ l) k.again ∙ ap stripes_in (sym next);
         reads = λ e. let t = all e in let y = held t.1 in
             subst (λ (l : List ℕ). ReadsIn group l words notes) (sym (taken_more js i 0 inside)) (reads_snoc (take i js) (get_or js i 0) words notes (k.reads t.0) (shows_at js vs i n words notes [] alike inside shows y.1 y.0));
+        stays = λ e. let t = all e in let y = held t.1 in let before = k.stays t.0 in
+            subst (λ (l : List (ℕ × ℕ)). Stayed l ((get_or js i 0, n) ∷ checked)) (sym next)
+            (λ o. ⊎_elim (λ (odd : get_or vs i 0 % 2 ≡ 1). absurd (omega (arith, odd, y.1))) before.0 o, λ z. (get_or js i 0, y.0 z) ∷ before.1 z);
         differs = λ e. ⊎_elim
             (λ (was : same ≡ false). ⊎_elim (λ (o : SomeOdd (stacked js vs [])). inl o)
             (λ (d : stacked (take i js) (take i vs) [] ≢ checked). inr (λ (is : stacked (take (i + 1) js) (take (i + 1) vs) [] ≡ (get_or js i 0, n) ∷ checked). let both = sym next ∙ is in d (cc both))) (k.differs was))

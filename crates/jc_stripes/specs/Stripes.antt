@@ -96,6 +96,10 @@ abbrev pub SomeOdd : List (ℕ × ℕ) → Type 0
 SomeOdd [] = ⊥
 SomeOdd (n ∷ ns) = (n.1 % 2 ≡ 1) ⊎ SomeOdd ns
 
+-- every version that was read was even, and the same when it was read again
+abbrev pub Stayed : List (ℕ × ℕ) → List (ℕ × ℕ) → Type 0
+Stayed begun checked = (SomeOdd begun → ⊥) × (begun ≡ checked)
+
 -- the desk of a writer's seat, and the glance of a reader's
 abbrev pub desk_in : Role → Desk
 desk_in (Writing d) = d

@@ -2,7 +2,7 @@
 ghost use Rattle.std.specs.Prelude.{◌≡◌, ◌≢◌, ◌⊎◌, suc, ◌+◌, ◌%◌, ◌<◌, ◌≤◌, ◌^◌, true, false, [], ◌∷◌, length, All, Some};
 ghost use Rattle.std.specs.Arc.{arc_value};
 ghost use mathlib.Core.List.{IsPrefix};
-ghost use Rattle.jc_stripes.specs.Stripes.{IsReader, ReadsIn, Shows, SomeOdd, begun_view, glance, glance_of, last_of, many, stacked, stripes_in};
+ghost use Rattle.jc_stripes.specs.Stripes.{IsReader, ReadsIn, Shows, SomeOdd, Stayed, begun_view, glance, glance_of, last_of, many, stacked, stripes_in};
 
 use crate::board::{Begin, Board, Check, Law, Note, StripesSeat, VERSIONS};
 use std::alloc::Global;
@@ -96,6 +96,7 @@ impl<L: Law> Reader<L> {
         ensures front { IsPrefix self.old.seat.me.0.front self.new.seat.me.0.front }
         ensures lawful { (l : L) → self.old.seat.me.0.law ≡ Some l → L.admits l (last_of self.new.seat.me.0.front) }
         ensures read { result ≡ true → ReadsIn L.group stripes.now (last_of self.new.seat.me.0.front) (glance_of self.old.seat.me.0).notes }
+        ensures stays { result ≡ true → Stayed (glance_of self.old.seat.me.0).begun (glance_of self.new.seat.me.0).checked }
         ensures differ { result ≡ false → SomeOdd (glance_of self.old.seat.me.0).begun ⊎ ((glance_of self.old.seat.me.0).begun ≢ (glance_of self.new.seat.me.0).checked) }
     {
         let again = self.check_one(stripes[0]);

@@ -2,7 +2,7 @@ use Rattle.std.proofs.Common.{◌≡◌, ◌≢◌, ◌⊎◌, ◌<◌, ℕ, Lis
 use Rattle.jc_index.specs.Versions.{onto, versions_of}
 use Rattle.std.specs.List.{All}
 use mathlib.Core.List.{IsPrefix}
-use Rattle.jc_stripes.specs.Stripes.{Front, SomeOdd, last_of, stacked, glance_of, stripes_in}
+use Rattle.jc_stripes.specs.Stripes.{Stayed, Front, SomeOdd, last_of, stacked, glance_of, stripes_in}
 use Rattle.jc_index.specs.Spelling.{image_in}
 use Rattle.jc_cuckoo.specs.Images.{Image}
 use Rattle.jc_index.specs.Found.{found}
@@ -51,6 +51,10 @@ returns-clause-sure g c e =
     let at' = spelt_in (last_of front) c.args.two lawful.spelt.coded (omega (arith, long, c.requires.law.5)) in
     ap (λ (image : Image). found image c.args.sought.now.id c.args.sought.now.key c.args.sought.now.moment) (last_images front)
     ∙ (decides (g.P.Placer.placing l.placer) l.buckets (last_of front) lawful c.args.sought.now.id c.args.sought.now.key c.args.sought.now.moment c.args.one c.args.two c.requires.law.3 c.requires.law.4 c.requires.law.5 ∙ sym (k.1 at at'))
+
+pub returns-clause-stays : goal.returns-clause-stays
+returns-clause-stays g c e =
+    subst (λ (b : List (ℕ × ℕ)). Stayed b (glance_of c.check-same.new.self.seat.me.0).checked) (sym (ap (λ v. (glance_of v).begun) c.check-same.ensures.view)) (c.check-same.ensures.stays e)
 
 pub returns-clause-unsure : goal.returns-clause-unsure
 returns-clause-unsure g c e =

@@ -1,6 +1,6 @@
 use Rattle.std.proofs.Common.{◌≡◌, ◌≢◌, ◌⊎◌, ◌&&◌, ℕ, Bool, true, false, List, [], ◌∷◌, length, take, get_or, ◌+◌, arith, refl, ap, sym, subst, ◌∙◌, inl, inr, ⊎_elim}
 use Rattle.jc_stripes.specs.declared.board.View.{View}
-use Rattle.jc_stripes.specs.Stripes.{Shows, SomeOdd, glance_of, last_of, stacked}
+use Rattle.jc_stripes.specs.Stripes.{Shows, SomeOdd, Stayed, glance_of, last_of, stacked}
 use Rattle.jc_stripes.proofs.Comparing.{Compared, compared_none, compared_next, take_whole, notes_kept, begun_kept, front_kept, is_settled, checked_next, view_next, whole}
 use Rattle.jc_stripes.proofs.reader.Reader.check.Goals as goal
 
@@ -52,6 +52,14 @@ loop-i-preserved g c =
           (compared_next g.L.Law.group js vs i words (glance_of first).notes (glance_of now).checked it.result c.loop-i.same c.rested-same-in-loop-i.result (c.loop-i.same && c.rested-same-in-loop-i.result) c.requires.alike c.loop-i-test.true c.loop-i.invariant.2 shows
           c.rested-same-in-loop-i.ensures.yes c.rested-same-in-loop-i.ensures.no (both_true c.loop-i.same c.rested-same-in-loop-i.result) (one_false c.loop-i.same c.rested-same-in-loop-i.result)),
     )
+
+pub returns-clause-stays : goal.returns-clause-stays
+returns-clause-stays g c e =
+    let js = c.args.stripes.now in
+    let vs = c.args.versions.now in
+    let end : c.loop-i.i ≡ length js = omega (arith, c.loop-i.auto.i-end c.requires.some, c.loop-i-test.false) in
+    let all_of : stacked (take c.loop-i.i js) (take c.loop-i.i vs) [] ≡ (glance_of c.args.self.now.seat.me.0).begun = (λ k. stacked (take_whole c.loop-i.i js end k) (take_whole c.loop-i.i vs (end ∙ sym c.requires.alike) k) []) ∙ sym c.requires.begun in
+    subst (λ (l : List (ℕ × ℕ)). Stayed l (glance_of c.loop-i.self.seat.me.0).checked) all_of (c.loop-i.invariant.2.stays e)
 
 pub returns-clause-differ : goal.returns-clause-differ
 returns-clause-differ g c e =
