@@ -1,11 +1,12 @@
 -- Words that are all zero, and words of versions at rest.
-use Rattle.std.proofs.Common.{◌≡◌, ℕ, zero, suc, ◌+◌, ◌*◌, ◌/◌, ◌<◌, List, [], ◌∷◌, ◌++◌, length, take, drop, replicate, get_or, map, option_map, Option, Some, None, refl, sym, ap, ◌∙◌, subst, arith, add-one, append_assoc}
+use Rattle.std.proofs.Common.{◌≡◌, ℕ, zero, suc, ◌+◌, ◌-◌, ◌*◌, ◌/◌, ◌<◌, List, [], ◌∷◌, ◌++◌, length, take, drop, replicate, get_or, map, option_map, Option, Some, None, refl, sym, ap, ◌∙◌, subst, arith, add-one, append_assoc}
 use Rattle.std.specs.List.{All}
 use mathlib.Core.List.{map-append}
 use Rattle.std.proofs.Math.Seq.{take-suc}
 use Rattle.jc_place.specs.declared.place.Place.{Place}
 use Rattle.jc_cuckoo.specs.declared.held.Held.{Held}
-use Rattle.jc_cuckoo.specs.Images.{Image, IsImage, Shown, shown}
+use Rattle.jc_cuckoo.specs.Images.{Image, IsImage, Shown, image_of, shown}
+use Rattle.jc_stripes.proofs.Comparing.{take_whole}
 use Rattle.jc_index.specs.Indexes.{empty_image}
 use Rattle.jc_index.specs.Spelling.{IsCoded, IsSpelt, IsLawful, slot_words, slots_words, slots_in, encoded, image_in}
 use Rattle.jc_index.proofs.Coding.{long_slots, AllCoded, coded_back}
@@ -76,6 +77,19 @@ module _ (buckets : ℕ) (items : List ℕ) (is : items ≡ replicate (66 + 24 *
       once = λ i j s t at _ _. absurd (empty_at (4 * buckets) i s at);
     };
   }
+
+shown_none : (n : ℕ) → map (option_map shown) (replicate n None) ≡ replicate n None
+shown_none zero = refl
+shown_none (suc n) = ap (λ (l : List (Option Shown)). None ∷ l) (shown_none n)
+
+-- it is the image of a table without rows
+pub empty_is : (n : ℕ) → empty_image n ≡ image_of n (replicate (4 * n) None)
+empty_is n =
+    let cells : List (Option Held) = replicate (4 * n) None in
+    let long : length cells ≡ 4 * n = long_all (4 * n) None in
+    let slots : map (option_map shown) (take (4 * n) cells) ≡ replicate (4 * n) None = ap (map (option_map shown)) (take_whole (4 * n) cells (sym long)) ∙ shown_none (4 * n) in
+    let stash : length cells - 4 * n ≡ 0 = omega (arith, long) in
+    λ i. record { buckets = n; slots = sym slots i; stash = sym stash i }
 
 -- the words of an image that was filled
 abbrev showing : List (Option Held) → List (Option Shown)

@@ -1,10 +1,9 @@
 //! The index as its writer has it.
-ghost use Rattle.std.specs.Prelude.{◌≡◌, ◌*◌, ◌<◌, ◌≤◌, [], ◌∷◌, ◌++◌, true, All, Some, IfOk, OnErr, OnOk, length};
+ghost use Rattle.std.specs.Prelude.{◌≡◌, ◌*◌, ◌<◌, ◌≤◌, [], ◌∷◌, ◌++◌, None, true, All, Some, IfOk, OnErr, OnOk, length, replicate};
 ghost use Rattle.jc_place.specs.Place.{IsTableSize};
 ghost use Rattle.jc_stripes.specs.Stripes.{Changes, IsCommitted};
-ghost use Rattle.jc_cuckoo.specs.Images.{IsGrowth, IsImage, grown, last_image, written};
+ghost use Rattle.jc_cuckoo.specs.Images.{IsGrowth, IsImage, grown, image_of, last_image, written};
 ghost use Rattle.jc_index.specs.Batches.{count_for, is_some, stripes_for};
-ghost use Rattle.jc_index.specs.Indexes.{empty_image};
 
 use crate::change::Change;
 use crate::fill::{blank, filled};
@@ -41,7 +40,7 @@ impl<P: Placer + Drop> Words<P> {
     /// One empty image of so many buckets.
     pub fn new(alloc: Global, placer: P, buckets: u32) -> Result<Words<P>, OutOfMemory>
         requires { IsTableSize buckets }
-        ensures { IfOk result (λ w. (w.images ≡ empty_image buckets ∷ []) × (w.placer ≡ placer) × (w.buckets ≡ buckets)) }
+        ensures { IfOk result (λ w. (w.images ≡ image_of buckets (replicate (4 * buckets) None) ∷ []) × (w.placer ≡ placer) × (w.buckets ≡ buckets)) }
     {
         let words = blank(alloc.clone()?, buckets)?;
         let law = Placed { placer, buckets };

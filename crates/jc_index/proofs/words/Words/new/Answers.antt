@@ -2,7 +2,7 @@ use Rattle.std.proofs.Common.{◌≡◌, ℕ, List, [], ◌∷◌, length, map, 
 use Rattle.jc_stripes.specs.Stripes.{last_of}
 use Rattle.jc_cuckoo.specs.Images.{Image}
 use Rattle.jc_index.specs.Spelling.{IsLawful, IsSpelt, image_in}
-use Rattle.jc_index.proofs.Blank.{split_versions, blank, blank_items, blank_image, blank_spelt, blank_lawful}
+use Rattle.jc_index.proofs.Blank.{split_versions, blank, blank_items, blank_image, blank_spelt, blank_lawful, empty_is}
 use Rattle.jc_index.proofs.words.Words.new.Goals as goal
 
 pub new-requires-clause-versions : goal.new-requires-clause-versions
@@ -35,4 +35,4 @@ pub returns : goal.returns
 returns g c =
     let items = c.in_ok-words.words.items in
     let split = split_versions items (blank c.args.buckets items c.in_ok-words.ensures) (blank_items c.args.buckets items c.in_ok-words.ensures) in
-    (ap (map image_in) c.in_ok-lineage.ensures.1 ∙ (ap (λ (l : List ℕ). image_in l ∷ []) split.1 ∙ ap (λ (i : Image). i ∷ []) (blank_image c.args.buckets items c.in_ok-words.ensures)), refl, refl)
+    (ap (map image_in) c.in_ok-lineage.ensures.1 ∙ (ap (λ (l : List ℕ). image_in l ∷ []) split.1 ∙ ap (λ (i : Image). i ∷ []) (blank_image c.args.buckets items c.in_ok-words.ensures ∙ empty_is c.args.buckets)), refl, refl)
