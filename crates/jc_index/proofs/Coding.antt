@@ -1,0 +1,186 @@
+-- Rows and their words.
+use Rattle.std.proofs.Common.{◌≡◌, ℕ, zero, suc, ◌+◌, ◌-◌, ◌*◌, ◌%◌, ◌^◌, ◌<◌, ◌≤◌, Bool, true, false, List, [], ◌∷◌, ◌++◌, length, take, drop, replicate, get_or, set, nat_lt, if◌then◌else◌, Option, Some, None, refl, sym, ap, ◌∙◌, arith, append_assoc, length-append, length-drop}
+use Rattle.std.specs.Int.{from_le_bytes, to_le_bytes, w64}
+use Rattle.std.proofs.Math.Seq.{take-append_seam}
+use Rattle.std.proofs.lemmas.Nat.{le_bytes_8}
+use Rattle.jc_model.specs.Key.{bytes_of, words_of}
+use Rattle.jc_model.specs.declared.config.Expiry.{Expiry}
+use Rattle.jc_model.specs.declared.config.Expiry.TheVariants.{Never, At}
+use Rattle.jc_stripes.specs.Stripes.{set_all}
+use Rattle.jc_stripes.proofs.Opening.{taken_more}
+use Rattle.jc_cuckoo.specs.Images.{Shown}
+use Rattle.jc_index.specs.Spelling.{IsCoded, key_of, slot_of, slot_in, slot_words, slots_words, slots_in, never_bit, moment_of}
+use Rattle.jc_index.specs.Batches.{placed_at}
+
+-- bytes
+
+at_append : (P : ℕ → Type 0) (xs ys : List ℕ) (d : ℕ) → ((i : ℕ) → P (get_or xs i d)) → ((i : ℕ) → P (get_or ys i d)) → (i : ℕ) → P (get_or (xs ++ ys) i d)
+at_append P [] ys d a b i = b i
+at_append P (x ∷ xs) ys d a b zero = a 0
+at_append P (x ∷ xs) ys d a b (suc i) = at_append P xs ys d (λ j. a (suc j)) b i
+
+at_zeros : (n i : ℕ) → get_or (replicate n 0) i 0 < 256
+at_zeros zero i = omega arith
+at_zeros (suc n) zero = omega arith
+at_zeros (suc n) (suc i) = at_zeros n i
+
+at_drop : (n : ℕ) (xs : List ℕ) → ((i : ℕ) → get_or xs i 0 < 256) → (i : ℕ) → get_or (drop n xs) i 0 < 256
+at_drop zero xs a i = a i
+at_drop (suc n) [] a i = a i
+at_drop (suc n) (x ∷ xs) a i = at_drop n xs (λ j. a (suc j)) i
+
+at_take : (n : ℕ) (xs : List ℕ) → ((i : ℕ) → get_or xs i 0 < 256) → (i : ℕ) → get_or (take n xs) i 0 < 256
+at_take zero xs a i = omega arith
+at_take (suc n) [] a i = omega arith
+at_take (suc n) (x ∷ xs) a zero = a 0
+at_take (suc n) (x ∷ xs) a (suc i) = at_take n xs (λ j. a (suc j)) i
+
+long_zeros : (n : ℕ) → length {A = ℕ} (replicate n 0) ≡ n
+long_zeros zero = refl
+long_zeros (suc n) = ap suc (long_zeros n)
+
+long_take : (n : ℕ) (xs : List ℕ) → n ≤ length xs → length (take n xs) ≡ n
+long_take zero xs h = refl
+long_take (suc n) [] h = absurd (omega arith)
+long_take (suc n) (x ∷ xs) h = ap suc (long_take n xs (omega arith))
+
+take_drop : (n : ℕ) (xs : List ℕ) → take n xs ++ drop n xs ≡ xs
+take_drop zero xs = refl
+take_drop (suc n) [] = refl
+take_drop (suc n) (x ∷ xs) = ap (λ l. x ∷ l) (take_drop n xs)
+
+drop_none : (n : ℕ) → drop {A = ℕ} n [] ≡ []
+drop_none zero = refl
+drop_none (suc n) = refl
+
+drop_drop : (n m k : ℕ) (xs : List ℕ) → k ≡ m + n → drop n (drop m xs) ≡ drop k xs
+drop_drop n zero k xs e = let f : n ≡ k = omega (arith, e) in ap (λ (i : ℕ). drop i xs) f
+drop_drop n (suc m) zero xs e = absurd (omega (arith, e))
+drop_drop n (suc m) (suc k) [] e = drop_none n
+drop_drop n (suc m) (suc k) (x ∷ xs) e = drop_drop n m k xs (omega (arith, e))
+
+take_long : (n : ℕ) (xs : List ℕ) → length xs ≤ n → take n xs ≡ xs
+take_long zero [] h = refl
+take_long zero (x ∷ xs) h = absurd (omega arith)
+take_long (suc n) [] h = refl
+take_long (suc n) (x ∷ xs) h = ap (λ l. x ∷ l) (take_long n xs (omega arith))
+
+-- 32 bytes in four pieces
+pieces : (bs : List ℕ) → length bs ≡ 32 → take 8 (drop 0 bs) ++ take 8 (drop 8 bs) ++ take 8 (drop 16 bs) ++ take 8 (drop 24 bs) ≡ bs
+pieces bs long =
+    let p : List ℕ = take 8 bs in
+    let q : List ℕ = take 8 (drop 8 bs) in
+    let r : List ℕ = take 8 (drop 16 bs) in
+    let last : take 8 (drop 24 bs) ≡ drop 24 bs = take_long 8 (drop 24 bs) (omega (arith, length-drop 24 bs, long)) in
+    let three : r ++ take 8 (drop 24 bs) ≡ drop 16 bs = ap (λ l. r ++ l) (last ∙ sym (drop_drop 8 16 24 bs refl)) ∙ take_drop 8 (drop 16 bs) in
+    let two : q ++ (r ++ take 8 (drop 24 bs)) ≡ drop 8 bs = ap (λ l. q ++ l) (three ∙ sym (drop_drop 8 8 16 bs refl)) ∙ take_drop 8 (drop 8 bs) in
+    append_assoc (p ++ q) r (take 8 (drop 24 bs)) ∙ (append_assoc p q (r ++ take 8 (drop 24 bs)) ∙ (ap (λ l. p ++ l) two ∙ take_drop 8 bs))
+
+abbrev word_from : ℕ → List ℕ → ℕ
+word_from n bs = from_le_bytes w64 (take 8 (drop n bs))
+
+word_back : (n : ℕ) (bs : List ℕ) → n + 8 ≤ length bs → ((i : ℕ) → get_or bs i 0 < 256) → to_le_bytes w64 (word_from n bs) ≡ take 8 (drop n bs)
+word_back n bs inside small = le_bytes_8 (take 8 (drop n bs)) (word_from n bs) (long_take 8 (drop n bs) (omega (arith, length-drop n bs))) (at_take 8 (drop n bs) (at_drop n bs small)) refl
+
+small_head : (n : ℕ) (text : List ℕ) → n < 256 → ((i : ℕ) → get_or text i 0 < 256) → (i : ℕ) → get_or (n ∷ text) i 0 < 256
+small_head n text few small zero = few
+small_head n text few small (suc i) = small i
+
+-- a key's words spell it
+pub key_back : (text : List ℕ) → length text ≤ 31 → ((i : ℕ) → get_or text i 0 < 256) → key_of (words_of text) ≡ text
+key_back text few small =
+    let zeros : List ℕ = replicate (31 - length text) 0 in
+    let bs : List ℕ = bytes_of text in
+    let long : length bs ≡ 32 = omega (arith, length-append text zeros, long_zeros (31 - length text)) in
+    let all : (i : ℕ) → get_or bs i 0 < 256 = small_head (length text) (text ++ zeros) (omega arith) (at_append (λ x. x < 256) text zeros 0 small (at_zeros (31 - length text))) in
+    let bytes : to_le_bytes w64 (word_from 0 bs) ++ to_le_bytes w64 (word_from 8 bs) ++ to_le_bytes w64 (word_from 16 bs) ++ to_le_bytes w64 (word_from 24 bs) ≡ bs =
+    (λ i. word_back 0 bs (omega (arith, long)) all i ++ word_back 8 bs (omega (arith, long)) all i ++ word_back 16 bs (omega (arith, long)) all i ++ word_back 24 bs (omega (arith, long)) all i) ∙ pieces bs long in
+    ap (λ (l : List ℕ). take (get_or l 0 0) (drop 1 l)) bytes ∙ take-append_seam text zeros
+
+lt_true : (a b : ℕ) → a < b → nat_lt a b ≡ true
+lt_true a b h = grind arith
+
+lt_false : (a b : ℕ) → b ≤ a → nat_lt a b ≡ false
+lt_false a b h = grind arith
+
+coded_by : (h : Shown) (first : ℕ) (e : Expiry) → h.1 ≡ e → first ≡ never_bit e + h.0.0 → h.0.0 + 1 < 2 ^ 33 → key_of (words_of h.0.1) ≡ h.0.1 → slot_of (suc first) (words_of h.0.1) (moment_of e) ≡ Some h
+coded_by h first Never is from few key =
+    let number : suc first % 2 ^ 33 - 1 ≡ h.0.0 = omega arith in
+    let no : nat_lt (suc first) (2 ^ 33) ≡ false = lt_false (suc first) (2 ^ 33) (omega arith) in
+    λ i. Some ((number i, key i), (ap (λ (b : Bool). if b then At 0 else Never) no ∙ sym is) i)
+coded_by h first (At m) is from few key =
+    let number : suc first % 2 ^ 33 - 1 ≡ h.0.0 = omega arith in
+    let yes : nat_lt (suc first) (2 ^ 33) ≡ true = lt_true (suc first) (2 ^ 33) (omega arith) in
+    λ i. Some ((number i, key i), (ap (λ (b : Bool). if b then At m else Never) yes ∙ sym is) i)
+
+-- a row's words spell it
+pub coded_held : (h : Shown) → h.0.0 + 1 < 2 ^ 33 → key_of (words_of h.0.1) ≡ h.0.1 → IsCoded (Some h)
+coded_held h few key =
+    let e : never_bit h.1 + (h.0.0 + 1) ≡ suc (never_bit h.1 + h.0.0) = omega arith in
+    ap (λ (n : ℕ). slot_of n (words_of h.0.1) (moment_of h.1)) e ∙ coded_by h (never_bit h.1 + h.0.0) h.1 refl refl few key
+
+-- words at places that follow one another
+placed_snoc : (p q : ℕ) (vs : List ℕ) (v : ℕ) → q ≡ p + length vs → placed_at p (vs ++ v ∷ []) ≡ placed_at p vs ++ (q, v) ∷ []
+placed_snoc p q [] v e = let f : p ≡ q = omega (arith, e) in ap (λ (i : ℕ). (i, v) ∷ []) f
+placed_snoc p q (w ∷ vs) v e = ap (λ l. (p, w) ∷ l) (placed_snoc (p + 1) q vs v (omega (arith, e)))
+
+pub placed_more : (p : ℕ) (vs : List ℕ) (k : ℕ) → k < length vs → placed_at p (take (k + 1) vs) ≡ placed_at p (take k vs) ++ (p + k, get_or vs k 0) ∷ []
+placed_more p vs k inside = ap (placed_at p) (taken_more vs k 0 inside) ∙ placed_snoc p (p + k) (take k vs) (get_or vs k 0) (omega (arith, long_take k vs (omega arith)))
+
+-- the words of one slot are set
+set_skip : (p : ℕ) (vs : List ℕ) (y : ℕ) (xs : List ℕ) (q : ℕ) → q ≡ p + 1 → set_all (y ∷ xs) (placed_at q vs) ≡ y ∷ set_all xs (placed_at p vs)
+set_skip p [] y xs q e = refl
+set_skip p (v ∷ vs) y xs zero e = absurd (omega (arith, e))
+set_skip p (v ∷ vs) y xs (suc q) e = let f : q ≡ p = omega (arith, e) in
+    set_skip (p + 1) vs y (set xs q v) (suc q + 1) (omega (arith, e)) ∙ ap (λ (i : ℕ). y ∷ set_all (set xs i v) (placed_at (p + 1) vs)) f
+
+skip_all : (ys : List ℕ) (p : ℕ) (vs xs : List ℕ) (q : ℕ) → q ≡ length ys + p → set_all (ys ++ xs) (placed_at q vs) ≡ ys ++ set_all xs (placed_at p vs)
+skip_all [] p vs xs q e = let f : q ≡ p = omega (arith, e) in ap (λ (i : ℕ). set_all xs (placed_at i vs)) f
+skip_all (y ∷ ys) p vs xs q e = set_skip (q - 1) vs y (ys ++ xs) q (omega (arith, e)) ∙ ap (λ l. y ∷ l) (skip_all ys p vs xs (q - 1) (omega (arith, e)))
+
+set_over : (vs ys xs : List ℕ) → length vs ≡ length ys → set_all (ys ++ xs) (placed_at 0 vs) ≡ vs ++ xs
+set_over [] [] xs e = refl
+set_over [] (y ∷ ys) xs e = absurd (omega (arith, e))
+set_over (v ∷ vs) [] xs e = absurd (omega (arith, e))
+set_over (v ∷ vs) (y ∷ ys) xs e = set_skip 0 vs v (ys ++ xs) (0 + 1) (omega arith) ∙ ap (λ l. v ∷ l) (set_over vs ys xs (omega (arith, e)))
+
+pub six_words : (x : Option Shown) → length (slot_words x) ≡ 6
+six_words None = refl
+six_words (Some h) = refl
+
+pub long_slots : (xs : List (Option Shown)) → length (slots_words xs) ≡ 6 * length xs
+long_slots [] = refl
+long_slots (x ∷ xs) = omega (arith, length-append (slot_words x) (slots_words xs), six_words x, long_slots xs)
+
+pub slot_set : (xs : List (Option Shown)) (s p : ℕ) (x : Option Shown) → p ≡ 6 * s → s < length xs → set_all (slots_words xs) (placed_at p (slot_words x)) ≡ slots_words (set xs s x)
+slot_set [] s p x e inside = absurd (omega arith)
+slot_set (y ∷ xs) zero p x e inside = let f : p ≡ 0 = omega (arith, e) in
+    ap (λ (i : ℕ). set_all (slot_words y ++ slots_words xs) (placed_at i (slot_words x))) f ∙ set_over (slot_words x) (slot_words y) (slots_words xs) (six_words x ∙ sym (six_words y))
+slot_set (y ∷ xs) (suc s) p x e inside =
+    skip_all (slot_words y) (p - 6) (slot_words x) (slots_words xs) p (omega (arith, e, six_words y)) ∙ ap (λ l. slot_words y ++ l) (slot_set xs s (p - 6) x (omega (arith, e)) (omega arith))
+
+-- the words of one slot are set in an image
+pub image_set : (n : ℕ) (xs : List (Option Shown)) (s p : ℕ) (x : Option Shown) → p ≡ 6 * s + 1 → s < length xs → set_all (n ∷ slots_words xs) (placed_at p (slot_words x)) ≡ n ∷ slots_words (set xs s x)
+image_set n xs s p x e inside = set_skip (6 * s) (slot_words x) n (slots_words xs) p e ∙ ap (λ l. n ∷ l) (slot_set xs s (6 * s) x refl inside)
+
+-- coded slots are read back
+pub data_coded : (x : Option Shown) (ws : List ℕ) → slots_in (slot_words x ++ ws) ≡ slot_in (slot_words x) ∷ slots_in ws
+data_coded None ws = refl
+data_coded (Some h) ws = refl
+
+abbrev pub AllCoded : List (Option Shown) → Type 0
+AllCoded [] = Unit {0}
+AllCoded (x ∷ xs) = IsCoded x × AllCoded xs
+
+pub coded_back : (xs : List (Option Shown)) → AllCoded xs → slots_in (slots_words xs) ≡ xs
+coded_back [] a = refl
+coded_back (x ∷ xs) a = data_coded x (slots_words xs) ∙ (λ i. a.0 i ∷ coded_back xs a.1 i)
+
+pub back_coded : (xs : List (Option Shown)) → slots_in (slots_words xs) ≡ xs → AllCoded xs
+back_coded [] e = tt
+back_coded (x ∷ xs) e = let both : slot_in (slot_words x) ∷ slots_in (slots_words xs) ≡ x ∷ xs = sym (data_coded x (slots_words xs)) ∙ e in (cc both, back_coded xs (cc both))
+
+pub coded_set : (xs : List (Option Shown)) (s : ℕ) (x : Option Shown) → IsCoded x → AllCoded xs → AllCoded (set xs s x)
+coded_set [] s x k a = tt
+coded_set (y ∷ xs) zero x k a = (k, a.1)
+coded_set (y ∷ xs) (suc s) x k a = (a.0, coded_set xs s x k a.1)

@@ -1,0 +1,85 @@
+-- Whether a slot's words hold a key.
+use Rattle.std.proofs.Common.{◌≡◌, ◌≢◌, ℕ, zero, suc, ◌+◌, ◌-◌, ◌%◌, ◌^◌, ◌<◌, ◌≤◌, Bool, true, false, ◌&&◌, ◌==◌, List, take, drop, get_or, nat_lt, if◌then◌else◌, Option, Some, None, refl, sym, ap, ◌∙◌, subst, arith, eq-eqb, ne_eqb}
+use Rattle.std.specs.Str.{bytes_eq}
+use Rattle.std.proofs.lemmas.Slice.Eq.{bytes_eq-Decides}
+use Rattle.jc_model.specs.Key.{words_of}
+use Rattle.jc_model.specs.State.{live}
+use Rattle.jc_model.specs.declared.config.Expiry.{Expiry}
+use Rattle.jc_model.specs.declared.config.Expiry.TheVariants.{Never, At}
+use Rattle.jc_cuckoo.specs.Images.{Shown}
+use Rattle.jc_index.specs.Spelling.{IsCoded, key_of, slot_of, slot_words, never_bit, moment_of}
+use Rattle.jc_index.specs.Found.{seen}
+
+abbrev data_of : {A : Type 0} → A → Option A → A
+data_of d None = d
+data_of d (Some x) = x
+
+no_bytes : (a b : List ℕ) → a ≢ b → bytes_eq a b ≡ false
+no_bytes a b ne = go (bytes_eq a b) refl
+  where
+    go : (r : Bool) → bytes_eq a b ≡ r → bytes_eq a b ≡ false
+    go true e = absurd (ne ((bytes_eq-Decides a b).0 e))
+    go false e = e
+
+coded_key : (h : Shown) → IsCoded (Some h) → key_of (words_of h.0.1) ≡ h.0.1
+coded_key h k = by (never_bit h.1 + (h.0.0 + 1)) k (omega arith)
+  where
+    by : (first : ℕ) → slot_of first (words_of h.0.1) (moment_of h.1) ≡ Some h → 0 < first → key_of (words_of h.0.1) ≡ h.0.1
+    by zero e some = absurd (omega arith)
+    by (suc n) e some = cc (ap (λ (x : Option Shown). (data_of h x).0.1) e)
+
+coded_number : (h : Shown) → IsCoded (Some h) → h.0.0 + 1 < 2 ^ 33
+coded_number h k = by (never_bit h.1 + (h.0.0 + 1)) k (omega arith)
+  where
+    by : (first : ℕ) → slot_of first (words_of h.0.1) (moment_of h.1) ≡ Some h → 0 < first → h.0.0 + 1 < 2 ^ 33
+    by zero e some = absurd (omega arith)
+    by (suc n) e some = let f : suc n % 2 ^ 33 - 1 ≡ h.0.0 = ap (λ (x : Option Shown). (data_of h x).0.0) e in omega arith
+
+never_low : (e : Expiry) (n : ℕ) → n < 2 ^ 33 → (never_bit e + n) % 2 ^ 33 ≡ n
+never_low Never n few = omega arith
+never_low (At m) n few = omega arith
+
+first_low : (h : Shown) → IsCoded (Some h) → (never_bit h.1 + (h.0.0 + 1)) % 2 ^ 33 ≡ h.0.0 + 1
+first_low h k = never_low h.1 (h.0.0 + 1) (coded_number h k)
+
+-- another cache's, or none
+pub other_cache : (slot : Option Shown) (id : ℕ) (text : List ℕ) (now : ℕ) → IsCoded slot → get_or (slot_words slot) 0 0 % 2 ^ 33 ≢ id + 1 → None ≡ seen id text now slot
+other_cache None id text now k ne = refl
+other_cache (Some h) id text now k ne =
+    let no : (h.0.0 == id) ≡ false = ne_eqb h.0.0 id (λ (e : h.0.0 ≡ id). ne (first_low h k ∙ ap (λ (n : ℕ). n + 1) e)) in
+    ap (λ (b : Bool). if b && bytes_eq h.0.1 text then Some (live now h.1) else None) (sym no)
+
+and_false : (b : Bool) → (b && false) ≡ false
+and_false true = refl
+and_false false = refl
+
+-- another key's, or none
+pub other_key : (slot : Option Shown) (id : ℕ) (text : List ℕ) (now : ℕ) → take 4 (drop 1 (slot_words slot)) ≢ words_of text → None ≡ seen id text now slot
+other_key None id text now ne = refl
+other_key (Some h) id text now ne =
+    let no : bytes_eq h.0.1 text ≡ false = no_bytes h.0.1 text (λ (e : h.0.1 ≡ text). ne (ap words_of e)) in
+    ap (λ (b : Bool). if b then Some (live now h.1) else None) (sym (ap (λ (b : Bool). (h.0.0 == id) && b) no ∙ and_false (h.0.0 == id)))
+
+-- this key's
+pub same_one : (slot : Option Shown) (id : ℕ) (text : List ℕ) (now : ℕ) (b : Bool) → IsCoded slot → get_or (slot_words slot) 0 0 % 2 ^ 33 ≡ id + 1 → take 4 (drop 1 (slot_words slot)) ≡ words_of text → key_of (words_of text) ≡ text
+    → ((h : Shown) → slot ≡ Some h → b ≡ live now h.1) → Some b ≡ seen id text now slot
+same_one None id text now b k number key back is = absurd (omega (arith, number))
+same_one (Some h) id text now b k number key back is =
+    let same_number : h.0.0 ≡ id = omega (arith, first_low h k, number) in
+    let same_text : h.0.1 ≡ text = sym (coded_key h k) ∙ (ap key_of key ∙ back) in
+    let yes : bytes_eq h.0.1 text ≡ true = (bytes_eq-Decides h.0.1 text).1 same_text in
+    ap Some (is h refl) ∙ (λ i. if sym (eq-eqb h.0.0 id same_number) i && sym yes i then Some (live now h.1) else None)
+
+pub never_live : (slot : Option Shown) (h : Shown) (now : ℕ) → IsCoded slot → 2 ^ 33 ≤ get_or (slot_words slot) 0 0 → slot ≡ Some h → true ≡ live now h.1
+never_live slot h now k high is = by h.1 (subst (λ (x : Option Shown). 2 ^ 33 ≤ get_or (slot_words x) 0 0) is high) (coded_number h (subst IsCoded is k))
+  where
+    by : (e : Expiry) → 2 ^ 33 ≤ never_bit e + (h.0.0 + 1) → h.0.0 + 1 < 2 ^ 33 → true ≡ live now e
+    by Never high few = refl
+    by (At m) high few = absurd (omega arith)
+
+pub moment_live : (slot : Option Shown) (h : Shown) (now : ℕ) → get_or (slot_words slot) 0 0 < 2 ^ 33 → slot ≡ Some h → nat_lt now (get_or (slot_words slot) 5 0) ≡ live now h.1
+moment_live slot h now low is = ap (λ (x : Option Shown). nat_lt now (get_or (slot_words x) 5 0)) is ∙ by h.1 (subst (λ (x : Option Shown). get_or (slot_words x) 0 0 < 2 ^ 33) is low)
+  where
+    by : (e : Expiry) → never_bit e + (h.0.0 + 1) < 2 ^ 33 → nat_lt now (moment_of e) ≡ live now e
+    by Never low = absurd (omega arith)
+    by (At m) low = refl

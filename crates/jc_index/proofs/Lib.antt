@@ -1,0 +1,9 @@
+pub mod Coding
+pub mod Judging
+pub mod Noting
+pub mod Found
+pub mod Taking
+pub mod Seeing
+pub mod Changing
+pub mod Blank
+pub mod Kept

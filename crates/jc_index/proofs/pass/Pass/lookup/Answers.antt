@@ -1,0 +1,11 @@
+use Rattle.std.proofs.Common.{◌≡◌, ◌⊎◌, ℕ, List, None, inr, subst}
+use Rattle.jc_cuckoo.specs.Images.{last_image}
+use Rattle.jc_index.specs.Found.{found}
+use Rattle.jc_index.specs.Passes.{Moved, images_of}
+use Rattle.jc_index.proofs.pass.Pass.lookup.Goals as goal
+
+pub returns-clause-unsure : goal.returns-clause-unsure
+returns-clause-unsure g c e =
+    let reader = c.look_up.new.reader in
+    let sought = c.new-sought.ensures in
+    inr (subst (λ (z : ℕ × List ℕ × ℕ). Moved reader ⊎ (found (last_image (images_of reader)) z.0 z.1 z.2 ≡ None)) (λ i. (sought.0 i, sought.1 i, sought.2 i)) (c.look_up.ensures.unsure e))

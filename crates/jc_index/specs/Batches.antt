@@ -1,0 +1,42 @@
+-- The words that a commit sets, and the versions that it takes.
+use Rattle.std.specs.Prelude.{ℕ, ◌+◌, ◌*◌, ◌/◌, ◌==◌, ◌||◌, not, if◌then◌else◌, Bool, true, false, List, [], ◌∷◌, ◌++◌, Option, Some, None, option_map}
+use Rattle.jc_cuckoo.specs.declared.held.Held.{Held}
+use Rattle.jc_cuckoo.specs.Images.{Shown, shown}
+use Rattle.jc_index.specs.Spelling.{slot_words}
+use Rattle.jc_index.specs.Versions.{versions_of}
+
+-- a slot's number, and what it is to hold
+abbrev pub Write : Type 0
+Write = ℕ × Option Held
+
+abbrev pub shows : Write → Option Shown
+shows w = option_map shown w.1
+
+-- these words at places that follow one another
+abbrev pub placed_at : ℕ → List ℕ → List (ℕ × ℕ)
+placed_at p [] = []
+placed_at p (v ∷ vs) = (p, v) ∷ placed_at (p + 1) vs
+
+-- the words of these slots
+abbrev pub slot_batch : List Write → List (ℕ × ℕ)
+slot_batch [] = []
+slot_batch (w ∷ ws) = placed_at (6 * w.0 + 1) (slot_words (shows w)) ++ slot_batch ws
+
+-- the count, where it changes
+abbrev pub count_batch : Option ℕ → List (ℕ × ℕ)
+count_batch None = []
+count_batch (Some n) = (0, n) ∷ []
+
+abbrev pub is_some : Option ℕ → Bool
+is_some None = false
+is_some (Some n) = true
+
+-- the count is set where it changes or no slot is written
+abbrev pub count_for : ℕ → ℕ → ℕ → Option ℕ
+count_for slots old stash = if slots == 0 || not (old == stash) then Some stash else None
+
+-- the versions of the buckets that are written, and that of the stash where its count changes or no slot is written
+abbrev pub stripes_for : List Write → Bool → List ℕ
+stripes_for [] stash = 64 ∷ []
+stripes_for (w ∷ []) stash = versions_of (w.0 / 4) (w.0 / 4) stash
+stripes_for (w ∷ x ∷ ws) stash = versions_of (w.0 / 4) (x.0 / 4) stash

@@ -1,0 +1,68 @@
+-- The writer's index and a reader's pass, as their contracts see them, and what is kept of their fields.
+use Rattle.std.specs.Prelude.{◌≡◌, ℕ, ◌+◌, ◌*◌, Bool, true, List, map, replicate, Some, None}
+use Rattle.atomic_table.specs.Seated.{TableId}
+use Rattle.jc_place.specs.Place.{IsTableSize}
+use Rattle.jc_stripes.specs.Stripes.{desk_of, glance_of, last_of}
+use Rattle.jc_stripes.specs.declared.lineage.Lineage.{Lineage}
+use Rattle.jc_stripes.specs.declared.member.Member.{Member}
+use Rattle.jc_cuckoo.specs.Images.{Image}
+use Rattle.jc_index.specs.declared.placed.Placed.{Placed}
+use Rattle.jc_index.specs.Spelling.{IsSpelt, image_in}
+
+-- the images that were committed, the last one last; the versions of the newest table; and the name that its passes carry
+pub record Index (P : Type 0) : Type 0 where
+  pub placer : P
+  pub buckets : ℕ
+  pub images : List Image
+  pub versions : List ℕ
+  pub name : TableId
+
+-- the images that a pass has seen, whether its last meeting succeeded, and the versions that its last lookup read, each with its stripe and the last one first
+pub record Passing (P : Type 0) : Type 0 where
+  pub placer : P
+  pub buckets : ℕ
+  pub images : List Image
+  pub met : Bool
+  pub lookups : ℕ
+  pub begun : List (ℕ × ℕ)
+  pub checked : List (ℕ × ℕ)
+  pub name : TableId
+
+abbrev pub empty_image : ℕ → Image
+empty_image buckets = record { buckets = buckets; slots = replicate (4 * buckets) None; stash = 0 }
+
+module _ {P : Type 0} where
+  abbrev pub index_of : P → ℕ → Lineage (Placed P) → Index P
+  index_of placer buckets lineage = record {
+    placer = placer;
+    buckets = buckets;
+    images = map image_in lineage.writer.seat.me.0.front;
+    versions = (desk_of lineage.writer.seat.me.0).versions;
+    name = lineage.keeper.seat.table_id;
+  }
+
+  abbrev pub passing_of : P → ℕ → Bool → Member (Placed P) → Passing P
+  passing_of placer buckets met member = record {
+    placer = placer;
+    buckets = buckets;
+    images = map image_in member.reader.seat.me.0.front;
+    met = met;
+    lookups = member.reader.seat.me.0.lookups;
+    begun = (glance_of member.reader.seat.me.0).begun;
+    checked = (glance_of member.reader.seat.me.0).checked;
+    name = member.follower.seat.table_id;
+  }
+
+  -- the newest table's words are the last image
+  pub record IsIndex (placer : P) (buckets count : ℕ) (lineage : Lineage (Placed P)) : Type 0 where
+    pub lawful : lineage.writer.seat.me.0.law ≡ Some record { placer = placer; buckets = buckets }
+    pub size : IsTableSize buckets
+    pub wide : buckets * 24 + 66 ≡ lineage.writer.seat.table_id.words
+    pub spelt : IsSpelt buckets (last_of lineage.writer.seat.me.0.front)
+    pub counted : (image_in (last_of lineage.writer.seat.me.0.front)).stash ≡ count
+
+  pub record IsPassing (placer : P) (buckets : ℕ) (member : Member (Placed P)) : Type 0 where
+    pub lawful : member.reader.seat.me.0.law ≡ Some record { placer = placer; buckets = buckets }
+    pub size : IsTableSize buckets
+    pub wide : buckets * 24 + 66 ≡ member.reader.seat.table_id.words
+    pub rests : (glance_of member.reader.seat.me.0).settled ≡ true

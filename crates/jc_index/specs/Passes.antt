@@ -1,0 +1,54 @@
+-- What a reader's steps tell.
+use Rattle.std.specs.Prelude.{◌≡◌, ◌≢◌, ◌⊎◌, ℕ, suc, ◌+◌, ◌*◌, true, false, List, [], ◌∷◌, map, Option}
+use mathlib.Core.List.{IsPrefix}
+use Rattle.atomic_table.specs.declared.shared.Seat.{Seat}
+use Rattle.jc_stripes.specs.declared.board.View.{View}
+use Rattle.jc_stripes.specs.Stripes.{ReadsIn, SomeOdd, glance, glance_of, stripes_in}
+use Rattle.jc_stripes.specs.declared.reader.Reader.{Reader}
+use Rattle.jc_cuckoo.specs.Images.{Image, Shown}
+use Rattle.jc_index.specs.Versions.{read_for}
+use Rattle.jc_index.specs.Spelling.{image_in, group_of, six_at, slot_at, slot_words}
+
+-- Only the notes changed. Words that fit the notes under these versions now fitted them before, and meet this
+pub record IsNoted {L : Type 0} (js : List ℕ) (s t : Seat (Unit {0}) (View L)) (P : List ℕ → Type 0) : Type 0 where
+  pub table : t.table_id ≡ s.table_id
+  pub view : t.me.0 ≡ record s.me.0 { role = glance (glance_of s.me.0).begun (glance_of s.me.0).checked (glance_of t.me.0).notes false }
+  pub tells : (words : List ℕ) → ReadsIn group_of js words (glance_of t.me.0).notes → ReadsIn group_of js words (glance_of s.me.0).notes × P words
+
+-- the words of this slot spell it
+abbrev pub IsSpeltAt : List ℕ → ℕ → Type 0
+IsSpeltAt words slot = slot_words (slot_at words slot) ≡ six_at words (6 * slot + 1)
+
+abbrev pub IsSpeltIn : List ℕ → ℕ → Type 0
+IsSpeltIn words bucket = IsSpeltAt words (4 * bucket) × IsSpeltAt words (4 * bucket + 1) × IsSpeltAt words (4 * bucket + 2) × IsSpeltAt words (4 * bucket + 3)
+
+-- the slots of a bucket
+abbrev pub bucket_at : List ℕ → ℕ → List (Option Shown)
+bucket_at words bucket = slot_at words (4 * bucket) ∷ slot_at words (4 * bucket + 1) ∷ slot_at words (4 * bucket + 2) ∷ slot_at words (4 * bucket + 3) ∷ []
+
+-- the images that a reader has seen, the last one last
+abbrev pub images_of : {L : Type 0} → Reader L → List Image
+images_of r = map image_in r.seat.me.0.front
+
+abbrev pub begun_of : {L : Type 0} → Reader L → List (ℕ × ℕ)
+begun_of r = (glance_of r.seat.me.0).begun
+
+abbrev pub checked_of : {L : Type 0} → Reader L → List (ℕ × ℕ)
+checked_of r = (glance_of r.seat.me.0).checked
+
+abbrev pub lookups_of : {L : Type 0} → Reader L → ℕ
+lookups_of r = r.seat.me.0.lookups
+
+-- a lookup of a key of these two buckets: which versions it read twice, and what else became of the reader
+pub record IsLookup {L : Type 0} (place : ℕ × ℕ) (before after : Reader L) : Type 0 where
+  pub stripes : stripes_in (begun_of after) ≡ read_for place
+  pub again : stripes_in (checked_of after) ≡ stripes_in (begun_of after)
+  pub front : IsPrefix (images_of before) (images_of after)
+  pub counted : lookups_of after ≡ suc (lookups_of before)
+  pub table : after.seat.table_id ≡ before.seat.table_id
+  pub law : after.seat.me.0.law ≡ before.seat.me.0.law
+  pub settled : (glance_of after.seat.me.0).settled ≡ true
+
+-- why a lookup may be unsure: a version was odd, or did not stay
+abbrev pub Moved : {L : Type 0} → Reader L → Type 0
+Moved r = SomeOdd (begun_of r) ⊎ (begun_of r ≢ checked_of r)

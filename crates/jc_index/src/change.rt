@@ -1,0 +1,123 @@
+//! What a commit sets, and which versions it takes.
+ghost use Rattle.std.specs.Prelude.{◌≡◌, ◌≢◌, ◌⊎◌, ◌+◌, ◌*◌, ◌<◌, ◌≤◌, ◌++◌, ℕ, List, All, Some, None, take, length};
+ghost use Rattle.jc_stripes.specs.Stripes.{Covered, set_all};
+ghost use Rattle.jc_cuckoo.specs.Images.{written};
+ghost use Rattle.jc_index.specs.Spelling.{IsCoded, IsSpelt, group_of, image_in};
+ghost use Rattle.jc_index.specs.Batches.{count_batch, count_for, is_some, shows, slot_batch, stripes_for};
+
+use crate::batch::Batch;
+use crate::slot::words_of_slot;
+use crate::versions::{STASH, versions_of};
+use jc_cuckoo::held::Held;
+
+/// The words that are set, each with its place, and the versions that are opened before and shut after.
+#[derive(Drop)]
+pub(crate) struct Change {
+    pub(crate) batch: Batch,
+    pub(crate) stripes: [usize; 3],
+    pub(crate) taken: usize,
+}
+
+/// The words of these slots.
+fn gathered(writes: &[(u32, Option<Held>)]) -> Batch
+    requires few { length writes.now ≤ 2 }
+    ensures batch { take result.length result.writes ≡ slot_batch writes.now }
+    ensures length { result.length ≡ 6 * length writes.now }
+    ensures coded { All (λ w. IsCoded (shows w)) writes.now }
+{
+    let mut batch = Batch::new();
+    for i in 0..writes.len() {
+        let (slot, held) = writes[i];
+        batch.push_slot(6 * slot as usize + 1, words_of_slot(held));
+    }
+    batch
+}
+
+/// The versions of the buckets of these slots, and that of the stash where its count is set.
+fn stripes_of(writes: &[(u32, Option<Held>)], stash: bool) -> ([usize; 3], usize)
+    requires { length writes.now ≤ 2 }
+    ensures few { result.1 ≤ 3 }
+    ensures these { take result.1 result.0 ≡ stripes_for writes.now stash }
+{
+    if writes.len() == 0 {
+        return ([STASH, 0, 0], 1);
+    }
+    let one = writes[0].0 as usize / 4;
+    if writes.len() == 1 {
+        return versions_of(one, one, stash);
+    }
+    versions_of(one, writes[1].0 as usize / 4, stash)
+}
+
+/// The count is set where it changes or no slot is written.
+fn count_of(slots: usize, old: u32, stash: u32) -> Option<u32>
+    ensures same { result ≡ count_for slots old stash }
+    ensures cases { (result ≡ Some stash) ⊎ ((result ≡ None) × (old ≡ stash) × (0 < slots)) }
+{
+    if slots == 0 || old != stash {
+        return Some(stash);
+    }
+    None
+}
+
+fn changed(writes: &[(u32, Option<Held>)], count: Option<u32>) -> Change
+    requires few { length writes.now ≤ 2 }
+    ensures fits { (result.batch.length ≤ 13) × (result.taken ≤ 3) }
+    ensures batch { take result.batch.length result.batch.writes ≡ slot_batch writes.now ++ count_batch count }
+    ensures stripes { take result.taken result.stripes ≡ stripes_for writes.now (is_some count) }
+    ensures coded { All (λ w. IsCoded (shows w)) writes.now }
+{
+    let mut batch = gathered(writes);
+    match count {
+        None => {
+            let (stripes, taken) = stripes_of(writes, false);
+            Change {
+                batch,
+                stripes,
+                taken,
+            }
+        }
+        Some(count) => {
+            let (stripes, taken) = stripes_of(writes, true);
+            batch.push(0, u64::from(count));
+            Change {
+                batch,
+                stripes,
+                taken,
+            }
+        }
+    }
+}
+
+impl Change {
+    /// At most two slots are written, and the stash's count.
+    pub(crate) fn of(writes: &[(u32, Option<Held>)], old: u32, stash: u32) -> Change
+        requires { length writes.now ≤ 2 }
+        ensures fits { (result.batch.length ≤ 13) × (result.taken ≤ 3) }
+        ensures stripes { take result.taken result.stripes ≡ stripes_for writes.now (is_some (count_for (length writes.now) old stash)) }
+        ensures some { 0 < length (take result.batch.length result.batch.writes) }
+        ensures few { All (λ j. j < 65) (take result.taken result.stripes) }
+        ensures covered { Covered group_of (take result.taken result.stripes) (take result.batch.length result.batch.writes) }
+        ensures inside { (buckets : ℕ) → All (λ w. w.0 < 4 * buckets) writes.now → All (λ w. 65 + w.0 < 24 * buckets + 66) (take result.batch.length result.batch.writes) }
+        ensures image { (buckets : ℕ) (words : List ℕ) → All (λ w. w.0 < 4 * buckets) writes.now → IsSpelt buckets words → (image_in words).stash ≡ old → IsSpelt buckets (set_all words (take result.batch.length result.batch.writes)) × (image_in (set_all words (take result.batch.length result.batch.writes)) ≡ written (image_in words) writes.now stash) }
+    {
+        let count = count_of(writes.len(), old, stash);
+        changed(writes, count)
+    }
+
+    /// The versions.
+    pub(crate) fn stripes(&self) -> &[usize]
+        requires { self.now.taken ≤ 3 }
+        ensures { result.now ≡ take self.now.taken self.now.stripes }
+    {
+        &self.stripes[..self.taken]
+    }
+
+    /// The words, each with its place.
+    pub(crate) fn writes(&self) -> &[(usize, u64)]
+        requires { self.now.batch.length ≤ 13 }
+        ensures { result.now ≡ take self.now.batch.length self.now.batch.writes }
+    {
+        self.batch.writes()
+    }
+}

@@ -1,0 +1,106 @@
+//! A lookup that never waits.
+ghost use Rattle.std.specs.Prelude.{◌≡◌, ◌⊎◌, ◌≢◌, suc, ◌+◌, ◌*◌, ◌%◌, ◌<◌, Bool, true, false, [], ◌∷◌, length, Some, None};
+ghost use Rattle.jc_place.specs.Place.{IsTableSize};
+ghost use Rattle.jc_stripes.specs.Stripes.{Stayed, glance_of};
+ghost use Rattle.jc_cuckoo.specs.Images.{last_image};
+ghost use Rattle.jc_index.specs.Spelling.{buckets_of};
+ghost use Rattle.jc_index.specs.Found.{found};
+ghost use Rattle.jc_index.specs.declared.lookup.Lookup.TheVariants.{Sure, Unsure};
+ghost use Rattle.jc_index.specs.Versions.{versions_of};
+ghost use Rattle.jc_index.specs.Passes.{IsLookup, Moved, begun_of, checked_of, images_of};
+
+use crate::look::look;
+use crate::placed::{Placed, buckets_of};
+use crate::sought::Sought;
+use crate::versions::{STASH, STRIPES};
+use jc_place::place::Placer;
+use jc_stripes::reader::Reader;
+
+/// Whether a key is there and live, where that is sure.
+#[derive(Clone, Copy, Debug, PartialEq, Eq)]
+pub enum Lookup {
+    Sure(bool),
+    Unsure,
+}
+
+/// What the words tell, read between the readings of these versions, and whether the versions were at rest and stayed.
+fn probe<P: Placer>(
+    reader: &mut Reader<Placed<P>>,
+    stripes: &[usize],
+    versions: &mut [u64],
+    one: usize,
+    two: usize,
+    sought: &Sought,
+) -> (bool, Option<bool>)
+    requires law { (l : Placed P) × (reader.old.seat.me.0.law ≡ Some l) × (l.buckets * 24 + 66 ≡ reader.old.seat.table_id.words) × (buckets_of (P.placing l.placer) l.buckets (sought.now.id, sought.now.key) ≡ (one, two)) × (one < l.buckets) × (two < l.buckets) }
+    requires stripes { stripes.now ≡ versions_of one two true }
+    requires alike { length versions.old ≡ length stripes.now }
+    requires rests { (glance_of reader.old.seat.me.0).settled ≡ true }
+    ensures sure { result.0 ≡ true → found (last_image (images_of reader.new)) sought.now.id sought.now.key sought.now.moment ≡ result.1 }
+    ensures stays { result.0 ≡ true → Stayed (begun_of reader.new) (checked_of reader.new) }
+    ensures unsure { result.0 ≡ false → Moved reader.new }
+    ensures reads { IsLookup (one, two) reader.old reader.new }
+{
+    reader.begin(stripes, versions);
+    let answer = look(reader, one, two, sought);
+    let same = reader.check(stripes, versions);
+    (same, answer)
+}
+
+/// Sure where the versions stayed and the words tell.
+fn told(same: bool, answer: Option<bool>) -> Lookup
+    ensures sure { (b : Bool) → result ≡ Sure b → (same ≡ true) × (answer ≡ Some b) }
+    ensures unsure { result ≡ Unsure → (same ≡ false) ⊎ ((same ≡ true) × (answer ≡ None)) }
+{
+    if !same {
+        return Lookup::Unsure;
+    }
+    match answer {
+        Some(live) => Lookup::Sure(live),
+        None => Lookup::Unsure,
+    }
+}
+
+/// Whether a key is there and live. It is sure only of the last image that the reader has seen.
+pub(crate) fn look_up<P: Placer>(
+    reader: &mut Reader<Placed<P>>,
+    placer: &P,
+    buckets: u32,
+    sought: &Sought,
+) -> Lookup
+    requires law { reader.old.seat.me.0.law ≡ Some record { placer = placer.now; buckets = buckets } }
+    requires wide { buckets * 24 + 66 ≡ reader.old.seat.table_id.words }
+    requires size { IsTableSize buckets }
+    requires rests { (glance_of reader.old.seat.me.0).settled ≡ true }
+    ensures sure { (b : Bool) → result ≡ Sure b → found (last_image (images_of reader.new)) sought.now.id sought.now.key sought.now.moment ≡ Some b }
+    ensures stays { (b : Bool) → result ≡ Sure b → Stayed (begun_of reader.new) (checked_of reader.new) }
+    ensures unsure { result ≡ Unsure → Moved reader.new ⊎ (found (last_image (images_of reader.new)) sought.now.id sought.now.key sought.now.moment ≡ None) }
+    ensures reads { IsLookup (buckets_of (P.placing placer.now) buckets (sought.now.id, sought.now.key)) reader.old reader.new }
+{
+    let (one, two) = buckets_of(placer, buckets, sought.id, &sought.key);
+    let (first, second) = (one % STRIPES, two % STRIPES);
+    if first == second {
+        let (same, answer) = probe(reader, &[first, STASH], &mut [0; 2], one, two, sought);
+        return told(same, answer);
+    }
+    if first < second {
+        let (same, answer) = probe(
+            reader,
+            &[first, second, STASH],
+            &mut [0; 3],
+            one,
+            two,
+            sought,
+        );
+        return told(same, answer);
+    }
+    let (same, answer) = probe(
+        reader,
+        &[second, first, STASH],
+        &mut [0; 3],
+        one,
+        two,
+        sought,
+    );
+    told(same, answer)
+}

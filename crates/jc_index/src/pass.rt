@@ -1,0 +1,75 @@
+//! A reader of the index.
+ghost use Rattle.std.specs.Prelude.{◌≡◌, ◌⊎◌, ◌≢◌, suc, Bool, true, false, None, Some, IfOk, IfErr};
+ghost use mathlib.Core.List.{IsPrefix};
+ghost use Rattle.jc_stripes.specs.Stripes.{SomeOdd, Stayed, stripes_in};
+ghost use Rattle.jc_cuckoo.specs.Images.{last_image};
+ghost use Rattle.jc_index.specs.Spelling.{buckets_of};
+ghost use Rattle.jc_index.specs.Found.{found};
+ghost use Rattle.jc_index.specs.declared.lookup.Lookup.TheVariants.{Sure, Unsure};
+ghost use Rattle.jc_index.specs.Versions.{read_for};
+
+use crate::lookup::{Lookup, look_up};
+use crate::placed::Placed;
+use crate::sought::Sought;
+use crate::words::Words;
+use jc_model::OutOfMemory;
+use jc_model::event::CacheId;
+use jc_model::key::Key;
+use jc_place::place::Placer;
+use jc_stripes::member::Member;
+use std::marker::Model;
+
+/// What a reader has seen of the index.
+#[derive(Drop)]
+pub struct Pass<P: Placer + Drop> {
+    pub(crate) member: Member<Placed<P>>,
+    pub(crate) placer: P,
+    pub(crate) buckets: u32,
+    pub(crate) met: bool,
+}
+
+impl<P: Placer + Drop> Model for Pass<P> {
+    ghost use Rattle.jc_index.specs.Indexes.{Passing, IsPassing, passing_of};
+
+    ghost Value = { Passing P };
+
+    ghost view = { λ p. passing_of p.placer p.buckets p.met p.member };
+
+    ghost invariant = { λ p. IsPassing p.placer p.buckets p.member };
+}
+
+impl<P: Placer + Drop> Pass<P> {
+    /// Whether a key is there and live, without waiting. It is sure only of the last image that it has seen.
+    pub fn lookup(&mut self, id: CacheId, key: &Key, now: u64) -> Lookup
+        ensures sure { (b : Bool) → result ≡ Sure b → found (last_image self.new.images) id key.now now ≡ Some b }
+        ensures stays { (b : Bool) → result ≡ Sure b → Stayed self.new.begun self.new.checked }
+        ensures unsure { result ≡ Unsure → (self.old.met ≡ false) ⊎ ((SomeOdd self.new.begun ⊎ (self.new.begun ≢ self.new.checked)) ⊎ (found (last_image self.new.images) id key.now now ≡ None)) }
+        ensures stripes { self.old.met ≡ true → (stripes_in self.new.begun ≡ read_for (buckets_of (P.placing self.old.placer) self.old.buckets (id, key.now))) × (stripes_in self.new.checked ≡ stripes_in self.new.begun) }
+        ensures counted { self.old.met ≡ true → self.new.lookups ≡ suc self.old.lookups }
+        ensures front { IsPrefix self.old.images self.new.images }
+        ensures same { (self.new.met ≡ self.old.met) × (self.new.placer ≡ self.old.placer) × (self.new.buckets ≡ self.old.buckets) × (self.new.name ≡ self.old.name) }
+    {
+        if !self.met {
+            return Lookup::Unsure;
+        }
+        let sought = Sought::new(id, key, now);
+        look_up(&mut self.member.reader, &self.placer, self.buckets, &sought)
+    }
+
+    /// Sees all images. Where it is refused, every lookup is unsure until it is not.
+    pub fn meet(&mut self, words: &mut Words<P>) -> Result<(), OutOfMemory>
+        requires { self.old.name ≡ words.old.name }
+        ensures words { words.new ≡ words.old }
+        ensures front { IsPrefix self.old.images self.new.images }
+        ensures met { IfOk result (λ _. (self.new.met ≡ true) × (self.new.images ≡ words.old.images) × (self.new.placer ≡ words.old.placer) × (self.new.buckets ≡ words.old.buckets)) }
+        ensures refused { IfErr result (λ _. self.new ≡ record self.old { met = false }) }
+        ensures name { self.new.name ≡ self.old.name }
+    {
+        self.met = false;
+        words.lineage.meet(&mut self.member)?;
+        self.placer = words.placer;
+        self.buckets = words.buckets;
+        self.met = true;
+        Ok(())
+    }
+}

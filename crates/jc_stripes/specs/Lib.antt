@@ -1,0 +1,3 @@
+pub mod Stripes
+pub mod Rolls
+pub mod Lineages

@@ -1,0 +1,35 @@
+-- The rule of a roll, and what each step tells.
+use Rattle.std.specs.Prelude.{◌≡◌, ℕ, true, false, List, [], ◌∷◌, ◌++◌}
+use mathlib.Core.Option.{some}
+use mathlib.Core.List.{IsPrefix}
+use lib.ListN.{get_elem?}
+use Rattle.atomic_table.specs.Table.{State, Me, Step}
+use Rattle.jc_stripes.specs.declared.roll.Known.{Known}
+
+module _ {T : Type 0} where
+  abbrev pub Knows : List T → ℕ → ℕ → Known T → Type 0
+  Knows items keeper j v = IsPrefix v.items items × IsPrefix v.told items × (v.keeps ≡ true → (j ≡ keeper) × (v.items ≡ items))
+
+  abbrev pub first_known : Known T
+  first_known = record { keeps = true; items = []; told = [] }
+
+  abbrev pub shared : Known T → Known T
+  shared v = record { keeps = false; items = v.items; told = [] }
+
+  abbrev pub heard : Known T → Known T → Known T
+  heard v w = record v { told = w.items }
+
+  abbrev pub nobody : Known T
+  nobody = record { keeps = false; items = []; told = [] }
+
+  abbrev pub added : Step T → Me T (Known T) → ℕ → Me T (Known T) → Type 0
+  added st m n m' = m.0.keeps ≡ true → (x : T) → st.said ≡ some x → m' ≡ (record m.0 { items = m.0.items ++ x ∷ [] }, m.1)
+
+  abbrev pub recalled : Step T → Me T (Known T) → ℕ → Me T (Known T) → Type 0
+  recalled st m n m' = m.0.keeps ≡ true → (m' ≡ m) × IsPrefix m.0.told m.0.items
+
+-- there is one list, of which the keeper knows all and each other seat a beginning
+pub record Kept {T : Type 0} (s : State T (Known T)) : Type 0 where
+  pub items : List T
+  pub keeper : ℕ
+  pub each_seat : (j : ℕ) (v : Known T) → get_elem? s.views j ≡ some v → Knows items keeper j v

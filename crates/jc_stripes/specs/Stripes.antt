@@ -1,0 +1,216 @@
+-- The rule of words in stripes. First come the versions, and then the content; `group` says which version a place of the content is under.
+use Rattle.std.specs.Prelude.{◌≡◌, ℕ, suc, ◌+◌, ◌-◌, ◌%◌, ◌<◌, ◌≤◌, ◌^◌, ◌⊎◌, Bool, true, false, List, [], ◌∷◌, ◌++◌, length, drop, replicate, map, slice_index, slice_set, if◌then◌else◌, Option, Some, None}
+use mathlib.Core.Option.{some}
+use mathlib.Core.List.{IsPrefix}
+use lib.ListN.{get_elem?}
+use Rattle.atomic_table.specs.Table.{State, Me, Step}
+use Rattle.jc_stripes.specs.declared.board.Desk.{Desk}
+use Rattle.jc_stripes.specs.declared.board.Glance.{Glance}
+use Rattle.jc_stripes.specs.declared.board.Role.{Role}
+use Rattle.jc_stripes.specs.declared.board.Role.TheVariants.{Writing, Looking}
+use Rattle.jc_stripes.specs.declared.board.View.{View}
+use Rattle.jc_stripes.specs.declared.board.Origin.{Origin}
+
+abbrev pub Front : Type 0
+Front = List (List ℕ)
+
+abbrev pub last_or : {A : Type 0} → A → List A → A
+last_or d [] = d
+last_or d (x ∷ xs) = last_or x xs
+
+abbrev pub last_of : Front → List ℕ
+last_of front = last_or [] front
+
+abbrev pub IsUnder : {L : Type 0} → L → Option L → Type 0
+IsUnder law None = Unit {0}
+IsUnder law (Some l) = l ≡ law
+
+abbrev pub glance : List (ℕ × ℕ) → List (ℕ × ℕ) → List (ℕ × ℕ) → Bool → Role
+glance begun checked notes settled = Looking record { begun = begun; checked = checked; notes = notes; settled = settled }
+
+abbrev pub desk : List ℕ → List ℕ → Role
+desk versions words = Writing record { versions = versions; words = words }
+
+abbrev Sat : Type 0 → Type 0
+Sat L = Me (Unit {0}) (View L)
+
+abbrev At : Type 0
+At = Step (Unit {0})
+
+-- how many versions there are
+abbrev pub many : ℕ
+many = 65
+
+-- the version that every lookup reads
+abbrev pub common : ℕ
+common = 64
+
+-- a number is among these
+abbrev pub Among : ℕ → List ℕ → Type 0
+Among j [] = ⊥
+Among j (x ∷ xs) = (j ≡ x) ⊎ Among j xs
+
+-- each word that was read under one of these versions is what these words have there
+abbrev pub ReadsIn : (ℕ → ℕ) → List ℕ → List ℕ → List (ℕ × ℕ) → Type 0
+ReadsIn group js words [] = Unit {0}
+ReadsIn group js words (n ∷ ns) = (Among (group n.0) js → slice_index words n.0 ≡ n.1) × ReadsIn group js words ns
+
+-- each of these places is under one of these versions
+abbrev pub Covered : (ℕ → ℕ) → List ℕ → List (ℕ × ℕ) → Type 0
+Covered group js [] = Unit {0}
+Covered group js (w ∷ ws) = Among (group w.0) js × Covered group js ws
+
+-- an odd version stays, and an even one becomes the next
+pub record IsOpened (v w : ℕ) : Type 0 where
+  pub odd : w % 2 ≡ 1
+  pub grows : v ≤ w
+  pub little : w ≤ v + 1
+
+-- an odd version becomes the next, but the greatest stays
+pub record IsShut (v w : ℕ) : Type 0 where
+  pub next : v % 2 ≡ 1 → v + 1 < 2 ^ 64 → w ≡ v + 1
+  pub greatest : v + 1 ≡ 2 ^ 64 → w ≡ v
+  pub even : v % 2 ≡ 0 → w ≡ v
+
+-- a version after a commit that opened it. The greatest odd number stays
+pub record IsCommitted (v w : ℕ) : Type 0 where
+  pub next : v + 2 < 2 ^ 64 → w ≡ v + 2
+  pub exhausted : 2 ^ 64 ≤ v + 2 → w + 1 ≡ 2 ^ 64
+
+-- these versions are those, but for some at these stripes, which are changed so
+pub record Changes (How : ℕ → ℕ → Type 0) (js vs ws : List ℕ) : Type 0 where
+  pub there : (j : ℕ) → Among j js → How (slice_index vs j) (slice_index ws j)
+  pub elsewhere : (j : ℕ) → (slice_index ws j ≡ slice_index vs j) ⊎ Among j js
+
+-- stripes with their versions, the last one first
+abbrev pub stacked : List ℕ → List ℕ → List (ℕ × ℕ) → List (ℕ × ℕ)
+stacked [] vs done = done
+stacked (j ∷ js) [] done = done
+stacked (j ∷ js) (v ∷ vs) done = stacked js vs ((j, v) ∷ done)
+
+abbrev pub stripes_in : List (ℕ × ℕ) → List ℕ
+stripes_in ns = map (λ n. n.0) ns
+
+-- one of these versions is odd
+abbrev pub SomeOdd : List (ℕ × ℕ) → Type 0
+SomeOdd [] = ⊥
+SomeOdd (n ∷ ns) = (n.1 % 2 ≡ 1) ⊎ SomeOdd ns
+
+-- every version that was read was even, and the same when it was read again
+abbrev pub Stayed : List (ℕ × ℕ) → List (ℕ × ℕ) → Type 0
+Stayed begun checked = (SomeOdd begun → ⊥) × (begun ≡ checked)
+
+-- the desk of a writer's seat, and the glance of a reader's
+abbrev pub desk_in : Role → Desk
+desk_in (Writing d) = d
+desk_in (Looking g) = record { versions = []; words = [] }
+
+abbrev pub glance_in : Role → Glance
+glance_in (Writing d) = record { begun = []; checked = []; notes = []; settled = true }
+glance_in (Looking g) = g
+
+abbrev pub desk_of : {L : Type 0} → View L → Desk
+desk_of v = desk_in v.role
+
+abbrev pub glance_of : {L : Type 0} → View L → Glance
+glance_of v = glance_in v.role
+
+abbrev pub IsWriter : {L : Type 0} → View L → Type 0
+IsWriter v = v.role ≡ Writing (desk_of v)
+
+abbrev pub IsReader : {L : Type 0} → View L → Type 0
+IsReader v = v.role ≡ Looking (glance_of v)
+
+abbrev pub set_all : List ℕ → List (ℕ × ℕ) → List ℕ
+set_all words [] = words
+set_all words (x ∷ xs) = set_all (slice_set words x.0 x.1) xs
+
+abbrev pub front_before : {L : Type 0} → Origin L → Front
+front_before o = elim o.before [ None ↦ [] | Some p ↦ p.value.me.0.front ]
+
+abbrev pub opening_view : {L : Type 0} → Origin L → View L
+opening_view o = record { law = Some o.law.value; role = desk (replicate many 0) (drop many o.words.value.items); front = front_before o ++ drop many o.words.value.items ∷ []; told = []; lookups = 0 }
+
+-- a reader's seat that knows the front of v
+abbrev pub shared : {L : Type 0} → View L → View L
+shared v = record { law = v.law; role = glance [] [] [] true; front = v.front; told = []; lookups = 0 }
+
+abbrev pub heard : {L : Type 0} → View L → View L → View L
+heard v w = record v { told = w.front }
+
+abbrev pub nobody : {L : Type 0} → View L
+nobody = record { law = None; role = glance [] [] [] true; front = []; told = []; lookups = 0 }
+
+abbrev pub turned : {L : Type 0} → At → Sat L → ℕ → Sat L → Type 0
+turned st m n m' = (d : Desk) → m.0.role ≡ Writing d → m' ≡ (record m.0 { role = desk (slice_set d.versions st.word st.first) d.words }, m.1)
+
+abbrev pub put : {L : Type 0} → ℕ → At → Sat L → ℕ → Sat L → Type 0
+put many st m n m' = (d : Desk) → m.0.role ≡ Writing d → m' ≡ (record m.0 { role = desk d.versions (slice_set d.words (st.word - many) st.first) }, m.1)
+
+abbrev pub sealed : {L : Type 0} → ℕ → At → Sat L → ℕ → Sat L → Type 0
+sealed many st m n m' = (d : Desk) → m.0.role ≡ Writing d
+    → m' ≡ (record m.0 { role = desk d.versions (slice_set d.words (st.word - many) st.first); front = m.0.front ++ slice_set d.words (st.word - many) st.first ∷ [] }, m.1)
+
+-- the first begin after a check forgets the lookup before it, and is the one that counts
+abbrev pub begun_view : {L : Type 0} → ℕ → ℕ → View L → Glance → View L
+begun_view j n v g = record v {
+  role = glance ((j, n) ∷ (if g.settled then [] else g.begun)) [] [] false;
+  lookups = if g.settled then suc v.lookups else v.lookups;
+}
+
+abbrev pub begun : {L : Type 0} → At → Sat L → ℕ → Sat L → Type 0
+begun st m n m' = (g : Glance) → m.0.role ≡ Looking g → m' ≡ (begun_view st.word n m.0 g, m.1)
+
+abbrev pub noted : {L : Type 0} → ℕ → At → Sat L → ℕ → Sat L → Type 0
+noted many st m n m' = (g : Glance) → m.0.role ≡ Looking g → m' ≡ (record m.0 { role = glance g.begun g.checked ((st.word - many, n) ∷ g.notes) g.settled }, m.1)
+
+abbrev pub recalled : {L : Type 0} → At → Sat L → ℕ → Sat L → Type 0
+recalled st m n m' = (d : Desk) → m.0.role ≡ Writing d → (m' ≡ m) × IsPrefix m.0.told m.0.front
+
+module _ (group : ℕ → ℕ) where
+  -- each word that was read in the stripe j is what these words have there
+  abbrev pub Reads : ℕ → List ℕ → List (ℕ × ℕ) → Type 0
+  Reads j words [] = Unit {0}
+  Reads j words (n ∷ ns) = (group n.0 ≡ j → slice_index words n.0 ≡ n.1) × Reads j words ns
+
+  -- while a version is what it was, and even, what was read in its stripe stands in `base`
+  abbrev pub Stands : List ℕ → List ℕ → List (ℕ × ℕ) → List (ℕ × ℕ) → Type 0
+  Stands versions base notes [] = Unit {0}
+  Stands versions base notes (b ∷ bs) =
+      ((b.1 ≤ slice_index versions b.0) × (b.1 % 2 ≡ 0 → b.1 ≡ slice_index versions b.0 → Reads b.0 base notes)) × Stands versions base notes bs
+
+  -- what a check of the stripe j tells that found n
+  abbrev pub Shows : ℕ → ℕ → List ℕ → List (ℕ × ℕ) → List (ℕ × ℕ) → Type 0
+  Shows j n base notes [] = Unit {0}
+  Shows j n base notes (b ∷ bs) = (b.0 ≡ j → b.1 % 2 ≡ 0 → b.1 ≡ n → Reads j base notes) × Shows j n base notes bs
+
+  -- before the first check what was read is compared with the words, and then with the content that was last at that check
+  abbrev pub base_of : List ℕ → Front → Bool → List ℕ
+  base_of words mine true = last_of mine
+  base_of words mine false = words
+
+  module _ {L : Type 0} (law : L) (versions words : List ℕ) (front : Front) (writer seat : ℕ) where
+    abbrev pub Does : Front → Role → Type 0
+    Does mine (Writing d) = (seat ≡ writer) × (d.versions ≡ versions) × (d.words ≡ words) × (mine ≡ front)
+    Does mine (Looking g) = Stands versions (base_of words mine g.settled) g.notes g.begun
+
+    abbrev pub Knows : View L → Type 0
+    Knows v = IsPrefix v.front front × IsPrefix v.told front × IsUnder law v.law × Does v.front v.role
+
+  pub record Kept {L : Type 0} (many : ℕ) (admits : L → List ℕ → Type 0) (law : L) (s : State (Unit {0}) (View L)) : Type 0 where
+    pub versions : List ℕ
+    pub words : List ℕ
+    pub front : Front
+    pub writer : ℕ
+    pub laid : s.words ≡ versions ++ words
+    pub counted : length versions ≡ many
+    pub at_rest : (i : ℕ) → slice_index versions (group i) % 2 ≡ 0 → slice_index words i ≡ slice_index (last_of front) i
+    pub lawful : admits law (last_of front)
+    pub each_seat : (j : ℕ) (v : View L) → get_elem? s.views j ≡ some v → Knows law versions words front writer j v
+
+  -- the first check sees the front so far, and a later one keeps that front
+  abbrev pub checked : {L : Type 0} → (L → List ℕ → Type 0) → At → Sat L → ℕ → Sat L → Type 0
+  checked {L = L} admits st m n m' = (g : Glance) → m.0.role ≡ Looking g
+      → IsPrefix m.0.front m'.0.front × (m' ≡ (record m.0 { role = glance g.begun ((st.word, n) ∷ g.checked) g.notes true; front = m'.0.front }, m.1)) × (g.settled ≡ true → m'.0.front ≡ m.0.front)
+      × Shows st.word n (last_of m'.0.front) g.notes g.begun
+      × ((l : L) → m.0.law ≡ Some l → g.settled ≡ false → admits l (last_of m'.0.front))

@@ -1,0 +1,164 @@
+//! The table that the writer and the readers share. Its first words are the versions, each odd while the writer writes
+//! in its stripe; the content follows.
+use atomic_table::{Join, Play, Seat, Split, Table, TableRule};
+use std::alloc::Global;
+use std::collections::LinkedList;
+use std::marker::PhantomData;
+use std::snapshot::Snapshot;
+
+/// How many versions there are: those of 64 stripes, and the common one.
+pub const VERSIONS: usize = 65;
+
+/// The version that every lookup reads.
+pub const COMMON: usize = 64;
+
+/// Which version each place of the content is under, and what holds of the content whenever it is committed.
+pub trait Law {
+    ghost use Rattle.std.specs.Prelude.{ℕ, List};
+
+    ghost group: { ℕ → ℕ };
+
+    ghost admits: { Self → List ℕ → Type 0 };
+}
+
+/// What the writer knows: the versions, and the content as it is.
+pub struct Desk {
+    pub versions: LinkedList<u64>,
+    pub words: LinkedList<u64>,
+}
+
+/// What a lookup has read, the last one first: the versions, each with its stripe, and again; the words, each with its
+/// place. Once a version was read again, the lookup is settled.
+pub struct Glance {
+    pub begun: LinkedList<(u64, u64)>,
+    pub checked: LinkedList<(u64, u64)>,
+    pub notes: LinkedList<(u64, u64)>,
+    pub settled: bool,
+}
+
+pub enum Role {
+    Writing(Desk),
+    Looking(Glance),
+}
+
+/// What a seat at the table knows. No value of it is made.
+pub struct View<L> {
+    /// What holds of the committed content. A seat that was joined to another has none.
+    pub law: Option<L>,
+    pub role: Role,
+    /// What was committed, the last one last: a beginning of it.
+    pub front: LinkedList<LinkedList<u64>>,
+    /// The front of a seat that was joined.
+    pub told: LinkedList<LinkedList<u64>>,
+    pub lookups: u64,
+}
+
+pub type StripesSeat<L> = Seat<(), View<L>>;
+
+/// What a table follows: the writer's seat at the table before it; and the words that it begins with, the versions
+/// among them.
+#[derive(Drop)]
+pub struct Origin<L> {
+    pub law: Snapshot<L>,
+    pub before: Option<Snapshot<StripesSeat<L>>>,
+    pub words: Snapshot<Vec<u64>>,
+}
+
+pub struct Versions;
+
+impl<L: Law> TableRule<(), View<L>, Origin<L>> for Versions {
+    ghost use Rattle.jc_stripes.specs.Stripes.{Kept, opening_view, many};
+
+    ghost holds = { λ o. Kept L.group many L.admits o.law.value };
+
+    ghost first = { opening_view };
+}
+
+pub type Board<L> = Table<(), View<L>, Origin<L>, Versions, Global>;
+
+/// The writer opens or shuts a version.
+pub(crate) struct Turn;
+
+impl<L> Play<(), View<L>> for Turn {
+    ghost use Rattle.jc_stripes.specs.Stripes.{turned};
+
+    ghost then = { turned };
+}
+
+/// The writer sets a word.
+pub(crate) struct Set;
+
+impl<L> Play<(), View<L>> for Set {
+    ghost use Rattle.jc_stripes.specs.Stripes.{many, put};
+
+    ghost then = { put many };
+}
+
+/// The writer sets the last word of a commit, which appends to the front.
+pub(crate) struct Seal;
+
+impl<L> Play<(), View<L>> for Seal {
+    ghost use Rattle.jc_stripes.specs.Stripes.{many, sealed};
+
+    ghost then = { sealed many };
+}
+
+/// The writer reads a version, and compares what it was told with its front.
+pub(crate) struct Recall;
+
+impl<L> Play<(), View<L>> for Recall {
+    ghost use Rattle.jc_stripes.specs.Stripes.{recalled};
+
+    ghost then = { recalled };
+}
+
+/// A reader reads a version for the first time.
+pub(crate) struct Begin;
+
+impl<L> Play<(), View<L>> for Begin {
+    ghost use Rattle.jc_stripes.specs.Stripes.{begun};
+
+    ghost then = { begun };
+}
+
+/// A reader reads a word.
+pub(crate) struct Note;
+
+impl<L> Play<(), View<L>> for Note {
+    ghost use Rattle.jc_stripes.specs.Stripes.{many, noted};
+
+    ghost then = { noted many };
+}
+
+/// A reader reads a version again.
+pub(crate) struct Check<L> {
+    law: PhantomData<L>,
+}
+
+impl<L: Law> Play<(), View<L>> for Check<L> {
+    ghost use Rattle.jc_stripes.specs.Stripes.{checked};
+
+    ghost then = { checked L.group L.admits };
+}
+
+/// A reader's seat is cut off the writer's.
+pub(crate) struct Share;
+
+impl<L> Split<View<L>> for Share {
+    ghost use Rattle.jc_stripes.specs.Stripes.{shared};
+
+    ghost left = { λ v. v };
+
+    ghost right = { shared };
+}
+
+/// The writer takes in a reader's seat.
+pub(crate) struct Hear;
+
+impl<L> Join<View<L>> for Hear {
+    ghost use Rattle.jc_stripes.specs.Stripes.{heard, nobody};
+
+    ghost both = { heard };
+
+    ghost spent = { nobody };
+}

@@ -1,0 +1,122 @@
+//! Tables of words that follow one another. Readers move on to the newest.
+ghost use Rattle.std.specs.Prelude.{◌≡◌, ◌+◌, ◌^◌, ◌<◌, [], ◌∷◌, ◌++◌, drop, replicate, length, map, Some, IfOk, IfErr, All, slice_get, ℕ, List};
+ghost use mathlib.Core.List.{IsPrefix};
+ghost use Rattle.jc_stripes.specs.Stripes.{many, last_of, desk_of, set_all, Covered, Changes, IsCommitted, shared};
+ghost use Rattle.jc_stripes.specs.Lineages.{tables, outgrown, IsEarlier};
+
+use crate::board::{Law, StripesSeat};
+use crate::keeper::Keeper;
+use crate::member::Member;
+use crate::reader::Reader;
+use crate::writer::{Retired, Writer};
+use std::alloc::{AllocError, Global};
+use std::mem::replace;
+
+/// The writer of the newest table, and those of the tables before it. The keeper's list names the tables.
+#[derive(Drop)]
+pub struct Lineage<L: Law + Drop> {
+    pub keeper: Keeper<StripesSeat<L>>,
+    pub retired: Vec<Retired<L>>,
+    pub writer: Writer<L>,
+    pub ghost listed: { tables keeper.seat.me.0.items ≡ map (λ p. p.0) (outgrown retired.items) ++ writer.seat.table_id ∷ [] },
+    pub ghost earlier: { All (IsEarlier writer.seat.me.0.front) (outgrown retired.items) },
+}
+
+fn hear_at<L: Law + Drop>(writers: &mut Vec<Retired<L>>, generation: usize, reader: Reader<L>)
+    requires { slice_get (map (λ p. p.0) (outgrown writers.old.items)) generation ≡ Some reader.seat.table_id }
+    ensures same { outgrown writers.new.items ≡ outgrown writers.old.items }
+    ensures seen { (front : List (List ℕ)) → All (IsEarlier front) (outgrown writers.old.items) → IsPrefix reader.seat.me.0.front front }
+{
+    let writer = &mut writers[generation];
+    writer.hear(reader);
+}
+
+impl<L: Law + Drop> Lineage<L> {
+    /// One table. The words that follow its versions are all of the front.
+    pub fn new(alloc: Global, law: &L, words: &Vec<u64>) -> Result<Lineage<L>, AllocError>
+        requires versions { words.now.items ≡ replicate many 0 ++ drop many words.now.items }
+        requires sized { length words.now.items < 2 ^ 63 }
+        requires lawful { L.admits law.now (drop many words.now.items) }
+        ensures { IfOk result (λ l. (l.writer.seat.me.0.law ≡ Some law.now) × (l.writer.seat.me.0.front ≡ drop many words.now.items ∷ [])) }
+    {
+        let mut keeper = Keeper::new(alloc.clone()?)?;
+        let writer = Writer::new(alloc.clone()?, law, words)?;
+        keeper.add(&writer.seat);
+        Ok(Lineage {
+            keeper,
+            retired: Vec::new(alloc),
+            writer,
+        })
+    }
+
+    /// A new table with these words follows. The old one is retired.
+    pub fn follow(&mut self, alloc: Global, law: &L, words: &Vec<u64>) -> Result<(), AllocError>
+        requires versions { words.now.items ≡ replicate many 0 ++ drop many words.now.items }
+        requires sized { length words.now.items < 2 ^ 63 }
+        requires lawful { L.admits law.now (drop many words.now.items) }
+        ensures name { self.new.keeper.seat.table_id ≡ self.old.keeper.seat.table_id }
+        ensures ok { IfOk result (λ _. (self.new.writer.seat.me.0.law ≡ Some law.now) × (self.new.writer.seat.me.0.front ≡ self.old.writer.seat.me.0.front ++ drop many words.now.items ∷ [])) }
+        ensures refused { IfErr result (λ _. (self.new.writer.seat.me.0 ≡ self.old.writer.seat.me.0) × (self.new.writer.seat.table_id ≡ self.old.writer.seat.table_id)) }
+    {
+        self.retired.reserve(1)?;
+        let writer = self.writer.follow(alloc, law, words)?;
+        self.keeper.add(&writer.seat);
+        let old = replace(&mut self.writer, writer);
+        self.retired.push_reserved(old.retire());
+        Ok(())
+    }
+
+    /// Sets words of the newest table as one commit, under the versions of these stripes.
+    pub fn commit(&mut self, stripes: &[usize], writes: &[(usize, u64)])
+        requires some { 0 < length writes.now }
+        requires inside { All (λ w. many + w.0 < self.old.writer.seat.table_id.words) writes.now }
+        requires few { All (λ j. j < many) stripes.now }
+        requires covered { Covered L.group stripes.now writes.now }
+        requires lawful { (l : L) × (self.old.writer.seat.me.0.law ≡ Some l) × L.admits l (set_all (last_of self.old.writer.seat.me.0.front) writes.now) }
+        ensures name { self.new.keeper.seat.table_id ≡ self.old.keeper.seat.table_id }
+        ensures same { (self.new.writer.seat.table_id ≡ self.old.writer.seat.table_id) × (self.new.writer.seat.me.0.law ≡ self.old.writer.seat.me.0.law) }
+        ensures versions { Changes IsCommitted stripes.now (desk_of self.old.writer.seat.me.0).versions (desk_of self.new.writer.seat.me.0).versions }
+        ensures front { self.new.writer.seat.me.0.front ≡ self.old.writer.seat.me.0.front ++ set_all (last_of self.old.writer.seat.me.0.front) writes.now ∷ [] }
+    {
+        self.writer.commit(stripes, writes);
+    }
+
+    /// A reader at the newest table.
+    pub fn member(&mut self) -> Result<Member<L>, AllocError>
+        ensures name { self.new.keeper.seat.table_id ≡ self.old.keeper.seat.table_id }
+        ensures same { (self.new.writer.seat.me.0 ≡ self.old.writer.seat.me.0) × (self.new.writer.seat.table_id ≡ self.old.writer.seat.table_id) }
+        ensures member { IfOk result (λ m. (m.follower.seat.table_id ≡ self.old.keeper.seat.table_id) × (m.reader.seat.me.0 ≡ shared self.old.writer.seat.me.0) × (m.reader.seat.table_id ≡ self.old.writer.seat.table_id)) }
+    {
+        let reader = self.writer.reader()?;
+        let follower = self.keeper.follower();
+        let generation = self.retired.len();
+        Ok(Member {
+            reader,
+            follower,
+            generation,
+        })
+    }
+
+    /// The reader goes on at the newest table, with the writer's front. Where it is refused, it stays as it was.
+    pub fn meet(&mut self, member: &mut Member<L>) -> Result<(), AllocError>
+        requires { member.old.follower.seat.table_id ≡ self.old.keeper.seat.table_id }
+        ensures name { (self.new.keeper.seat.table_id ≡ self.old.keeper.seat.table_id) × (member.new.follower.seat.table_id ≡ member.old.follower.seat.table_id) }
+        ensures writer { (self.new.writer.seat.me.0 ≡ record self.old.writer.seat.me.0 { told = self.new.writer.seat.me.0.told }) × (self.new.writer.seat.table_id ≡ self.old.writer.seat.table_id) }
+        ensures front { IsPrefix member.old.reader.seat.me.0.front member.new.reader.seat.me.0.front }
+        ensures met { IfOk result (λ _. (member.new.reader.seat.me.0 ≡ shared self.old.writer.seat.me.0) × (member.new.reader.seat.table_id ≡ self.old.writer.seat.table_id)) }
+        ensures refused { IfErr result (λ _. (member.new.reader.seat.me.0 ≡ member.old.reader.seat.me.0) × (member.new.reader.seat.table_id ≡ member.old.reader.seat.table_id)) }
+    {
+        let newest = self.retired.len();
+        let reader = self.writer.reader()?;
+        let follower = replace(&mut member.follower, self.keeper.follower());
+        self.keeper.hear(follower);
+        let old = replace(&mut member.reader, reader);
+        if member.generation < newest {
+            hear_at(&mut self.retired, member.generation, old);
+        } else {
+            self.writer.hear(old);
+        }
+        member.generation = newest;
+        Ok(())
+    }
+}

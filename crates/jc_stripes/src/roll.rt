@@ -1,0 +1,63 @@
+//! A list that exists in proofs alone: the rule of a table whose one word says nothing. One seat keeps the list, and
+//! the others know a beginning of it.
+use atomic_table::{Join, Play, Seat, Split, Table, TableRule};
+use std::alloc::Global;
+use std::collections::LinkedList;
+
+/// What a seat knows. No value of it is made.
+pub struct Known<T> {
+    pub keeps: bool,
+    pub items: LinkedList<T>,
+    /// The items of a seat that was joined.
+    pub told: LinkedList<T>,
+}
+
+pub type RollSeat<T> = Seat<T, Known<T>>;
+
+pub struct Growing;
+
+impl<T> TableRule<T, Known<T>, ()> for Growing {
+    ghost use Rattle.jc_stripes.specs.Rolls.{Kept, first_known};
+
+    ghost holds = { λ _. Kept };
+
+    ghost first = { λ _. first_known };
+}
+
+pub type Roll<T> = Table<T, Known<T>, (), Growing, Global>;
+
+pub(crate) struct Add;
+
+impl<T> Play<T, Known<T>> for Add {
+    ghost use Rattle.jc_stripes.specs.Rolls.{added};
+
+    ghost then = { added };
+}
+
+pub(crate) struct Recall;
+
+impl<T> Play<T, Known<T>> for Recall {
+    ghost use Rattle.jc_stripes.specs.Rolls.{recalled};
+
+    ghost then = { recalled };
+}
+
+pub(crate) struct Share;
+
+impl<T> Split<Known<T>> for Share {
+    ghost use Rattle.jc_stripes.specs.Rolls.{shared};
+
+    ghost left = { λ v. v };
+
+    ghost right = { shared };
+}
+
+pub(crate) struct Hear;
+
+impl<T> Join<Known<T>> for Hear {
+    ghost use Rattle.jc_stripes.specs.Rolls.{heard, nobody};
+
+    ghost both = { heard };
+
+    ghost spent = { nobody };
+}

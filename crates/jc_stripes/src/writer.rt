@@ -1,0 +1,167 @@
+//! The writer of the words, and what is left of it when its table is outgrown.
+ghost use Rattle.std.specs.Prelude.{◌≡◌, ◌+◌, ◌%◌, ◌^◌, ◌<◌, ◌≤◌, [], ◌∷◌, ◌++◌, drop, replicate, length, slice_index, All, IfOk, Some, ℕ};
+ghost use Rattle.std.specs.Arc.{arc_value};
+ghost use mathlib.Core.List.{IsPrefix};
+ghost use Rattle.jc_stripes.specs.Stripes.{IsWriter, IsCommitted, Changes, Covered, common, desk, desk_of, heard, last_of, many, opening_view, shared, set_all};
+
+use crate::board::{Board, COMMON, Hear, Law, Origin, Recall, Share, StripesSeat, VERSIONS};
+use crate::reader::Reader;
+use crate::stroke::{fill, open_all, open_one, seal, shut_all, zeros};
+use std::alloc::{AllocError, Global};
+use std::snapshot::Snapshot;
+use std::sync::Arc;
+
+/// Between two commits the words are the last of the front, and the odd versions are exhausted.
+#[derive(Drop)]
+pub struct Writer<L: Law> {
+    board: Arc<Board<L>, Global>,
+    pub seat: StripesSeat<L>,
+    versions: [u64; VERSIONS],
+    pub ghost seated: { seat.table_id ≡ (arc_value board).shared.table_id },
+    pub ghost sized: { (seat.table_id.words ≡ many + length (last_of seat.me.0.front)) × (seat.table_id.words < 2 ^ 63) },
+    pub ghost empty: { seat.me.1 ≡ [] },
+    pub ghost fits: { (j : ℕ) → slice_index versions j < 2 ^ 64 },
+    pub ghost settled: { (j : ℕ) → slice_index versions j % 2 ≡ 1 → slice_index versions j + 1 ≡ 2 ^ 64 },
+    pub ghost at_rest: { seat.me.0.role ≡ desk versions (last_of seat.me.0.front) },
+}
+
+impl<L: Law> Writer<L> {
+    fn over(alloc: Global, origin: Origin<L>, words: &Vec<u64>) -> Result<Writer<L>, AllocError>
+        requires words { origin.words.value ≡ words.now }
+        requires lawful { L.admits origin.law.value (drop many words.now.items) }
+        requires versions { words.now.items ≡ replicate many 0 ++ drop many words.now.items }
+        requires sized { length words.now.items < 2 ^ 63 }
+        ensures { IfOk result (λ w. w.seat.me.0 ≡ opening_view origin) }
+    {
+        let (table, seat) = Board::<L>::of_words(alloc.clone()?, words.as_slice(), &origin)?;
+        Ok(Writer {
+            board: Arc::new(alloc, table)?,
+            seat,
+            versions: zeros(),
+        })
+    }
+
+    /// The words that follow the versions are all of the front.
+    pub fn new(alloc: Global, law: &L, words: &Vec<u64>) -> Result<Writer<L>, AllocError>
+        requires versions { words.now.items ≡ replicate many 0 ++ drop many words.now.items }
+        requires sized { length words.now.items < 2 ^ 63 }
+        requires lawful { L.admits law.now (drop many words.now.items) }
+        ensures { IfOk result (λ w. (w.seat.me.0.law ≡ Some law.now) × (w.seat.me.0.front ≡ drop many words.now.items ∷ [])) }
+    {
+        let origin = Origin {
+            law: Snapshot::of(law),
+            before: None,
+            words: Snapshot::of(words),
+        };
+        Writer::over(alloc, origin, words)
+    }
+
+    /// A writer of other words, which are the next of the front.
+    pub fn follow(&self, alloc: Global, law: &L, words: &Vec<u64>) -> Result<Writer<L>, AllocError>
+        requires versions { words.now.items ≡ replicate many 0 ++ drop many words.now.items }
+        requires sized { length words.now.items < 2 ^ 63 }
+        requires lawful { L.admits law.now (drop many words.now.items) }
+        ensures { IfOk result (λ w. (w.seat.me.0.law ≡ Some law.now) × (w.seat.me.0.front ≡ self.now.seat.me.0.front ++ drop many words.now.items ∷ [])) }
+    {
+        let origin = Origin {
+            law: Snapshot::of(law),
+            before: Some(Snapshot::of(&self.seat)),
+            words: Snapshot::of(words),
+        };
+        Writer::over(alloc, origin, words)
+    }
+
+    /// Opens the versions of these stripes, sets words one by one, and shuts the versions. A version that is the greatest
+    /// even number is opened and never shut.
+    pub fn commit(&mut self, stripes: &[usize], writes: &[(usize, u64)])
+        requires some { 0 < length writes.now }
+        requires inside { All (λ w. many + w.0 < self.old.seat.table_id.words) writes.now }
+        requires few { All (λ j. j < many) stripes.now }
+        requires covered { Covered L.group stripes.now writes.now }
+        requires lawful { (l : L) × (self.old.seat.me.0.law ≡ Some l) × L.admits l (set_all (last_of self.old.seat.me.0.front) writes.now) }
+        ensures same { (self.new.seat.table_id ≡ self.old.seat.table_id) × (self.new.seat.me.0.law ≡ self.old.seat.me.0.law) }
+        ensures versions { Changes IsCommitted stripes.now (desk_of self.old.seat.me.0).versions (desk_of self.new.seat.me.0).versions }
+        ensures front { self.new.seat.me.0.front ≡ self.old.seat.me.0.front ++ set_all (last_of self.old.seat.me.0.front) writes.now ∷ [] }
+    {
+        let last = writes.len() - 1;
+        let (place, value) = writes[last];
+        open_all(&self.board, &mut self.seat, &mut self.versions, stripes);
+        fill(&self.board, &mut self.seat, &writes[..last]);
+        seal(&self.board, &mut self.seat, place, value);
+        shut_all(&self.board, &mut self.seat, &mut self.versions, stripes);
+    }
+
+    /// A reader that has seen the front. It is refused where the count of owners is full.
+    pub fn reader(&mut self) -> Result<Reader<L>, AllocError>
+        ensures same { (self.new.seat.table_id ≡ self.old.seat.table_id) × (self.new.seat.me.0 ≡ self.old.seat.me.0) }
+        ensures reader { IfOk result (λ r. (r.seat.table_id ≡ self.old.seat.table_id) × (r.seat.me.0 ≡ shared self.old.seat.me.0)) }
+    {
+        let board = Arc::try_clone(&self.board)?;
+        let seat = self.board.shared.split_seat::<Share>(&mut self.seat);
+        Ok(Reader { board, seat })
+    }
+
+    /// Takes in a reader: what it has seen is a beginning of the front.
+    pub fn hear(&mut self, reader: Reader<L>)
+        requires { reader.seat.table_id ≡ self.old.seat.table_id }
+        ensures same { (self.new.seat.table_id ≡ self.old.seat.table_id) × (self.new.seat.me.0 ≡ heard self.old.seat.me.0 reader.seat.me.0) }
+        ensures seen { IsPrefix reader.seat.me.0.front self.old.seat.me.0.front }
+    {
+        take_in(&self.board, &mut self.seat, reader);
+    }
+
+    /// Opens the common version for good.
+    pub fn retire(self) -> Retired<L>
+        ensures { (result.seat.table_id ≡ self.seat.table_id) × (result.seat.me.0.front ≡ self.seat.me.0.front) }
+    {
+        let Writer {
+            board,
+            mut seat,
+            mut versions,
+        } = self;
+        open_one(&board, &mut seat, &mut versions, COMMON);
+        Retired { board, seat }
+    }
+}
+
+/// Joins a reader's seat to the writer's: what it has seen is a beginning of the writer's front.
+fn take_in<L: Law>(board: &Board<L>, seat: &mut StripesSeat<L>, reader: Reader<L>)
+    requires own { (seat.old.table_id ≡ board.now.shared.table_id) × (0 < seat.old.table_id.words) }
+    requires empty { seat.old.me.1 ≡ [] }
+    requires writes { IsWriter seat.old.me.0 }
+    requires theirs { reader.seat.table_id ≡ seat.old.table_id }
+    ensures same { seat.new.table_id ≡ seat.old.table_id }
+    ensures view { seat.new.me ≡ (heard seat.old.me.0 reader.seat.me.0, []) }
+    ensures seen { IsPrefix reader.seat.me.0.front seat.old.me.0.front }
+{
+    let Reader {
+        board: owner,
+        seat: theirs,
+    } = reader;
+    drop(owner);
+    board.shared.join_seat::<Hear>(seat, theirs);
+    board.shared.load::<Recall>(seat, 0);
+}
+
+/// The writer of an outgrown table. The common version stays odd, so that no lookup there is at rest.
+#[derive(Drop)]
+pub struct Retired<L: Law> {
+    board: Arc<Board<L>, Global>,
+    pub seat: StripesSeat<L>,
+    pub ghost seated: { seat.table_id ≡ (arc_value board).shared.table_id },
+    pub ghost sized: { 0 < seat.table_id.words },
+    pub ghost empty: { seat.me.1 ≡ [] },
+    pub ghost writes: { IsWriter seat.me.0 },
+    pub ghost odd: { slice_index (desk_of seat.me.0).versions common % 2 ≡ 1 },
+}
+
+impl<L: Law> Retired<L> {
+    /// Takes in a reader: what it has seen is a beginning of the front.
+    pub fn hear(&mut self, reader: Reader<L>)
+        requires { reader.seat.table_id ≡ self.old.seat.table_id }
+        ensures same { (self.new.seat.table_id ≡ self.old.seat.table_id) × (self.new.seat.me.0.front ≡ self.old.seat.me.0.front) }
+        ensures seen { IsPrefix reader.seat.me.0.front self.old.seat.me.0.front }
+    {
+        take_in(&self.board, &mut self.seat, reader);
+    }
+}
