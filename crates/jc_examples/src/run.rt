@@ -87,21 +87,30 @@ pub fn run_words(rt: &HostRuntime, words: &[&str]) -> io::Result<()> {
     show(rt, &printed(rt.alloc(), words, &mut disk, &[])?)
 }
 
-/// Runs a configuration and a script. With other seeds, and where all keys share two buckets, the report is the same.
-pub fn run_files(rt: &HostRuntime, config: &str, script: &str) -> io::Result<()> {
-    let alloc = rt.alloc();
+/// Runs a configuration and a script, with places by this seed.
+fn seeded<'a>(
+    rt: &HostRuntime,
+    config: &'a str,
+    script: &'a str,
+    seed: &'a str,
+) -> io::Result<Written> {
     let mut disk = HostDisk { files: rt };
-    let run = printed(alloc, &["run", config, script], &mut disk, &[])?;
+    let words = ["run", config, script, "--seed", seed];
+    printed(rt.alloc(), &words, &mut disk, &[])
+}
+
+/// Runs a configuration and a script. With other seeds, and where all keys share two buckets, the report is the same.
+pub fn run_files<'a>(rt: &HostRuntime, config: &'a str, script: &'a str) -> io::Result<()> {
+    let run = seeded(rt, config, script, "0")?;
     show(rt, &run)?;
     for seed in SEEDS {
-        let words = ["run", config, script, "--seed", seed];
-        let other = printed(alloc, &words, &mut disk, &[])?;
-        if other.output != run.output {
+        if seeded(rt, config, script, seed)?.output != run.output {
             println!(rt; "another report with the seed {seed}")?;
         }
     }
-    let crowded = reported(alloc, &fs::read(rt, config)?, &fs::read(rt, script)?);
-    match crowded {
+    let config = fs::read(rt, config)?;
+    let script = fs::read(rt, script)?;
+    match reported(rt.alloc(), config.as_slice(), script.as_slice()) {
         Ok(report) if report.as_bytes() == run.output.as_slice() => Ok(()),
         Ok(_) => println!(rt; "another report where all keys share two buckets"),
         Err(fault) => println!(rt; "{fault:?}"),
