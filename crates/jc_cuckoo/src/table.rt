@@ -34,6 +34,7 @@ impl<P: Placer + Drop, M: Mirror> Rows for Cuckoo<P, M> {
         ensures same { rows_in self.new.cells ≡ rows_in self.old.cells }
         ensures ok { OnOk result (n ≤ map.len (rows_in self.new.cells) + self.new.room) }
         ensures succeeds { n ≤ map.len (rows_in self.old.cells) + self.old.room → IsOk result }
+        ensures there { n ≤ map.len (rows_in self.old.cells) + self.old.room → self.new.room ≡ self.old.room }
         ensures kept { self.old.room ≤ self.new.room }
         ensures still { IsStill self.old self.new }
     {
@@ -43,6 +44,9 @@ impl<P: Placer + Drop, M: Mirror> Rows for Cuckoo<P, M> {
         let more = n - self.held;
         if more > LONGEST - self.cells.len() {
             return Err(AllocError);
+        }
+        if more <= self.cells.capacity() - self.cells.len() {
+            return Ok(());
         }
         self.cells.reserve(more)
     }
