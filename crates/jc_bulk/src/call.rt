@@ -85,8 +85,7 @@ fn start_key<R: Rows, G: Ring>(
 {
     let mut notices = Notices::none(alloc);
     let row = state.find(rows, &call.key);
-    let writer = state.config().writer;
-    match Supply::for_step(state, rows, &mut notices, row, &call, writer) {
+    match Supply::for_step(state, rows, &mut notices, now, row, &call) {
         Err(_) => Err(call),
         Ok(supply) => {
             let next = KeyStep::start(state, rows, &mut notices, now, call, row, supply);

@@ -22,7 +22,8 @@ use Rattle.jc_model.specs.Step.{counted, changed, reply_by, live_in, ended_by, b
 use Rattle.jc_model.specs.Table.{live_line, absent_line, otherwise, expected_by, value_of, invoked_by}
 use Rattle.jc_ops.specs.Heard.{heard, agreed}
 use Rattle.jc_ops.specs.Verdicts.{processed_on}
-use Rattle.jc_ops.specs.Lines.{is_shown, stores, of_expected, line_at, is_invoke, shows, shows_loaded, told_of, told_by, told_on, asks_hook, asks_processor, loads_for, first_request, written_by}
+use Rattle.jc_ops.specs.Lines.{is_shown, stores, of_expected, line_at, is_invoke, shows, shows_loaded, told_of, told_on, asks_hook, asks_processor, loads_for, first_request, written_by}
+use Rattle.jc_ops.proofs.Told.{told_least}
 use Rattle.jc_ops.proofs.Asked.{writer_none, writer_some, writer_heard, loader_none, loader_some, loader_heard, invoke_asks, invoke_loads, load_run}
 
 -- What fits a line of an operation, by whether the key has a live row.
@@ -115,18 +116,6 @@ there_same None = refl
 there_same (Some x) = refl
 
 -- A line tells no more than its operation may.
-
-told_least : (there : Bool) (a : Ask) (ch : Change) → told_of there ch ≤ told_by there a ch
-told_least there ask.Nothing ch = omega arith
-told_least there ask.Load ch = omega arith
-told_least there ask.Write ch = omega arith
-told_least there ask.Delete ch = omega arith
-told_least there ask.Process Keep = omega arith
-told_least there ask.Process Access = omega arith
-told_least there ask.Process Store = omega arith
-told_least there ask.Process Put = omega arith
-told_least true ask.Process Remove = omega arith
-told_least false ask.Process Remove = omega arith
 
 told_line : (o : Op) (live : Option (List ℕ)) → told_of (is_some live) (line_at o live).change ≤ told_on (is_some live) o
 told_line o None = told_least false (absent_line o).asks (absent_line o).change
