@@ -103,6 +103,7 @@ pub fn prepare<R: Rows, G: Ring>(
     requires tied { IsTied (R.contents rows.old) state.now }
     ensures same { R.contents rows.new ≡ R.contents rows.old }
     ensures told { notices.new.told ≡ notices.old.told }
+    ensures asks { (any_creates (steps now (items_of state.now.cells) call.now) ≡ true → length (steps now (items_of state.now.cells) call.now) ≤ R.spare rows.old) → R.spare rows.new ≡ R.spare rows.old }
     ensures steps { IfOk result (λ ahead. calls_in ahead.rest.items ≡ steps now (items_of state.now.cells) call.now) }
     ensures sum { IfOk result (λ ahead. sum_of ahead.sum ≡ empty_sum (gathers call.now)) }
     ensures ready { IfOk result (λ ahead. IsReady state.now.config (items_of state.now.cells) notices.new (R.spare rows.new) ahead.rest.items ahead.sum ahead.needs) }
