@@ -101,6 +101,7 @@ fn value_if<'a, G: Ring>(
     if !wanted {
         return None;
     }
+    // The clauses alone name the key.
     let _key = key.text().len();
     match row {
         None => None,
@@ -264,7 +265,10 @@ impl Supply {
     {
         let there = state.has_live(row, step.now());
         notices.reserve_for(state.config(), most_notices(&step.call().op, there))?;
-        make_room(rows, usize::from(adds_at(there, state.config(), step, answer)))?;
+        make_room(
+            rows,
+            usize::from(adds_at(there, state.config(), step, answer)),
+        )?;
         Supply::values_at(state, row, step, answer)
     }
 }

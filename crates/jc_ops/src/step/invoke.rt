@@ -172,6 +172,7 @@ fn end_verdict<R: Rows, G: Ring>(
     ensures stays { Stays 1 (told_of (is_some at.now.row) Put) (R.contents rows.old) (R.spare rows.old) state.old notices.old (R.contents rows.new) (R.spare rows.new) state.new notices.new }
     ensures run { done_on state.old.config at.now.moment at.now.key (find_row at.now.key (progress_of state.old notices.old.told)) (value_in loaded.now) (progress_of state.old notices.old.told) verdict.now ≡ ended (progress_of state.new notices.new.told) result }
 {
+    // The clauses alone name what was loaded: the supply has it already.
     let _loaded = loaded.is_some();
     let line = verdict_line(&verdict.action, at.row.is_some());
     end(state, rows, notices, at, line, supply.stored, supply.shown)

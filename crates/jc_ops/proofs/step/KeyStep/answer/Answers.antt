@@ -30,8 +30,8 @@ returns-in-Invoke-clause-stays g c =
     record {
       keeps = keeps_on _ _ _ _ _ _ _ _ _ 0 1 c.purge-row.ensures.stays.keeps c.answer_invoke.ensures.stays.keeps;
       places = told_in_all c.args.self.call.op _ (is_some c.purge-row.result) _ _ _ live c.purge-row.ensures.stays.places
-      (subst (λ (w : KeyWait). c.purge-row.new.notices.spare ≤ c.answer_invoke.new.notices.spare + told_on (is_some c.purge-row.result) w.call.op) (invoke_view c.self.inside.now c.self.inside.call (given_by c.self.inside.loaded c.self.inside.verdict) c.args.self c.in-Invoke.processor c.in-Invoke.argument c.in-Invoke.is c.self.view_is)
-      (subst (λ (n : ℕ). c.purge-row.new.notices.spare ≤ c.answer_invoke.new.notices.spare + n) (sym (invoke_told (is_some c.purge-row.result) c.in-Invoke.processor c.in-Invoke.argument)) c.answer_invoke.ensures.stays.places));
+          (subst (λ (w : KeyWait). c.purge-row.new.notices.spare ≤ c.answer_invoke.new.notices.spare + told_on (is_some c.purge-row.result) w.call.op) (invoke_view c.self.inside.now c.self.inside.call (given_by c.self.inside.loaded c.self.inside.verdict) c.args.self c.in-Invoke.processor c.in-Invoke.argument c.in-Invoke.is c.self.view_is)
+          (subst (λ (n : ℕ). c.purge-row.new.notices.spare ≤ c.answer_invoke.new.notices.spare + n) (sym (invoke_told (is_some c.purge-row.result) c.in-Invoke.processor c.in-Invoke.argument)) c.answer_invoke.ensures.stays.places));
     }
 
 pub answer_invoke-requires-clause-covered : goal.answer_invoke-requires-clause-covered
@@ -84,7 +84,7 @@ returns-in_default-clause-stays g c =
     record {
       keeps = keeps_on _ _ _ _ _ _ _ _ _ 0 1 c.purge-row.ensures.stays.keeps c.answer_line.ensures.stays.keeps;
       places = told_in_all c.args.self.call.op _ (is_some c.purge-row.result) _ _ _ live c.purge-row.ensures.stays.places
-      (subst (λ (w : KeyWait). c.purge-row.new.notices.spare ≤ c.answer_line.new.notices.spare + told_on (is_some c.purge-row.result) w.call.op) (line_view c.self.inside.now c.self.inside.call (given_by c.self.inside.loaded c.self.inside.verdict) c.args.self (c.self.invariant (not_invoke c.self.inside.call.op c.in_default.not-Invoke)) c.self.view_is) c.answer_line.ensures.stays.places);
+          (subst (λ (w : KeyWait). c.purge-row.new.notices.spare ≤ c.answer_line.new.notices.spare + told_on (is_some c.purge-row.result) w.call.op) (line_view c.self.inside.now c.self.inside.call (given_by c.self.inside.loaded c.self.inside.verdict) c.args.self (c.self.invariant (not_invoke c.self.inside.call.op c.in_default.not-Invoke)) c.self.view_is) c.answer_line.ensures.stays.places);
     }
 
 pub answer_line-requires-clause-covered : goal.answer_line-requires-clause-covered
