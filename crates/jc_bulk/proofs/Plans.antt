@@ -1,35 +1,20 @@
--- A call on one key is that key's step.
-use Rattle.std.proofs.Common.{◌≡◌, ℕ, List, sym, ap}
-use Rattle.std.specs.Prelude.{Some}
-use Rattle.jc_model.specs.declared.call.Call.{Call}
-use Rattle.jc_model.specs.declared.call.Call.TheVariants as call
+-- A call with steps, by its plan.
+use Rattle.std.proofs.Common.{◌≡◌, ℕ, false, refl, sym, ap}
+use Rattle.std.specs.Prelude.{Option, Some, None}
 use Rattle.jc_model.specs.declared.call.KeyCall.{KeyCall}
-use Rattle.jc_model.specs.declared.call.Op.{Op}
-use Rattle.jc_model.specs.declared.call.Op.TheVariants.{Get, Put, GetAndPut, PutIfAbsent, Replace, ReplaceIf, GetAndReplace, Remove, RemoveIf, GetAndRemove, Invoke, Load, Expire}
 use Rattle.jc_model.specs.declared.config.CacheConfig.{CacheConfig}
+use Rattle.jc_model.specs.Bulk.{empty_sum}
 use Rattle.jc_model.specs.Changes.{Progress}
 use Rattle.jc_model.specs.Step.{step}
-use Rattle.jc_model.specs.Whole.{plan, carried_out}
-use Rattle.jc_bulk.specs.Calls.{call_with, call_of}
+use Rattle.jc_model.specs.Whole.{Plan, one, many, at_once, key_step, steps_in, gathers, is_at_once, each, carried_out}
 
-module _ (c : CacheConfig) (now : ℕ) (p q : Progress) (k : List ℕ) where
-  same : (a b : Call) → Some a ≡ Some b → carried_out c now (plan c now b p) q ≡ carried_out c now (plan c now a p) q
-  same a b e = let one : a ≡ b = cc in ap (λ (x : Call). carried_out c now (plan c now x p) q) (sym one)
+module _ (c : CacheConfig) (now : ℕ) (p : Progress) where
+  pub one_step : (todo : Plan) (part : KeyCall) → key_step todo ≡ Some part → step c now part p ≡ carried_out c now todo p
+  one_step (one k o) part e = let same : record { key = k; op = o } ≡ part = cc in ap (λ (call : KeyCall). step c now call p) (sym same)
+  one_step (many calls gathered) part e = cc
+  one_step (at_once q r) part e = cc
 
-  planned_with : (o : Op) (whole : Call) → call_with k o ≡ Some whole → carried_out c now (plan c now whole p) q ≡ step c now (record { key = k; op = o }) q
-  planned_with Get whole e = same (call.Get k) whole e
-  planned_with (Put v) whole e = same (call.Put k v) whole e
-  planned_with (GetAndPut v) whole e = same (call.GetAndPut k v) whole e
-  planned_with (PutIfAbsent v) whole e = same (call.PutIfAbsent k v) whole e
-  planned_with (Replace v) whole e = same (call.Replace k v) whole e
-  planned_with (ReplaceIf expected v) whole e = same (call.ReplaceIf k expected v) whole e
-  planned_with (GetAndReplace v) whole e = same (call.GetAndReplace k v) whole e
-  planned_with Remove whole e = same (call.Remove k) whole e
-  planned_with (RemoveIf expected) whole e = same (call.RemoveIf k expected) whole e
-  planned_with GetAndRemove whole e = same (call.GetAndRemove k) whole e
-  planned_with (Invoke processor argument) whole e = same (call.Invoke k processor argument) whole e
-  planned_with (Load replace) whole e = cc
-  planned_with Expire whole e = cc
-
-pub planned_key : (c : CacheConfig) (now : ℕ) (p q : Progress) (part : KeyCall) (whole : Call) → call_of part ≡ Some whole → step c now part q ≡ carried_out c now (plan c now whole p) q
-planned_key c now p q part whole e = sym (planned_with c now p q part.key part.op whole e)
+  pub many_steps : (todo : Plan) → key_step todo ≡ None → is_at_once todo ≡ false → each c now (steps_in todo) (empty_sum (gathers todo)) p ≡ carried_out c now todo p
+  many_steps (one k o) none steps = cc
+  many_steps (many calls gathered) none steps = refl
+  many_steps (at_once q r) none steps = cc

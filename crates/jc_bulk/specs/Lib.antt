@@ -4,6 +4,6 @@ pub mod Provided
 pub mod Waits
 pub mod Awaiting
 pub mod Paused
-pub mod Calls
+pub mod Each
 pub mod Moved
 pub mod Entries

@@ -1,29 +1,30 @@
 //! One call on one cache, against the shared table.
 //!
-//! A call first makes the memory that it may need. Where memory is refused, the call is handed back and nothing has
-//! changed; from there on it can't be refused. It ends with its reply and its notices, or waits for one answer.
-ghost use Rattle.std.specs.Prelude.{◌≡◌, true, [], IfOk, IfErr, OnErr, IsOk};
+//! A call first makes the memory that it may need. Where memory is refused, nothing has changed; from there on it can't
+//! be refused. It ends with its reply and its notices, or waits for one answer.
+ghost use Rattle.std.specs.Prelude.{◌≡◌, true, false, [], IfOk, IfErr, OnErr, IsOk};
 ghost use Rattle.jc_model.specs.declared.config.CacheConfig.{CacheConfig};
 ghost use Rattle.jc_model.specs.Changes.{begun};
 ghost use Rattle.jc_model.specs.Run.{Run, ended, resume, fits};
 ghost use Rattle.jc_model.specs.Step.{step as step_of};
 ghost use Rattle.jc_model.specs.Suspended.{one, many, key_run, bulk_run};
-ghost use Rattle.jc_model.specs.Whole.{plan, carried_out};
+ghost use Rattle.jc_model.specs.Bulk.{empty_sum};
+ghost use Rattle.jc_model.specs.Whole.{plan, steps_in, gathers, is_at_once, each, carried_out, is_free};
 ghost use Rattle.jc_state.specs.Kept.{Kept, items_of, state_of, progress_of, IsTied, Remains, IsUnmoved};
 ghost use Rattle.jc_ops.specs.Stepped.{StepsTo, IsWaiting};
 ghost use Rattle.jc_bulk.specs.Awaiting.{awaited};
-ghost use Rattle.jc_bulk.specs.Calls.{many_call, once_call, is_free};
 ghost use Rattle.jc_bulk.specs.Moved.{ComesTo, IsSuspended, wait_run};
 ghost use Rattle.jc_bulk.specs.Paused.{bulk_wait};
 ghost use Rattle.jc_bulk.specs.Provided.{AreCovered};
 
 use crate::bulk::{BulkStep, go_on, go_on_after};
 use crate::entries::entries;
-use crate::plan::{AtOnce, ManyKeys, Planned, plan_of, whole_call, whole_many};
 use crate::provide::{prepare, prepare_answer};
 use crate::tally::listed;
 use crate::waits::{Awaits, Paused, Suspended, suspend};
+use jc_model::OutOfMemory;
 use jc_model::call::{Answer, Call, Counts, KeyCall, Reply, Request};
+use jc_model::table::key_step;
 use jc_model::thrice::Thrice;
 use jc_ops::step::reply::{done, truth};
 use jc_ops::step::{KeyStep, Next};
@@ -69,29 +70,24 @@ fn with_notices(next: Next, notices: Notices) -> Moved
     }
 }
 
-/// Begins a call on one key.
+/// Begins a call on one key, which is this step.
 fn start_key<R: Rows, G: Ring>(
     alloc: Global,
     state: &mut CacheState<G>,
     rows: &mut R,
     now: u64,
-    call: KeyCall,
-) -> Result<Moved, KeyCall>
+    step: KeyCall,
+) -> Result<Moved, OutOfMemory>
     requires tied { IsTied (R.contents rows.old) state.old }
     ensures remains { Remains (R.contents rows.old) state.old (R.contents rows.new) state.new }
-    ensures ok { IfOk result (λ m. ComesTo state.old.config (step_of state.old.config now call (begun (state_of state.old))) m state.new) }
-    ensures back { IfErr result (λ back. back ≡ call) }
+    ensures ok { IfOk result (λ m. ComesTo state.old.config (step_of state.old.config now step (begun (state_of state.old))) m state.new) }
     ensures same { OnErr result (IsUnmoved (R.contents rows.old) state.old (R.contents rows.new) state.new) }
 {
     let mut notices = Notices::none(alloc);
-    let row = state.find(rows, &call.key);
-    match Supply::for_step(state, rows, &mut notices, now, row, &call) {
-        Err(_) => Err(call),
-        Ok(supply) => {
-            let next = KeyStep::start(state, rows, &mut notices, now, call, row, supply);
-            Ok(with_notices(next, notices))
-        }
-    }
+    let row = state.find(rows, &step.key);
+    let supply = Supply::for_step(state, rows, &mut notices, now, row, &step)?;
+    let next = KeyStep::start(state, rows, &mut notices, now, step, row, supply);
+    Ok(with_notices(next, notices))
 }
 
 /// Begins a call on many keys.
@@ -100,84 +96,68 @@ fn start_many<R: Rows, G: Ring>(
     state: &mut CacheState<G>,
     rows: &mut R,
     now: u64,
-    call: ManyKeys,
-) -> Result<Moved, ManyKeys>
+    call: &Call,
+) -> Result<Moved, OutOfMemory>
     requires tied { IsTied (R.contents rows.old) state.old }
     ensures remains { Remains (R.contents rows.old) state.old (R.contents rows.new) state.new }
-    ensures ok { IfOk result (λ m. ComesTo state.old.config (carried_out state.old.config now (plan state.old.config now (many_call call) (begun (state_of state.old))) (begun (state_of state.old))) m state.new) }
-    ensures back { IfErr result (λ back. back ≡ call) }
+    ensures ok { let todo = plan state.old.config now call.now (begun (state_of state.old)) in IfOk result (λ m. ComesTo state.old.config (each state.old.config now (steps_in todo) (empty_sum (gathers todo)) (begun (state_of state.old))) m state.new) }
     ensures same { OnErr result (IsUnmoved (R.contents rows.old) state.old (R.contents rows.new) state.new) }
 {
     let mut notices = Notices::none(alloc);
-    match prepare(alloc, state, rows, &mut notices, now, &call) {
-        Err(_) => Err(call),
-        Ok(ahead) => Ok(go_on(state, rows, notices, now, ahead)),
-    }
+    let ahead = prepare(alloc, state, rows, &mut notices, now, call)?;
+    Ok(go_on(state, rows, notices, now, ahead))
 }
 
-/// Carries out a call that asks no hook.
-fn at_once<R: Rows, G: Ring>(
+/// Begins a call that does a step on one key or on many.
+fn start_steps<R: Rows, G: Ring>(
     alloc: Global,
     state: &mut CacheState<G>,
     rows: &mut R,
     now: u64,
-    call: AtOnce,
-) -> Result<Moved, Call>
+    call: &Call,
+) -> Result<Moved, OutOfMemory>
     requires tied { IsTied (R.contents rows.old) state.old }
+    requires steps { is_at_once (plan state.old.config now call.now (begun (state_of state.old))) ≡ false }
     ensures remains { Remains (R.contents rows.old) state.old (R.contents rows.new) state.new }
-    ensures ok { IfOk result (λ m. ComesTo state.old.config (carried_out state.old.config now (plan state.old.config now (once_call call) (begun (state_of state.old))) (begun (state_of state.old))) m state.new) }
-    ensures back { IfErr result (λ back. back ≡ once_call call) }
+    ensures ok { IfOk result (λ m. ComesTo state.old.config (carried_out state.old.config now (plan state.old.config now call.now (begun (state_of state.old))) (begun (state_of state.old))) m state.new) }
     ensures same { OnErr result (IsUnmoved (R.contents rows.old) state.old (R.contents rows.new) state.new) }
-    ensures free { is_free (once_call call) ≡ true → IsOk result }
 {
-    match call {
-        AtOnce::Contains(key) => Ok(ended(alloc, truth(state.holds(rows, &key, now)))),
-        AtOnce::Stats => Ok(ended(alloc, counted(state.counts()))),
-        AtOnce::ClearStats => {
-            state.clear_counts();
-            Ok(ended(alloc, done()))
-        }
-        AtOnce::Clear => {
-            state.clear(rows);
-            Ok(ended(alloc, done()))
-        }
-        AtOnce::Entries => match entries(alloc, state, rows, now) {
-            Err(_) => Err(Call::Entries),
-            Ok(pairs) => Ok(ended(alloc, listed(pairs))),
-        },
+    match key_step(call)? {
+        Some(step) => start_key(alloc, state, rows, now, step),
+        None => start_many(alloc, state, rows, now, call),
     }
 }
 
-/// Begins a call on a cache. Where memory is refused, the call is handed back, and nothing has changed; a call that
-/// takes none is not refused.
+/// Begins a call on a cache. Where memory is refused, nothing has changed; a call that takes none is not refused.
 pub fn start_call<R: Rows, G: Ring>(
     alloc: Global,
     state: &mut CacheState<G>,
     rows: &mut R,
     now: u64,
-    call: Call,
-) -> Result<Moved, Call>
+    call: &Call,
+) -> Result<Moved, OutOfMemory>
     requires tied { IsTied (R.contents rows.old) state.old }
     ensures remains { Remains (R.contents rows.old) state.old (R.contents rows.new) state.new }
-    ensures ok { IfOk result (λ m. ComesTo state.old.config (carried_out state.old.config now (plan state.old.config now call (begun (state_of state.old))) (begun (state_of state.old))) m state.new) }
-    ensures back { IfErr result (λ back. back ≡ call) }
+    ensures ok { IfOk result (λ m. ComesTo state.old.config (carried_out state.old.config now (plan state.old.config now call.now (begun (state_of state.old))) (begun (state_of state.old))) m state.new) }
     ensures same { OnErr result (IsUnmoved (R.contents rows.old) state.old (R.contents rows.new) state.new) }
-    ensures free { is_free call ≡ true → IsOk result }
+    ensures free { is_free call.now ≡ true → IsOk result }
 {
-    match plan_of(call) {
-        Planned::OneKey(part) => {
-            match start_key(alloc, state, rows, now, part) {
-                Ok(moved) => Ok(moved),
-                Err(part) => Err(whole_call(part)),
-            }
+    match call {
+        Call::Contains(key) => Ok(ended(alloc, truth(state.holds(rows, key, now)))),
+        Call::Stats => Ok(ended(alloc, counted(state.counts()))),
+        Call::ClearStats => {
+            state.clear_counts();
+            Ok(ended(alloc, done()))
         }
-        Planned::ManyKeys(many) => {
-            match start_many(alloc, state, rows, now, many) {
-                Ok(moved) => Ok(moved),
-                Err(many) => Err(whole_many(many)),
-            }
+        Call::Clear => {
+            state.clear(rows);
+            Ok(ended(alloc, done()))
         }
-        Planned::AtOnce(once) => at_once(alloc, state, rows, now, once),
+        Call::Entries => {
+            let pairs = entries(alloc, state, rows, now)?;
+            Ok(ended(alloc, listed(pairs)))
+        }
+        _ => start_steps(alloc, state, rows, now, call),
     }
 }
 

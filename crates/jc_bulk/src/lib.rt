@@ -5,7 +5,6 @@ pub mod bulk;
 pub mod call;
 pub mod entries;
 pub mod lists;
-pub mod plan;
 pub mod provide;
 pub mod steps;
 pub mod tally;

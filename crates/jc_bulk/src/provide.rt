@@ -1,20 +1,21 @@
 //! What all steps of a call may need, made before the first of them.
-ghost use Rattle.std.specs.Prelude.{◌≡◌, ◌+◌, ◌≤◌, true, length, IfOk, OnOk};
+ghost use Rattle.std.specs.Prelude.{◌≡◌, ℕ, ◌+◌, ◌≤◌, true, length, IfOk, OnOk};
 ghost use Rattle.jc_model.specs.Bulk.{empty_sum};
-ghost use Rattle.jc_state.specs.Kept.{items_of, has_live, IsTied, FoundRow};
+ghost use Rattle.jc_model.specs.declared.config.CacheConfig.{CacheConfig};
+ghost use Rattle.jc_model.specs.Changes.{Progress, begun};
+ghost use Rattle.jc_model.specs.Whole.{plan, steps_in, gathers};
+ghost use Rattle.jc_state.specs.Kept.{items_of, state_of, has_live, IsTied, FoundRow};
 ghost use Rattle.jc_state.specs.Noted.{HasPlaces};
 ghost use Rattle.jc_ops.specs.Lines.{most_told};
 ghost use Rattle.jc_ops.specs.Supply.{CoversAnswer, HasRoom, adds_at};
-ghost use Rattle.jc_bulk.specs.Calls.{steps_of as steps, gathers};
 ghost use Rattle.jc_bulk.specs.Provided.{calls_in, any_creates, any_tells, places_for, AreCovered, IsReady};
 ghost use Rattle.jc_bulk.specs.Tallied.{HasRoomFor, sum_of};
 
 use crate::bulk::{Ahead, BulkStep, Needs, Provided};
-use crate::plan::ManyKeys;
 use crate::steps::steps_of;
 use crate::tally::Tally;
 use jc_model::OutOfMemory;
-use jc_model::call::{Answer, KeyCall};
+use jc_model::call::{Answer, Call, KeyCall};
 use jc_ops::supply::{Supply, creates, make_room, most_notices};
 use jc_ring::ring::Ring;
 use jc_rows::rows::Rows;
@@ -80,13 +81,13 @@ fn with_values<R: Rows, G: Ring>(
 }
 
 /// Room for what a call on so many keys gathers.
-fn tally_for(alloc: Global, call: &ManyKeys, keys: usize) -> Result<Tally, OutOfMemory>
-    ensures sum { IfOk result (λ t. sum_of t ≡ empty_sum (gathers call.now)) }
+fn tally_for(alloc: Global, call: &Call, keys: usize) -> Result<Tally, OutOfMemory>
+    ensures sum { (c : CacheConfig) (now : ℕ) (p : Progress) → IfOk result (λ t. sum_of t ≡ empty_sum (gathers (plan c now call.now p))) }
     ensures room { IfOk result (λ t. HasRoomFor keys t.collected) }
 {
     match call {
-        ManyKeys::GetAll(_) => Tally::pairs(alloc, keys),
-        ManyKeys::InvokeAll { .. } => Tally::results(alloc, keys),
+        Call::GetAll(_) => Tally::pairs(alloc, keys),
+        Call::InvokeAll { .. } => Tally::results(alloc, keys),
         _ => Ok(Tally::nothing()),
     }
 }
@@ -98,14 +99,14 @@ pub fn prepare<R: Rows, G: Ring>(
     rows: &mut R,
     notices: &mut Notices,
     now: u64,
-    call: &ManyKeys,
+    call: &Call,
 ) -> Result<Ahead, OutOfMemory>
     requires tied { IsTied (R.contents rows.old) state.now }
     ensures same { R.contents rows.new ≡ R.contents rows.old }
     ensures told { notices.new.told ≡ notices.old.told }
-    ensures asks { (any_creates (steps now (items_of state.now.cells) call.now) ≡ true → length (steps now (items_of state.now.cells) call.now) ≤ R.spare rows.old) → R.spare rows.new ≡ R.spare rows.old }
-    ensures steps { IfOk result (λ ahead. calls_in ahead.rest.items ≡ steps now (items_of state.now.cells) call.now) }
-    ensures sum { IfOk result (λ ahead. sum_of ahead.sum ≡ empty_sum (gathers call.now)) }
+    ensures asks { (any_creates (steps_in (plan state.now.config now call.now (begun (state_of state.now)))) ≡ true → length (steps_in (plan state.now.config now call.now (begun (state_of state.now)))) ≤ R.spare rows.old) → R.spare rows.new ≡ R.spare rows.old }
+    ensures steps { IfOk result (λ ahead. calls_in ahead.rest.items ≡ steps_in (plan state.now.config now call.now (begun (state_of state.now)))) }
+    ensures sum { IfOk result (λ ahead. sum_of ahead.sum ≡ empty_sum (gathers (plan state.now.config now call.now (begun (state_of state.now))))) }
     ensures ready { IfOk result (λ ahead. IsReady state.now.config (items_of state.now.cells) notices.new (R.spare rows.new) ahead.rest.items ahead.sum ahead.needs) }
 {
     let calls = steps_of(alloc, state, rows, now, call)?;

@@ -1,5 +1,5 @@
 -- One cache and its call: what the call has come to is what the cache is to answer.
-use Rattle.std.proofs.Common.{◌≡◌, ℕ, Bool, true, false, if◌then◌else◌, Option, Some, None, refl, sym, ap, ap₂, subst, ◌∙◌}
+use Rattle.std.proofs.Common.{◌≡◌, ℕ, Bool, true, false, if◌then◌else◌, refl, sym, ap, ap₂, subst, ◌∙◌}
 use Rattle.jc_model.specs.declared.call.Answer.{Answer}
 use Rattle.jc_model.specs.declared.call.Call.{Call}
 use Rattle.jc_model.specs.declared.call.Reply.{Reply}
@@ -12,17 +12,17 @@ use Rattle.jc_model.specs.declared.event.Outcome.TheVariants as outcome
 use Rattle.jc_model.specs.Changes.{Progress, begun}
 use Rattle.jc_model.specs.Run.{Run, Awaited, ended, waiting, and_then, resume, for_tell, fits}
 use Rattle.jc_model.specs.Whole.{whole, plan, carried_out, told_first}
-use Rattle.jc_model.specs.Runs.{Standing, Status, busy, begins, answers, has_processor, shown, standing_of, reply_of, moved_by, moved}
+use Rattle.jc_model.specs.Runs.{Standing, Status, busy, begins, answers, has_processor, shown, standing_of, reply_of}
 use Rattle.jc_model.specs.Suspended.{Wait, one, many, telling, run_of, standing_by}
 use Rattle.jc_state.specs.Kept.{Kept, state_of, progress_of}
 use Rattle.jc_bulk.specs.Waits.{Waits}
-use Rattle.jc_bulk.specs.Moved.{wait_run, WaitsOn, IsSuspended}
+use Rattle.jc_bulk.specs.Moved.{wait_run, WaitsOn}
 use Rattle.jc_engine.specs.declared.cache.Advance.{Advance}
 use Rattle.jc_engine.specs.declared.cache.Advance.TheVariants.{Asked}
 use Rattle.jc_engine.specs.declared.cache.Turn.{Turn}
 use Rattle.jc_engine.specs.declared.cache.Turn.TheVariants.{Idle, Waiting, Telling}
-use Rattle.jc_engine.specs.Caches.{Cache, status_of}
-use Rattle.jc_engine.specs.Managed.{turn_in, notices_in, step_of, is_step, is_telling, NeverTells, WaitsThere, Settled, Moves}
+use Rattle.jc_engine.specs.Caches.{Cache}
+use Rattle.jc_engine.specs.Managed.{turn_in, notices_in, is_step, is_telling, NeverTells, WaitsThere, Settled, Moves}
 use mathlib.Core.Path.{fun_ext}
 use Rattle.jc_engine.proofs.Untold.{not_told, carried_out-untold, resume-untold, wait_run-untold}
 

@@ -1,6 +1,6 @@
 -- The transcript, as events write it at the places of its entries.
-use Rattle.std.proofs.Common.{◌≡◌, ℕ, ◌<◌, zero, suc, Bool, true, false, eqb, List, [], ◌∷◌, ◌++◌, map, length, Option, Some, None, refl, sym, ap, subst, ◌∙◌, arith, append-nil}
-use Rattle.std.specs.Prelude.{slice_get, slice_set, ◌==◌}
+use Rattle.std.proofs.Common.{◌≡◌, ℕ, ◌<◌, zero, suc, Bool, true, false, eqb, List, [], ◌∷◌, ◌++◌, length, Option, Some, None, refl, sym, ap, subst, ◌∙◌, arith, append-nil}
+use Rattle.std.specs.Prelude.{slice_get, slice_set}
 use Rattle.std.proofs.lemmas.Bool.Decides.{nat_tests}
 use Rattle.jc_model.specs.declared.call.Notice.{Notice}
 use Rattle.jc_model.specs.declared.call.Request.{Request}
@@ -13,12 +13,12 @@ use Rattle.jc_model.specs.Run.{Awaited, told_by}
 use Rattle.jc_model.specs.Runs.{Status}
 use Rattle.jc_model.specs.Solo.{fresh}
 use Rattle.jc_model.specs.Suspended.{Wait}
-use Rattle.jc_model.specs.Legal.{entries_of, on_open, Tells, with_outcome}
-use Rattle.jc_model.proofs.EachCache.{at_same, at_other}
+use Rattle.jc_model.specs.Legal.{on_open, Tells, with_outcome}
+use Rattle.jc_model.proofs.EachCache.{at_other}
 use Rattle.jc_model.proofs.Legal.{set_open}
-use Rattle.jc_engine.specs.Caches.{Cache, status_of}
+use Rattle.jc_engine.specs.Caches.{Cache}
 use Rattle.jc_engine.specs.Advances.{ChangesOne}
-use Rattle.jc_engine.specs.Recording.{IsOpenAt, HasEntry}
+use Rattle.jc_engine.specs.Recording.{HasEntry}
 use Rattle.jc_engine.proofs.Places.{same_set}
 
 -- Lists.

@@ -1,6 +1,7 @@
 pub mod Tables
 pub mod Places
 pub mod Steps
+pub mod Hearing
 pub mod Entries
 pub mod Moving
 pub mod GivingUp

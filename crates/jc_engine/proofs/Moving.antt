@@ -1,29 +1,23 @@
 -- The manager's fields before and after one event.
-use Rattle.std.proofs.Common.{◌≡◌, ℕ, ◌<◌, ◌≤◌, zero, suc, Bool, true, false, List, [], ◌∷◌, map, length, get_or, Option, Some, None, Ok, Err, Result, refl, sym, ap, subst, ◌∙◌, arith}
+use Rattle.std.proofs.Common.{◌≡◌, ℕ, ◌<◌, ◌≤◌, zero, suc, Bool, true, false, List, [], ◌∷◌, map, length, get_or, Option, Some, None, Result, refl, sym, ap, subst, ◌∙◌, arith}
 use Rattle.std.specs.Prelude.{slice_get, slice_set, option_map, OnErr, IfOk, MatchOption}
 use Rattle.std.proofs.lemmas.Option.{slice_get-map, slice_get_read, slice_get_within}
-use Rattle.jc_model.specs.declared.config.CacheConfig.{CacheConfig}
 use Rattle.jc_model.specs.declared.event.Event.{Event}
-use Rattle.jc_model.specs.declared.event.Event.TheVariants.{Begin, Answer as Answered, GiveUp}
 use Rattle.jc_model.specs.declared.event.Cause.{Cause}
-use Rattle.jc_model.specs.declared.event.Cause.TheVariants.{NoSuchCache, NoTurn}
+use Rattle.jc_model.specs.declared.event.Cause.TheVariants.{NoSuchCache}
 use Rattle.jc_model.specs.declared.event.Outcome.{Outcome}
 use Rattle.jc_model.specs.declared.event.Outcome.TheVariants as outcome
-use Rattle.jc_model.specs.Changes.{Progress}
-use Rattle.jc_model.specs.Run.{Awaited}
-use Rattle.jc_model.specs.Suspended.{Wait, standing_by}
-use Rattle.jc_model.specs.Runs.{Status, Said, gives_up, idle, cache_of, said, reply_of, moved_by, refuse_last, for_memory, answer_of, answer_to, moved, statuses_after, put_moved}
+use Rattle.jc_model.specs.Runs.{Status, cache_of, said, reply_of, refuse_last, for_memory, answer_of, answer_to, statuses_after}
 use Rattle.jc_rows.specs.Rows.{RowMap}
-use Rattle.jc_state.specs.Noted.{Noted}
 use Rattle.jc_state.specs.Tied.{SameElsewhere}
 use Rattle.jc_engine.specs.declared.cache.Advance.{Advance}
 use Rattle.jc_engine.specs.declared.cache.Managed.{Managed}
 use Rattle.jc_engine.specs.Caches.{Cache, status_of}
-use Rattle.jc_engine.specs.Managed.{cache_in, turn_in, notices_in, is_step, IsManaged, Moves, Abandons, LeavesNotices}
-use Rattle.jc_engine.specs.Advances.{outcome_of, of_abandon, FitsAt, LeavesAt, ChangesOne}
+use Rattle.jc_engine.specs.Managed.{cache_in, is_step, IsManaged, Moves}
+use Rattle.jc_engine.specs.Advances.{outcome_of, FitsAt, ChangesOne}
 use Rattle.jc_engine.specs.Sound.{IsSound}
-use Rattle.jc_engine.proofs.Places.{map_set, same_set, sound_set, managed_at, cache_at, status_at}
-use Rattle.jc_engine.proofs.Steps.{IsAnswered, step_at, there, answered, changes_one, fits_at, moves_on}
+use Rattle.jc_engine.proofs.Places.{sound_set, managed_at, status_at}
+use Rattle.jc_engine.proofs.Steps.{IsAnswered, step_at, there, answered, changes_one, fits_at}
 
 -- A read of the list.
 

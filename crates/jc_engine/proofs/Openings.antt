@@ -1,5 +1,5 @@
 -- A manager that has just been opened.
-use Rattle.std.proofs.Common.{◌≡◌, ℕ, ◌≤◌, ◌+◌, zero, suc, Bool, true, false, List, [], ◌∷◌, ◌++◌, map, length, Option, Some, None, Result, Ok, Err, refl, sym, ap, ap₂, subst, ◌∙◌, arith}
+use Rattle.std.proofs.Common.{◌≡◌, ℕ, ◌≤◌, ◌<◌, ◌+◌, length-append, zero, suc, Bool, true, false, List, [], ◌∷◌, ◌++◌, map, length, Option, Some, None, Result, Ok, Err, refl, sym, ap, ap₂, subst, ◌∙◌, arith}
 use Rattle.std.specs.Prelude.{slice_get, option_map, IfSome, position, sum, ltb, ◌||◌, if◌then◌else◌}
 use Rattle.std.specs.FinMap as table
 use Rattle.std.specs.HashMap.{HashMap, get}
@@ -60,6 +60,21 @@ all_some names place (d ∷ configs) h zero c at =
     subst (λ (k : CacheConfig). 1 ≤ k.capacity) same (some_rows place d (none_first _ _ (none_first (refusal_at names place d) (refusal_from (names ++ d.name ∷ []) (place + 1) configs) h)))
 all_some names place (d ∷ configs) h (suc id) c at =
     all_some (names ++ d.name ∷ []) (place + 1) configs (none_second (refusal_at names place d) (refusal_from (names ++ d.name ∷ []) (place + 1) configs) h) id c at
+
+-- behind these caches there stands one more, which may have rows
+pub next_some : (configs before after : List CacheConfig) (c : CacheConfig) → open_refusal configs ≡ None → before ++ c ∷ after ≡ configs → 1 ≤ c.capacity
+next_some configs before after c h all = all_some [] 0 configs (each_allowed configs h) (length before) c (ap (λ (cs : List CacheConfig). slice_get cs (length before)) (sym all) ∙ here before)
+  where
+    here : (before : List CacheConfig) → slice_get (before ++ c ∷ after) (length before) ≡ Some c
+    here [] = refl
+    here (d ∷ ds) = here ds
+
+pub next_few : (configs before after : List CacheConfig) (c : CacheConfig) → open_refusal configs ≡ None → before ++ c ∷ after ≡ configs → length before < most_caches
+next_few configs before after c h all =
+    let few : ltb most_caches (length configs) ≡ false = not_refused (ltb most_caches (length configs)) TooManyCaches _ h in
+    let at_most : length configs ≤ most_caches = grind (arith, nat_tests) in
+    let longer : length (before ++ c ∷ after) ≡ length before + length (c ∷ after) = length-append before (c ∷ after) in
+    omega (arith, at_most, longer, ap length all)
 
 -- Where none of the checks refuses, none does.
 

@@ -1,5 +1,5 @@
 -- The caches in their list, after one of them has changed.
-use Rattle.std.proofs.Common.{◌≡◌, ℕ, zero, suc, Bool, true, false, eqb, List, [], ◌∷◌, map, Option, Some, None, refl, sym, ap, subst, ◌∙◌, arith}
+use Rattle.std.proofs.Common.{◌≡◌, ℕ, zero, suc, Bool, true, false, eqb, List, [], ◌∷◌, map, Option, Some, refl, sym, ap, subst, ◌∙◌, arith}
 use Rattle.std.specs.Prelude.{slice_get, slice_set, option_map}
 use Rattle.std.proofs.lemmas.Bool.Decides.{nat_tests}
 use Rattle.std.proofs.lemmas.Option.{slice_get-map}
@@ -8,7 +8,7 @@ use Rattle.jc_rows.specs.Rows.{RowMap}
 use Rattle.jc_state.specs.Tied.{SameElsewhere}
 use Rattle.jc_engine.specs.declared.cache.Managed.{Managed}
 use Rattle.jc_engine.specs.Managed.{IsManaged, cache_in}
-use Rattle.jc_engine.specs.Caches.{Cache, status_of}
+use Rattle.jc_engine.specs.Caches.{status_of}
 use Rattle.jc_engine.specs.Sound.{IsAt, IsSound}
 use Rattle.jc_engine.proofs.Tables.{at_elsewhere}
 

@@ -1,5 +1,5 @@
 -- What a recorded manager keeps, after each of its calls.
-use Rattle.std.proofs.Common.{◌≡◌, ℕ, ◌<◌, zero, suc, Bool, true, false, if◌then◌else◌, eqb, List, [], ◌∷◌, ◌++◌, map, length, get_or, Option, Some, None, Result, Ok, Err, refl, sym, ap, subst, ◌∙◌, arith, append-nil}
+use Rattle.std.proofs.Common.{◌≡◌, ℕ, ◌<◌, Bool, true, false, if◌then◌else◌, List, [], ◌∷◌, ◌++◌, map, length, get_or, Option, Some, None, Result, Ok, Err, refl, sym, ap, subst, ◌∙◌}
 use Rattle.std.specs.Prelude.{slice_get, slice_set, option_map, MatchOption, OnOk, is_some, is_err}
 use Rattle.std.proofs.lemmas.Option.{slice_get-map, slice_get_within}
 use Rattle.jc_model.specs.declared.call.Answer.{Answer}
@@ -11,11 +11,9 @@ use Rattle.jc_model.specs.declared.event.Event.TheVariants.{Begin, Answer as Ans
 use Rattle.jc_model.specs.declared.event.Cause.TheVariants.{WrongAnswer, OutOfMemory}
 use Rattle.jc_model.specs.declared.event.Outcome.{Outcome}
 use Rattle.jc_model.specs.declared.event.Outcome.TheVariants as outcome
-use Rattle.jc_model.specs.declared.event.End.{End}
-use Rattle.jc_model.specs.declared.event.End.TheVariants.{Waiting}
 use Rattle.jc_model.specs.declared.event.Entry.{Entry}
 use Rattle.jc_model.specs.Changes.{Progress}
-use Rattle.jc_model.specs.Run.{Run, Awaited, fits, told_by}
+use Rattle.jc_model.specs.Run.{Awaited, fits, told_by}
 use Rattle.jc_model.specs.Runs.{Status, answers, gives_up, cache_of, said, reply_of, shown, refuse_last, for_memory, answer_of, answer_to, statuses_after}
 use Rattle.jc_model.specs.Suspended.{Wait, one, many, telling, standing_by, run_of}
 use Rattle.jc_model.specs.Legal.{Tells, recorded, with_outcome, with_answer, on_open}
@@ -30,7 +28,7 @@ use Rattle.jc_engine.specs.Advances.{of_abandon, FitsAt, ClosedAt, ChangesOne}
 use Rattle.jc_engine.specs.Recording.{Recording, IsOpenAt, HasEntry, IsRecorded, CanTell, blank, left_in}
 use Rattle.jc_engine.proofs.Steps.{step_at, there, refused_last, unrefused}
 use Rattle.jc_engine.proofs.Moving.{read_at}
-use Rattle.jc_engine.proofs.Entries.{length_set, same_front, not_empty, get_last, set_last, set_set, StayElsewhere, AllOpened, opened_after, added_elsewhere, set_elsewhere, written_open}
+use Rattle.jc_engine.proofs.Entries.{length_set, same_front, not_empty, get_last, opened_after, added_elsewhere, set_elsewhere, written_open}
 
 -- whether a call has ended with its reply
 abbrev pub is_replied : Advance → Bool

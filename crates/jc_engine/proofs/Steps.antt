@@ -1,17 +1,16 @@
 -- One event of the manager, by what it did to its cache.
-use Rattle.std.proofs.Common.{◌≡◌, ℕ, Bool, true, false, List, [], ◌∷◌, map, Option, Some, None, Ok, Err, Result, refl, sym, ap, subst, ◌∙◌}
+use Rattle.std.proofs.Common.{◌≡◌, true, false, List, map, Option, Some, None, Ok, Err, Result, refl, sym, ap, subst, ◌∙◌}
 use Rattle.std.specs.Prelude.{slice_get, slice_set, OnErr, IfOk}
 use Rattle.jc_model.specs.declared.event.Event.{Event}
-use Rattle.jc_model.specs.declared.event.Event.TheVariants.{Begin, Answer as Answered, GiveUp}
 use Rattle.jc_model.specs.declared.event.Cause.TheVariants.{OutOfMemory}
 use Rattle.jc_model.specs.declared.event.Outcome.{Outcome}
 use Rattle.jc_model.specs.declared.event.Outcome.TheVariants as outcome
-use Rattle.jc_model.specs.Runs.{Status, Said, cache_of, said, reply_of, refuse_last, is_refused, for_memory, answer_of, answer_to, moved, put_moved, statuses_after}
+use Rattle.jc_model.specs.Runs.{Status, Said, cache_of, said, reply_of, refuse_last, for_memory, answer_of, answer_to, moved, put_moved, statuses_after}
 use Rattle.jc_model.proofs.EachCache.{at_same}
 use Rattle.jc_engine.specs.declared.cache.Advance.{Advance}
 use Rattle.jc_engine.specs.declared.cache.Managed.{Managed}
 use Rattle.jc_engine.specs.Caches.{Cache, status_of}
-use Rattle.jc_engine.specs.Managed.{cache_in, step_of, is_step, FitsTurn, Moves}
+use Rattle.jc_engine.specs.Managed.{cache_in, is_step, Moves}
 use Rattle.jc_engine.specs.Advances.{outcome_of, FitsAt, ChangesOne}
 use Rattle.jc_engine.proofs.Places.{map_set, status_at, cache_at, same_set}
 

@@ -5,4 +5,5 @@ pub mod Managed
 pub mod Advances
 pub mod Sound
 pub mod Fresh
+pub mod Free
 pub mod Recording

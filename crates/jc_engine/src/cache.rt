@@ -3,16 +3,17 @@ ghost use Rattle.std.specs.Prelude.{◌≡◌, ℕ, ◌<◌, true, List, Some, N
 ghost use Rattle.jc_model.specs.declared.config.CacheConfig.{CacheConfig};
 ghost use Rattle.jc_model.specs.declared.event.Outcome.TheVariants.{Refused, GivenUp};
 ghost use Rattle.jc_model.specs.Run.{Run, fits, for_tell};
+ghost use Rattle.jc_model.specs.Whole.{is_free};
 ghost use Rattle.jc_model.specs.Runs.{begins, answers, gives_up, has_processor, reply_of, moved};
 ghost use Rattle.jc_state.specs.Kept.{Kept};
 ghost use Rattle.jc_state.specs.Tied.{SameElsewhere};
-ghost use Rattle.jc_bulk.specs.Calls.{is_free};
 ghost use Rattle.jc_bulk.specs.Moved.{ComesTo};
 ghost use Rattle.jc_engine.specs.Caches.{status_of};
 ghost use Rattle.jc_engine.specs.Managed.{cache_in, step_of, is_step, IsManaged, Moves, Settled, Abandons};
 
 use jc_bulk::call::{Moved, answer_call, start_call};
 use jc_bulk::waits::Suspended;
+use jc_model::OutOfMemory;
 use jc_model::call::{Answer, Call, Reply, Request};
 use jc_model::event::{Cause, Step};
 use jc_model::thrice::Thrice;
@@ -116,16 +117,15 @@ impl<G: Ring> Managed<G> {
         alloc: Global,
         rows: &mut R,
         now: u64,
-        call: Call,
-    ) -> Result<Advance, Call>
+        call: &Call,
+    ) -> Result<Advance, OutOfMemory>
         requires managed { IsManaged (R.contents rows.old) self.old.state.id self.old }
-        requires allowed { is_step (reply_of self.old.state.config (status_of (cache_in self.old)).standing (begins now call)) ≡ true }
+        requires allowed { is_step (reply_of self.old.state.config (status_of (cache_in self.old)).standing (begins now call.now)) ≡ true }
         ensures config { self.new.state.config ≡ self.old.state.config }
         ensures managed_after { IsManaged (R.contents rows.new) self.old.state.id self.new }
         ensures elsewhere { SameElsewhere self.old.state.id (R.contents rows.old) (R.contents rows.new) }
-        ensures ok { IfOk result (λ advance. Moves (cache_in self.old) (begins now call) advance (cache_in self.new)) }
-        ensures back { IfErr result (λ back. back ≡ call) }
-        ensures free { is_free call ≡ true → IsOk result }
+        ensures ok { IfOk result (λ advance. Moves (cache_in self.old) (begins now call.now) advance (cache_in self.new)) }
+        ensures free { is_free call.now ≡ true → IsOk result }
         ensures same { OnErr result (self.new ≡ self.old) }
         ensures table { OnErr result (R.contents rows.new ≡ R.contents rows.old) }
     {

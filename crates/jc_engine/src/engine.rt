@@ -5,7 +5,7 @@ ghost use Rattle.std.specs.Str.{bytes_eq};
 ghost use Rattle.jc_model.specs.declared.event.Event.TheVariants.{Begin, Answer as Answered, GiveUp};
 ghost use Rattle.jc_model.specs.Runs.{answer_to, statuses_after, for_memory};
 ghost use Rattle.jc_model.specs.Run.{fits, for_tell};
-ghost use Rattle.jc_bulk.specs.Calls.{is_free};
+ghost use Rattle.jc_model.specs.Whole.{is_free};
 ghost use Rattle.jc_engine.specs.Caches.{AreSound, status_of, names_of, expiry_in, holds_in};
 ghost use Rattle.jc_engine.specs.Results.{of_begin, of_resume, of_give_up};
 
@@ -97,9 +97,9 @@ impl<R: Rows, G: Ring> Engine<R, G> {
         if let Some(cause) = self.begin_refusal(id, &call) {
             return Err((cause, call));
         }
-        match self.start(id, now, call) {
+        match self.start(id, now, &call) {
             Ok(advance) => Ok(advance.into_step()),
-            Err(call) => Err((Cause::OutOfMemory, call)),
+            Err(_) => Err((Cause::OutOfMemory, call)),
         }
     }
 

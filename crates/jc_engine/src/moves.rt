@@ -5,13 +5,14 @@ ghost use Rattle.jc_model.specs.declared.event.Event.TheVariants.{Begin, Answer 
 ghost use Rattle.jc_model.specs.declared.event.Outcome.TheVariants.{Refused};
 ghost use Rattle.jc_model.specs.Runs.{answer_to, statuses_after, for_memory};
 ghost use Rattle.jc_model.specs.Run.{fits, for_tell};
-ghost use Rattle.jc_bulk.specs.Calls.{is_free};
+ghost use Rattle.jc_model.specs.Whole.{is_free};
 ghost use Rattle.jc_engine.specs.Caches.{status_of};
 ghost use Rattle.jc_engine.specs.Managed.{is_step};
 ghost use Rattle.jc_engine.specs.Advances.{outcome_of, of_abandon, FitsAt, LeavesAt, ClosedAt, ChangesOne};
 
 use crate::cache::Advance;
 use crate::engine::Engine;
+use jc_model::OutOfMemory;
 use jc_model::call::{Answer, Call};
 use jc_model::event::{CacheId, Cause};
 use jc_ring::ring::Ring;
@@ -40,14 +41,18 @@ impl<R: Rows, G: Ring> Engine<R, G> {
     }
 
     /// Begins a call. Only memory can refuse it, before any change.
-    pub(crate) fn start(&mut self, id: CacheId, now: u64, call: Call) -> Result<Advance, Call>
-        requires { is_step (answer_to (map status_of self.old) (Begin id now call) false) ≡ true }
-        ensures outcome { outcome_of result ≡ answer_to (map status_of self.old) (Begin id now call) (for_memory (outcome_of result)) }
-        ensures statuses { map status_of self.new ≡ statuses_after (map status_of self.old) (Begin id now call) (outcome_of result) }
+    pub(crate) fn start(
+        &mut self,
+        id: CacheId,
+        now: u64,
+        call: &Call,
+    ) -> Result<Advance, OutOfMemory>
+        requires { is_step (answer_to (map status_of self.old) (Begin id now call.now) false) ≡ true }
+        ensures outcome { outcome_of result ≡ answer_to (map status_of self.old) (Begin id now call.now) (for_memory (outcome_of result)) }
+        ensures statuses { map status_of self.new ≡ statuses_after (map status_of self.old) (Begin id now call.now) (outcome_of result) }
         ensures one { ChangesOne self.old id self.new }
         ensures fits { IfOk result (λ advance. FitsAt advance (slice_get self.new id)) }
-        ensures back { IfErr result (λ back. back ≡ call) }
-        ensures free { is_free call ≡ true → IsOk result }
+        ensures free { is_free call.now ≡ true → IsOk result }
         ensures refused { OnErr result (self.new ≡ self.old) }
     {
         let cache = &mut self.caches[id.number() as usize];

@@ -1,5 +1,5 @@
 //! Opening a manager: which configurations it takes, and the caches as they are at first.
-ghost use Rattle.std.specs.Prelude.{◌≡◌, ◌≤◌, ℕ, false, List, [], ◌∷◌, ◌++◌, IfSome, IfOk, IfErr, ◌⊎◌, map, sum, length};
+ghost use Rattle.std.specs.Prelude.{◌≡◌, ◌<◌, ◌≤◌, ℕ, false, List, [], ◌∷◌, ◌++◌, IfSome, IfOk, IfErr, ◌⊎◌, map, sum, length};
 ghost use Rattle.std.specs.FinMap as table;
 ghost use Rattle.std.specs.List.{list_any};
 ghost use Rattle.std.specs.Str.{bytes_eq};
@@ -20,7 +20,7 @@ use jc_model::limits::{
 use jc_ring::ring::Ring;
 use jc_rows::rows::Rows;
 use jc_state::state::CacheState;
-use std::alloc::{AllocError, Global};
+use std::alloc::Global;
 use std::collections::HashMap;
 
 /// Why a manager does not open; `cache` is the place of the cache in the list, from 0.
@@ -212,12 +212,10 @@ fn fresh<G: Ring>(
     place: usize,
     config: CacheConfig,
 ) -> Result<Managed<G>, OutOfMemory>
+    requires few { place < most_caches }
+    requires rows { 1 ≤ config.capacity }
     ensures { IfOk result (λ cache. cache ≡ fresh_fields place config) }
 {
-    // The checks before have refused more caches, and one of no rows.
-    if place >= MOST_CACHES || config.capacity < 1 {
-        return Err(AllocError);
-    }
     let state = CacheState::empty(alloc, CacheId::new(place as u32), config)?;
     Ok(Managed {
         state,
@@ -230,6 +228,7 @@ fn fresh_caches<G: Ring>(
     alloc: Global,
     configs: Vec<CacheConfig>,
 ) -> Result<Vec<Managed<G>>, OutOfMemory>
+    requires { open_refusal configs.items ≡ None }
     ensures { IfOk result (λ caches. caches.items ≡ fresh_from 0 configs.items) }
 {
     let mut caches = Vec::with_capacity(alloc, configs.len())?;

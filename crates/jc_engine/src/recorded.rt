@@ -123,7 +123,7 @@ impl<R: Rows, G: Ring> Recorded<R, G> {
     }
 
     /// Begins a call of a session, which becomes the transcript's last entry. At `Done` the second part is an equal
-    /// copy of the reply. Refused as the manager's `begin`; room and copies are made before any change.
+    /// copy of the reply. Refused as the manager's `begin`; room is made before any change.
     pub fn begin(
         &mut self,
         session: u32,
@@ -142,18 +142,22 @@ impl<R: Rows, G: Ring> Recorded<R, G> {
             return Err((cause, call));
         }
         let place = self.transcript.entries().len();
-        if enter(self.alloc, &mut self.transcript, session, id, now, &call).is_err() {
-            return Err((Cause::OutOfMemory, call));
+        let entry = begun(self.alloc, session, id, now, call);
+        if let Err(entry) = self.transcript.push(entry) {
+            return Err((Cause::OutOfMemory, entry.call));
         }
-        match self.engine.start(id, now, call) {
+        match self
+            .engine
+            .start(id, now, &self.transcript.entries()[place].call)
+        {
             Ok(advance) => {
                 self.places[id.number() as usize] = place;
                 Ok(note(&mut self.transcript, place, advance))
             }
-            Err(call) => {
-                self.transcript.pop();
-                Err((Cause::OutOfMemory, call))
-            }
+            Err(_) => match self.transcript.pop() {
+                Some(entry) => Err((Cause::OutOfMemory, entry.call)),
+                None => unreachable!(),
+            },
         }
     }
 
@@ -200,20 +204,11 @@ impl<R: Rows, G: Ring> Recorded<R, G> {
     }
 }
 
-/// Adds the entry of a call that is about to begin.
-fn enter(
-    alloc: Global,
-    transcript: &mut Transcript,
-    session: u32,
-    id: CacheId,
-    now: u64,
-    call: &Call,
-) -> Result<(), OutOfMemory>
-    ensures ok { OnOk result (transcript.new ≡ transcript.old ++ blank session id now call.now ∷ []) }
-    ensures err { OnErr result (transcript.new ≡ transcript.old) }
+/// The entry of a call that is about to begin.
+fn begun(alloc: Global, session: u32, id: CacheId, now: u64, call: Call) -> Entry
+    ensures { result ≡ blank session id now call }
 {
-    let call = call.share()?;
-    transcript.push(Entry {
+    Entry {
         session,
         id,
         at: now,
@@ -221,7 +216,7 @@ fn enter(
         answers: Sequence::new(Vec::new(alloc)),
         told: Sequence::new(Vec::new(alloc)),
         end: End::Waiting,
-    })
+    }
 }
 
 /// Adds an answer to the entry at a place.

@@ -1,6 +1,6 @@
 -- One whole call on one cache.
-use Rattle.std.specs.Prelude.{ℕ, ◌*◌, Bool, false, if◌then◌else◌, List, [], ◌∷◌, map, length}
-use Rattle.std.specs.Prelude.{Some, None}
+use Rattle.std.specs.Prelude.{ℕ, ◌*◌, Bool, true, false, if◌then◌else◌, List, [], ◌∷◌, map, length}
+use Rattle.std.specs.Prelude.{Option, Some, None}
 use Rattle.std.specs.List.{filter}
 use Rattle.jc_model.specs.declared.call.Call.{Call}
 use Rattle.jc_model.specs.declared.call.Call.TheVariants.{Get, GetAll, Contains, Put, GetAndPut, PutIfAbsent, Replace, ReplaceIf, GetAndReplace, Remove, RemoveIf, GetAndRemove, Invoke, InvokeAll, PutAll, RemoveKeys, RemoveAll, Clear, LoadAll, Entries, Stats, ClearStats}
@@ -28,6 +28,27 @@ abbrev pub asked_by : Plan → ℕ
 asked_by (one k o) = 3
 asked_by (many calls gathered) = 3 * length calls
 asked_by (at_once p r) = 0
+
+-- the parts of a plan: its one step, or its steps and what they gather, or neither
+abbrev pub key_step : Plan → Option KeyCall
+key_step (one k o) = Some (record { key = k; op = o })
+key_step (many calls gathered) = None
+key_step (at_once p r) = None
+
+abbrev pub steps_in : Plan → List KeyCall
+steps_in (one k o) = []
+steps_in (many calls gathered) = calls
+steps_in (at_once p r) = []
+
+abbrev pub gathers : Plan → Gathered
+gathers (one k o) = nothing
+gathers (many calls gathered) = gathered
+gathers (at_once p r) = nothing
+
+abbrev pub is_at_once : Plan → Bool
+is_at_once (one k o) = false
+is_at_once (many calls gathered) = false
+is_at_once (at_once p r) = true
 
 -- after one key's step: the first fault of a loader or a writer ends the call, with the number of keys done before
 abbrev pub after_key : List ℕ → (Sum → Progress → Run) → Sum → Progress → Reply → Run
@@ -90,3 +111,11 @@ told_first p r =
 
 abbrev pub whole : CacheConfig → ℕ → Call → State → Run
 whole c now call s = and_then (carried_out c now (plan c now call (begun s)) (begun s)) told_first
+
+-- a call that takes no memory
+abbrev pub is_free : Call → Bool
+is_free (Contains k) = true
+is_free Clear = true
+is_free Stats = true
+is_free ClearStats = true
+is_free _ = false

@@ -1,8 +1,14 @@
-//! The case table: for each operation on one key, its line where the key has a live row, and its line where it has none.
-ghost use Rattle.std.specs.Prelude.{◌≡◌, Bool, option_map};
+//! The case table: for each call on one key its operation, and for each operation on one key its line where the key
+//! has a live row, and its line where it has none.
+ghost use Rattle.std.specs.Prelude.{◌≡◌, ℕ, Bool, Some, IfOk, option_map};
+ghost use Rattle.jc_model.specs.declared.config.CacheConfig.{CacheConfig};
+ghost use Rattle.jc_model.specs.Changes.{Progress};
 ghost use Rattle.jc_model.specs.Table.{live_line, absent_line, otherwise, expected_by, value_of, live_verdict, absent_verdict};
+ghost use Rattle.jc_model.specs.Whole.{plan, key_step};
 
-use crate::call::{Action, Op};
+use crate::OutOfMemory;
+use crate::call::{Action, Call, KeyCall, Op};
+use crate::key::Key;
 use crate::value::Value;
 
 /// Whom a line asks before it changes anything. A hook that is not configured is passed over.
@@ -60,6 +66,58 @@ fn line_of(asks: Ask, counts: bool, change: Change, reply: Replied) -> Line
         counts,
         change,
         reply,
+    }
+}
+
+/// A step, as that of a call.
+fn step_on(key: &Key, op: Op) -> Result<Option<KeyCall>, OutOfMemory>
+    ensures { IfOk result (λ step. step ≡ Some (record { key = key.now; op = op })) }
+{
+    Ok(Some(KeyCall { key: *key, op }))
+}
+
+/// The step of a call on one key, which shares the call's values; another call has none.
+pub fn key_step(call: &Call) -> Result<Option<KeyCall>, OutOfMemory>
+    ensures { (c : CacheConfig) (now : ℕ) (p : Progress) → IfOk result (λ step. step ≡ key_step (plan c now call.now p)) }
+{
+    match call {
+        Call::Get(key) => step_on(key, Op::Get),
+        Call::Put(key, value) => step_on(key, Op::Put(value.share()?)),
+        Call::GetAndPut(key, value) => step_on(key, Op::GetAndPut(value.share()?)),
+        Call::PutIfAbsent(key, value) => step_on(key, Op::PutIfAbsent(value.share()?)),
+        Call::Replace(key, value) => step_on(key, Op::Replace(value.share()?)),
+        Call::ReplaceIf {
+            key,
+            expected,
+            value,
+        } => {
+            let expected = expected.share()?;
+            let value = value.share()?;
+            step_on(key, Op::ReplaceIf { expected, value })
+        }
+        Call::GetAndReplace(key, value) => step_on(key, Op::GetAndReplace(value.share()?)),
+        Call::Remove(key) => step_on(key, Op::Remove),
+        Call::RemoveIf { key, expected } => {
+            let expected = expected.share()?;
+            step_on(key, Op::RemoveIf { expected })
+        }
+        Call::GetAndRemove(key) => step_on(key, Op::GetAndRemove),
+        Call::Invoke {
+            key,
+            processor,
+            argument,
+        } => {
+            let processor = *processor;
+            let argument = argument.share()?;
+            step_on(
+                key,
+                Op::Invoke {
+                    processor,
+                    argument,
+                },
+            )
+        }
+        _ => Ok(None),
     }
 }
 

@@ -1,5 +1,5 @@
 //! The transcript: the calls that have begun, in the order of their beginning.
-ghost use Rattle.std.specs.Prelude.{◌≡◌, ◌<◌, ◌++◌, ◌∷◌, [], length, Some, slice_get, slice_set, List, IfOk, OnOk, OnErr, MatchOption};
+ghost use Rattle.std.specs.Prelude.{◌≡◌, ◌<◌, ◌++◌, ◌∷◌, [], length, Some, slice_get, slice_set, List, IfOk, IfErr, OnOk, OnErr, MatchOption};
 ghost use Rattle.jc_model.specs.Legal.{with_answer};
 ghost use Rattle.jc_model.specs.declared.call.Answer.{Answer};
 ghost use Rattle.jc_model.specs.declared.event.Entry.{Entry};
@@ -51,12 +51,16 @@ impl Transcript {
         self.entries.last()
     }
 
-    /// Adds a call.
-    pub fn push(&mut self, entry: Entry) -> Result<(), OutOfMemory>
+    /// Adds a call. Where memory is refused, its entry is handed back.
+    pub fn push(&mut self, entry: Entry) -> Result<(), Entry>
         ensures ok { OnOk result (self.new ≡ self.old ++ entry ∷ []) }
         ensures err { OnErr result (self.new ≡ self.old) }
+        ensures back { IfErr result (λ back. back ≡ entry) }
     {
-        self.entries.push(entry)?;
+        if self.entries.reserve(1).is_err() {
+            return Err(entry);
+        }
+        self.entries.push_reserved(entry);
         Ok(())
     }
 

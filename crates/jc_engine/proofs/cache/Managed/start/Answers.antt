@@ -10,8 +10,8 @@ pub returns-clause-ok : goal.returns-clause-ok
 returns-clause-ok g c =
     let f = c.args.self.now.state.config in
     let same : c.start_call.new.state.config ≡ f = c.start_call.ensures.remains.config in
-    subst (λ (k : CacheConfig). Moves (cache_in c.args.self.now) (begins c.args.now c.args.call) c.settle-turn.result.1 (record { config = k; progress = progress_of c.start_call.new.state (notices_in c.settle-turn.result.0); turn = turn_in c.settle-turn.result.0 })) (sym same)
-    (began f c.args.self.now.state c.args.self.now.turn c.args.now c.args.call c.start_call.new.state c.settle-turn.result.0 c.settle-turn.result.1 c.requires.allowed
+    subst (λ (k : CacheConfig). Moves (cache_in c.args.self.now) (begins c.args.now c.args.call.now) c.settle-turn.result.1 (record { config = k; progress = progress_of c.start_call.new.state (notices_in c.settle-turn.result.0); turn = turn_in c.settle-turn.result.0 })) (sym same)
+    (began f c.args.self.now.state c.args.self.now.turn c.args.now c.args.call.now c.start_call.new.state c.settle-turn.result.0 c.settle-turn.result.1 c.requires.allowed
     (c.settle-turn.ensures f _ c.start_call.new.state c.in_ok-moved.ensures.ok))
 
 pub returns-clause-managed_after : goal.returns-clause-managed_after

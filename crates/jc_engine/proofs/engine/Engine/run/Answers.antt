@@ -6,6 +6,7 @@ use Rattle.jc_model.specs.declared.event.Event.{Event}
 use Rattle.jc_model.specs.declared.event.Outcome.{Outcome}
 use Rattle.jc_model.specs.Runs.{Status}
 use Rattle.jc_engine.specs.Caches.{status_of}
+use Rattle.jc_engine.proofs.Hearing.{HeardSoFar, heard_on, heard_last}
 use Rattle.jc_engine.proofs.engine.Engine.run.Given as given
 use Rattle.jc_engine.proofs.engine.Engine.run.Goals as goal
 
@@ -18,6 +19,10 @@ loop-event-preserved g c =
       run =
           subst (λ (os : List Outcome). Leads (map status_of c.args.self.now) c.args.events.items os (map status_of c.take-outcome.new.self) (into_iter_items c.next.new.self)) (sym c.push_reserved.ensures.items)
           (subst (λ (ss : List Status). Leads (map status_of c.args.self.now) c.args.events.items (c.loop-event.outcomes.items ++ c.take-outcome.result ∷ []) ss (into_iter_items c.next.new.self)) (sym c.take-outcome.ensures.statuses) leads);
+      heard =
+          subst (λ (os : List Outcome). HeardSoFar c.args.events.items os (into_iter_items c.next.new.self)) (sym c.push_reserved.ensures.items)
+          (heard_on c.args.events.items c.loop-event.outcomes.items c.in-Some.event (into_iter_items c.next.new.self) c.take-outcome.result
+          (subst (λ (es : List Event). HeardSoFar c.args.events.items c.loop-event.outcomes.items es) next c.loop-event.invariant.heard) c.take-outcome.ensures.free);
       counted = grind (arith, common_steps);
       room = grind (arith, common_steps);
     }
@@ -36,3 +41,8 @@ returns-clause-statuses g c = (ran g c).ends
 
 pub returns-clause-alone : goal.returns-clause-alone
 returns-clause-alone g c = alone_in _ _ _ _ (ran g c)
+
+pub returns-clause-free : goal.returns-clause-free
+returns-clause-free g c =
+    let none : length (into_iter_items c.loop-event.left) ≡ 0 = grind (arith, common_steps) in
+    heard_last _ _ _ c.loop-event.invariant.heard none
