@@ -5,7 +5,8 @@ ghost use Rattle.std.specs.FinMap as map;
 ghost use Rattle.jc_place.specs.Place.{IsTableSize};
 ghost use Rattle.jc_cuckoo.specs.declared.cuckoo.TableRefusal.TheVariants.{BadBuckets};
 ghost use Rattle.jc_cuckoo.specs.Cells.{rows_in};
-ghost use Rattle.jc_cuckoo.specs.Images.{Shows, image_of};
+ghost use Rattle.jc_rows.specs.Images.{Shows};
+ghost use Rattle.jc_cuckoo.specs.Images.{image_of};
 ghost use Rattle.jc_cuckoo.specs.Table.{longest, no_work, IsMirrored, image};
 
 use crate::held::{Held, Work};
