@@ -9,3 +9,5 @@ pub mod Names
 pub mod Openings
 pub mod Untold
 pub mod Calls
+pub mod Counted
+pub mod Watching

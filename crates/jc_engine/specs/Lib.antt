@@ -6,3 +6,4 @@ pub mod Advances
 pub mod Sound
 pub mod Fresh
 pub mod Recording
+pub mod Watching

@@ -7,3 +7,4 @@ mod moves;
 pub mod open;
 pub mod recorded;
 mod run;
+pub mod watched;

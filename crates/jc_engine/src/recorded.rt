@@ -36,7 +36,7 @@ use std::marker::Model;
 #[derive(Drop)]
 pub struct Recorded<R: Rows, G: Ring> {
     alloc: Global,
-    engine: Engine<R, G>,
+    pub(crate) engine: Engine<R, G>,
     transcript: Transcript,
     /// By cache, the place of its last call in the transcript.
     places: Vec<usize>,
