@@ -11,3 +11,4 @@ pub mod Untold
 pub mod Calls
 pub mod Counted
 pub mod Watching
+pub mod Vacant
