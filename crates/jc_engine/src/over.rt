@@ -1,8 +1,9 @@
 //! A manager that is moved to another table before its first call.
-ghost use Rattle.std.specs.Prelude.{◌≡◌, map};
+ghost use Rattle.std.specs.Prelude.{◌≡◌, List, map};
 ghost use Rattle.std.specs.FinMap as table;
+ghost use Rattle.jc_model.specs.declared.config.CacheConfig.{CacheConfig};
 ghost use Rattle.jc_model.specs.Solo.{opened};
-ghost use Rattle.jc_engine.specs.Caches.{configs_of, status_of};
+ghost use Rattle.jc_engine.specs.Caches.{status_of};
 
 use crate::engine::Engine;
 use crate::recorded::Recorded;
@@ -13,7 +14,7 @@ impl<R: Rows, G: Ring> Engine<R, G> {
     /// The same manager over another empty table. No call has changed a cache yet.
     pub fn over<S: Rows>(self, rows: S) -> Engine<S, G>
         requires empty { S.contents rows ≡ table.empty }
-        requires opened { map status_of self ≡ map opened (configs_of self) }
+        requires opened { (configs : List CacheConfig) × (map status_of self ≡ map opened configs) }
         ensures { result ≡ self }
     {
         Engine {
@@ -30,7 +31,7 @@ impl<R: Rows, G: Ring> Recorded<R, G> {
     /// The same manager over another empty table. No call has changed a cache yet.
     pub fn over<S: Rows>(self, rows: S) -> Recorded<S, G>
         requires empty { S.contents rows ≡ table.empty }
-        requires opened { map status_of self.caches ≡ map opened (configs_of self.caches) }
+        requires opened { (configs : List CacheConfig) × (map status_of self.caches ≡ map opened configs) }
         ensures { result ≡ self }
     {
         Recorded {
