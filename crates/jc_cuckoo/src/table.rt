@@ -1,5 +1,5 @@
 //! The table as the rows of all caches.
-ghost use Rattle.std.specs.Prelude.{◌≡◌, ◌⊎◌, ◌+◌, ◌-◌, ◌*◌, ◌/◌, ◌≤◌, ◌<◌, None, Some, IsSome, IsOk, OnOk, option_map};
+ghost use Rattle.std.specs.Prelude.{◌≡◌, ◌⊎◌, ℕ, ◌+◌, ◌-◌, ◌*◌, ◌/◌, ◌≤◌, ◌<◌, None, Some, IsSome, IsOk, OnOk, option_map};
 ghost use Rattle.std.specs.FinMap as map;
 ghost use Rattle.jc_rows.specs.Rows.{with_expiry};
 ghost use Rattle.jc_cuckoo.specs.Cells.{rows_in, IsPlaced};
@@ -100,6 +100,7 @@ impl<P: Placer + Drop, M: Mirror> Rows for Cuckoo<P, M> {
         ensures removed { rows_in self.new.cells ≡ map.remove (rows_in self.old.cells) (id, key.now) }
         ensures kept { self.old.room ≤ self.new.room }
         ensures touches { Touches M.images self.old self.new (id, key.now) None }
+        ensures absent { map.get (rows_in self.old.cells) (id, key.now) ≡ None → self.new ≡ self.old }
     {
         let slots = self.slots();
         match self.seek_row(id, key) {
@@ -122,6 +123,9 @@ impl<P: Placer + Drop, M: Mirror> Rows for Cuckoo<P, M> {
         ensures set { rows_in self.new.cells ≡ with_expiry (rows_in self.old.cells) (id, key.now) expiry }
         ensures kept { self.old.room ≤ self.new.room }
         ensures touches { Touches M.images self.old self.new (id, key.now) (Some ((id, key.now), expiry)) }
+
+        // What changes nothing tells no image.
+        ensures still { (row : ℕ) → map.get (rows_in self.old.cells) (id, key.now) ≡ Some (row, expiry) → self.new ≡ self.old }
     {
         let slots = self.slots();
         if let Some((at, held)) = self.seek_row(id, key) {
