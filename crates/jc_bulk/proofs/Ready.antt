@@ -1,16 +1,20 @@
 -- What the next step needs, and what the steps after it still have when it is done.
-use Rattle.std.proofs.Common.{◌≡◌, ◌≢◌, ◌<◌, ◌≤◌, ◌+◌, ◌*◌, ◌^◌, ℕ, suc, Bool, true, false, List, [], ◌∷◌, ◌++◌, length, Option, Some, None, option_to_list, refl, sym, ap, ◌∙◌, subst, arith}
+use Rattle.std.proofs.Common.{◌≡◌, ◌≢◌, ◌<◌, ◌≤◌, ◌+◌, ◌*◌, ◌^◌, ℕ, suc, Bool, true, false, ◌||◌, ltb, List, [], ◌∷◌, ◌++◌, length, Option, Some, None, option_to_list, refl, sym, ap, ◌∙◌, subst, arith}
+use Rattle.std.proofs.lemmas.Bool.{ltb-false}
 use Rattle.std.proofs.lemmas.Grind.{common_steps}
 use Rattle.jc_model.specs.declared.config.CacheConfig.{CacheConfig}
 use Rattle.jc_model.specs.State.{Item}
 use Rattle.jc_model.specs.Sound.{HasDistinctKeys}
 use Rattle.jc_state.specs.Noted.{Noted, HasPlaces}
-use Rattle.jc_ops.specs.Supply.{HasRoom}
+use Rattle.jc_ops.specs.Lines.{creates, most_told}
+use Rattle.jc_ops.specs.Supply.{HasRoom, adds}
+use Rattle.jc_ops.proofs.Told.{most_three, most_absent}
+use Rattle.jc_bulk.specs.declared.bulk.Needs.{Needs}
 use Rattle.jc_bulk.specs.declared.bulk.Provided.{Provided}
 use Rattle.jc_bulk.specs.declared.tally.Collected.{Collected}
 use Rattle.jc_bulk.specs.declared.tally.Collected.TheVariants.{Nothing, Pairs, Results}
 use Rattle.jc_bulk.specs.declared.tally.Tally.{Tally}
-use Rattle.jc_bulk.specs.Provided.{calls_in, keys_in, AreCovered, any_creates, IsAhead, IsReady}
+use Rattle.jc_bulk.specs.Provided.{calls_in, keys_in, AreCovered, any_creates, any_tells, places_for, IsAhead, IsReady}
 use Rattle.jc_bulk.specs.Tallied.{HasRoomFor}
 use Rattle.jc_bulk.proofs.Left.{FitsStay, covered-stays}
 
@@ -39,7 +43,7 @@ suc-plus : (n : ℕ) → suc n ≡ n + 1
 suc-plus n = omega arith
 
 -- the key of a step and the keys of those after it
-module _ (key : List ℕ) (rest : List Provided) (sum : Tally) (adds : Bool) (a : IsAhead (key ∷ keys_in (calls_in rest)) (calls_in rest) sum adds) where
+module _ (key : List ℕ) (rest : List Provided) (sum : Tally) (needs : Needs) (a : IsAhead (key ∷ keys_in (calls_in rest)) (calls_in rest) sum needs) where
   counted : length (key ∷ keys_in (calls_in rest)) ≡ length rest + 1
   counted = ap suc (same_length rest) ∙ suc-plus (length rest)
 
@@ -53,39 +57,74 @@ module _ (key : List ℕ) (rest : List Provided) (sum : Tally) (adds : Bool) (a 
   one_more_fits = let few : sum.done + length (key ∷ keys_in (calls_in rest)) < 2 ^ 32 = a.few in omega (arith, few, counted)
 
   -- once the key is counted
-  pub ahead_next : (sum' : Tally) → sum'.done ≡ sum.done + 1 → ((n : ℕ) → HasRoomFor (n + 1) sum.collected → HasRoomFor n sum'.collected) → IsAhead (keys_in (calls_in rest)) (calls_in rest) sum' adds
+  pub ahead_next : (sum' : Tally) → sum'.done ≡ sum.done + 1 → ((n : ℕ) → HasRoomFor (n + 1) sum.collected → HasRoomFor n sum'.collected) → IsAhead (keys_in (calls_in rest)) (calls_in rest) sum' needs
   ahead_next sum' done room = record {
     apart = a.apart.1;
     lists = subst (λ n. HasRoomFor n sum'.collected) (sym (same_length rest)) (room (length rest) room_for_all);
     few = (let few : sum.done + length (key ∷ keys_in (calls_in rest)) < 2 ^ 32 = a.few in omega (arith, few, counted, done, same_length rest));
     adding = a.adding;
+    telling = a.telling;
   }
 
-module _ (c : CacheConfig) (items : List Item) (notices : Noted) (spare : ℕ) (p : Provided) (ps : List Provided) (sum : Tally) (adds : Bool) (r : IsReady c items notices spare (p ∷ ps) sum adds) where
-  pub first_places : HasPlaces c 3 notices
-  first_places = λ listens. (let all : 3 * length (p ∷ ps) ≤ notices.spare = r.places listens in omega (arith, all))
+any_first : (a b : Bool) → (a || b) ≡ false → a ≡ false
+any_first true b e = cc
+any_first false b e = refl
 
-  pub first_room : HasRoom c.writer p.call.op spare
-  first_room writer stores = go adds refl
+any_rest : (a b : Bool) → (a || b) ≡ false → b ≡ false
+any_rest true b e = cc
+any_rest false b e = e
+
+module _ (c : CacheConfig) (items : List Item) (notices : Noted) (spare : ℕ) (p : Provided) (ps : List Provided) (sum : Tally) (needs : Needs) (r : IsReady c items notices spare (p ∷ ps) sum needs) where
+  first_tells : most_told false p.call.op ≤ places_for needs.tells 1
+  first_tells = go needs.tells refl
     where
-      go : (b : Bool) → adds ≡ b → 0 < spare
-      go true e = (let all : length (p ∷ ps) ≤ spare = r.room e in omega (arith, all))
-      go false e = (let none : any_creates (calls_in (p ∷ ps)) ≡ false = r.ahead.adding e in absurd (grind (arith, common_steps)))
+      go : (b : Bool) → needs.tells ≡ b → most_told false p.call.op ≤ places_for b 1
+      go true e = (let most : most_told false p.call.op ≤ 3 = most_three p.call.op in omega (arith, most))
+      go false e = (let none : any_tells (calls_in (p ∷ ps)) ≡ false = r.ahead.telling e in ltb-false 1 (most_told false p.call.op) (any_first (ltb 1 (most_told false p.call.op)) (any_tells (calls_in ps)) none))
+
+  -- whether or not its key has a live row
+  pub first_places : (there : Bool) → HasPlaces c (most_told there p.call.op) notices
+  first_places there = λ listens. (let all : places_for needs.tells (length (p ∷ ps)) ≤ notices.spare = r.places listens in
+      let own : most_told there p.call.op ≤ most_told false p.call.op = most_absent there p.call.op in
+      go needs.tells all own first_tells)
+    where
+      go : (b : Bool) → places_for b (length (p ∷ ps)) ≤ notices.spare → most_told there p.call.op ≤ most_told false p.call.op → most_told false p.call.op ≤ places_for b 1 → most_told there p.call.op ≤ notices.spare
+      go true all own one = omega (arith, all, own, one)
+      go false all own one = omega (arith, all, own, one)
+
+  pub first_room : (there : Bool) → HasRoom (adds there c.writer p.call.op) spare
+  first_room there = stores there c.writer
+    where
+      go : (b : Bool) → needs.adds ≡ b → creates p.call.op ≡ true → 0 < spare
+      go true e new = (let all : length (p ∷ ps) ≤ spare = r.room e in omega (arith, all))
+      go false e new = (let none : any_creates (calls_in (p ∷ ps)) ≡ false = r.ahead.adding e in absurd (grind (arith, common_steps)))
+
+      stores : (there writer : Bool) → HasRoom (adds there writer p.call.op) spare
+      stores true writer = λ e. absurd (let no : false ≡ true = e in cc)
+      stores false true = λ e. absurd (let no : false ≡ true = e in cc)
+      stores false false = λ e. go needs.adds refl e
 
   -- the steps behind the first
-  pub ahead_of : IsAhead (p.call.key ∷ keys_in (calls_in ps)) (calls_in ps) sum adds
+  pub ahead_of : IsAhead (p.call.key ∷ keys_in (calls_in ps)) (calls_in ps) sum needs
   ahead_of = record {
     apart = r.ahead.apart;
     lists = r.ahead.lists;
     few = r.ahead.few;
     adding = λ e. (let none : any_creates (calls_in (p ∷ ps)) ≡ false = r.ahead.adding e in grind (arith, common_steps));
+    telling = λ e. any_rest (ltb 1 (most_told false p.call.op)) (any_tells (calls_in ps)) (r.ahead.telling e);
   }
 
   pub covered_next : (items' : List Item) → HasDistinctKeys items → ((q : List ℕ) → p.call.key ≢ q → FitsStay q items items') → AreCovered c items' ps
   covered_next items' d stay = covered-stays c p.call.key items items' ps r.ahead.apart.0 d stay r.covered.1
 
-  pub places_next : (notices' : Noted) → notices.spare ≤ notices'.spare + 3 → HasPlaces c (3 * length ps) notices'
-  places_next notices' fewer = λ listens. (let all : 3 * length (p ∷ ps) ≤ notices.spare = r.places listens in omega (arith, all, fewer))
+  pub places_next : (there : Bool) (notices' : Noted) → notices.spare ≤ notices'.spare + most_told there p.call.op → HasPlaces c (places_for needs.tells (length ps)) notices'
+  places_next there notices' fewer = λ listens. (let all : places_for needs.tells (length (p ∷ ps)) ≤ notices.spare = r.places listens in
+      let own : most_told there p.call.op ≤ most_told false p.call.op = most_absent there p.call.op in
+      go needs.tells all own first_tells)
+    where
+      go : (b : Bool) → places_for b (length (p ∷ ps)) ≤ notices.spare → most_told there p.call.op ≤ most_told false p.call.op → most_told false p.call.op ≤ places_for b 1 → places_for b (length ps) ≤ notices'.spare
+      go true all own one = omega (arith, all, own, one, fewer)
+      go false all own one = omega (arith, all, own, one, fewer)
 
-  pub room_next : (spare' : ℕ) → spare ≤ spare' + 1 → adds ≡ true → length ps ≤ spare'
+  pub room_next : (spare' : ℕ) → spare ≤ spare' + 1 → needs.adds ≡ true → length ps ≤ spare'
   room_next spare' fewer = λ e. (let all : length (p ∷ ps) ≤ spare = r.room e in omega (arith, all, fewer))

@@ -2,12 +2,12 @@
 //!
 //! All that they need was made before the first of them, so none is refused. Where one waits for an answer, those after
 //! it keep their values: no other step changes the value of its key.
-ghost use Rattle.std.specs.Prelude.{◌≡◌, ◌*◌, ◌≤◌, ◌∷◌, true, length};
+ghost use Rattle.std.specs.Prelude.{◌≡◌, ◌≤◌, ◌∷◌, true, length};
 ghost use Rattle.jc_model.specs.Whole.{after_key, each};
 ghost use Rattle.jc_state.specs.Kept.{items_of, progress_of, IsTied, Remains};
 ghost use Rattle.jc_state.specs.Noted.{HasPlaces};
 ghost use Rattle.jc_bulk.specs.Moved.{ComesTo};
-ghost use Rattle.jc_bulk.specs.Provided.{calls_in, keys_in, AreCovered, IsAhead, IsReady};
+ghost use Rattle.jc_bulk.specs.Provided.{calls_in, keys_in, places_for, AreCovered, IsAhead, IsReady};
 ghost use Rattle.jc_bulk.specs.Tallied.{sum_of};
 
 use crate::call::Moved;
@@ -33,13 +33,21 @@ pub struct Provided {
     pub supply: Supply,
 }
 
+/// What steps may need beside their values.
+#[derive(Clone, Copy, Debug, PartialEq, Eq)]
+pub struct Needs {
+    /// Whether one may itself store a key that is not there.
+    pub adds: bool,
+    /// Whether one may tell more than one notice.
+    pub tells: bool,
+}
+
 /// The steps that are left, and what was gathered of those before them.
 #[derive(Drop)]
 pub struct Ahead {
     pub rest: VecDeque<Provided>,
     pub sum: Tally,
-    /// Whether a step may itself store a key that is not there.
-    pub adds: bool,
+    pub needs: Needs,
 }
 
 /// A call on many keys that waits: the step that waits, and those after it.
@@ -57,9 +65,9 @@ impl Model for BulkStep {
 
     ghost Value = { Bulk };
 
-    ghost view = { λ b. record { key = b.step; rest = b.ahead.rest.items; adds = b.ahead.adds; sum = sum_of b.ahead.sum } };
+    ghost view = { λ b. record { key = b.step; rest = b.ahead.rest.items; needs = b.ahead.needs; sum = sum_of b.ahead.sum } };
 
-    ghost invariant = { λ b. IsAhead (b.step.call.key ∷ keys_in (calls_in b.ahead.rest.items)) (calls_in b.ahead.rest.items) b.ahead.sum b.ahead.adds };
+    ghost invariant = { λ b. IsAhead (b.step.call.key ∷ keys_in (calls_in b.ahead.rest.items)) (calls_in b.ahead.rest.items) b.ahead.sum b.ahead.needs };
 }
 
 /// Goes on with the steps that are left, until one waits or fails.
@@ -71,7 +79,7 @@ pub(crate) fn go_on<R: Rows, G: Ring>(
     mut ahead: Ahead,
 ) -> Moved
     requires tied { IsTied (R.contents rows.old) state.old }
-    requires ready { IsReady state.old.config (items_of state.old.cells) notices (R.spare rows.old) ahead.rest.items ahead.sum ahead.adds }
+    requires ready { IsReady state.old.config (items_of state.old.cells) notices (R.spare rows.old) ahead.rest.items ahead.sum ahead.needs }
     ensures remains { Remains (R.contents rows.old) state.old (R.contents rows.new) state.new }
     ensures moved { ComesTo state.old.config (each state.old.config now (calls_in ahead.rest.items) (sum_of ahead.sum) (progress_of state.old notices.told)) result state.new }
 {
@@ -104,10 +112,10 @@ pub(crate) fn go_on_after<R: Rows, G: Ring>(
     mut ahead: Ahead,
 ) -> Moved
     requires tied { IsTied (R.contents rows.old) state.old }
-    requires ahead { IsAhead (key ∷ keys_in (calls_in ahead.rest.items)) (calls_in ahead.rest.items) ahead.sum ahead.adds }
+    requires ahead { IsAhead (key ∷ keys_in (calls_in ahead.rest.items)) (calls_in ahead.rest.items) ahead.sum ahead.needs }
     requires covered { AreCovered state.old.config (items_of state.old.cells) ahead.rest.items }
-    requires places { HasPlaces state.old.config (3 * length ahead.rest.items) notices }
-    requires room { ahead.adds ≡ true → length ahead.rest.items ≤ R.spare rows.old }
+    requires places { HasPlaces state.old.config (places_for ahead.needs.tells (length ahead.rest.items)) notices }
+    requires room { ahead.needs.adds ≡ true → length ahead.rest.items ≤ R.spare rows.old }
     ensures remains { Remains (R.contents rows.old) state.old (R.contents rows.new) state.new }
     ensures moved { ComesTo state.old.config (after_key key (λ next q. each state.old.config now (calls_in ahead.rest.items) next q) (sum_of ahead.sum) (progress_of state.old notices.told) reply) result state.new }
 {

@@ -85,8 +85,7 @@ fn start_key<R: Rows, G: Ring>(
 {
     let mut notices = Notices::none(alloc);
     let row = state.find(rows, &step.key);
-    let writer = state.config().writer;
-    let supply = Supply::for_step(state, rows, &mut notices, row, &step, writer)?;
+    let supply = Supply::for_step(state, rows, &mut notices, now, row, &step)?;
     let next = KeyStep::start(state, rows, &mut notices, now, step, row, supply);
     Ok(with_notices(next, notices))
 }

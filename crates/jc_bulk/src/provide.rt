@@ -1,21 +1,22 @@
 //! What all steps of a call may need, made before the first of them.
-ghost use Rattle.std.specs.Prelude.{◌≡◌, ℕ, ◌+◌, ◌*◌, ◌≤◌, true, length, IfOk, OnOk};
+ghost use Rattle.std.specs.Prelude.{◌≡◌, ℕ, ◌+◌, ◌≤◌, true, length, IfOk, OnOk};
 ghost use Rattle.jc_model.specs.Bulk.{empty_sum};
 ghost use Rattle.jc_model.specs.declared.config.CacheConfig.{CacheConfig};
 ghost use Rattle.jc_model.specs.Changes.{Progress, begun};
 ghost use Rattle.jc_model.specs.Whole.{plan, steps_in, gathers};
-ghost use Rattle.jc_state.specs.Kept.{items_of, state_of, IsTied, FoundRow};
+ghost use Rattle.jc_state.specs.Kept.{items_of, state_of, has_live, IsTied, FoundRow};
 ghost use Rattle.jc_state.specs.Noted.{HasPlaces};
-ghost use Rattle.jc_ops.specs.Supply.{CoversAnswer, HasRoomAt};
-ghost use Rattle.jc_bulk.specs.Provided.{calls_in, any_creates, AreCovered, IsReady};
+ghost use Rattle.jc_ops.specs.Lines.{most_told};
+ghost use Rattle.jc_ops.specs.Supply.{CoversAnswer, HasRoom, adds_at};
+ghost use Rattle.jc_bulk.specs.Provided.{calls_in, any_creates, any_tells, places_for, AreCovered, IsReady};
 ghost use Rattle.jc_bulk.specs.Tallied.{HasRoomFor, sum_of};
 
-use crate::bulk::{Ahead, BulkStep, Provided};
+use crate::bulk::{Ahead, BulkStep, Needs, Provided};
 use crate::steps::steps_of;
 use crate::tally::Tally;
 use jc_model::OutOfMemory;
 use jc_model::call::{Answer, Call, KeyCall};
-use jc_ops::supply::{Supply, creates, make_room};
+use jc_ops::supply::{Supply, creates, make_room, most_notices};
 use jc_ring::ring::Ring;
 use jc_rows::rows::Rows;
 use jc_state::notices::Notices;
@@ -23,25 +24,38 @@ use jc_state::state::CacheState;
 use std::alloc::{AllocError, Global};
 use std::collections::VecDeque;
 
-/// Whether any of the steps does.
+/// Whether any of the steps may itself store a key that is not there.
 fn any_creates(calls: &[KeyCall]) -> bool
     ensures { result ≡ any_creates calls.now }
 {
     calls.iter().any(|call| creates(&call.op))
 }
 
-/// Places for the notices of so many steps, where there are listeners: of each its expired row, its victim and its
-/// own.
+/// Whether any of the steps may tell more than one notice.
+fn any_tells(calls: &[KeyCall]) -> bool
+    ensures { result ≡ any_tells calls.now }
+{
+    calls.iter().any(|call| 1 < most_notices(&call.op, false))
+}
+
+/// Places for the notices of so many steps, and for so many notices more, where there are listeners. A step that may
+/// store tells at most of its expired row, its victim and its own.
 fn make_places<G: Ring>(
     state: &CacheState<G>,
     notices: &mut Notices,
+    needs: Needs,
     steps: usize,
+    more: usize,
 ) -> Result<(), OutOfMemory>
     ensures told { notices.new.told ≡ notices.old.told }
-    ensures places { OnOk result (HasPlaces state.now.config (3 * steps) notices.new) }
+    ensures places { OnOk result (HasPlaces state.now.config (places_for needs.tells steps + more) notices.new) }
 {
-    match steps.checked_mul(3) {
-        Some(places) => notices.reserve_for(state.config(), places),
+    let each = if needs.tells { 3 } else { 1 };
+    match steps.checked_mul(each) {
+        Some(places) => match places.checked_add(more) {
+            Some(places) => notices.reserve_for(state.config(), places),
+            None => Err(AllocError),
+        },
         None => Err(AllocError),
     }
 }
@@ -90,18 +104,22 @@ pub fn prepare<R: Rows, G: Ring>(
     requires tied { IsTied (R.contents rows.old) state.now }
     ensures same { R.contents rows.new ≡ R.contents rows.old }
     ensures told { notices.new.told ≡ notices.old.told }
+    ensures asks { (any_creates (steps_in (plan state.now.config now call.now (begun (state_of state.now)))) ≡ true → length (steps_in (plan state.now.config now call.now (begun (state_of state.now)))) ≤ R.spare rows.old) → R.spare rows.new ≡ R.spare rows.old }
     ensures steps { IfOk result (λ ahead. calls_in ahead.rest.items ≡ steps_in (plan state.now.config now call.now (begun (state_of state.now)))) }
     ensures sum { IfOk result (λ ahead. sum_of ahead.sum ≡ empty_sum (gathers (plan state.now.config now call.now (begun (state_of state.now))))) }
-    ensures ready { IfOk result (λ ahead. IsReady state.now.config (items_of state.now.cells) notices.new (R.spare rows.new) ahead.rest.items ahead.sum ahead.adds) }
+    ensures ready { IfOk result (λ ahead. IsReady state.now.config (items_of state.now.cells) notices.new (R.spare rows.new) ahead.rest.items ahead.sum ahead.needs) }
 {
     let calls = steps_of(alloc, state, rows, now, call)?;
     let count = calls.len();
-    let adds = any_creates(calls.as_slice());
+    let needs = Needs {
+        adds: any_creates(calls.as_slice()),
+        tells: any_tells(calls.as_slice()),
+    };
     let sum = tally_for(alloc, call, count)?;
     let rest = with_values(alloc, state, rows, calls)?;
-    make_places(state, notices, count)?;
-    make_room(rows, if adds { count } else { 0 })?;
-    Ok(Ahead { rest, sum, adds })
+    make_places(state, notices, needs, count, 0)?;
+    make_room(rows, if needs.adds { count } else { 0 })?;
+    Ok(Ahead { rest, sum, needs })
 }
 
 /// What the step that waits may need at this answer, and the room that it and the steps after it may need. Their
@@ -117,14 +135,16 @@ pub fn prepare_answer<R: Rows, G: Ring>(
     requires row { FoundRow bulk.now.key.call.key state.now row }
     ensures same { R.contents rows.new ≡ R.contents rows.old }
     ensures told { notices.new.told ≡ notices.old.told }
-    ensures places { OnOk result (HasPlaces state.now.config (3 * length bulk.entry.now.rest + 3) notices.new) }
-    ensures room { OnOk result (HasRoomAt state.now.config bulk.entry.now.key answer.now (R.spare rows.new)) }
-    ensures rest_room { OnOk result (bulk.entry.now.adds ≡ true → length bulk.entry.now.rest + 1 ≤ R.spare rows.new) }
+    ensures places { OnOk result (HasPlaces state.now.config (places_for bulk.entry.now.needs.tells (length bulk.entry.now.rest) + most_told (has_live bulk.entry.now.key.now bulk.entry.now.key.call.key state.now) bulk.entry.now.key.call.op) notices.new) }
+    ensures room { OnOk result (HasRoom (adds_at (has_live bulk.entry.now.key.now bulk.entry.now.key.call.key state.now) state.now.config bulk.entry.now.key answer.now) (R.spare rows.new)) }
+    ensures rest_room { OnOk result (bulk.entry.now.needs.adds ≡ true → length bulk.entry.now.rest + 1 ≤ R.spare rows.new) }
     ensures covers { IfOk result (λ s. CoversAnswer state.now.config bulk.entry.now.key answer.now (items_of state.now.cells) s) }
 {
     let supply = Supply::for_answer(state, rows, notices, row, &bulk.step, answer)?;
     let steps = bulk.ahead.rest.len() + 1;
-    make_places(state, notices, steps)?;
-    make_room(rows, if bulk.ahead.adds { steps } else { 0 })?;
+    let needs = bulk.ahead.needs;
+    let own = most_notices(&bulk.step.call().op, false);
+    make_places(state, notices, needs, bulk.ahead.rest.len(), own)?;
+    make_room(rows, if needs.adds { steps } else { 0 })?;
     Ok(supply)
 }

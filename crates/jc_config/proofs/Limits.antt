@@ -5,6 +5,7 @@ use Rattle.std.specs.Option.{ok_or}
 use Rattle.std.specs.List.{list_all}
 use Rattle.std.proofs.lemmas.List.{length-map}
 use Rattle.toml.specs.Data.{Data, Items, no_items, item, get, as_array}
+use Rattle.jc_model.specs.Limits.{most_rows, most_listeners, most_caches, most_processors}
 use Rattle.jc_config.specs.Faults.{◌>>=◌, name_of}
 use Rattle.jc_config.specs.Kinds.{loader_of, writer_of, processor_of, wants_value_of}
 use Rattle.jc_config.specs.Limits.{few_processors, within_limits}
@@ -53,13 +54,13 @@ kinds_count (item d ds) ks e =
     let (rest, more, same) = map_some (λ (kinds : List ProcessorKind). kind ∷ kinds) (kinds_of ds) ks one in
     rw (← same, kinds_count ds rest more) (add-one (length rest))
 
-short_kinds : (v : Data) (ks : List ProcessorKind) → processor_list v ≡ Some ks → nat_le (length ks) 16 ≡ true
+short_kinds : (v : Data) (ks : List ProcessorKind) → processor_list v ≡ Some ks → nat_le (length ks) most_processors ≡ true
 short_kinds v ks e =
     let (items, found) = then_some few_kinds (as_array v) ks e in
-    let (few, read) = if_some (nat_le (count_of items) 16) (kinds_of items) ks found in
+    let (few, read) = if_some (nat_le (count_of items) most_processors) (kinds_of items) ks found in
     rw (kinds_count items ks read) at few
 
-short_or : (n : ℕ) (o : Option Data) (ks : List ProcessorKind) → found_or [] processor_list n members.Processors o ≡ Ok ks → nat_le (length ks) 16 ≡ true
+short_or : (n : ℕ) (o : Option Data) (ks : List ProcessorKind) → found_or [] processor_list n members.Processors o ≡ Ok ks → nat_le (length ks) most_processors ≡ true
 short_or n None ks e = rw (← ok_same [] ks e) refl
 short_or n (Some v) ks e = short_kinds v ks (ok_or_some _ _ ks e)
 
@@ -67,12 +68,12 @@ few_cache : (n : ℕ) (d : Data) (c : CacheSettings) → cache_of n d ≡ Ok c �
 unfolding cache_of
 few_cache n d c e =
     let (name, e1, k1) = bind_ok (needed name_text n members.Name d) _ c e in
-    let (capacity, e2, k2) = bind_ok (needed (number 1 65536) n members.Capacity d) _ c k1 in
+    let (capacity, e2, k2) = bind_ok (needed (number 1 most_rows) n members.Capacity d) _ c k1 in
     let (policy, e3, k3) = bind_ok (policy_of n d) _ c k2 in
     let (loader, e4, k4) = bind_ok (optional (text_kind loader_of) n members.Loader d) _ c k3 in
     let (writer, e5, k5) = bind_ok (optional (text_kind writer_of) n members.Writer d) _ c k4 in
     let (kinds, e6, k6) = bind_ok (found_or [] processor_list n members.Processors (get (name_of members.Processors) d)) _ c k5 in
-    let (listeners, e7, k7) = bind_ok (found_or 0 (number 0 8) n members.Listeners (get (name_of members.Listeners) d)) _ c k6 in
+    let (listeners, e7, k7) = bind_ok (found_or 0 (number 0 most_listeners) n members.Listeners (get (name_of members.Listeners) d)) _ c k6 in
     let (none, e8, k8) = bind_ok (no_other_entry n d) _ c k7 in
     let made = ok_same _ c k8 in
     subst (λ (x : CacheSettings). few_processors x.config ≡ true) made (rw (length-map kinds wants_value_of) (short_or n (get (name_of members.Processors) d) kinds e6))
@@ -86,5 +87,5 @@ few_caches n (item d ds) cs e =
 
 pub limits_kept : (n : ℕ) (ds : Items) (cs : List CacheSettings) (u : Unit {0}) → caches_of n ds ≡ Ok cs → check_totals cs ≡ Ok u → within_limits (map (λ c. c.config) cs) ≡ true
 limits_kept n ds cs u read totals =
-    let (few, e, k) = bind_ok (provided (nat_le (length cs) 1024) _) _ u totals in
-    rw (length-map cs (λ (c : CacheSettings). c.config), provided_ok (nat_le (length cs) 1024) _ few e, few_caches n ds cs read) refl
+    let (few, e, k) = bind_ok (provided (nat_le (length cs) most_caches) _) _ u totals in
+    rw (length-map cs (λ (c : CacheSettings). c.config), provided_ok (nat_le (length cs) most_caches) _ few e, few_caches n ds cs read) refl

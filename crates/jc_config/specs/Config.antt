@@ -5,6 +5,7 @@ use Rattle.std.specs.List.{list_any}
 use Rattle.std.specs.Str.{is_utf8, bytes_eq}
 use Rattle.toml.specs.Data.{Data, Items, no_items, item, Members, get_member, get, as_array, as_table}
 use Rattle.toml.specs.Parse.{parse_document}
+use Rattle.jc_model.specs.Limits.{most_rows, most_listeners, most_caches, most_rows_together, text_bytes}
 use Rattle.jc_config.specs.Faults.{◌>>=◌, name_of}
 use Rattle.jc_config.specs.Kinds.{loader_of, writer_of, wants_value_of}
 use Rattle.jc_config.specs.Members.{number, name_text, text_kind, processor_list, needed, found_or, optional, policy_of, all_known, no_other_entry}
@@ -43,12 +44,12 @@ tables_of document = if all_known is_cache document then tables_at (get_member (
 unfoldable pub cache_of : ℕ → Data → Result CacheSettings ConfigFault
 cache_of n d = do
   name ← needed name_text n members.Name d
-  capacity ← needed (number 1 65536) n members.Capacity d
+  capacity ← needed (number 1 most_rows) n members.Capacity d
   policy ← policy_of n d
   loader ← optional (text_kind loader_of) n members.Loader d
   writer ← optional (text_kind writer_of) n members.Writer d
   kinds ← found_or [] processor_list n members.Processors (get (name_of members.Processors) d)
-  listeners ← found_or 0 (number 0 8) n members.Listeners (get (name_of members.Listeners) d)
+  listeners ← found_or 0 (number 0 most_listeners) n members.Listeners (get (name_of members.Listeners) d)
   none ← no_other_entry n d
   Ok (record {
     config = record { name = name; capacity = capacity; policy = policy; loader = is_some loader; writer = is_some writer; processors = map wants_value_of kinds; listeners = listeners };
@@ -83,13 +84,13 @@ provided test fault = if test then Ok tt else Err fault
 
 abbrev pub check_totals : List CacheSettings → Result (Unit {0}) ConfigFault
 check_totals caches = do
-  few ← provided (nat_le (length caches) 1024) TooManyCaches
+  few ← provided (nat_le (length caches) most_caches) TooManyCaches
   distinct ← check_names (duplicate_from [] 1 (map (λ c. c.config.name) caches))
-  provided (nat_le (total_of caches) 262144) TotalCapacity
+  provided (nat_le (total_of caches) most_rows_together) TotalCapacity
 
 unfoldable pub configuration_of : List ℕ → Result Configuration ConfigFault
 configuration_of bytes = do
-  short ← provided (nat_le (length bytes) 8388608) TooLong
+  short ← provided (nat_le (length bytes) text_bytes) TooLong
   document ← ok_or (document_of bytes) NotToml
   tables ← tables_of document
   caches ← caches_of 1 tables

@@ -2,6 +2,7 @@
 use Rattle.std.specs.Prelude.{ℕ, ◌==◌, ◌&&◌, ◌||◌, Bool, true, false, nat_le, if◌then◌else◌, List, length, Option, Some, None, codes}
 use Rattle.std.specs.List.{list_all}
 use Rattle.std.specs.Str.{bytes_eq}
+use Rattle.jc_model.specs.Limits.{key_bytes}
 use Rattle.jc_model.specs.declared.config.Policy.{Policy}
 use Rattle.jc_model.specs.declared.config.Policy.TheVariants as policies
 use Rattle.jc_config.specs.declared.members.ExpiryKind.{ExpiryKind}
@@ -18,7 +19,7 @@ abbrev pub is_name_byte : ℕ → Bool
 is_name_byte b = (nat_le 97 b && nat_le b 122) || (nat_le 65 b && nat_le b 90) || (nat_le 48 b && nat_le b 57) || (b == 45) || (b == 95)
 
 abbrev pub is_name : List ℕ → Bool
-is_name text = nat_le 1 (length text) && nat_le (length text) 31 && list_all is_name_byte text
+is_name text = nat_le 1 (length text) && nat_le (length text) key_bytes && list_all is_name_byte text
 
 abbrev pub expiry_of : List ℕ → Option ExpiryKind
 expiry_of text =

@@ -5,6 +5,7 @@ use Rattle.std.specs.Str.{bytes_eq}
 use Rattle.toml.specs.Data.{Data, Items, no_items, item, Members, no_members, member, get, as_str, as_integer, as_array, as_table}
 use Rattle.jc_model.specs.declared.config.Policy.{Policy}
 use Rattle.jc_model.specs.declared.config.Policy.TheVariants as policies
+use Rattle.jc_model.specs.Limits.{most_processors}
 use Rattle.jc_config.specs.Faults.{◌>>=◌, name_of}
 use Rattle.jc_config.specs.Kinds.{is_name, expiry_of, processor_of}
 use Rattle.jc_config.specs.declared.fault.Member.{Member}
@@ -45,7 +46,7 @@ count_of (item d ds) = count_of ds + 1
 
 -- at most 16 kinds
 abbrev pub few_kinds : Items → Option (List ProcessorKind)
-few_kinds items = if nat_le (count_of items) 16 then kinds_of items else None
+few_kinds items = if nat_le (count_of items) most_processors then kinds_of items else None
 
 abbrev pub processor_list : Data → Option (List ProcessorKind)
 processor_list d = option_and_then few_kinds (as_array d)

@@ -3,6 +3,7 @@
 ghost use Rattle.std.specs.Prelude.{◌≡◌, None, pos, option_map};
 ghost use Rattle.toml.specs.View.{view};
 ghost use Rattle.toml.specs.Data.{get};
+ghost use Rattle.jc_model.specs.Limits.{most_rows, most_listeners};
 ghost use Rattle.jc_config.specs.Faults.{Gives, name_of};
 ghost use Rattle.jc_config.specs.Kinds.{expiry_of, with_duration, loader_of, writer_of, processor_of};
 ghost use Rattle.jc_config.specs.Members.{number, whole, name_text, text_kind, optional, missing, needed, found_or, policy_of};
@@ -12,13 +13,8 @@ use crate::kinds::{LoaderKind, ProcessorKind, WriterKind};
 use crate::name::is_name;
 use jc_model::config::Policy;
 use jc_model::key::Key;
+use jc_model::limits::{MOST_LISTENERS, MOST_ROWS};
 use toml::Value;
-
-/// The most rows of one cache.
-const MAX_CAPACITY: i64 = 65_536;
-
-/// The most listeners of one cache.
-const MAX_LISTENERS: i64 = 8;
 
 /// An expiry policy whose duration is not read yet.
 #[derive(Clone, Copy, PartialEq, Eq)]
@@ -109,11 +105,11 @@ pub fn name(table: &Value, cache: usize) -> Result<Key, ConfigFault>
 }
 
 pub fn capacity(table: &Value, cache: usize) -> Result<u32, ConfigFault>
-    ensures { Gives (λ x. x) result (needed (number 1 65536) cache Member.Capacity (view table.now)) }
+    ensures { Gives (λ x. x) result (needed (number 1 most_rows) cache Member.Capacity (view table.now)) }
 {
     let member = Member::Capacity;
     match table.get(member.name()).and_then(Value::as_integer) {
-        Some(number) if number >= 1 && number <= MAX_CAPACITY => Ok(number as u32),
+        Some(number) if number >= 1 && number <= MOST_ROWS as i64 => Ok(number as u32),
         _ => Err(ConfigFault::Bad { cache, member }),
     }
 }
@@ -192,13 +188,13 @@ pub fn writer(table: &Value, cache: usize) -> Result<Option<WriterKind>, ConfigF
 }
 
 pub fn listeners(table: &Value, cache: usize) -> Result<u8, ConfigFault>
-    ensures { Gives (λ x. x) result (found_or 0 (number 0 8) cache Member.Listeners (get (name_of Member.Listeners) (view table.now))) }
+    ensures { Gives (λ x. x) result (found_or 0 (number 0 most_listeners) cache Member.Listeners (get (name_of Member.Listeners) (view table.now))) }
 {
     let member = Member::Listeners;
     match table.get(member.name()) {
         None => Ok(0),
         Some(value) => match value.as_integer() {
-            Some(number) if number >= 0 && number <= MAX_LISTENERS => Ok(number as u8),
+            Some(number) if number >= 0 && number <= MOST_LISTENERS as i64 => Ok(number as u8),
             _ => Err(ConfigFault::Bad { cache, member }),
         },
     }

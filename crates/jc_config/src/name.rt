@@ -4,8 +4,7 @@ ghost use Rattle.std.specs.Prelude.{◌≡◌};
 ghost use Rattle.jc_config.specs.Kinds.{is_name_byte, is_name};
 ghost use Rattle.std.specs.List.{list_all};
 
-/// The most bytes that a name may have.
-const MAX_NAME: usize = 31;
+use jc_model::limits::KEY_BYTES;
 
 fn is_name_byte(byte: u8) -> bool
     ensures { result ≡ is_name_byte byte }
@@ -18,7 +17,7 @@ pub fn is_name(text: &str) -> bool
     ensures { result ≡ is_name text.now }
 {
     let bytes = text.as_bytes();
-    !bytes.is_empty() && bytes.len() <= MAX_NAME && has_name_bytes(bytes)
+    !bytes.is_empty() && bytes.len() <= KEY_BYTES && has_name_bytes(bytes)
 }
 
 fn has_name_bytes(bytes: &[u8]) -> bool

@@ -9,11 +9,9 @@ ghost use Rattle.jc_config.specs.Members.{found_or, kinds_of, few_kinds, process
 
 use crate::fault::{ConfigFault, Member};
 use crate::kinds::ProcessorKind;
+use jc_model::limits::MOST_PROCESSORS;
 use std::alloc::{AllocError, Global};
 use toml::Value;
-
-/// The most processors of one cache.
-const MAX_PROCESSORS: usize = 16;
 
 fn kinds(alloc: Global, items: &[Value]) -> Result<Option<Vec<ProcessorKind>>, AllocError>
     ensures { IfOk result (λ o. option_map (λ v. v.items) o ≡ kinds_of (items_view items.now)) }
@@ -32,7 +30,7 @@ fn kinds(alloc: Global, items: &[Value]) -> Result<Option<Vec<ProcessorKind>>, A
 fn few_kinds(alloc: Global, items: &[Value]) -> Result<Option<Vec<ProcessorKind>>, AllocError>
     ensures { IfOk result (λ o. option_map (λ v. v.items) o ≡ few_kinds (items_view items.now)) }
 {
-    if items.len() > MAX_PROCESSORS {
+    if items.len() > MOST_PROCESSORS {
         return Ok(None);
     }
     kinds(alloc, items)

@@ -11,11 +11,9 @@ use crate::kinds::{CacheSettings, Configuration, HookKinds};
 use crate::settings::Settings;
 use crate::totals::check_totals;
 use jc_model::config::CacheConfig;
+use jc_model::limits::TEXT_BYTES;
 use jc_model::list::Sequence;
 use std::alloc::{AllocError, Global};
-
-/// The most bytes of a configuration.
-const MAX_BYTES: usize = 8_388_608;
 
 /// The configurations and the kinds of callbacks, each by itself.
 fn split(
@@ -57,7 +55,7 @@ fn configured(alloc: Global, caches: Vec<CacheSettings>) -> Result<Configuration
 pub fn read_config(alloc: Global, bytes: &[u8]) -> Result<Configuration, ConfigFault>
     ensures read { Gives (λ r. r) result (configuration_of bytes.now) }
 {
-    if bytes.len() > MAX_BYTES {
+    if bytes.len() > TEXT_BYTES {
         return Err(ConfigFault::TooLong);
     }
     let Some(document) = parse(alloc, bytes)? else {

@@ -2,17 +2,13 @@
 
 ghost use Rattle.std.specs.Prelude.{◌≡◌, ◌≤◌, Some, None, length, if◌then◌else◌};
 ghost use Rattle.std.specs.List.{All, list_all};
+ghost use Rattle.jc_model.specs.Limits.{most_caches, most_processors};
 ghost use Rattle.jc_config.specs.Limits.{few_processors, within_limits};
 
 use jc_model::config::CacheConfig;
+use jc_model::limits::{MOST_CACHES, MOST_PROCESSORS};
 use jc_model::list::Sequence;
 use std::marker::Model;
-
-/// The most caches of a program.
-const MAX_CACHES: usize = 1_024;
-
-/// The most processors of a cache.
-const MAX_PROCESSORS: usize = 16;
 
 /// The configurations of the caches, in order. Contracts see the list.
 #[derive(Drop)]
@@ -37,13 +33,13 @@ fn have_few_processors(caches: &[CacheConfig]) -> bool
 {
     caches
         .iter()
-        .all(|cache| cache.processors.items().len() <= MAX_PROCESSORS)
+        .all(|cache| cache.processors.items().len() <= MOST_PROCESSORS)
 }
 
 fn are_within_limits(caches: &[CacheConfig]) -> bool
     ensures { result ≡ within_limits caches.now }
 {
-    caches.len() <= MAX_CACHES && have_few_processors(caches)
+    caches.len() <= MOST_CACHES && have_few_processors(caches)
 }
 
 impl Settings {
@@ -61,8 +57,8 @@ impl Settings {
     /// The configuration of each cache.
     pub fn caches(&self) -> &[CacheConfig]
         ensures same { result.now ≡ self.now }
-        ensures few { length self.now ≤ 1024 }
-        ensures processors { All (λ c. length c.processors ≤ 16) self.now }
+        ensures few { length self.now ≤ most_caches }
+        ensures processors { All (λ c. length c.processors ≤ most_processors) self.now }
     {
         self.caches.items()
     }

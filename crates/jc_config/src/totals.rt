@@ -1,19 +1,15 @@
 //! What all caches together must keep to.
 
 ghost use Rattle.std.specs.Prelude.{◌≡◌, IfOk, [], map, nat_le};
+ghost use Rattle.jc_model.specs.Limits.{most_rows_together};
 ghost use Rattle.jc_config.specs.Faults.{Gives};
 ghost use Rattle.jc_config.specs.Config.{duplicate_from, total_of, check_totals};
 
 use crate::fault::ConfigFault;
 use crate::kinds::CacheSettings;
+use jc_model::limits::{MOST_CACHES, MOST_ROWS_TOGETHER};
 use std::alloc::{AllocError, Global};
 use std::collections::HashSet;
-
-/// The most caches.
-const MAX_CACHES: usize = 1_024;
-
-/// The most rows of all caches together.
-const MAX_TOTAL_CAPACITY: u32 = 262_144;
 
 /// The number of the first cache that has an earlier one's name.
 fn first_duplicate(alloc: Global, caches: &[CacheSettings]) -> Result<Option<usize>, AllocError>
@@ -30,14 +26,14 @@ fn first_duplicate(alloc: Global, caches: &[CacheSettings]) -> Result<Option<usi
 }
 
 fn fits_in_all(caches: &[CacheSettings]) -> bool
-    ensures { result ≡ nat_le (total_of caches.now) 262144 }
+    ensures { result ≡ nat_le (total_of caches.now) most_rows_together }
 {
-    let mut left = MAX_TOTAL_CAPACITY;
+    let mut left = MOST_ROWS_TOGETHER;
     for cache in caches {
-        if cache.config.capacity > left {
+        if cache.config.capacity as u64 > left {
             return false;
         }
-        left -= cache.config.capacity;
+        left -= cache.config.capacity as u64;
     }
     true
 }
@@ -46,7 +42,7 @@ fn fits_in_all(caches: &[CacheSettings]) -> bool
 pub fn check_totals(alloc: Global, caches: &[CacheSettings]) -> Result<(), ConfigFault>
     ensures { Gives (λ x. x) result (check_totals caches.now) }
 {
-    if caches.len() > MAX_CACHES {
+    if caches.len() > MOST_CACHES {
         return Err(ConfigFault::TooManyCaches);
     }
     if let Some(cache) = first_duplicate(alloc, caches)? {

@@ -7,7 +7,8 @@ use Rattle.jc_place.specs.declared.place.Place.{Place}
 use Rattle.jc_cuckoo.specs.declared.held.Held.{Held}
 use Rattle.jc_cuckoo.specs.declared.held.Work.{Work}
 use Rattle.jc_cuckoo.specs.Cells.{rows_in, first_bucket, second_bucket}
-use Rattle.jc_cuckoo.specs.Images.{Image, Covers, AllKeep, image_of}
+use Rattle.jc_rows.specs.Images.{Image}
+use Rattle.jc_cuckoo.specs.Images.{Covers, AllKeep, image_of}
 use Rattle.jc_cuckoo.specs.Search.{IsLastResort}
 use Rattle.jc_cuckoo.specs.Table.{Table, Extends, Follows, Settles, Stays, Tells, image}
 use Rattle.jc_cuckoo.specs.Double.{Doubles, IsDoubled}

@@ -6,7 +6,8 @@ use Rattle.std.proofs.lemmas.List.{get_or-take, length-replicate}
 use Rattle.jc_model.specs.declared.config.Expiry.{Expiry}
 use Rattle.jc_cuckoo.specs.declared.held.Held.{Held}
 use Rattle.jc_cuckoo.specs.Cells.{place_of, row_of, cell, rows_in}
-use Rattle.jc_cuckoo.specs.Images.{Shown, Covers, image_of, shown, slot}
+use Rattle.jc_rows.specs.Images.{Shown, slot}
+use Rattle.jc_cuckoo.specs.Images.{Covers, image_of, shown}
 use Rattle.jc_cuckoo.specs.Table.{Table}
 use Rattle.jc_cuckoo.specs.Double.{IsAdded, IsBlank, IsDoubled, HasSlots, HasStash}
 use Rattle.jc_cuckoo.proofs.Blank.{blank_on}

@@ -9,7 +9,8 @@ use Rattle.jc_place.specs.Place.{IsTableSize}
 use Rattle.jc_place.proofs.Other.{size_most}
 use Rattle.jc_cuckoo.specs.declared.held.Held.{Held}
 use Rattle.jc_cuckoo.specs.Cells.{cell, rows_in}
-use Rattle.jc_cuckoo.specs.Images.{Image, image_of}
+use Rattle.jc_rows.specs.Images.{Image}
+use Rattle.jc_cuckoo.specs.Images.{image_of}
 use Rattle.jc_cuckoo.specs.Table.{IsTable, IsMirrored}
 
 abbrev pub no_rows : ℕ → List (Option Held)

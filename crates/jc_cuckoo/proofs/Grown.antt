@@ -6,7 +6,8 @@ use Rattle.jc_rows.specs.Rows.{RowMap}
 use Rattle.jc_place.specs.declared.place.Place.{Place}
 use Rattle.jc_cuckoo.specs.declared.held.Held.{Held}
 use Rattle.jc_cuckoo.specs.Cells.{IsSound, rows_in}
-use Rattle.jc_cuckoo.specs.Images.{Image, IsImage, IsGrowth, Covers, Shows, grown, image_of, last_image}
+use Rattle.jc_rows.specs.Images.{Image, Shows, last_image}
+use Rattle.jc_cuckoo.specs.Images.{IsImage, IsGrowth, Covers, grown, image_of}
 use Rattle.jc_cuckoo.specs.Table.{IsTable, IsMirrored, Table, Extends, image, longest}
 use Rattle.jc_cuckoo.proofs.Told.{is_image, mirrored_next}
 

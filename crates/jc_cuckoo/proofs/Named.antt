@@ -4,7 +4,7 @@ use Rattle.std.specs.List.{All}
 use Rattle.std.specs.Option.{IfSome}
 use Rattle.jc_place.specs.declared.place.Place.{Place}
 use Rattle.jc_cuckoo.specs.declared.held.Held.{Held}
-use Rattle.jc_cuckoo.specs.Images.{Image, last_image}
+use Rattle.jc_rows.specs.Images.{Image, last_image}
 use Rattle.jc_cuckoo.specs.Table.{IsTable}
 
 abbrev pub Below : ℕ → List (ℕ × Option Held) → Type 0

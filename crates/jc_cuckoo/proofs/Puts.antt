@@ -9,7 +9,8 @@ use Rattle.jc_model.specs.declared.config.Expiry.{Expiry}
 use Rattle.jc_rows.specs.Rows.{RowMap}
 use Rattle.jc_cuckoo.specs.declared.held.Held.{Held}
 use Rattle.jc_cuckoo.specs.Cells.{cell, place_of}
-use Rattle.jc_cuckoo.specs.Images.{Image, Shown, Shows, Puts, shown, slot, image_of}
+use Rattle.jc_rows.specs.Images.{Image, Shown, Shows, slot}
+use Rattle.jc_cuckoo.specs.Images.{Puts, shown, image_of}
 use Rattle.jc_cuckoo.proofs.Cells.{Once}
 use Rattle.jc_cuckoo.proofs.Told.{slot_is, slot_past, behind}
 

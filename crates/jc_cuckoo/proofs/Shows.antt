@@ -9,7 +9,8 @@ use Rattle.jc_rows.proofs.Laws.{len-empty, len-put}
 use Rattle.jc_place.specs.declared.place.Place.{Place}
 use Rattle.jc_cuckoo.specs.declared.held.Held.{Held}
 use Rattle.jc_cuckoo.specs.Cells.{place_of, row_of, cell, rows_in, IsSound}
-use Rattle.jc_cuckoo.specs.Images.{Shown, Shows, shown, image_of}
+use Rattle.jc_rows.specs.Images.{Shown, Shows}
+use Rattle.jc_cuckoo.specs.Images.{shown, image_of}
 use Rattle.jc_cuckoo.proofs.Cells.{Once, once_below, get_none, get_some}
 use Rattle.jc_cuckoo.proofs.Told.{behind}
 

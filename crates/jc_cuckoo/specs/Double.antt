@@ -3,7 +3,8 @@ use Rattle.std.specs.Prelude.{◌≡◌, ℕ, ◌+◌, ◌-◌, ◌*◌, ◌<◌
 use Rattle.std.specs.FinMap as map
 use Rattle.jc_cuckoo.specs.declared.held.Held.{Held}
 use Rattle.jc_cuckoo.specs.Cells.{place_of, row_of, cell, rows_in, IsVacant}
-use Rattle.jc_cuckoo.specs.Images.{Image, Covers, image_of}
+use Rattle.jc_rows.specs.Images.{Image}
+use Rattle.jc_cuckoo.specs.Images.{Covers, image_of}
 use Rattle.jc_cuckoo.specs.Table.{Table}
 
 -- the first slot of a bucket that holds none

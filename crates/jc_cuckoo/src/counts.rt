@@ -2,7 +2,7 @@
 ghost use Rattle.std.specs.Prelude.{◌≡◌, ◌+◌, ◌-◌, IfSome, is_some, count_by, length};
 ghost use Rattle.std.specs.FinMap as map;
 ghost use Rattle.jc_cuckoo.specs.Cells.{rows_in};
-ghost use Rattle.jc_cuckoo.specs.Images.{Shows, last_image};
+ghost use Rattle.jc_rows.specs.Images.{Shows, last_image};
 ghost use Rattle.jc_cuckoo.specs.Table.{image};
 
 use crate::cuckoo::Cuckoo;

@@ -5,7 +5,8 @@ ghost use Rattle.std.specs.FinMap as map;
 ghost use Rattle.jc_place.specs.Place.{IsTableSize};
 ghost use Rattle.jc_cuckoo.specs.declared.cuckoo.TableRefusal.TheVariants.{BadBuckets};
 ghost use Rattle.jc_cuckoo.specs.Cells.{rows_in};
-ghost use Rattle.jc_cuckoo.specs.Images.{Shows, image_of};
+ghost use Rattle.jc_rows.specs.Images.{Shows};
+ghost use Rattle.jc_cuckoo.specs.Images.{image_of};
 ghost use Rattle.jc_cuckoo.specs.Table.{longest, no_work, IsMirrored, image};
 
 use crate::held::{Held, Work};
@@ -96,6 +97,7 @@ impl<P: Placer + Drop, M: Mirror> Cuckoo<P, M> {
     ) -> Result<Cuckoo<P, M>, TableRefusal>
         requires mirror { IfSome (M.images mirror) (λ is. IsMirrored (P.placing placer) (M.placing mirror) is (image_of buckets (replicate (4 * buckets) None))) }
         ensures empty { IfOk result (λ table. rows_in table.cells ≡ map.empty) }
+        ensures slots { IfOk result (λ table. table.cells ≡ replicate (4 * buckets) None) }
         ensures parts { IfOk result (λ table. (table.placer ≡ placer) × (table.mirror ≡ mirror) × (table.buckets ≡ buckets)) }
         ensures work { IfOk result (λ table. table.work ≡ no_work) }
         ensures size { IfOk result (λ table. IsTableSize buckets) }
@@ -142,6 +144,24 @@ impl<P: Placer + Drop, M: Mirror> Cuckoo<P, M> {
                 moves: 0,
             },
         })
+    }
+
+    /// The same table, which tells another mirror from now on.
+    pub fn with_mirror<N: Mirror>(self, mirror: N) -> Cuckoo<P, N>
+        requires mirror { IfSome (N.images mirror) (λ is. IsMirrored (P.placing self.placer) (N.placing mirror) is (image self)) }
+        ensures rows { (result.cells ≡ self.cells) × (result.room ≡ self.room) }
+        ensures parts { (result.placer ≡ self.placer) × (result.mirror ≡ mirror) × (result.buckets ≡ self.buckets) }
+        ensures work { result.work ≡ self.work }
+    {
+        Cuckoo {
+            placer: self.placer,
+            mirror,
+            buckets: self.buckets,
+            tags: self.tags,
+            cells: self.cells,
+            held: self.held,
+            work: self.work,
+        }
     }
 
     /// How many slots it has.

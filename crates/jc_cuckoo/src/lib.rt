@@ -12,3 +12,4 @@ mod path;
 mod queue;
 mod scan;
 mod table;
+mod watched;

@@ -1,5 +1,5 @@
 //! The table as the rows of all caches.
-ghost use Rattle.std.specs.Prelude.{◌≡◌, ◌⊎◌, ◌+◌, ◌-◌, ◌*◌, ◌/◌, ◌≤◌, ◌<◌, None, Some, IsSome, IsOk, OnOk, option_map};
+ghost use Rattle.std.specs.Prelude.{◌≡◌, ◌⊎◌, ℕ, ◌+◌, ◌-◌, ◌*◌, ◌/◌, ◌≤◌, ◌<◌, None, Some, IsSome, IsOk, OnOk, option_map};
 ghost use Rattle.std.specs.FinMap as map;
 ghost use Rattle.jc_rows.specs.Rows.{with_expiry};
 ghost use Rattle.jc_cuckoo.specs.Cells.{rows_in, IsPlaced};
@@ -34,6 +34,7 @@ impl<P: Placer + Drop, M: Mirror> Rows for Cuckoo<P, M> {
         ensures same { rows_in self.new.cells ≡ rows_in self.old.cells }
         ensures ok { OnOk result (n ≤ map.len (rows_in self.new.cells) + self.new.room) }
         ensures succeeds { n ≤ map.len (rows_in self.old.cells) + self.old.room → IsOk result }
+        ensures there { n ≤ map.len (rows_in self.old.cells) + self.old.room → self.new.room ≡ self.old.room }
         ensures kept { self.old.room ≤ self.new.room }
         ensures still { IsStill self.old self.new }
     {
@@ -43,6 +44,9 @@ impl<P: Placer + Drop, M: Mirror> Rows for Cuckoo<P, M> {
         let more = n - self.held;
         if more > LONGEST - self.cells.len() {
             return Err(AllocError);
+        }
+        if more <= self.cells.capacity() - self.cells.len() {
+            return Ok(());
         }
         self.cells.reserve(more)
     }
@@ -96,6 +100,7 @@ impl<P: Placer + Drop, M: Mirror> Rows for Cuckoo<P, M> {
         ensures removed { rows_in self.new.cells ≡ map.remove (rows_in self.old.cells) (id, key.now) }
         ensures kept { self.old.room ≤ self.new.room }
         ensures touches { Touches M.images self.old self.new (id, key.now) None }
+        ensures absent { map.get (rows_in self.old.cells) (id, key.now) ≡ None → self.new ≡ self.old }
     {
         let slots = self.slots();
         match self.seek_row(id, key) {
@@ -118,6 +123,9 @@ impl<P: Placer + Drop, M: Mirror> Rows for Cuckoo<P, M> {
         ensures set { rows_in self.new.cells ≡ with_expiry (rows_in self.old.cells) (id, key.now) expiry }
         ensures kept { self.old.room ≤ self.new.room }
         ensures touches { Touches M.images self.old self.new (id, key.now) (Some ((id, key.now), expiry)) }
+
+        // What changes nothing tells no image.
+        ensures still { (row : ℕ) → map.get (rows_in self.old.cells) (id, key.now) ≡ Some (row, expiry) → self.new ≡ self.old }
     {
         let slots = self.slots();
         if let Some((at, held)) = self.seek_row(id, key) {

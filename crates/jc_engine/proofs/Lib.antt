@@ -10,3 +10,6 @@ pub mod Names
 pub mod Openings
 pub mod Untold
 pub mod Calls
+pub mod Counted
+pub mod Watching
+pub mod Vacant

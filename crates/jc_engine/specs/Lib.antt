@@ -7,3 +7,4 @@ pub mod Sound
 pub mod Fresh
 pub mod Free
 pub mod Recording
+pub mod Watching

@@ -5,5 +5,7 @@ mod cache;
 pub mod engine;
 mod moves;
 pub mod open;
+mod over;
 pub mod recorded;
 mod run;
+pub mod watched;

@@ -35,11 +35,11 @@ use std::marker::Model;
 /// A manager with its transcript. Contracts see its caches and the transcript's entries.
 #[derive(Drop)]
 pub struct Recorded<R: Rows, G: Ring> {
-    alloc: Global,
-    engine: Engine<R, G>,
-    transcript: Transcript,
+    pub(crate) alloc: Global,
+    pub(crate) engine: Engine<R, G>,
+    pub(crate) transcript: Transcript,
     /// By cache, the place of its last call in the transcript.
-    places: Vec<usize>,
+    pub(crate) places: Vec<usize>,
 }
 
 impl<R: Rows, G: Ring> Model for Recorded<R, G> {

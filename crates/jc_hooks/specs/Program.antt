@@ -1,5 +1,6 @@
 -- What the program's callbacks answer, by bytes.
 use Rattle.std.specs.Prelude.{◌≡◌, ℕ, Bool, false, not, ◌==◌, nat_le, if◌then◌else◌, List, [], ◌∷◌, ◌++◌, length, Option, Some, None, Result, Ok, Err, ⊤}
+use Rattle.jc_model.specs.Limits.{value_bytes}
 use Rattle.jc_model.specs.declared.call.Request.{Request}
 use Rattle.jc_model.specs.declared.call.Request.TheVariants.{Write, Delete}
 use Rattle.jc_model.specs.declared.call.Answer.{Answer}
@@ -44,7 +45,7 @@ abbrev pub failed : Result Verdict ProcessorFault
 failed = Err (record {})
 
 abbrev pub set_to : List ℕ → Result Verdict ProcessorFault
-set_to value = if nat_le (length value) 65535 then Ok (record { action = actions.Set value; answer = Some value }) else failed
+set_to value = if nat_le (length value) value_bytes then Ok (record { action = actions.Set value; answer = Some value }) else failed
 
 abbrev pub appended : Option (List ℕ) → List ℕ → Result Verdict ProcessorFault
 appended value argument = set_to (bytes_of value ++ argument)

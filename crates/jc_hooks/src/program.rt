@@ -1,6 +1,7 @@
 //! The callbacks of the program.
 
 ghost use Rattle.std.specs.Prelude.{◌≡◌, ◌≤◌, IfOk, length, option_map};
+ghost use Rattle.jc_model.specs.Limits.{value_bytes};
 ghost use Rattle.jc_hooks.specs.Program.{begins, bytes_of, appended};
 
 use crate::cache_hooks::CacheHooks;
@@ -11,11 +12,9 @@ use crate::writer::Writer;
 use jc_model::OutOfMemory;
 use jc_model::call::{Action, ProcessorFault, Verdict};
 use jc_model::key::Key;
+use jc_model::limits::VALUE_BYTES;
 use jc_model::value::Value;
 use std::alloc::{AllocError, Global};
-
-/// The most bytes that a value may have.
-const MAX_VALUE: usize = 65535;
 
 /// Whether the key's first byte is this one.
 fn begins(key: &Key, byte: u8) -> bool
@@ -80,7 +79,7 @@ impl Writer for CheckWriter {
 
 fn bytes_of<'a>(value: Option<&'a Value>) -> &'a [u8]
     ensures same { result.now ≡ bytes_of (option_map (λ r. r.now) value.entry) }
-    ensures limit { length result.now ≤ 65535 }
+    ensures limit { length result.now ≤ value_bytes }
 {
     match value {
         Some(value) => value.bytes(),
@@ -98,7 +97,7 @@ fn append(
 {
     let given = bytes_of(value);
     let added = argument.bytes();
-    if given.len() + added.len() > MAX_VALUE {
+    if given.len() + added.len() > VALUE_BYTES {
         return Ok(Err(ProcessorFault {}));
     }
     let mut bytes = given.to_vec(alloc)?;

@@ -5,7 +5,8 @@ use mathlib.Core.List.{map-append}
 use Rattle.std.proofs.Math.Seq.{take-suc}
 use Rattle.jc_place.specs.declared.place.Place.{Place}
 use Rattle.jc_cuckoo.specs.declared.held.Held.{Held}
-use Rattle.jc_cuckoo.specs.Images.{Image, IsImage, Shown, image_of, shown}
+use Rattle.jc_rows.specs.Images.{Image, Shown}
+use Rattle.jc_cuckoo.specs.Images.{IsImage, image_of, shown}
 use Rattle.jc_stripes.proofs.Comparing.{take_whole}
 use Rattle.jc_index.specs.Indexes.{empty_image}
 use Rattle.jc_index.specs.Spelling.{IsCoded, IsSpelt, IsLawful, slot_words, slots_words, slots_in, encoded, image_in}

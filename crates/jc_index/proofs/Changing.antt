@@ -4,7 +4,8 @@ use Rattle.std.specs.List.{All}
 use Rattle.std.proofs.Math.Seq.{take-suc}
 use Rattle.jc_stripes.specs.Stripes.{Among, Covered, set_all}
 use Rattle.jc_index.specs.Spelling.{IsCoded, IsSpelt, group_of, slot_words, slots_words, slots_in, encoded, image_in}
-use Rattle.jc_cuckoo.specs.Images.{Image, Shown, write_all, written}
+use Rattle.jc_rows.specs.Images.{Image, Shown}
+use Rattle.jc_cuckoo.specs.Images.{write_all, written}
 use Rattle.jc_index.specs.Batches.{Write, shows, placed_at, slot_batch, count_batch, is_some, stripes_for}
 use Rattle.jc_index.specs.Versions.{versions_of}
 use Rattle.jc_stripes.proofs.Opening.{length-set_all}

@@ -8,7 +8,7 @@ use Rattle.jc_model.specs.declared.config.Expiry.{Expiry}
 use Rattle.jc_model.specs.declared.config.Expiry.TheVariants.{Never, At}
 use Rattle.jc_stripes.specs.Stripes.{set_all}
 use Rattle.jc_stripes.proofs.Opening.{taken_more}
-use Rattle.jc_cuckoo.specs.Images.{Shown}
+use Rattle.jc_rows.specs.Images.{Shown}
 use Rattle.jc_index.specs.Spelling.{IsCoded, key_of, slot_of, slot_in, slot_words, slots_words, slots_in, never_bit, moment_of}
 use Rattle.jc_index.specs.Batches.{placed_at}
 

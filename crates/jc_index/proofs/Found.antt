@@ -3,7 +3,7 @@ use Rattle.std.proofs.Common.{◌≡◌, ◌⊎◌, ℕ, zero, suc, ◌+◌, ◌
 use Rattle.std.specs.Str.{bytes_eq}
 use Rattle.std.proofs.lemmas.Slice.Eq.{bytes_eq-Decides}
 use Rattle.jc_model.specs.State.{live}
-use Rattle.jc_cuckoo.specs.Images.{Shown}
+use Rattle.jc_rows.specs.Images.{Shown}
 use Rattle.jc_place.specs.declared.place.Place.{Place}
 use Rattle.jc_cuckoo.specs.Cells.{first_bucket, second_bucket}
 use Rattle.jc_index.specs.Spelling.{IsLawful, buckets_of, slot_of, slot_in, slots_in, slot_words, slots_words, encoded, image_in, slot_at, six_at}

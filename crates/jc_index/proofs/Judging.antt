@@ -6,7 +6,7 @@ use Rattle.jc_model.specs.Key.{words_of}
 use Rattle.jc_model.specs.State.{live}
 use Rattle.jc_model.specs.declared.config.Expiry.{Expiry}
 use Rattle.jc_model.specs.declared.config.Expiry.TheVariants.{Never, At}
-use Rattle.jc_cuckoo.specs.Images.{Shown}
+use Rattle.jc_rows.specs.Images.{Shown}
 use Rattle.jc_index.specs.Spelling.{IsCoded, key_of, slot_of, slot_words, never_bit, moment_of}
 use Rattle.jc_index.specs.Found.{seen}
 

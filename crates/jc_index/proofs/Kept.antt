@@ -6,7 +6,8 @@ use Rattle.jc_place.specs.Place.{IsTableSize}
 use Rattle.jc_place.specs.declared.place.Place.{Place}
 use Rattle.jc_stripes.specs.declared.lineage.Lineage.{Lineage}
 use Rattle.jc_stripes.specs.Stripes.{Front, last_of}
-use Rattle.jc_cuckoo.specs.Images.{Image, IsGrowth, grown, last_image, shown}
+use Rattle.jc_rows.specs.Images.{Image, last_image}
+use Rattle.jc_cuckoo.specs.Images.{IsGrowth, grown, shown}
 use Rattle.jc_cuckoo.specs.declared.held.Held.{Held}
 use Rattle.jc_index.specs.declared.placed.Placed.{Placed}
 use Rattle.jc_index.specs.Spelling.{IsCoded, IsLawful, encoded, image_in}

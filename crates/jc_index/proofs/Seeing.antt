@@ -3,7 +3,7 @@ use Rattle.std.proofs.Common.{◌≡◌, ℕ, suc, length, arith, List, [], ◌�
 use mathlib.Core.List.{IsPrefix, map-append}
 use Rattle.jc_stripes.specs.declared.board.View.{View}
 use Rattle.jc_stripes.specs.Stripes.{last_or, glance, glance_of, stacked, stripes_in}
-use Rattle.jc_cuckoo.specs.Images.{last_image}
+use Rattle.jc_rows.specs.Images.{last_image}
 use Rattle.jc_index.specs.Spelling.{image_in}
 use Rattle.jc_index.specs.Versions.{onto}
 

@@ -1,7 +1,8 @@
 -- The words that a commit sets, and the versions that it takes.
 use Rattle.std.specs.Prelude.{ℕ, ◌+◌, ◌*◌, ◌/◌, ◌==◌, ◌||◌, not, if◌then◌else◌, Bool, true, false, List, [], ◌∷◌, ◌++◌, Option, Some, None, option_map}
 use Rattle.jc_cuckoo.specs.declared.held.Held.{Held}
-use Rattle.jc_cuckoo.specs.Images.{Shown, shown}
+use Rattle.jc_rows.specs.Images.{Shown}
+use Rattle.jc_cuckoo.specs.Images.{shown}
 use Rattle.jc_index.specs.Spelling.{slot_words}
 use Rattle.jc_index.specs.Versions.{versions_of}
 

@@ -2,7 +2,7 @@
 use Rattle.std.specs.Prelude.{ℕ, ◌==◌, ◌&&◌, Bool, false, List, [], ◌∷◌, if◌then◌else◌, Option, Some, None}
 use Rattle.std.specs.Str.{bytes_eq}
 use Rattle.jc_model.specs.State.{live}
-use Rattle.jc_cuckoo.specs.Images.{Image, Shown}
+use Rattle.jc_rows.specs.Images.{Image, Shown}
 
 -- whether a slot holds the key, and whether it is live there
 abbrev pub seen : ℕ → List ℕ → ℕ → Option Shown → Option Bool

@@ -5,11 +5,11 @@ use Rattle.jc_place.specs.Place.{IsTableSize}
 use Rattle.jc_stripes.specs.Stripes.{desk_of, glance_of, last_of}
 use Rattle.jc_stripes.specs.declared.lineage.Lineage.{Lineage}
 use Rattle.jc_stripes.specs.declared.member.Member.{Member}
-use Rattle.jc_cuckoo.specs.Images.{Image}
+use Rattle.jc_rows.specs.Images.{Image}
 use Rattle.jc_index.specs.declared.placed.Placed.{Placed}
 use Rattle.jc_index.specs.Spelling.{IsSpelt, image_in}
 
--- the images that were committed, the last one last; the versions of the newest table; and the name that its passes carry
+-- the images that were committed, the last one last; the versions of the newest table; and its name, which its passes carry
 pub record Index (P : Type 0) : Type 0 where
   pub placer : P
   pub buckets : ℕ
@@ -26,7 +26,6 @@ pub record Passing (P : Type 0) : Type 0 where
   pub lookups : ℕ
   pub begun : List (ℕ × ℕ)
   pub checked : List (ℕ × ℕ)
-  pub name : TableId
 
 abbrev pub empty_image : ℕ → Image
 empty_image buckets = record { buckets = buckets; slots = replicate (4 * buckets) None; stash = 0 }
@@ -50,7 +49,6 @@ module _ {P : Type 0} where
     lookups = member.reader.seat.me.0.lookups;
     begun = (glance_of member.reader.seat.me.0).begun;
     checked = (glance_of member.reader.seat.me.0).checked;
-    name = member.follower.seat.table_id;
   }
 
   -- the newest table's words are the last image

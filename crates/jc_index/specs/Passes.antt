@@ -5,7 +5,7 @@ use Rattle.atomic_table.specs.declared.shared.Seat.{Seat}
 use Rattle.jc_stripes.specs.declared.board.View.{View}
 use Rattle.jc_stripes.specs.Stripes.{ReadsIn, SomeOdd, glance, glance_of, stripes_in}
 use Rattle.jc_stripes.specs.declared.reader.Reader.{Reader}
-use Rattle.jc_cuckoo.specs.Images.{Image, Shown}
+use Rattle.jc_rows.specs.Images.{Image, Shown}
 use Rattle.jc_index.specs.Versions.{read_for}
 use Rattle.jc_index.specs.Spelling.{image_in, group_of, six_at, slot_at, slot_words}
 

@@ -6,7 +6,8 @@ use Rattle.jc_model.specs.declared.config.Expiry.{Expiry}
 use Rattle.jc_model.specs.declared.config.Expiry.TheVariants.{Never, At}
 use Rattle.jc_place.specs.declared.place.Place.{Place}
 use Rattle.jc_cuckoo.specs.Cells.{first_bucket, second_bucket}
-use Rattle.jc_cuckoo.specs.Images.{Image, Shown, IsImage}
+use Rattle.jc_rows.specs.Images.{Image, Shown}
+use Rattle.jc_cuckoo.specs.Images.{IsImage}
 
 -- The place of the stash's count is 0, and six words follow for each slot. Bucket b is under the version b mod 64, and the count under the version 64.
 unfoldable pub group_of : ℕ → ℕ

@@ -6,6 +6,7 @@ mod change;
 mod fill;
 mod look;
 pub mod lookup;
+pub mod naming;
 pub mod pass;
 pub mod placed;
 mod slot;

@@ -2,7 +2,7 @@
 ghost use Rattle.std.specs.Prelude.{◌≡◌, ◌⊎◌, ◌≢◌, suc, ◌+◌, ◌*◌, ◌%◌, ◌<◌, Bool, true, false, [], ◌∷◌, length, Some, None};
 ghost use Rattle.jc_place.specs.Place.{IsTableSize};
 ghost use Rattle.jc_stripes.specs.Stripes.{Stayed, glance_of};
-ghost use Rattle.jc_cuckoo.specs.Images.{last_image};
+ghost use Rattle.jc_rows.specs.Images.{last_image};
 ghost use Rattle.jc_index.specs.Spelling.{buckets_of};
 ghost use Rattle.jc_index.specs.Found.{found};
 ghost use Rattle.jc_index.specs.declared.lookup.Lookup.TheVariants.{Sure, Unsure};

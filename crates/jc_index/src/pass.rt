@@ -2,13 +2,14 @@
 ghost use Rattle.std.specs.Prelude.{◌≡◌, ◌⊎◌, ◌≢◌, suc, Bool, true, false, None, Some, IfOk, IfErr};
 ghost use mathlib.Core.List.{IsPrefix};
 ghost use Rattle.jc_stripes.specs.Stripes.{SomeOdd, Stayed, stripes_in};
-ghost use Rattle.jc_cuckoo.specs.Images.{last_image};
+ghost use Rattle.jc_rows.specs.Images.{last_image};
 ghost use Rattle.jc_index.specs.Spelling.{buckets_of};
 ghost use Rattle.jc_index.specs.Found.{found};
 ghost use Rattle.jc_index.specs.declared.lookup.Lookup.TheVariants.{Sure, Unsure};
 ghost use Rattle.jc_index.specs.Versions.{read_for};
 
 use crate::lookup::{Lookup, look_up};
+use crate::naming::Naming;
 use crate::placed::Placed;
 use crate::sought::Sought;
 use crate::words::Words;
@@ -17,28 +18,30 @@ use jc_model::event::CacheId;
 use jc_model::key::Key;
 use jc_place::place::Placer;
 use jc_stripes::member::Member;
-use std::marker::Model;
+use std::marker::{Model, PhantomData};
 
 /// What a reader has seen of the index.
 #[derive(Drop)]
-pub struct Pass<P: Placer + Drop> {
+pub struct Pass<N: Naming, P: Placer + Drop> {
     pub(crate) member: Member<Placed<P>>,
     pub(crate) placer: P,
     pub(crate) buckets: u32,
     pub(crate) met: bool,
+    pub(crate) name: PhantomData<N>,
 }
 
-impl<P: Placer + Drop> Model for Pass<P> {
+impl<N: Naming, P: Placer + Drop> Model for Pass<N, P> {
+    ghost use Rattle.std.specs.Prelude.{◌≡◌};
     ghost use Rattle.jc_index.specs.Indexes.{Passing, IsPassing, passing_of};
 
     ghost Value = { Passing P };
 
     ghost view = { λ p. passing_of p.placer p.buckets p.met p.member };
 
-    ghost invariant = { λ p. IsPassing p.placer p.buckets p.member };
+    ghost invariant = { λ p. IsPassing p.placer p.buckets p.member × (p.member.follower.seat.table_id ≡ N.name) };
 }
 
-impl<P: Placer + Drop> Pass<P> {
+impl<N: Naming, P: Placer + Drop> Pass<N, P> {
     /// Whether a key is there and live, without waiting. It is sure only of the last image that it has seen.
     pub fn lookup(&mut self, id: CacheId, key: &Key, now: u64) -> Lookup
         ensures sure { (b : Bool) → result ≡ Sure b → found (last_image self.new.images) id key.now now ≡ Some b }
@@ -47,7 +50,7 @@ impl<P: Placer + Drop> Pass<P> {
         ensures stripes { self.old.met ≡ true → (stripes_in self.new.begun ≡ read_for (buckets_of (P.placing self.old.placer) self.old.buckets (id, key.now))) × (stripes_in self.new.checked ≡ stripes_in self.new.begun) }
         ensures counted { self.old.met ≡ true → self.new.lookups ≡ suc self.old.lookups }
         ensures front { IsPrefix self.old.images self.new.images }
-        ensures same { (self.new.met ≡ self.old.met) × (self.new.placer ≡ self.old.placer) × (self.new.buckets ≡ self.old.buckets) × (self.new.name ≡ self.old.name) }
+        ensures same { (self.new.met ≡ self.old.met) × (self.new.placer ≡ self.old.placer) × (self.new.buckets ≡ self.old.buckets) }
     {
         if !self.met {
             return Lookup::Unsure;
@@ -56,14 +59,12 @@ impl<P: Placer + Drop> Pass<P> {
         look_up(&mut self.member.reader, &self.placer, self.buckets, &sought)
     }
 
-    /// Sees all images. Where it is refused, every lookup is unsure until it is not.
-    pub fn meet(&mut self, words: &mut Words<P>) -> Result<(), OutOfMemory>
-        requires { self.old.name ≡ words.old.name }
+    /// Sees all images of its words. Where it is refused, every lookup is unsure until it is not.
+    pub fn meet(&mut self, words: &mut Words<N, P>) -> Result<(), OutOfMemory>
         ensures words { words.new ≡ words.old }
         ensures front { IsPrefix self.old.images self.new.images }
         ensures met { IfOk result (λ _. (self.new.met ≡ true) × (self.new.images ≡ words.old.images) × (self.new.placer ≡ words.old.placer) × (self.new.buckets ≡ words.old.buckets)) }
         ensures refused { IfErr result (λ _. self.new ≡ record self.old { met = false }) }
-        ensures name { self.new.name ≡ self.old.name }
     {
         self.met = false;
         words.lineage.meet(&mut self.member)?;

@@ -1,7 +1,7 @@
 //! What a lookup looks for, and whether a slot's words hold it.
 ghost use Rattle.std.specs.Prelude.{◌≡◌, ◌≢◌, true, false, Option, drop, take};
 ghost use Rattle.jc_model.specs.Key.{words_of};
-ghost use Rattle.jc_cuckoo.specs.Images.{Shown};
+ghost use Rattle.jc_rows.specs.Images.{Shown};
 ghost use Rattle.jc_index.specs.Spelling.{IsCoded, key_of, slot_words};
 ghost use Rattle.jc_index.specs.Found.{answer, or_else, seen};
 

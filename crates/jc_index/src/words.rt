@@ -2,61 +2,48 @@
 ghost use Rattle.std.specs.Prelude.{◌≡◌, ◌*◌, ◌<◌, ◌≤◌, [], ◌∷◌, ◌++◌, None, true, All, Some, IfOk, OnErr, OnOk, length, replicate};
 ghost use Rattle.jc_place.specs.Place.{IsTableSize};
 ghost use Rattle.jc_stripes.specs.Stripes.{Changes, IsCommitted};
-ghost use Rattle.jc_cuckoo.specs.Images.{IsGrowth, IsImage, grown, image_of, last_image, written};
+ghost use Rattle.jc_rows.specs.Images.{last_image};
+ghost use Rattle.jc_cuckoo.specs.Images.{IsGrowth, IsImage, grown, image_of, written};
 ghost use Rattle.jc_index.specs.Batches.{count_for, is_some, stripes_for};
 
 use crate::change::Change;
-use crate::fill::{blank, filled};
+use crate::fill::filled;
+use crate::naming::Naming;
 use crate::pass::Pass;
 use crate::placed::Placed;
 use jc_cuckoo::held::Held;
-use jc_cuckoo::mirror::Mirror;
+use jc_cuckoo::mirror::{Mirror, Watch};
 use jc_model::OutOfMemory;
 use jc_place::place::Placer;
 use jc_stripes::lineage::Lineage;
-use std::alloc::Global;
-use std::marker::Model;
+use std::marker::{Model, PhantomData};
 
 /// Images of the table in shared words. Those of the newest table are the last image.
 #[derive(Drop)]
-pub struct Words<P: Placer + Drop> {
+pub struct Words<N: Naming, P: Placer + Drop> {
     pub(crate) lineage: Lineage<Placed<P>>,
     pub(crate) placer: P,
     pub(crate) buckets: u32,
-    count: u32,
+    pub(crate) count: u32,
+    pub(crate) name: PhantomData<N>,
 }
 
-impl<P: Placer + Drop> Model for Words<P> {
+impl<N: Naming, P: Placer + Drop> Model for Words<N, P> {
+    ghost use Rattle.std.specs.Prelude.{◌≡◌};
     ghost use Rattle.jc_index.specs.Indexes.{Index, IsIndex, index_of};
 
     ghost Value = { Index P };
 
     ghost view = { λ w. index_of w.placer w.buckets w.lineage };
 
-    ghost invariant = { λ w. IsIndex w.placer w.buckets w.count w.lineage };
+    ghost invariant = { λ w. IsIndex w.placer w.buckets w.count w.lineage × (w.lineage.keeper.seat.table_id ≡ N.name) };
 }
 
-impl<P: Placer + Drop> Words<P> {
-    /// One empty image of so many buckets.
-    pub fn new(alloc: Global, placer: P, buckets: u32) -> Result<Words<P>, OutOfMemory>
-        requires { IsTableSize buckets }
-        ensures { IfOk result (λ w. (w.images ≡ image_of buckets (replicate (4 * buckets) None) ∷ []) × (w.placer ≡ placer) × (w.buckets ≡ buckets)) }
-    {
-        let words = blank(alloc.clone()?, buckets)?;
-        let law = Placed { placer, buckets };
-        let lineage = Lineage::new(alloc, &law, &words)?;
-        Ok(Words {
-            lineage,
-            placer,
-            buckets,
-            count: 0,
-        })
-    }
-
+impl<N: Naming, P: Placer + Drop> Words<N, P> {
     /// A pass that has seen all images.
-    pub fn pass(&mut self) -> Result<Pass<P>, OutOfMemory>
+    pub fn pass(&mut self) -> Result<Pass<N, P>, OutOfMemory>
         ensures same { self.new ≡ self.old }
-        ensures pass { IfOk result (λ p. (p.images ≡ self.old.images) × (p.met ≡ true) × (p.placer ≡ self.old.placer) × (p.buckets ≡ self.old.buckets) × (p.name ≡ self.old.name)) }
+        ensures pass { IfOk result (λ p. (p.images ≡ self.old.images) × (p.met ≡ true) × (p.placer ≡ self.old.placer) × (p.buckets ≡ self.old.buckets)) }
     {
         let member = self.lineage.member()?;
         Ok(Pass {
@@ -64,11 +51,12 @@ impl<P: Placer + Drop> Words<P> {
             placer: self.placer,
             buckets: self.buckets,
             met: true,
+            name: PhantomData,
         })
     }
 }
 
-impl<P: Placer + Drop> Mirror for Words<P> {
+impl<N: Naming, P: Placer + Drop> Mirror for Words<N, P> {
     ghost use Rattle.std.specs.Prelude.{Some};
 
     ghost images = { λ w. Some w.images };
@@ -84,7 +72,7 @@ impl<P: Placer + Drop> Mirror for Words<P> {
         ensures images { Some self.new.images ≡ Some (self.old.images ++ written (last_image self.old.images) writes.now stash ∷ []) }
         ensures placing { P.placing self.new.placer ≡ P.placing self.old.placer }
         ensures versions { Changes IsCommitted (stripes_for writes.now (is_some (count_for (length writes.now) (last_image self.old.images).stash stash))) self.old.versions self.new.versions }
-        ensures same { (self.new.placer ≡ self.old.placer) × (self.new.buckets ≡ self.old.buckets) × (self.new.name ≡ self.old.name) }
+        ensures same { (self.new.placer ≡ self.old.placer) × (self.new.buckets ≡ self.old.buckets) }
     {
         let change = Change::of(writes, self.count, stash);
         self.lineage.commit(change.stripes(), change.writes());
@@ -99,7 +87,7 @@ impl<P: Placer + Drop> Mirror for Words<P> {
         ensures refused { OnErr result (Some self.new.images ≡ Some self.old.images) }
         ensures kept { OnErr result (self.new ≡ self.old) }
         ensures placing { P.placing self.new.placer ≡ P.placing self.old.placer }
-        ensures same { (self.new.placer ≡ self.old.placer) × (self.new.name ≡ self.old.name) }
+        ensures same { self.new.placer ≡ self.old.placer }
     {
         let alloc = *self.lineage.retired.allocator();
         let words = filled(alloc.clone()?, slots, stash)?;
@@ -111,5 +99,21 @@ impl<P: Placer + Drop> Mirror for Words<P> {
         self.buckets = 2 * self.buckets;
         self.count = stash;
         Ok(())
+    }
+}
+
+impl<N: Naming, P: Placer + Drop> Watch for Words<N, P> {
+    type Watcher = Pass<N, P>;
+
+    ghost seen = { λ p. p.images };
+
+    ghost met = { λ p. p.met };
+
+    fn watch(&mut self) -> Result<Pass<N, P>, OutOfMemory> {
+        self.pass()
+    }
+
+    fn meet(&mut self, pass: &mut Pass<N, P>) -> Result<(), OutOfMemory> {
+        pass.meet(self)
     }
 }

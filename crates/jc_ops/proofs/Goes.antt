@@ -1,25 +1,25 @@
 -- A step that goes on over what its key's expired row left.
-use Rattle.std.proofs.Common.{◌≡◌, ℕ, ◌<◌, ◌≤◌, arith, Bool, false, List, [], refl, sym, ◌∙◌, ap, subst}
+use Rattle.std.proofs.Common.{◌≡◌, ℕ, ◌<◌, ◌≤◌, ◌+◌, arith, Bool, true, false, if◌then◌else◌, List, [], refl, sym, ◌∙◌, ap, subst}
 use Rattle.std.specs.Prelude.{Option}
 use Rattle.jc_model.specs.declared.call.Answer.{Answer}
 use Rattle.jc_model.specs.declared.call.KeyCall.{KeyCall}
 use Rattle.jc_model.specs.declared.call.Op.{Op}
 use Rattle.jc_model.specs.declared.call.Op.TheVariants as op
-use Rattle.jc_model.specs.declared.call.Verdict.{Verdict}
 use Rattle.jc_model.specs.declared.config.CacheConfig.{CacheConfig}
+use Rattle.jc_model.specs.declared.table.Change.TheVariants.{Put}
 use Rattle.jc_model.specs.Changes.{Progress, find_row, purge}
 use Rattle.jc_model.specs.Run.{resume}
 use Rattle.jc_model.specs.Step.{step}
 use Rattle.jc_model.specs.Sound.{WaitsAt}
 use Rattle.jc_model.specs.Suspended.{KeyWait, key_run}
 use Rattle.jc_model.proofs.Everywhere.{at_each-answered}
-use Rattle.jc_model.proofs.Purge.{purged_row}
+use Rattle.jc_model.proofs.Purge.{purged_row, purge-again, step-purged}
 use Rattle.jc_model.proofs.Waits.{step-waits}
+use Rattle.jc_state.specs.Noted.{Noted, HasPlaces}
 use Rattle.jc_ops.specs.Stepped.{IsWaiting, waits_first, invoked}
 use Rattle.jc_ops.specs.declared.supply.Supply.{Supply}
-use Rattle.jc_ops.specs.Given.{loaded_in}
-use Rattle.jc_ops.specs.Lines.{is_invoke}
-use Rattle.jc_ops.specs.Supply.{Covers, CoversAnswer, HasRoom, HasRoomBy, HasRoomAt}
+use Rattle.jc_ops.specs.Lines.{is_invoke, told_of, told_on, most_told}
+use Rattle.jc_ops.specs.Supply.{Covers, CoversAnswer, HasRoom, adds, adds_at}
 
 -- while a step waits, its key's expired row is gone
 pub waits_purged : (c : CacheConfig) (p : Progress) (w : KeyWait) → IsWaiting c p w → purge c w.now w.call.key p ≡ p
@@ -27,7 +27,7 @@ waits_purged c p w h =
     let at : WaitsAt (purge c w.now w.call.key p) (key_run c p w) = at_each-answered _ _ (step c w.now w.call p) w.given (step-waits c w.now w.call p) in
     sym (subst (WaitsAt (purge c w.now w.call.key p)) h.run_is at).0
 
--- A supply serves on as its key's expired row goes, and the table's room stays.
+-- A supply serves on as its key's expired row goes, and so do the room and the places.
 
 pub covers_purged : (c : CacheConfig) (now : ℕ) (call : KeyCall) (p p' : Progress) (w : Bool) (s : Supply) → p' ≡ purge c now call.key p → Covers w c call p.state.ring s → Covers w c call p'.state.ring s
 covers_purged c now call p p' w s e cov = record {
@@ -47,39 +47,65 @@ answer_serves c w a p p' s e cov = record {
   judged = cov.judged;
 }
 
-pub has_room : (writer : Bool) (o : Op) (n m : ℕ) → n ≤ m → HasRoom writer o n → HasRoom writer o m
-has_room writer o n m le room = λ none adds. let r : 0 < n = room none adds in omega (arith, r, le)
+has_room : (adding : Bool) (n m : ℕ) → n ≤ m → HasRoom adding n → HasRoom adding m
+has_room adding n m le room adds = let r : 0 < n = room adds in omega (arith, r, le)
 
-pub has_room_by : (writer : Bool) (loaded : Option (List ℕ)) (v : Verdict) (n m : ℕ) → n ≤ m → HasRoomBy writer loaded v n → HasRoomBy writer loaded v m
-has_room_by writer loaded v n m le room = λ stores. let r : 0 < n = room stores in omega (arith, r, le)
+-- places for what the step may tell, once the row is gone, by whether the key still has one
+pub places_left : (c f : CacheConfig) (o : Op) (was there : Bool) (s t : Noted) → f ≡ c → there ≡ was → s.spare ≤ t.spare + (if there then 0 else 1) → HasPlaces c (most_told was o) s → HasPlaces f (told_on there o) t
+places_left c f o was there s t same still fewer places = subst (λ (d : CacheConfig). HasPlaces d (told_on there o) t) (sym same)
+    (go there fewer (subst (λ (b : Bool). HasPlaces c (most_told b o) s) (sym still) places))
+  where
+    go : (b : Bool) → s.spare ≤ t.spare + (if b then 0 else 1) → HasPlaces c (most_told b o) s → HasPlaces c (told_on b o) t
+    go true fewer places = λ listens. let r : told_on true o ≤ s.spare = places listens in omega (arith, r, fewer)
+    go false fewer places = λ listens. let r : told_on false o + 1 ≤ s.spare = places listens in omega (arith, r, fewer)
 
-pub has_room_at : (c : CacheConfig) (w : KeyWait) (a : Answer) (n m : ℕ) → n ≤ m → HasRoomAt c w a n → HasRoomAt c w a m
-has_room_at c w a n m le room = record {
-  written = λ yes none. has_room false w.call.op n m le (room.written yes none);
-  agreed = λ yes v is. has_room_by false (loaded_in w.given) v n m le (room.agreed yes v is);
-  loaded = λ get v is. let r : 0 < n = room.loaded get v is in omega (arith, r, le);
-  judged = λ v is. has_room_by c.writer (loaded_in w.given) v n m le (room.judged v is);
-}
+pub invoke_told : (there : Bool) (processor : ℕ) (argument : List ℕ) → told_on there (op.Invoke processor argument) ≡ told_of there Put
+invoke_told true processor argument = refl
+invoke_told false processor argument = refl
+
+pub told_in_all : (o : Op) (was there : Bool) (s t u : ℕ) → there ≡ was → s ≤ t + (if there then 0 else 1) → t ≤ u + told_on there o → s ≤ u + most_told was o
+told_in_all o was there s t u still first rest = subst (λ (b : Bool). s ≤ u + most_told b o) still (go there first rest)
+  where
+    go : (b : Bool) → s ≤ t + (if b then 0 else 1) → t ≤ u + told_on b o → s ≤ u + most_told b o
+    go true first rest = omega (arith, first, rest)
+    go false first rest = omega (arith, first, rest)
+
+-- A step that begins, once its key's expired row is gone.
+
+pub record Begins (c f : CacheConfig) (now : ℕ) (call : KeyCall) (p p' : Progress) (there : Bool) (m : ℕ) (s : Supply) : Type 0 where
+  pub purged : purge f now call.key p' ≡ p'
+  pub same : step f now call p' ≡ step c now call p
+  pub covered : Covers f.writer f call p'.state.ring s
+  pub room : HasRoom (adds there f.writer call.op) m
+
+pub begins : (c f : CacheConfig) (now : ℕ) (call : KeyCall) (p p' : Progress) (was there : Bool) (n m : ℕ) (s : Supply) → f ≡ c → there ≡ was → p' ≡ purge c now call.key p → n ≤ m + 0 →
+    Covers c.writer c call p.state.ring s → HasRoom (adds was c.writer call.op) n → Begins c f now call p p' there m s
+begins c f now call p p' was there n m s same still is le covered room = subst (λ (d : CacheConfig). Begins c d now call p p' there m s) (sym same) (record {
+  purged = ap (purge c now call.key) is ∙ (purge-again c now call.key p ∙ sym is);
+  same = ap (step c now call) is ∙ step-purged c now call p;
+  covered = covers_purged c now call p p' c.writer s is covered;
+  room = has_room (adds there c.writer call.op) n m (omega (arith, le)) (subst (λ (b : Bool). HasRoom (adds b c.writer call.op) n) (sym still) room);
+})
 
 -- A step that waits, once its key's row was looked for anew: nothing has changed but the room, which has grown.
 
-pub record GoesOn (c : CacheConfig) (p p' : Progress) (w v : KeyWait) (a : Answer) (m : ℕ) (s : Supply) : Type 0 where
-  pub waits : IsWaiting c p' v
-  pub same : resume (key_run c p' v) a ≡ resume (key_run c p w) a
-  pub covered : CoversAnswer c v a p'.state.ring s
-  pub room : HasRoomAt c v a m
+pub record GoesOn (c f : CacheConfig) (p p' : Progress) (w v : KeyWait) (a : Answer) (there : Bool) (m : ℕ) (s : Supply) : Type 0 where
+  pub waits : IsWaiting f p' v
+  pub same : resume (key_run f p' v) a ≡ resume (key_run c p w) a
+  pub covered : CoversAnswer f v a p'.state.ring s
+  pub room : HasRoom (adds_at there f v a) m
 
-pub goes_on : (c : CacheConfig) (p p' : Progress) (w v : KeyWait) (a : Answer) (n m : ℕ) (s : Supply) → v ≡ w → p' ≡ purge c v.now v.call.key p → n ≤ m →
-    IsWaiting c p w → CoversAnswer c w a p.state.ring s → HasRoomAt c w a n → GoesOn c p p' w v a m s
-goes_on c p p' w v a n m s is purged le waits covered room =
+pub goes_on : (c f : CacheConfig) (p p' : Progress) (w v : KeyWait) (a : Answer) (was there : Bool) (n m : ℕ) (s : Supply) → f ≡ c → v ≡ w → there ≡ was → p' ≡ purge c v.now v.call.key p → n ≤ m + 0 →
+    IsWaiting c p w → CoversAnswer c w a p.state.ring s → HasRoom (adds_at was c w a) n → GoesOn c f p p' w v a there m s
+goes_on c f p p' w v a was there n m s same is still purged le waits covered room =
     let waits_v : IsWaiting c p v = subst (λ (t : KeyWait). IsWaiting c p t) (sym is) waits in
-    let there : p' ≡ p = purged ∙ waits_purged c p v waits_v in
-    record {
-      waits = subst (λ (q : Progress). IsWaiting c q v) (sym there) waits_v;
-      same = ap (λ (q : Progress). resume (key_run c q v) a) there ∙ ap (λ (t : KeyWait). resume (key_run c p t) a) is;
+    let here : p' ≡ p = purged ∙ waits_purged c p v waits_v in
+    subst (λ (d : CacheConfig). GoesOn c d p p' w v a there m s) (sym same) (record {
+      waits = subst (λ (q : Progress). IsWaiting c q v) (sym here) waits_v;
+      same = ap (λ (q : Progress). resume (key_run c q v) a) here ∙ ap (λ (t : KeyWait). resume (key_run c p t) a) is;
       covered = answer_serves c v a p p' s purged (subst (λ (t : KeyWait). CoversAnswer c t a p.state.ring s) (sym is) covered);
-      room = has_room_at c v a n m le (subst (λ (t : KeyWait). HasRoomAt c t a n) (sym is) room);
-    }
+      room = has_room (adds_at there c v a) n m (omega (arith, le)) (subst (λ (t : KeyWait). HasRoom (adds_at there c t a) n) (sym is) (subst (λ (b : Bool). HasRoom (adds_at b c w a) n) (sym still) room));
+    })
 
 -- what the code has of such a step
 

@@ -18,13 +18,13 @@ use Rattle.jc_model.specs.State.{Item, row_of}
 use Rattle.jc_model.specs.Changes.{Progress, find_row, purge, hit, miss}
 use Rattle.jc_model.specs.Run.{Run, ended, waiting, resume, is_written, loaded_by, verdict_of}
 use Rattle.jc_model.specs.Step.{step, on_row}
-use Rattle.jc_model.specs.Suspended.{key_run}
+use Rattle.jc_model.specs.Suspended.{KeyWait, key_run}
 use Rattle.jc_state.specs.Kept.{Kept, items_of, FoundRow}
 use Rattle.jc_ops.specs.Given.{given_by, value_in, loaded_in, verdict_in}
 use Rattle.jc_ops.specs.Lines.{written_by, asks_writer, loads_for}
 use Rattle.jc_ops.specs.declared.supply.Supply.{Supply}
 use Rattle.jc_ops.specs.Stepped.{StepWaits, IsWaiting, invoked}
-use Rattle.jc_ops.specs.Supply.{CoversAnswer, CoversVerdict, HasRoomBy, HasRoomAt}
+use Rattle.jc_ops.specs.Supply.{CoversAnswer, CoversVerdict, HasRoom, adds, adds_by, adds_at}
 use Rattle.jc_ops.specs.Verdicts.{stores_by, hands_by, verdict_line, awaits_load, act_on, done_on, processed_on, loaded_on, agreed_on}
 use Rattle.jc_model.specs.Table.{decided}
 use Rattle.jc_model.specs.declared.table.Line.{Line}
@@ -52,6 +52,14 @@ loaded_is Written o e = cc
 loaded_is WriteFailed o e = cc
 loaded_is (Processed verdict) o e = cc
 loaded_is Told o e = cc
+
+pub written_is : (a : Answer) → is_written a ≡ true → a ≡ Written
+written_is (Loaded o) e = cc
+written_is LoadFailed e = cc
+written_is Written e = refl
+written_is WriteFailed e = cc
+written_is (Processed verdict) e = cc
+written_is Told e = cc
 
 pub verdict_is : (a : Answer) (v : Verdict) → verdict_of a ≡ Some v → a ≡ Processed (Ok v)
 verdict_is (Loaded o) v e = cc
@@ -92,11 +100,20 @@ module _ (c : CacheConfig) (now : ℕ) (k : List ℕ) (processor : ℕ) (argumen
   pub covers_judged : (items : List Item) (s : Supply) (v : Verdict) → CoversAnswer c (invoked now k processor argument (given_by loaded given)) a items s → verdict_of a ≡ Some v → CoversVerdict c.writer c (value_in loaded) v s
   covers_judged items s v cov is = subst (λ l. CoversVerdict c.writer c l v s) (loaded_given loaded given) (cov.judged v is)
 
-  pub room_agreed : (n : ℕ) (v : Verdict) → given ≡ Some v → HasRoomAt c (invoked now k processor argument (given_by loaded given)) a n → is_written a ≡ true → HasRoomBy false (value_in loaded) v n
-  room_agreed n v e room written = subst (λ (l : Option (List ℕ)). HasRoomBy false l v n) (loaded_given loaded given) (room.agreed written v (verdict_given loaded given ∙ e))
+  abbrev waiting_step : KeyWait
+  waiting_step = invoked now k processor argument (given_by loaded given)
 
-  pub room_judged : (n : ℕ) (v : Verdict) → HasRoomAt c (invoked now k processor argument (given_by loaded given)) a n → verdict_of a ≡ Some v → HasRoomBy c.writer (value_in loaded) v n
-  room_judged n v room is = subst (λ (l : Option (List ℕ)). HasRoomBy c.writer l v n) (loaded_given loaded given) (room.judged v is)
+  pub room_agreed : (there : Bool) (n : ℕ) (v : Verdict) → given ≡ Some v → HasRoom (adds_at there c waiting_step a) n → is_written a ≡ true → HasRoom (adds_by there false (value_in loaded) v) n
+  room_agreed there n v e room written = subst (λ (b : Bool). HasRoom b n)
+      (ap (adds_at there c waiting_step) (written_is a written)
+      ∙ (ap (λ (o : Option Verdict). elim o [ None ↦ adds there false waiting_step.call.op | Some u ↦ adds_by there false (loaded_in waiting_step.given) u ]) (verdict_given loaded given ∙ e)
+      ∙ ap (λ (l : Option (List ℕ)). adds_by there false l v) (loaded_given loaded given)))
+      room
+
+  pub room_judged : (there : Bool) (n : ℕ) (v : Verdict) → HasRoom (adds_at there c waiting_step a) n → verdict_of a ≡ Some v → HasRoom (adds_by there c.writer (value_in loaded) v) n
+  room_judged there n v room is = subst (λ (b : Bool). HasRoom b n)
+      (ap (adds_at there c waiting_step) (verdict_is a v is) ∙ ap (λ (l : Option (List ℕ)). adds_by there c.writer l v) (loaded_given loaded given))
+      room
 
 module _ (c : CacheConfig) (now : ℕ) (k : List ℕ) where
   -- A verdict asks the writer, or ends at once.

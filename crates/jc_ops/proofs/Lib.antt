@@ -4,3 +4,4 @@ pub mod Goes
 mod Answered
 mod Judged
 mod Made
+pub mod Told

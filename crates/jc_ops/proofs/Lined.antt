@@ -1,5 +1,5 @@
 -- A line of the table: what it asks first, and what it ends with.
-use Rattle.std.proofs.Common.{◌≡◌, ℕ, Bool, true, false, not, ◌&&◌, ◌||◌, if◌then◌else◌, List, refl, sym, ◌∙◌, ap, subst}
+use Rattle.std.proofs.Common.{◌≡◌, ◌≤◌, ◌+◌, arith, ℕ, Bool, true, false, not, ◌&&◌, ◌||◌, if◌then◌else◌, List, refl, sym, ◌∙◌, ap, subst}
 use Rattle.std.specs.Prelude.{Option, Some, None, is_some}
 use Rattle.std.specs.Str.{bytes_eq}
 use Rattle.jc_model.specs.declared.call.Answer.{Answer}
@@ -22,7 +22,8 @@ use Rattle.jc_model.specs.Step.{counted, changed, reply_by, live_in, ended_by, b
 use Rattle.jc_model.specs.Table.{live_line, absent_line, otherwise, expected_by, value_of, invoked_by}
 use Rattle.jc_ops.specs.Heard.{heard, agreed}
 use Rattle.jc_ops.specs.Verdicts.{processed_on}
-use Rattle.jc_ops.specs.Lines.{is_shown, stores, of_expected, line_at, is_invoke, shows, shows_loaded, asks_hook, asks_processor, loads_for, first_request, written_by}
+use Rattle.jc_ops.specs.Lines.{is_shown, stores, of_expected, line_at, is_invoke, shows, shows_loaded, told_of, told_on, asks_hook, asks_processor, loads_for, first_request, written_by}
+use Rattle.jc_ops.proofs.Told.{told_least}
 use Rattle.jc_ops.proofs.Asked.{writer_none, writer_some, writer_heard, loader_none, loader_some, loader_heard, invoke_asks, invoke_loads, load_run}
 
 -- What fits a line of an operation, by whether the key has a live row.
@@ -110,6 +111,30 @@ shows_at o live plain h = ap (λ b. if b then false else is_shown (live_line o).
         choose true h = h
         choose false h = cc
 
+there_same : (row : Option Item) → is_some (live_in row) ≡ is_some row
+there_same None = refl
+there_same (Some x) = refl
+
+-- A line tells no more than its operation may.
+
+told_line : (o : Op) (live : Option (List ℕ)) → told_of (is_some live) (line_at o live).change ≤ told_on (is_some live) o
+told_line o None = told_least false (absent_line o).asks (absent_line o).change
+told_line o (Some live) = go (expected_by o)
+  where
+    go : (e : Option (List ℕ)) → told_of true (of_expected e live (live_line o)).change ≤ told_on true o
+    go None = told_least true (live_line o).asks (live_line o).change
+    go (Some expected) = choose (bytes_eq live expected)
+      where
+        choose : (b : Bool) → told_of true (if b then live_line o else otherwise).change ≤ told_on true o
+        choose true = told_least true (live_line o).asks (live_line o).change
+        choose false = omega arith
+
+pub told_fits : (o : Op) (row : Option Item) (there : Bool) (l : Line) (s t : ℕ) → is_some row ≡ there → l ≡ line_at o (live_in row) → s ≤ t + told_of there l.change → s ≤ t + told_on there o
+told_fits o row there l s t is line told =
+    let at : is_some (live_in row) ≡ there = there_same row ∙ is in
+    let least : told_of there l.change ≤ told_on there o = subst (λ (b : Bool). told_of b l.change ≤ told_on b o) at (subst (λ (m : Line). told_of (is_some (live_in row)) m.change ≤ told_on (is_some (live_in row)) o) (sym line) (told_line o (live_in row))) in
+    omega (arith, told, least)
+
 -- An end looks at the stored value where it stores, and at the shown one where it shows it.
 
 module _ (c : CacheConfig) (now : ℕ) (k : List ℕ) where
@@ -148,10 +173,6 @@ module _ (c : CacheConfig) (now : ℕ) (k : List ℕ) where
       by : (row : Option Item) → on_row c now (record { key = k; op = o }) row p ≡ carried c now k o (line_at o (live_in row)) row p
       by None = refl
       by (Some x) = of (expected_by o) x
-
-  there_same : (row : Option Item) → is_some (live_in row) ≡ is_some row
-  there_same None = refl
-  there_same (Some x) = refl
 
   -- what is shown of a row that is not there
   absent_shown : (row : Option Item) (shown : Option (List ℕ)) (b : Bool) → (not (is_some row && b)) ≡ true → b ≡ true → shown ≡ live_in row → None ≡ shown

@@ -1,6 +1,6 @@
 -- A supply that is made covers the step at its answer.
-use Rattle.std.proofs.Common.{◌≡◌, ℕ, ◌<◌, Bool, true, false, List, refl, sym, ◌∙◌, ap, subst}
-use Rattle.std.specs.Prelude.{Option, Some, None, is_some, Result, Ok, Err, IfOk, OnOk}
+use Rattle.std.proofs.Common.{◌≡◌, ℕ, Bool, true, false, List, refl, sym, subst}
+use Rattle.std.specs.Prelude.{Option, Some, None, Result, Ok, Err, IfOk}
 use Rattle.jc_model.specs.declared.call.Answer.{Answer}
 use Rattle.jc_model.specs.declared.call.Answer.TheVariants.{Loaded, LoadFailed, Written, WriteFailed, Processed, Told}
 use Rattle.jc_model.specs.declared.call.KeyCall.{KeyCall}
@@ -13,8 +13,7 @@ use Rattle.jc_model.specs.Suspended.{KeyWait}
 use Rattle.jc_ops.specs.declared.supply.Supply.{Supply}
 use Rattle.jc_state.specs.Noted.{StoredIsTold}
 use Rattle.jc_ops.specs.Given.{loaded_in, verdict_in}
-use Rattle.jc_ops.specs.Lines.{is_invoke}
-use Rattle.jc_ops.specs.Supply.{Covers, CoversLoaded, CoversVerdict, CoversAnswer, HasRoom, HasRoomBy, HasRoomAt}
+use Rattle.jc_ops.specs.Supply.{Covers, CoversLoaded, CoversVerdict, CoversAnswer}
 
 no_value : {A : Type 0} (P : Type 0) (o : Option A) (x : A) → o ≡ None → o ≡ Some x → P
 no_value P o x none some = cc
@@ -50,14 +49,6 @@ module _ (c : CacheConfig) (w : KeyWait) where
     written = λ t. not_true (is_written a) idle.written t;
     agreed = λ t. not_true (is_written a) idle.written t;
     loaded = λ o is. no_value _ (loaded_by a) o idle.loaded is;
-    judged = λ v is. no_value _ (verdict_of a) v idle.judged is;
-  }
-
-  pub room_idle : (n : ℕ) (a : Answer) → IsIdle a → HasRoomAt c w a n
-  room_idle n a idle = record {
-    written = λ t. not_true (is_written a) idle.written t;
-    agreed = λ t. not_true (is_written a) idle.written t;
-    loaded = λ get v is. no_value _ (loaded_by a) (Some v) idle.loaded is;
     judged = λ v is. no_value _ (verdict_of a) v idle.judged is;
   }
 
@@ -99,7 +90,7 @@ module _ (c : CacheConfig) (w : KeyWait) where
 
   -- where memory sufficed
 
-  module _ {E : Type 0} (items : List Item) (n : ℕ) (a : Answer) where
+  module _ {E : Type 0} (items : List Item) (a : Answer) where
     pub made_written : (call : KeyCall) (r : Result Supply E) → a ≡ Written → call ≡ w.call → verdict_in w.given ≡ None → IfOk r (λ s. Covers false c call items s) → IfOk r (λ s. CoversAnswer c w a items s)
     made_written call (Ok s) is same none h =
         subst (λ (b : Answer). CoversAnswer c w b items s) (sym is) (covers_written items s none (subst (λ (k : KeyCall). Covers false c k items s) same h))
@@ -119,39 +110,3 @@ module _ (c : CacheConfig) (w : KeyWait) where
     made_judged v loaded (Ok s) is same h =
         subst (λ (b : Answer). CoversAnswer c w b items s) (sym is) (covers_judged items s v (subst (λ (l : Option (List ℕ)). CoversVerdict c.writer c l v s) same h))
     made_judged v loaded (Err e) is same h = h
-
-    pub room_written : (call : KeyCall) (r : Result Supply E) → a ≡ Written → call ≡ w.call → verdict_in w.given ≡ None → OnOk r (HasRoom false call.op n) → OnOk r (HasRoomAt c w a n)
-    room_written call (Ok s) is same none h = subst (λ (b : Answer). HasRoomAt c w b n) (sym is) (record {
-      written = λ t u. subst (λ (k : KeyCall). HasRoom false k.op n) same h;
-      agreed = λ t v some. no_value _ (verdict_in w.given) v none some;
-      loaded = λ get v q. cc;
-      judged = λ v q. cc;
-    })
-    room_written call (Err e) is same none h = h
-
-    pub room_agreed : (v : Verdict) (loaded : Option (List ℕ)) (r : Result Supply E) → a ≡ Written → loaded ≡ loaded_in w.given → verdict_in w.given ≡ Some v → OnOk r (HasRoomBy false loaded v n) → OnOk r (HasRoomAt c w a n)
-    room_agreed v loaded (Ok s) is same some h = subst (λ (b : Answer). HasRoomAt c w b n) (sym is) (record {
-      written = λ t none. no_value _ (verdict_in w.given) v none some;
-      agreed = λ t u q. subst (λ (x : Verdict). HasRoomBy false (loaded_in w.given) x n) (one_value (verdict_in w.given) v u some q) (subst (λ (l : Option (List ℕ)). HasRoomBy false l v n) same h);
-      loaded = λ get v q. cc;
-      judged = λ v q. cc;
-    })
-    room_agreed v loaded (Err e) is same some h = h
-
-    pub room_loaded : (call : KeyCall) (o loaded : Option (List ℕ)) (r : Result Supply E) → a ≡ Loaded o → call ≡ w.call → loaded ≡ o → OnOk r (is_invoke call.op ≡ false → is_some loaded ≡ true → 0 < n) → OnOk r (HasRoomAt c w a n)
-    room_loaded call o loaded (Ok s) is same one h = subst (λ (b : Answer). HasRoomAt c w b n) (sym is) (record {
-      written = λ t none. cc;
-      agreed = λ t u q. cc;
-      loaded = λ get v q. let some : o ≡ Some v = cc in h (ap (λ (k : KeyCall). is_invoke k.op) same ∙ get) (ap is_some one ∙ ap is_some some);
-      judged = λ v q. cc;
-    })
-    room_loaded call o loaded (Err e) is same one h = h
-
-    pub room_judged : (v : Verdict) (loaded : Option (List ℕ)) (r : Result Supply E) → a ≡ Processed (Ok v) → loaded ≡ loaded_in w.given → OnOk r (HasRoomBy c.writer loaded v n) → OnOk r (HasRoomAt c w a n)
-    room_judged v loaded (Ok s) is same h = subst (λ (b : Answer). HasRoomAt c w b n) (sym is) (record {
-      written = λ t none. cc;
-      agreed = λ t u q. cc;
-      loaded = λ get u q. cc;
-      judged = λ u q. let one : v ≡ u = cc in subst (λ (x : Verdict). HasRoomBy c.writer (loaded_in w.given) x n) one (subst (λ (l : Option (List ℕ)). HasRoomBy c.writer l v n) same h);
-    })
-    room_judged v loaded (Err e) is same h = h

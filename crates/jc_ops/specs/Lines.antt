@@ -1,5 +1,5 @@
 -- What a step asks and does by its line of the case table.
-use Rattle.std.specs.Prelude.{ℕ, Bool, true, false, if◌then◌else◌, slice_index_or, List, Option, Some, None, is_some}
+use Rattle.std.specs.Prelude.{◌+◌, ℕ, Bool, true, false, if◌then◌else◌, slice_index_or, List, Option, Some, None, is_some}
 use Rattle.std.specs.Str.{bytes_eq}
 use Rattle.jc_model.specs.declared.call.Answer.{Answer}
 use Rattle.jc_model.specs.declared.call.Answer.TheVariants.{Loaded}
@@ -10,7 +10,7 @@ use Rattle.jc_model.specs.declared.config.CacheConfig.{CacheConfig}
 use Rattle.jc_model.specs.declared.table.Ask.{Ask}
 use Rattle.jc_model.specs.declared.table.Ask.TheVariants as ask
 use Rattle.jc_model.specs.declared.table.Change.{Change}
-use Rattle.jc_model.specs.declared.table.Change.TheVariants.{Store, Put}
+use Rattle.jc_model.specs.declared.table.Change.TheVariants.{Keep, Access, Store, Put, Remove}
 use Rattle.jc_model.specs.declared.table.Replied.{Replied}
 use Rattle.jc_model.specs.declared.table.Replied.TheVariants.{Shown}
 use Rattle.jc_model.specs.declared.table.Line.{Line}
@@ -58,6 +58,29 @@ creates_by _ change = stores change
 
 abbrev pub creates : Op → Bool
 creates o = creates_by (absent_line o).asks (absent_line o).change
+
+-- How many notices a change may tell: of a live row one, and of a new one its victim's too.
+abbrev pub told_of : Bool → Change → ℕ
+told_of there Keep = 0
+told_of there Access = 0
+told_of there Store = if there then 1 else 2
+told_of there Put = if there then 1 else 2
+told_of there Remove = if there then 1 else 0
+
+-- a processor may decide for any change
+abbrev pub told_by : Bool → Ask → Change → ℕ
+told_by there ask.Process change = told_of there Put
+told_by there _ change = told_of there change
+
+-- an operation's, where the key has a live row, and where it has none
+abbrev pub told_on : Bool → Op → ℕ
+told_on true o = told_by true (live_line o).asks (live_line o).change
+told_on false o = told_by false (absent_line o).asks (absent_line o).change
+
+-- and the most that its step may tell: first its key's expired row, if it has one
+abbrev pub most_told : Bool → Op → ℕ
+most_told true o = told_on true o
+most_told false o = told_on false o + 1
 
 -- what its first hook is given: a value for the writer, or the processor's argument
 abbrev pub handed : Bool → Op → Option (List ℕ)

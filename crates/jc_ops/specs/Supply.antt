@@ -1,6 +1,7 @@
 -- What a step is given before any change.
-use Rattle.std.specs.Prelude.{◌≡◌, ℕ, ◌<◌, Bool, true, false, if◌then◌else◌, List, Option, Some, None, is_some, option_map}
+use Rattle.std.specs.Prelude.{◌≡◌, ℕ, ◌<◌, Bool, true, false, if◌then◌else◌, List, Option, Some, None, Ok, is_some, option_map}
 use Rattle.jc_model.specs.declared.call.Answer.{Answer}
+use Rattle.jc_model.specs.declared.call.Answer.TheVariants.{Loaded, Written, Processed}
 use Rattle.jc_model.specs.declared.call.KeyCall.{KeyCall}
 use Rattle.jc_model.specs.declared.call.Op.{Op}
 use Rattle.jc_model.specs.declared.call.Verdict.{Verdict}
@@ -47,17 +48,23 @@ pub record CoversAnswer (c : CacheConfig) (w : KeyWait) (a : Answer) (items : Li
   pub loaded : (o : Option (List ℕ)) → loaded_by a ≡ Some o → CoversLoaded c w.call.op o s
   pub judged : (v : Verdict) → verdict_of a ≡ Some v → CoversVerdict c.writer c (loaded_in w.given) v s
 
--- The table has room where a step may add a row: as it begins ..
+-- Whether a step adds a row to the table, by whether its key has a live row: as it begins ..
+abbrev pub adds : Bool → Bool → Op → Bool
+adds there writer o = if there then false else (if writer then false else creates o)
 
-abbrev pub HasRoom : Bool → Op → ℕ → Type 0
-HasRoom writer o spare = writer ≡ false → creates o ≡ true → 0 < spare
+abbrev pub adds_loaded : Bool → Op → Option (List ℕ) → Bool
+adds_loaded there o loaded = if there then false else (if is_invoke o then false else is_some loaded)
 
-abbrev pub HasRoomBy : Bool → Option (List ℕ) → Verdict → ℕ → Type 0
-HasRoomBy writer loaded v spare = is_some (stores_by writer loaded v.action) ≡ true → 0 < spare
+abbrev pub adds_by : Bool → Bool → Option (List ℕ) → Verdict → Bool
+adds_by there writer loaded v = if there then false else is_some (stores_by writer loaded v.action)
 
 -- .. and at this answer
-pub record HasRoomAt (c : CacheConfig) (w : KeyWait) (a : Answer) (spare : ℕ) : Type 0 where
-  pub written : is_written a ≡ true → verdict_in w.given ≡ None → HasRoom false w.call.op spare
-  pub agreed : is_written a ≡ true → (v : Verdict) → verdict_in w.given ≡ Some v → HasRoomBy false (loaded_in w.given) v spare
-  pub loaded : is_invoke w.call.op ≡ false → (v : List ℕ) → loaded_by a ≡ Some (Some v) → 0 < spare
-  pub judged : (v : Verdict) → verdict_of a ≡ Some v → HasRoomBy c.writer (loaded_in w.given) v spare
+abbrev pub adds_at : Bool → CacheConfig → KeyWait → Answer → Bool
+adds_at there c w Written = elim (verdict_in w.given) [ None ↦ adds there false w.call.op | Some v ↦ adds_by there false (loaded_in w.given) v ]
+adds_at there c w (Loaded loaded) = adds_loaded there w.call.op loaded
+adds_at there c w (Processed (Ok v)) = adds_by there c.writer (loaded_in w.given) v
+adds_at there c w _ = false
+
+-- the table has room where a row is added
+abbrev pub HasRoom : Bool → ℕ → Type 0
+HasRoom adding spare = adding ≡ true → 0 < spare

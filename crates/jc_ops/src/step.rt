@@ -12,9 +12,10 @@ ghost use Rattle.jc_model.specs.Step.{step as step_of};
 ghost use Rattle.jc_model.specs.Run.{resume};
 ghost use Rattle.jc_model.specs.Suspended.{key_run};
 ghost use Rattle.jc_state.specs.Noted.{HasPlaces};
-ghost use Rattle.jc_state.specs.Kept.{items_of, progress_of, IsTied, Stays, FoundRow};
+ghost use Rattle.jc_state.specs.Kept.{items_of, progress_of, has_live, IsTied, Stays, FoundRow};
 ghost use Rattle.jc_ops.specs.Given.{loaded_in, verdict_in};
-ghost use Rattle.jc_ops.specs.Supply.{Covers, CoversAnswer, HasRoom, HasRoomAt};
+ghost use Rattle.jc_ops.specs.Supply.{Covers, CoversAnswer, HasRoom, adds, adds_at};
+ghost use Rattle.jc_ops.specs.Lines.{most_told};
 ghost use Rattle.jc_ops.specs.Stepped.{StepsTo, StaysAt, IsWaiting, waits_first};
 
 use crate::step::change::At;
@@ -121,10 +122,10 @@ impl KeyStep {
     ) -> Next
         requires tied { IsTied (R.contents rows.old) state.old }
         requires row { FoundRow call.key state.old row }
-        requires places { HasPlaces state.old.config 3 notices.old }
+        requires places { HasPlaces state.old.config (most_told (has_live now call.key state.old) call.op) notices.old }
         requires covered { Covers state.old.config.writer state.old.config call (items_of state.old.cells) supply }
-        requires room { HasRoom state.old.config.writer call.op (R.spare rows.old) }
-        ensures stays { Stays 1 3 (R.contents rows.old) (R.spare rows.old) state.old notices.old (R.contents rows.new) (R.spare rows.new) state.new notices.new }
+        requires room { HasRoom (adds (has_live now call.key state.old) state.old.config.writer call.op) (R.spare rows.old) }
+        ensures stays { Stays 1 (most_told (has_live now call.key state.old) call.op) (R.contents rows.old) (R.spare rows.old) state.old notices.old (R.contents rows.new) (R.spare rows.new) state.new notices.new }
         ensures next { StepsTo state.old.config (step_of state.old.config now call (progress_of state.old notices.old.told)) result state.new notices.new.told }
         ensures call_stays { StaysAt now call result }
     {
@@ -151,11 +152,11 @@ impl KeyStep {
     ) -> Next
         requires tied { IsTied (R.contents rows.old) state.old }
         requires row { FoundRow self.call.key state.old row }
-        requires places { HasPlaces state.old.config 3 notices.old }
+        requires places { HasPlaces state.old.config (most_told (has_live self.now self.call.key state.old) self.call.op) notices.old }
         requires waits { IsWaiting state.old.config (progress_of state.old notices.old.told) self }
         requires covered { CoversAnswer state.old.config self answer (items_of state.old.cells) supply }
-        requires room { HasRoomAt state.old.config self answer (R.spare rows.old) }
-        ensures stays { Stays 1 3 (R.contents rows.old) (R.spare rows.old) state.old notices.old (R.contents rows.new) (R.spare rows.new) state.new notices.new }
+        requires room { HasRoom (adds_at (has_live self.now self.call.key state.old) state.old.config self answer) (R.spare rows.old) }
+        ensures stays { Stays 1 (most_told (has_live self.now self.call.key state.old) self.call.op) (R.contents rows.old) (R.spare rows.old) state.old notices.old (R.contents rows.new) (R.spare rows.new) state.new notices.new }
         ensures next { StepsTo state.old.config (resume (key_run state.old.config (progress_of state.old notices.old.told) self) answer) result state.new notices.new.told }
         ensures call_stays { StaysAt self.now self.call result }
     {

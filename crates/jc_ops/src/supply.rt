@@ -8,16 +8,16 @@ mod needs;
 ghost use Rattle.std.specs.Prelude.{◌≡◌, ◌<◌, ◌≤◌, ◌+◌, ◌^◌, ℕ, List, true, false, Some, None, is_some, IfOk, OnOk, IsOk, option_map};
 ghost use Rattle.std.specs.FinMap as map;
 ghost use Rattle.jc_model.specs.State.{Item, row_of};
-ghost use Rattle.jc_state.specs.Kept.{items_of, FoundRow};
+ghost use Rattle.jc_state.specs.Kept.{items_of, has_live, FoundRow};
 ghost use Rattle.jc_state.specs.Noted.{HasPlaces};
-ghost use Rattle.jc_ops.specs.Lines.{is_invoke};
-ghost use Rattle.jc_ops.specs.Supply.{Covers, CoversLoaded, CoversVerdict, CoversAnswer, HasRoom, HasRoomBy, HasRoomAt};
+ghost use Rattle.jc_ops.specs.Lines.{most_told};
+ghost use Rattle.jc_ops.specs.Supply.{Covers, CoversLoaded, CoversVerdict, CoversAnswer, HasRoom, adds, adds_at};
 
 use crate::step::KeyStep;
-pub use crate::supply::needs::creates;
 use crate::supply::needs::{
-    handed, handed_by, is_invoke, shows, shows_loaded, stored_by, stored_now,
+    adds, adds_at, handed, handed_by, is_invoke, shows, shows_loaded, stored_by, stored_now,
 };
+pub use crate::supply::needs::{creates, most_notices};
 use jc_model::OutOfMemory;
 use jc_model::call::{Answer, KeyCall, Op, Verdict};
 use jc_model::config::CacheConfig;
@@ -44,11 +44,12 @@ pub struct Supply {
     pub entry: Option<Value>,
 }
 
-/// Room in the table for so many rows more. It is there already where none are wanted, or where the table has it.
+/// Room in the table for so many rows more. Nothing is done where none are wanted, or where the table has it.
 pub fn make_room<R: Rows>(rows: &mut R, more: usize) -> Result<(), OutOfMemory>
     ensures same { R.contents rows.new ≡ R.contents rows.old }
     ensures room { OnOk result (more ≤ R.spare rows.new) }
     ensures kept { R.spare rows.old ≤ R.spare rows.new }
+    ensures there { more ≤ R.spare rows.old → R.spare rows.new ≡ R.spare rows.old }
     ensures none { more ≡ 0 → IsOk result }
     ensures stands { more ≤ R.spare rows.old → map.len (R.contents rows.old) + more < 2 ^ 64 → IsOk result }
 {
@@ -100,6 +101,7 @@ fn value_if<'a, G: Ring>(
     if !wanted {
         return None;
     }
+    // The clauses alone name the key.
     let _key = key.text().len();
     match row {
         None => None,
@@ -142,38 +144,37 @@ impl Supply {
         })
     }
 
-    /// All that such a step may need: its values, the room for its row and the places for its notices.
+    /// All that such a step may need: its values, the places for its notices, and room in the table where it adds a row.
     pub fn for_step<R: Rows, G: Ring>(
         state: &CacheState<G>,
         rows: &mut R,
         notices: &mut Notices,
+        now: u64,
         row: Option<u32>,
         call: &KeyCall,
-        writer: bool,
     ) -> Result<Supply, OutOfMemory>
         requires row { FoundRow call.now.key state.now row }
         ensures same { R.contents rows.new ≡ R.contents rows.old }
         ensures told { notices.new.told ≡ notices.old.told }
-        ensures places { OnOk result (HasPlaces state.now.config 3 notices.new) }
-        ensures room { OnOk result (HasRoom writer call.now.op (R.spare rows.new)) }
-        ensures covers { IfOk result (λ s. Covers writer state.now.config call.now (items_of state.now.cells) s) }
+        ensures places { OnOk result (HasPlaces state.now.config (most_told (has_live now call.now.key state.now) call.now.op) notices.new) }
+        ensures room { OnOk result (HasRoom (adds (has_live now call.now.key state.now) state.now.config.writer call.now.op) (R.spare rows.new)) }
+        ensures asks { HasRoom (adds (has_live now call.now.key state.now) state.now.config.writer call.now.op) (R.spare rows.old) → R.spare rows.new ≡ R.spare rows.old }
+        ensures covers { IfOk result (λ s. Covers state.now.config.writer state.now.config call.now (items_of state.now.cells) s) }
     {
-        notices.reserve_for(state.config(), 3)?;
-        make_room(rows, usize::from(!writer && creates(&call.op)))?;
+        let there = state.has_live(row, now);
+        let writer = state.config().writer;
+        notices.reserve_for(state.config(), most_notices(&call.op, there))?;
+        make_room(rows, usize::from(adds(there, writer, &call.op)))?;
         Supply::values_for(state, row, call, writer)
     }
 
-    /// What a step may need on its loader's answer: a line that loads to store it, and a get to reply it; a processor's
-    /// step to hand it on.
-    fn for_loaded<R: Rows>(
+    /// The values for a loader's answer: for a line that loads to store and to reply, for a processor's step to hand on.
+    fn values_loaded(
         config: &CacheConfig,
-        rows: &mut R,
         op: &Op,
         loaded: Option<&Value>,
     ) -> Result<Supply, OutOfMemory>
-        ensures same { R.contents rows.new ≡ R.contents rows.old }
-        ensures room { OnOk result (is_invoke op.now ≡ false → is_some (option_map (λ v. v.now) loaded.entry) ≡ true → 0 < R.spare rows.new) }
-        ensures covers { IfOk result (λ s. CoversLoaded config.now op.now (option_map (λ v. v.now) loaded.entry) s) }
+        ensures { IfOk result (λ s. CoversLoaded config.now op.now (option_map (λ v. v.now) loaded.entry) s) }
     {
         if is_invoke(op) {
             let entry = to_hand(loaded)?;
@@ -185,7 +186,6 @@ impl Supply {
                 entry,
             });
         }
-        make_room(rows, usize::from(loaded.is_some()))?;
         let stored = Stored::of_any(config, loaded)?;
         let shown = to_show(if shows_loaded(op) { loaded } else { None })?;
         Ok(Supply {
@@ -196,22 +196,17 @@ impl Supply {
         })
     }
 
-    /// What a step may need for a verdict, where the loader gave `loaded`. Where the writer is asked before, he alone
-    /// is given a copy.
-    fn for_verdict<R: Rows>(
+    /// The values for a verdict, where the loader gave `loaded`. Where the writer is asked before, he alone is given a
+    /// copy.
+    fn values_judged(
         config: &CacheConfig,
-        rows: &mut R,
         loaded: Option<&Value>,
         verdict: &Verdict,
         writer: bool,
     ) -> Result<Supply, OutOfMemory>
-        ensures same { R.contents rows.new ≡ R.contents rows.old }
-        ensures room { OnOk result (HasRoomBy writer (option_map (λ v. v.now) loaded.entry) verdict.now (R.spare rows.new)) }
-        ensures covers { IfOk result (λ s. CoversVerdict writer config.now (option_map (λ v. v.now) loaded.entry) verdict.now s) }
+        ensures { IfOk result (λ s. CoversVerdict writer config.now (option_map (λ v. v.now) loaded.entry) verdict.now s) }
     {
-        let value = stored_by(&verdict.action, loaded, writer);
-        make_room(rows, usize::from(value.is_some()))?;
-        let stored = Stored::of_any(config, value)?;
+        let stored = Stored::of_any(config, stored_by(&verdict.action, loaded, writer))?;
         let shown = to_show(verdict.answer.as_ref())?;
         let copy = to_hand(handed_by(&verdict.action, writer))?;
         Ok(Supply {
@@ -222,7 +217,36 @@ impl Supply {
         })
     }
 
-    /// What a step that waits may need at this answer, where its key has this row.
+    /// The values for the answer to a step that waits, where its key has this row.
+    fn values_at<G: Ring>(
+        state: &CacheState<G>,
+        row: Option<u32>,
+        step: &KeyStep,
+        answer: &Answer,
+    ) -> Result<Supply, OutOfMemory>
+        requires row { FoundRow step.now.call.key state.now row }
+        ensures { IfOk result (λ s. CoversAnswer state.now.config step.entry.now answer.now (items_of state.now.cells) s) }
+    {
+        let config = state.config();
+        match answer {
+            Answer::Written => match step.verdict() {
+                None => Supply::values_for(state, row, step.call(), false),
+                Some(verdict) => Supply::values_judged(config, step.loaded(), verdict, false),
+            },
+            Answer::Loaded(loaded) => {
+                Supply::values_loaded(config, &step.call().op, loaded.as_ref())
+            }
+            Answer::Processed(judged) => match judged {
+                Ok(verdict) => {
+                    Supply::values_judged(config, step.loaded(), verdict, config.writer)
+                }
+                Err(_) => Ok(Supply::nothing()),
+            },
+            _ => Ok(Supply::nothing()),
+        }
+    }
+
+    /// All that a step that waits may need at this answer, where its key has this row.
     pub fn for_answer<R: Rows, G: Ring>(
         state: &CacheState<G>,
         rows: &mut R,
@@ -234,29 +258,17 @@ impl Supply {
         requires row { FoundRow step.now.call.key state.now row }
         ensures same { R.contents rows.new ≡ R.contents rows.old }
         ensures told { notices.new.told ≡ notices.old.told }
-        ensures places { OnOk result (HasPlaces state.now.config 3 notices.new) }
-        ensures room { OnOk result (HasRoomAt state.now.config step.entry.now answer.now (R.spare rows.new)) }
+        ensures places { OnOk result (HasPlaces state.now.config (most_told (has_live step.entry.now.now step.entry.now.call.key state.now) step.entry.now.call.op) notices.new) }
+        ensures room { OnOk result (HasRoom (adds_at (has_live step.entry.now.now step.entry.now.call.key state.now) state.now.config step.entry.now answer.now) (R.spare rows.new)) }
+        ensures asks { HasRoom (adds_at (has_live step.entry.now.now step.entry.now.call.key state.now) state.now.config step.entry.now answer.now) (R.spare rows.old) → R.spare rows.new ≡ R.spare rows.old }
         ensures covers { IfOk result (λ s. CoversAnswer state.now.config step.entry.now answer.now (items_of state.now.cells) s) }
     {
-        let config = state.config();
-        notices.reserve_for(config, 3)?;
-        match answer {
-            Answer::Written => match step.verdict() {
-                None => Supply::for_step(state, rows, notices, row, step.call(), false),
-                Some(verdict) => {
-                    Supply::for_verdict(config, rows, step.loaded(), verdict, false)
-                }
-            },
-            Answer::Loaded(loaded) => {
-                Supply::for_loaded(config, rows, &step.call().op, loaded.as_ref())
-            }
-            Answer::Processed(judged) => match judged {
-                Ok(verdict) => {
-                    Supply::for_verdict(config, rows, step.loaded(), verdict, config.writer)
-                }
-                Err(_) => Ok(Supply::nothing()),
-            },
-            _ => Ok(Supply::nothing()),
-        }
+        let there = state.has_live(row, step.now());
+        notices.reserve_for(state.config(), most_notices(&step.call().op, there))?;
+        make_room(
+            rows,
+            usize::from(adds_at(there, state.config(), step, answer)),
+        )?;
+        Supply::values_at(state, row, step, answer)
     }
 }

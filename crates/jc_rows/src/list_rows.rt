@@ -49,7 +49,7 @@ impl Rows for ListRows {
 
     fn make_room(&mut self, n: usize) -> Result<(), OutOfMemory> {
         let held = self.rows.len();
-        if n <= held {
+        if n <= self.rows.capacity() {
             return Ok(());
         }
         self.rows.reserve(n - held)

@@ -21,11 +21,13 @@ pub trait Rows: Drop {
     fn len(&self) -> usize
         ensures { result ≡ map.len (contents self.now) };
 
-    /// Makes room for `n` rows in all. Where memory runs out, the rows and the room stay as they were.
+    /// Makes room for `n` rows in all. Nothing is done where that room is there. Where memory runs out, the rows and the
+    /// room stay as they were.
     fn make_room(&mut self, n: usize) -> Result<(), OutOfMemory>
         ensures same { contents self.new ≡ contents self.old }
         ensures ok { OnOk result (n ≤ map.len (contents self.new) + spare self.new) }
         ensures succeeds { n ≤ map.len (contents self.old) + spare self.old → IsOk result }
+        ensures there { n ≤ map.len (contents self.old) + spare self.old → spare self.new ≡ spare self.old }
         ensures kept { spare self.old ≤ spare self.new };
 
     /// The number of a key's row, or `None` where the cache has no row of this key.

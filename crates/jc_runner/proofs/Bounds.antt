@@ -1,5 +1,5 @@
 -- How many requests a call can make, whatever they are answered.
-use Rattle.std.proofs.Common.{◌≡◌, ℕ, ◌+◌, ◌-◌, ◌<◌, true, false, List, [], ◌∷◌, length, Option, Some, None, refl, ap, arith}
+use Rattle.std.proofs.Common.{◌≡◌, ℕ, ◌+◌, ◌-◌, ◌<◌, List, [], ◌∷◌, length, Option, Some, None, arith}
 use Rattle.std.specs.List.{flat_map}
 use Rattle.std.proofs.lemmas.Bool.{false≢true}
 use Rattle.jc_model.specs.declared.call.Answer.{Answer}
@@ -10,20 +10,16 @@ use Rattle.jc_model.specs.declared.event.Entry.{Entry}
 use Rattle.jc_model.specs.declared.event.Outcome.TheVariants.{Step as Stepped}
 use Rattle.jc_model.specs.declared.event.Step.TheVariants.{Need}
 use Rattle.jc_model.specs.State.{State}
-use Rattle.jc_model.specs.Changes.{Progress, begun}
+use Rattle.jc_model.specs.Changes.{begun}
 use Rattle.jc_model.specs.Run.{Run, ended, waiting, answered}
-use Rattle.jc_model.specs.Whole.{Plan, one, many, at_once, plan, asked_by, whole}
+use Rattle.jc_model.specs.Whole.{plan, asked_by}
 use Rattle.jc_model.specs.Runs.{Status, Standing, idle, busy, shown}
 use Rattle.jc_model.specs.Legal.{Fits}
 use Rattle.jc_model.specs.Everywhere.{Within}
-use Rattle.jc_model.proofs.Law.{whole-within}
 
 -- the most requests of a call
 abbrev pub most_asked : CacheConfig → ℕ → Call → State → ℕ
 most_asked c now call s = asked_by (plan c now call (begun s)) + 1
-
-pub within_whole : (c : CacheConfig) (now : ℕ) (call : Call) (s : State) → Within (most_asked c now call s) (whole c now call s)
-within_whole c now call s = whole-within c now call s
 
 -- a call that still waits was answered fewer times than that
 pub fewer_answers : (n : ℕ) (run : Run) (answers : List Answer) (q : Request) → Within n run → Fits run answers → shown (answered run answers) ≡ Stepped (Need q) → length answers < n

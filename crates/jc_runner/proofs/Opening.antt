@@ -26,6 +26,7 @@ use Rattle.jc_config.specs.declared.kinds.ProcessorKind.TheVariants as kind
 use Rattle.jc_engine.specs.Opening.{is_taken, limit_refusal, refusal_from, capacities, open_refusal}
 use Rattle.jc_hooks.specs.Processors.{wants_of}
 use Rattle.jc_hooks.specs.Tallies.{no_notices}
+use Rattle.jc_model.specs.Limits.{most_rows, most_listeners, most_processors, most_caches, most_rows_together, text_bytes}
 use Rattle.jc_model.specs.declared.config.CacheConfig.{CacheConfig}
 use Rattle.jc_runner.specs.Hooks.{Suits, AllSuit}
 use Rattle.jc_runner.specs.Naming.{ProgramHooks, loader_named, writer_named, processor_named, IsNamed, AllNamed}
@@ -79,14 +80,14 @@ number_within low high d v e =
     let (test, same) = if_some (nat_le low n && nat_le n high) (Some n) v found in
     both (nat_le low v) (nat_le v high) (subst (λ m. (nat_le low m && nat_le m high) ≡ true) (some_same n v same) test)
 
-capacity_within : (n : ℕ) (d : Data) (v : ℕ) → needed (number 1 65536) n members.Capacity d ≡ Ok v → (nat_le 1 v ≡ true) × (nat_le v 65536 ≡ true)
+capacity_within : (n : ℕ) (d : Data) (v : ℕ) → needed (number 1 most_rows) n members.Capacity d ≡ Ok v → (nat_le 1 v ≡ true) × (nat_le v most_rows ≡ true)
 capacity_within n d v e =
-    let (x, found) = then_some (number 1 65536) (get (name_of members.Capacity) d) v (ok_or_some _ _ v e) in
-    number_within 1 65536 x v found
+    let (x, found) = then_some (number 1 most_rows) (get (name_of members.Capacity) d) v (ok_or_some _ _ v e) in
+    number_within 1 most_rows x v found
 
-listeners_within : (n : ℕ) (o : Option Data) (v : ℕ) → found_or 0 (number 0 8) n members.Listeners o ≡ Ok v → nat_le v 8 ≡ true
+listeners_within : (n : ℕ) (o : Option Data) (v : ℕ) → found_or 0 (number 0 most_listeners) n members.Listeners o ≡ Ok v → nat_le v most_listeners ≡ true
 listeners_within n None v e = rw (← ok_same 0 v e) refl
-listeners_within n (Some d) v e = (number_within 0 8 d v (ok_or_some _ _ v e)).1
+listeners_within n (Some d) v e = (number_within 0 most_listeners d v (ok_or_some _ _ v e)).1
 
 kinds_count : (ds : Items) (ks : List ProcessorKind) → kinds_of ds ≡ Some ks → count_of ds ≡ length ks
 kinds_count no_items [] e = refl
@@ -96,32 +97,32 @@ kinds_count (item d ds) ks e =
     let (rest, more, same) = map_some (λ (kinds : List ProcessorKind). kind ∷ kinds) (kinds_of ds) ks one in
     rw (← same, kinds_count ds rest more) (add-one (length rest))
 
-few : (n : ℕ) (o : Option Data) (ks : List ProcessorKind) → found_or [] processor_list n members.Processors o ≡ Ok ks → nat_le (length ks) 16 ≡ true
+few : (n : ℕ) (o : Option Data) (ks : List ProcessorKind) → found_or [] processor_list n members.Processors o ≡ Ok ks → nat_le (length ks) most_processors ≡ true
 few n None ks e = rw (← ok_same [] ks e) refl
 few n (Some v) ks e =
     let (items, found) = then_some few_kinds (as_array v) ks (ok_or_some _ _ ks e) in
-    let (short, read) = if_some (nat_le (count_of items) 16) (kinds_of items) ks found in
+    let (short, read) = if_some (nat_le (count_of items) most_processors) (kinds_of items) ks found in
     rw (kinds_count items ks read) at short
 
 -- One cache.
 
 record Sound (c : CacheSettings) : Type 0 where
   some : nat_le 1 c.config.capacity ≡ true
-  most : nat_le c.config.capacity 65536 ≡ true
-  listeners : nat_le c.config.listeners 8 ≡ true
-  processors : nat_le (length c.config.processors) 16 ≡ true
+  most : nat_le c.config.capacity most_rows ≡ true
+  listeners : nat_le c.config.listeners most_listeners ≡ true
+  processors : nat_le (length c.config.processors) most_processors ≡ true
   kinds : HasKinds c.config c.hooks
 
 sound_cache : (n : ℕ) (d : Data) (c : CacheSettings) → cache_of n d ≡ Ok c → Sound c
 unfolding cache_of
 sound_cache n d c e =
     let (name, e1, k1) = bind_ok (needed name_text n members.Name d) _ c e in
-    let (capacity, e2, k2) = bind_ok (needed (number 1 65536) n members.Capacity d) _ c k1 in
+    let (capacity, e2, k2) = bind_ok (needed (number 1 most_rows) n members.Capacity d) _ c k1 in
     let (policy, e3, k3) = bind_ok (policy_of n d) _ c k2 in
     let (loader, e4, k4) = bind_ok (optional (text_kind loader_of) n members.Loader d) _ c k3 in
     let (writer, e5, k5) = bind_ok (optional (text_kind writer_of) n members.Writer d) _ c k4 in
     let (kinds, e6, k6) = bind_ok (found_or [] processor_list n members.Processors (get (name_of members.Processors) d)) _ c k5 in
-    let (listeners, e7, k7) = bind_ok (found_or 0 (number 0 8) n members.Listeners (get (name_of members.Listeners) d)) _ c k6 in
+    let (listeners, e7, k7) = bind_ok (found_or 0 (number 0 most_listeners) n members.Listeners (get (name_of members.Listeners) d)) _ c k6 in
     let (none, e8, k8) = bind_ok (no_other_entry n d) _ c k7 in
     subst Sound (ok_same _ c k8) (record {
       some = (capacity_within n d capacity e2).0;
@@ -146,7 +147,7 @@ sound_caches n (item d ds) cs e =
 
 limits_none : (place : ℕ) (c : CacheSettings) → Sound c → limit_refusal place c.config ≡ None
 limits_none place c s =
-    rw (not_above 1 c.config.capacity s.some, not_above c.config.capacity 65536 s.most, not_above c.config.listeners 8 s.listeners, not_above (length c.config.processors) 16 s.processors) refl
+    rw (not_above 1 c.config.capacity s.some, not_above c.config.capacity most_rows s.most, not_above c.config.listeners most_listeners s.listeners, not_above (length c.config.processors) most_processors s.processors) refl
 
 or_swap : (a b c : Bool) → (a || (b || c)) ≡ (b || (a || c))
 or_swap true true c = refl
@@ -189,17 +190,17 @@ all_kinds (c ∷ cs) s = (s.0.kinds, all_kinds cs s.1)
 
 opens_none : (cs : List CacheSettings) (u : Unit {0}) → AllSound cs → check_totals cs ≡ Ok u → open_refusal (map (λ c. c.config) cs) ≡ None
 opens_none cs u sound e =
-    let (counted, e1, k1) = bind_ok (provided (nat_le (length cs) 1024) _) _ u e in
+    let (counted, e1, k1) = bind_ok (provided (nat_le (length cs) most_caches) _) _ u e in
     let (distinct, e2, k2) = bind_ok (check_names (duplicate_from [] 1 (map (λ c. c.config.name) cs))) _ u k1 in
-    let fits : nat_le (length cs) 1024 ≡ true = provided_ok (nat_le (length cs) 1024) _ counted e1 in
-    let total : nat_le (sum (capacities (map (λ c. c.config) cs))) 262144 ≡ true = rw (← total_is_sum cs) (provided_ok (nat_le (total_of cs) 262144) _ u k2) in
+    let fits : nat_le (length cs) most_caches ≡ true = provided_ok (nat_le (length cs) most_caches) _ counted e1 in
+    let total : nat_le (sum (capacities (map (λ c. c.config) cs))) most_rows_together ≡ true = rw (← total_is_sum cs) (provided_ok (nat_le (total_of cs) most_rows_together) _ u k2) in
     let none : refusal_from [] 0 (map (λ c. c.config) cs) ≡ None = refused_none [] [] 1 0 cs (λ x. refl) sound (names_none _ distinct e2) in
-    rw (length-map cs (λ (c : CacheSettings). c.config), not_above (length cs) 1024 fits, none, not_above (sum (capacities (map (λ c. c.config) cs))) 262144 total) refl
+    rw (length-map cs (λ (c : CacheSettings). c.config), not_above (length cs) most_caches fits, none, not_above (sum (capacities (map (λ c. c.config) cs))) most_rows_together total) refl
 
 pub configuration_opens : (bytes : List ℕ) (c : Configuration) → configuration_of bytes ≡ Ok c → Opens c
 unfolding configuration_of
 configuration_opens bytes c e =
-    let (short, e1, k1) = bind_ok (provided (nat_le (length bytes) 8388608) _) _ c e in
+    let (short, e1, k1) = bind_ok (provided (nat_le (length bytes) text_bytes) _) _ c e in
     let (document, e2, k2) = bind_ok (ok_or (document_of bytes) NotToml) _ c k1 in
     let (tables, e3, k3) = bind_ok (tables_of document) _ c k2 in
     let (cs, e4, k4) = bind_ok (caches_of 1 tables) _ c k3 in

@@ -6,6 +6,7 @@ use Rattle.std.proofs.lemmas.Bool.{false≢true}
 use mathlib.Core.Logic.{inl, inr}
 use Rattle.jc_config.specs.declared.kinds.Configuration.{Configuration}
 use Rattle.jc_config.specs.declared.kinds.HookKinds.{HookKinds}
+use Rattle.jc_model.specs.Limits.{text_bytes}
 use Rattle.jc_model.specs.declared.config.CacheConfig.{CacheConfig}
 use Rattle.jc_engine.specs.Opening.{open_refusal}
 use Rattle.jc_engine.specs.declared.open.OpenRefusal.{OpenRefusal}
@@ -52,7 +53,7 @@ module _ (c : Configuration) (hooks hooks' : List ProgramHooks) (named : AllName
         → OnOk result (IfSome (remaining reader.inner) (λ script. ReportsHere script (Appends (contents writer.inner) (contents writer'.inner))))
         → OnOk result ((writer'.flushed ≡ true) × (writer'.failures ≡ writer.failures))
         → ((f : ScriptFault) → result ≡ Err (run.Script f) → IfSome (remaining reader.inner) (λ script. lines c.settings script ≡ Err f))
-        → (result ≡ Err run.TooLong → IfSome (remaining reader.inner) (λ script. 8388608 < length script))
+        → (result ≡ Err run.TooLong → IfSome (remaining reader.inner) (λ script. text_bytes < length script))
         → (result ≡ Err run.Open → CannotOpen wants_of c.settings hooks)
         → (result ≢ Err run.Close)
         → (result ≡ Err run.Write → IfSome (remaining reader.inner) (λ script. ReportsHere script (WritesFront (contents writer.inner) (contents writer'.inner))))

@@ -24,6 +24,7 @@ use Rattle.jc_model.specs.Run.{Run, ended, waiting, resume, answered, awaited_by
 use Rattle.jc_model.specs.Runs.{Status, Standing, idle, begins, answers, shown, standing_of, has_processor, reply_of, moved_by, moved, refuse_last, answer_of, put_moved}
 use Rattle.jc_model.specs.Legal.{Fits, is_waiting, is_open, on_open, with_outcome, with_answer}
 use Rattle.jc_model.proofs.EachCache.{at_same, reply_kept}
+use Rattle.jc_model.proofs.Law.{whole-within}
 use Rattle.jc_model.proofs.Resume.{answered-append, Fits-append}
 use Rattle.jc_engine.specs.Recording.{Recording}
 use Rattle.jc_engine.proofs.Entries.{set_set}
@@ -34,7 +35,7 @@ use Rattle.jc_runner.specs.Alone.{exchanged, end_of, run_alone, entry_by}
 use Rattle.jc_runner.specs.Answering.{Heard}
 use Rattle.jc_runner.specs.Halfway.{statuses_of, event_of, CanMove, Moves, NoneOpen, IsReady, ReachedFrom, Reached, Replies}
 use Rattle.jc_runner.proofs.Answered.{awaits-need, exchanged-nil, exchanged-push, entry-push, entry-first}
-use Rattle.jc_runner.proofs.Bounds.{within_whole, fewer_answers, answers_in, most_asked, most_at}
+use Rattle.jc_runner.proofs.Bounds.{fewer_answers, answers_in, most_asked, most_at}
 use Rattle.jc_runner.proofs.Hearing.{heard_nothing, heard_more}
 
 -- what a run shows, as a step
@@ -169,7 +170,7 @@ module _ {L W P K : Type 0} (load_of : L → List ℕ → Loaded) (may : W → L
         < (most_at (slice_get (statuses_of old) l.id) l.at l.call + length (answers_in old.transcript)) - length (answers_in now.transcript)
     comes_nearer closed next step m =
         let most : most_at (slice_get (statuses_of old) l.id) l.at l.call ≡ most_asked c l.at l.call s = ap (λ (found : Option Status). most_at found l.at l.call) there in
-        let fewer : length r.answers < most_asked c l.at l.call s = fewer_answers (most_asked c l.at l.call s) first_run r.answers q (within_whole c l.at l.call s) r.fit r.shows in
+        let fewer : length r.answers < most_asked c l.at l.call s = fewer_answers (most_asked c l.at l.call s) first_run r.answers q (whole-within c l.at l.call s) r.fit r.shows in
         let before : length (answers_in now.transcript) ≡ length (answers_in old.transcript) + length r.answers = counted l first_run r.answers old.transcript now.transcript r.fit r.transcript in
         let after : length (answers_in next.transcript) ≡ length (answers_in old.transcript) + length (r.answers ++ a ∷ []) = counted l first_run (r.answers ++ a ∷ []) old.transcript next.transcript fit_next (transcript_next closed next step m) in
         omega (arith, most, fewer, before, after, length-append r.answers (a ∷ []))

@@ -5,7 +5,7 @@ use Rattle.jc_config.specs.declared.fault.ConfigFault.TheVariants as config
 use Rattle.jc_config.specs.Faults.{name_of}
 use Rattle.jc_script.specs.declared.fault.ScriptFault.{ScriptFault}
 use Rattle.jc_script.specs.declared.fault.ScriptFault.TheVariants as script
-use Rattle.jc_script.specs.Line.{member_name}
+use Rattle.jc_script.specs.Member.{member_name}
 use Rattle.jc_runner.specs.declared.fault.RunFault.{RunFault}
 use Rattle.jc_runner.specs.declared.fault.RunFault.TheVariants as run
 use Rattle.jc_runner.specs.declared.fault.ProgramFault.{ProgramFault}

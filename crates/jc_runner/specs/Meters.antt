@@ -1,5 +1,6 @@
 -- Counts that go round after the greatest u64, so that what was added to one is always seen in full.
 use Rattle.std.specs.Prelude.{◌≡◌, ℕ, zero, suc, ◌+◌, ◌≤◌, ◌==◌, Bool, if◌then◌else◌}
+use Rattle.jc_model.specs.Limits.{text_bytes}
 
 abbrev pub next : ℕ → ℕ
 next n = if n == 18446744073709551615 then 0 else n + 1
@@ -11,6 +12,10 @@ next_if failed n = if failed then next n else n
 abbrev pub later : ℕ → ℕ → ℕ
 later zero n = n
 later (suc k) n = next (later k n)
+
+-- to read a text to its end, where each read but the last gives a byte
+abbrev pub most_reads : ℕ
+most_reads = text_bytes + 1
 
 -- at most so many were added
 abbrev pub AddsAtMost : ℕ → ℕ → ℕ → Type 0

@@ -10,13 +10,14 @@ use Rattle.jc_config.specs.declared.kinds.HookKinds.{HookKinds}
 use Rattle.jc_hooks.specs.Processors.{verdict_by}
 use Rattle.jc_hooks.specs.Program.{echoed, AllChecked}
 use Rattle.jc_hooks.specs.Tallies.{numbers, tallied}
+use Rattle.jc_model.specs.Limits.{text_bytes}
 use Rattle.jc_script.specs.Script.{lines}
 use Rattle.jc_words.specs.Program.{AsksFor, MayRefuse}
 use Rattle.jc_words.specs.declared.run.Run.{Run}
 use Rattle.jc_runner.specs.Demonstration.{demonstration_caches}
 use Rattle.jc_runner.specs.Disks.{IsFound, MayBeMissing, Asks}
 use Rattle.jc_runner.specs.Endings.{ending_of, no_memory, HasStatus, SaysSo, Leaves}
-use Rattle.jc_runner.specs.Meters.{next, AddsAtMost}
+use Rattle.jc_runner.specs.Meters.{next, most_reads, AddsAtMost}
 use Rattle.jc_runner.specs.Naming.{ProgramHooks, AllNamed}
 use Rattle.jc_runner.specs.Reports.{ReportsOf}
 use Rattle.jc_runner.specs.Streams.{WritesFront}
@@ -52,7 +53,7 @@ module _ {I O : Type 0} (remaining : I → Option (List ℕ)) (contents : O → 
   abbrev pub RunEnds : Result (Unit {0}) RunFault → Type 0
   RunEnds (Ok done) = IfSome (remaining reader.inner) (λ script. Reported c script (Appends (contents writer.inner) (contents writer'.inner))) × (writer'.failures ≡ writer.failures) × (writer'.flushed ≡ true)
   RunEnds (Err run.Read) = failed_once reader reader' × Keeps (contents writer.inner) (contents writer'.inner)
-  RunEnds (Err run.TooLong) = IfSome (remaining reader.inner) (λ script. 8388608 < length script) × Keeps (contents writer.inner) (contents writer'.inner)
+  RunEnds (Err run.TooLong) = IfSome (remaining reader.inner) (λ script. text_bytes < length script) × Keeps (contents writer.inner) (contents writer'.inner)
   RunEnds (Err (run.Script fault)) = IfSome (remaining reader.inner) (λ script. lines c.settings script ≡ Err fault) × Keeps (contents writer.inner) (contents writer'.inner)
   RunEnds (Err run.Open) = ⊥
   RunEnds (Err run.Close) = ⊥
@@ -70,13 +71,13 @@ module _ {F : Type 0} (remaining : F → Option (List ℕ)) (held : Option (Opti
   -- the file does not open, or it is read to its end or its fault
   abbrev pub ConfigEnds : Option (Watched F) → Result Configuration ProgramFault → Type 0
   ConfigEnds None result = ((result ≡ Err program.ConfigRead) × MayBeMissing held) ⊎ (result ≡ Err (program.Run run.Memory))
-  ConfigEnds (Some reader) result = (file : F) × IsFound held (remaining file) × AddsAtMost 8388609 0 reader.reads × ConfigRead file reader result
+  ConfigEnds (Some reader) result = (file : F) × IsFound held (remaining file) × AddsAtMost most_reads 0 reader.reads × ConfigRead file reader result
 
   -- the same of the script
   module _ {O : Type 0} (contents : O → Option (List ℕ)) (c : Configuration) (writer writer' : WatchedWriter O) where
     abbrev pub ScriptEnds : Option (Watched F) → Result (Unit {0}) RunFault → Type 0
     ScriptEnds None result = (((result ≡ Err run.Read) × MayBeMissing held) ⊎ (result ≡ Err run.Memory)) × Keeps (contents writer.inner) (contents writer'.inner)
-    ScriptEnds (Some reader) result = (file : F) × IsFound held (remaining file) × AddsAtMost 8388609 0 reader.reads × RunEnds remaining contents c (unread file) reader writer writer' result
+    ScriptEnds (Some reader) result = (file : F) × IsFound held (remaining file) × AddsAtMost most_reads 0 reader.reads × RunEnds remaining contents c (unread file) reader writer writer' result
 
 abbrev pub as_program : Result (Unit {0}) RunFault → Result (Unit {0}) ProgramFault
 as_program (Ok done) = Ok done

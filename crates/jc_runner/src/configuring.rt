@@ -4,7 +4,8 @@ ghost use Rattle.std.specs.Io.KnownBytes.{IsAtEnd};
 ghost use Rattle.jc_config.specs.Config.{configuration_of};
 ghost use Rattle.jc_config.specs.declared.fault.ConfigFault.{ConfigFault as TextFault};
 ghost use Rattle.jc_config.specs.declared.fault.ConfigFault.TheVariants.{TooLong};
-ghost use Rattle.jc_runner.specs.Meters.{next, AddsAtMost};
+ghost use Rattle.jc_model.specs.Limits.{text_bytes};
+ghost use Rattle.jc_runner.specs.Meters.{next, most_reads, AddsAtMost};
 ghost use Rattle.jc_runner.specs.Opens.{Opens};
 ghost use Rattle.jc_runner.specs.Streams.{IsAll, IsOfConfiguring};
 ghost use Rattle.jc_runner.specs.declared.fault.ProgramFault.TheVariants.{ConfigRead, Config};
@@ -18,10 +19,10 @@ use std::io::Read;
 
 fn text_of<R: Read>(alloc: Global, reader: &mut Watched<R>) -> Result<Vec<u8>, ProgramFault>
     ensures all { IfOk result (λ v. IsAll (R.remaining reader.old.inner) (R.remaining reader.new.inner) v.items) }
-    ensures long { IfErr result (λ e. (f : TextFault) → e ≡ Config f → (f ≡ TooLong) × IfSome (R.remaining reader.old.inner) (λ input. 8388608 < length input)) }
+    ensures long { IfErr result (λ e. (f : TextFault) → e ≡ Config f → (f ≡ TooLong) × IfSome (R.remaining reader.old.inner) (λ input. text_bytes < length input)) }
     ensures failed { result ≡ Err ConfigRead → reader.new.failures ≡ next reader.old.failures }
     ensures others { IfErr result IsOfConfiguring }
-    ensures reads { AddsAtMost 8388609 reader.old.reads reader.new.reads }
+    ensures reads { AddsAtMost most_reads reader.old.reads reader.new.reads }
 {
     match read_bytes(alloc, reader) {
         Ok(bytes) => Ok(bytes),
@@ -57,7 +58,7 @@ pub fn read_configuration<R: Read>(
     ensures config { (f : TextFault) → result ≡ Err (Config f) → IfSome (R.remaining reader.old.inner) (λ input. configuration_of input ≡ Err f) }
     ensures failed { result ≡ Err ConfigRead → reader.new.failures ≡ next reader.old.failures }
     ensures others { IfErr result IsOfConfiguring }
-    ensures reads { AddsAtMost 8388609 reader.old.reads reader.new.reads }
+    ensures reads { AddsAtMost most_reads reader.old.reads reader.new.reads }
 {
     let bytes = text_of(alloc, reader)?;
     configuration_in(alloc, bytes.as_slice())

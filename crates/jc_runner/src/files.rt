@@ -1,7 +1,7 @@
 //! The two files of a run, and playing a script with the callbacks that a configuration names.
 ghost use Rattle.std.specs.Prelude.{◌≡◌, ℕ, List, IfOk, string_bytes};
 ghost use Rattle.jc_runner.specs.Disks.{Asks};
-ghost use Rattle.jc_runner.specs.Meters.{AddsAtMost};
+ghost use Rattle.jc_runner.specs.Meters.{most_reads, AddsAtMost};
 ghost use Rattle.jc_runner.specs.Opens.{Opens};
 ghost use Rattle.jc_runner.specs.Program.{RunEnds, ConfigEnds, ScriptEnds, FilesEnd};
 
@@ -51,7 +51,7 @@ pub fn play<I: Read, O: Write>(
 ) -> Result<(), RunFault>
     requires { Opens configuration }
     ensures ends { RunEnds I.remaining O.contents configuration reader.old reader.new writer.old writer.new result }
-    ensures reads { AddsAtMost 8388609 reader.old.reads reader.new.reads }
+    ensures reads { AddsAtMost most_reads reader.old.reads reader.new.reads }
 {
     let Configuration { settings, hooks } = configuration;
     let mut hooks = all_hooks(alloc, settings.caches(), hooks.items())?;

@@ -1,5 +1,6 @@
 //! The caches of a run without a configuration.
 ghost use Rattle.std.specs.Prelude.{◌≡◌, ◌≤◌, IfOk, length};
+ghost use Rattle.jc_model.specs.Limits.{key_bytes};
 ghost use Rattle.jc_runner.specs.Demonstration.{plain_cache, demonstration_caches};
 
 use jc_config::Settings;
@@ -11,7 +12,7 @@ use std::alloc::Global;
 
 fn key_of(text: &str) -> Key
     requires some { 1 ≤ length text.now }
-    requires fits { length text.now ≤ 31 }
+    requires fits { length text.now ≤ key_bytes }
     ensures { result ≡ text.now }
 {
     match Key::from_text(text) {

@@ -1,16 +1,15 @@
 //! Reading to the end.
 ghost use Rattle.std.specs.Prelude.{◌≡◌, ◌≢◌, ◌≤◌, ◌<◌, length, IfOk, IfErr, IfSome, Err};
-ghost use Rattle.jc_runner.specs.Meters.{next, AddsAtMost};
+ghost use Rattle.jc_model.specs.Limits.{text_bytes};
+ghost use Rattle.jc_runner.specs.Meters.{next, most_reads, AddsAtMost};
 ghost use Rattle.jc_runner.specs.Streams.{IsAll, IsOfReading};
 ghost use Rattle.jc_runner.specs.declared.fault.RunFault.TheVariants as faults;
 
 use crate::fault::RunFault;
 use crate::watched::Watched;
+use jc_model::limits::TEXT_BYTES;
 use std::alloc::Global;
 use std::io::Read;
-
-/// The most bytes that are read.
-const MOST: usize = 8_388_608;
 
 /// All that a reader has left, where that is at most 8,388,608 bytes.
 ///
@@ -18,12 +17,12 @@ const MOST: usize = 8_388_608;
 /// from those before: `Read` comes with one failure more, anything else with none.
 pub fn read_bytes<R: Read>(alloc: Global, reader: &mut Watched<R>) -> Result<Vec<u8>, RunFault>
     ensures all { IfOk result (λ v. IsAll (R.remaining reader.old.inner) (R.remaining reader.new.inner) v.items) }
-    ensures fits { IfOk result (λ v. length v.items ≤ 8388608) }
-    ensures long { result ≡ Err faults.TooLong → IfSome (R.remaining reader.old.inner) (λ input. 8388608 < length input) }
+    ensures fits { IfOk result (λ v. length v.items ≤ text_bytes) }
+    ensures long { result ≡ Err faults.TooLong → IfSome (R.remaining reader.old.inner) (λ input. text_bytes < length input) }
     ensures failed { result ≡ Err faults.Read → reader.new.failures ≡ next reader.old.failures }
     ensures unfailed { result ≢ Err faults.Read → reader.new.failures ≡ reader.old.failures }
     ensures others { IfErr result IsOfReading }
-    ensures reads { AddsAtMost 8388609 reader.old.reads reader.new.reads }
+    ensures reads { AddsAtMost most_reads reader.old.reads reader.new.reads }
 {
     let mut bytes = Vec::new(alloc);
     let mut chunk = [0; 16384];
@@ -35,7 +34,7 @@ pub fn read_bytes<R: Read>(alloc: Global, reader: &mut Watched<R>) -> Result<Vec
         if n == 0 {
             return Ok(bytes);
         }
-        if n > MOST - bytes.len() {
+        if n > TEXT_BYTES - bytes.len() {
             return Err(RunFault::TooLong);
         }
         bytes.extend_from_slice(&chunk[..n])?;

@@ -9,11 +9,12 @@ ghost use Rattle.jc_script.specs.declared.line.Line.{Line as ScriptLine};
 ghost use Rattle.jc_script.specs.Named.{AllName};
 ghost use Rattle.jc_engine.specs.Opening.{open_refusal};
 ghost use Rattle.jc_hooks.specs.declared.cache_hooks.CacheHooks.{CacheHooks as Callbacks};
+ghost use Rattle.jc_model.specs.Limits.{text_bytes};
 ghost use Rattle.jc_model.specs.Solo.{opened};
 ghost use Rattle.jc_runner.specs.Halfway.{statuses_of};
 ghost use Rattle.jc_runner.specs.Hooks.{AllSuit, CannotOpen};
 ghost use Rattle.jc_runner.specs.Reports.{Reports, ReportsOf};
-ghost use Rattle.jc_runner.specs.Meters.{next, AddsAtMost};
+ghost use Rattle.jc_runner.specs.Meters.{next, most_reads, AddsAtMost};
 ghost use Rattle.jc_runner.specs.Streams.{WritesFront, IsOfRunning, IsOfScript, IsBeforeCalls, HasRun};
 ghost use Rattle.jc_runner.specs.declared.fault.RunFault.TheVariants as faults;
 
@@ -124,7 +125,7 @@ pub fn serial<L: Loader, W: Writer, P: Processor, K: Listener, R: Read, O: Write
     ensures ok { OnOk result (IfSome (R.remaining reader.old.inner) (λ input. ReportsOf L.load_of W.may P.verdict_of K.state_after settings input hooks.old hooks.new (λ text. Appends (O.contents writer.old.inner) (O.contents writer.new.inner) text))) }
     ensures end { OnOk result (IsAtEnd (R.remaining reader.new.inner)) }
     ensures script { (f : TextFault) → result ≡ Err (faults.Script f) → IfSome (R.remaining reader.old.inner) (λ input. lines settings input ≡ Err f) }
-    ensures long { result ≡ Err faults.TooLong → IfSome (R.remaining reader.old.inner) (λ input. 8388608 < length input) }
+    ensures long { result ≡ Err faults.TooLong → IfSome (R.remaining reader.old.inner) (λ input. text_bytes < length input) }
     ensures open { result ≡ Err faults.Open → CannotOpen P.wants settings hooks.old }
     ensures good { result ≡ Err faults.Open → IfSome (R.remaining reader.old.inner) (λ input. IsOk (lines settings input)) }
     ensures untouched { IfErr result (λ e. IsBeforeCalls e → hooks.new ≡ hooks.old) }
@@ -135,7 +136,7 @@ pub fn serial<L: Loader, W: Writer, P: Processor, K: Listener, R: Read, O: Write
     ensures nothing { IfErr result (λ e. e ≢ faults.Write → Keeps (O.contents writer.old.inner) (O.contents writer.new.inner)) }
     ensures read_failed { result ≡ Err faults.Read → reader.new.failures ≡ next reader.old.failures }
     ensures write_failed { result ≡ Err faults.Write → writer.new.failures ≡ next writer.old.failures }
-    ensures reads { AddsAtMost 8388609 reader.old.reads reader.new.reads }
+    ensures reads { AddsAtMost most_reads reader.old.reads reader.new.reads }
 {
     let bytes = read_bytes(alloc, reader)?;
     let lines = lines_of(alloc, bytes.as_slice(), &settings)?;

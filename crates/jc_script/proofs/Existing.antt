@@ -1,21 +1,24 @@
 -- The lines of a script name caches and processors that are there.
-use Rattle.std.proofs.Common.{◌≡◌, ℕ, suc, ◌+◌, List, [], ◌∷◌, length, slice_get, Bool, true, false, ltb, Option, Some, None, Result, Ok, Err, refl, sym, ap, ◌∙◌, subst, arith}
-use Rattle.std.specs.Prelude.{IfSome, IfOk, nat_lt, option_and_then, if◌then◌else◌}
+use Rattle.std.proofs.Common.{◌≡◌, ℕ, suc, ◌+◌, List, [], ◌∷◌, ◌++◌, length, slice_get, Bool, true, false, ltb, Option, Some, None, Result, Ok, Err, refl, sym, ap, ◌∙◌, subst, arith}
+use Rattle.std.specs.Prelude.{IfSome, IfOk, nat_lt, option_and_then, if◌then◌else◌, ⊤}
 use Rattle.std.specs.List.{position_from, slice_split}
 use Rattle.std.specs.Option.{ok_or}
+use Rattle.std.specs.Str.{bytes_eq}
 use Rattle.serde_json.specs.Data.{Data}
 use Rattle.serde_json.specs.Find.{get, as_bool, as_str}
 use Rattle.jc_model.specs.declared.call.Call.{Call}
+use Rattle.jc_model.specs.declared.call.Call.TheVariants as calls
 use Rattle.jc_model.specs.declared.config.CacheConfig.{CacheConfig}
+use Rattle.jc_model.specs.Limits.{sessions, text_bytes}
 use Rattle.jc_model.specs.Runs.{has_processor}
 use Rattle.jc_script.specs.declared.fault.Member.TheVariants as members
 use Rattle.jc_script.specs.declared.fault.ScriptFault.{ScriptFault}
 use Rattle.jc_script.specs.declared.fault.ScriptFault.TheVariants.{TooLong, Bad}
 use Rattle.jc_script.specs.declared.line.Line.{Line}
-use Rattle.jc_script.specs.declared.operation.Operation.{Operation}
-use Rattle.jc_script.specs.declared.operation.Operation.TheVariants as ops
 use Rattle.jc_script.specs.Faults.{◌>>=◌}
-use Rattle.jc_script.specs.Line.{member_name, needed, whole, whole_below, place_of, cache, operation, key, keys, pairs, value, key_and_value, call_of, processors_at, object_of, line_of}
+use Rattle.jc_script.specs.Line.{processors_at, line_of}
+use Rattle.jc_script.specs.Member.{member_name, needed, whole, whole_below, place_of, cache, key, keys, pairs, value, object_of}
+use Rattle.jc_script.specs.Operation.{Reading, of_key, of_key_value, of_key_expected, of_key_expected_value, of_key_processor, of_keys, of_keys_replace, of_keys_processor, of_pairs, on_one, on_many, chosen, call_of}
 use Rattle.jc_script.specs.Script.{piece_of, lines_from, lines, is_blank, is_feed}
 use Rattle.jc_script.specs.Named.{Names, AllName}
 
@@ -90,44 +93,103 @@ processor_below processors n d =
     needed_ok (λ p. nat_lt p processors ≡ true) (option_and_then (whole_below processors) (get (member_name members.Processor) d)) (Bad n members.Processor)
     (found_in (λ p. nat_lt p processors ≡ true) (whole_below processors) (get (member_name members.Processor) d) (below processors))
 
-call_within : (processors : ℕ) (o : Operation) (n : ℕ) (d : Data) → IfOk (call_of processors o n d) (IsWithin processors)
+-- a call that names no processor is within any number of them
+abbrev IsWithinAll : Call → Type 0
+IsWithinAll call = (processors : ℕ) → IsWithin processors call
+
+abbrev ReadsWithin : Reading → Type 0
+ReadsWithin reading = (processors n : ℕ) (d : Data) → IfOk (reading processors n d) (IsWithin processors)
+
+key_within : (call : List ℕ → Call) → ((k : List ℕ) → IsWithinAll (call k)) → ReadsWithin (of_key call)
+key_within call all m n d = behind (IsWithin m) (needed key n members.Key d) _ (λ k. all k m)
+
+value_within : (call : List ℕ → List ℕ → Call) → ((k v : List ℕ) → IsWithinAll (call k v)) → ReadsWithin (of_key_value call)
+value_within call all m n d = behind (IsWithin m) (needed key n members.Key d) _ (λ k. behind (IsWithin m) (needed value n members.Value d) _ (λ v. all k v m))
+
+expected_within : (call : List ℕ → List ℕ → Call) → ((k x : List ℕ) → IsWithinAll (call k x)) → ReadsWithin (of_key_expected call)
+expected_within call all m n d = behind (IsWithin m) (needed key n members.Key d) _ (λ k. behind (IsWithin m) (needed value n members.Expect d) _ (λ x. all k x m))
+
+both_within : (call : List ℕ → List ℕ → List ℕ → Call) → ((k x v : List ℕ) → IsWithinAll (call k x v)) → ReadsWithin (of_key_expected_value call)
+both_within call all m n d =
+    behind (IsWithin m) (needed key n members.Key d) _ (λ k. behind (IsWithin m) (needed value n members.Expect d) _ (λ x. behind (IsWithin m) (needed value n members.Value d) _ (λ v. all k x v m)))
+
+keys_within : (call : List (List ℕ) → Call) → ((ks : List (List ℕ)) → IsWithinAll (call ks)) → ReadsWithin (of_keys call)
+keys_within call all m n d = behind (IsWithin m) (needed keys n members.Keys d) _ (λ ks. all ks m)
+
+replace_within : (call : List (List ℕ) → Bool → Call) → ((ks : List (List ℕ)) (replace : Bool) → IsWithinAll (call ks replace)) → ReadsWithin (of_keys_replace call)
+replace_within call all m n d = behind (IsWithin m) (needed keys n members.Keys d) _ (λ ks. behind (IsWithin m) (needed as_bool n members.Replace d) _ (λ replace. all ks replace m))
+
+pairs_within : (call : List (List ℕ × List ℕ) → Call) → ((ps : List (List ℕ × List ℕ)) → IsWithinAll (call ps)) → ReadsWithin (of_pairs call)
+pairs_within call all m n d = behind (IsWithin m) (needed pairs n members.Pairs d) _ (λ ps. all ps m)
+
+-- a processor that was read is among those that there are
+processor_within : (m n : ℕ) (d : Data) (call : ℕ → List ℕ → Call) → ((p : ℕ) (a : List ℕ) → nat_lt p m ≡ true → IsWithin m (call p a))
+    → IfOk (needed (whole_below m) n members.Processor d >>= λ p. needed value n members.Argument d >>= λ a. Ok (call p a)) (IsWithin m)
+processor_within m n d call all =
+    knowing (λ p. nat_lt p m ≡ true) (IsWithin m) (needed (whole_below m) n members.Processor d) _ (processor_below m n d)
+    (λ p lt. behind (IsWithin m) (needed value n members.Argument d) _ (λ a. all p a lt))
+
+invoke_within : ReadsWithin (of_key_processor calls.Invoke)
+invoke_within m n d = behind (IsWithin m) (needed key n members.Key d) _ (λ k. processor_within m n d (calls.Invoke k) (λ p a lt c e. subst (λ (i : ℕ). ltb p i ≡ true) e lt))
+
+invoke_all_within : ReadsWithin (of_keys_processor calls.InvokeAll)
+invoke_all_within m n d = behind (IsWithin m) (needed keys n members.Keys d) _ (λ ks. processor_within m n d (calls.InvokeAll ks) (λ p a lt c e. subst (λ (i : ℕ). ltb p i ≡ true) e lt))
+
+abbrev AllWithin : List (List ℕ × Reading) → Type 0
+AllWithin [] = ⊤
+AllWithin (op ∷ ops) = ReadsWithin op.1 × AllWithin ops
+
+infixr 5 ◌then◌
+◌then◌ : {A B : Type 0} → A → B → A × B
+first then rest = (first, rest)
+
+operations_within : AllWithin (on_one ++ on_many)
+operations_within =
+    key_within _ (λ k m c e. refl) then
+    key_within _ (λ k m c e. refl) then
+    value_within _ (λ k v m c e. refl) then
+    value_within _ (λ k v m c e. refl) then
+    value_within _ (λ k v m c e. refl) then
+    value_within _ (λ k v m c e. refl) then
+    both_within _ (λ k x v m c e. refl) then
+    value_within _ (λ k v m c e. refl) then
+    key_within _ (λ k m c e. refl) then
+    expected_within _ (λ k x m c e. refl) then
+    key_within _ (λ k m c e. refl) then
+    invoke_within then
+    keys_within _ (λ ks m c e. refl) then
+    invoke_all_within then
+    pairs_within _ (λ ps m c e. refl) then
+    keys_within _ (λ ks m c e. refl) then
+    replace_within _ (λ ks replace m c e. refl) then
+    (λ m n d c e. refl) then
+    (λ m n d c e. refl) then
+    (λ m n d c e. refl) then
+    (λ m n d c e. refl) then
+    (λ m n d c e. refl) then
+    tt
+
+chosen_within : (ops : List (List ℕ × Reading)) → AllWithin ops → (name : List ℕ) → ReadsWithin (chosen ops name)
+unfolding chosen
+chosen_within [] all name m n d = tt
+chosen_within (op ∷ ops) all name m n d = go (bytes_eq name op.0) (chosen_within ops all.1 name m n d)
+  where
+    go : (b : Bool) → IfOk (chosen ops name m n d) (IsWithin m) → IfOk (if b then op.1 m n d else chosen ops name m n d) (IsWithin m)
+    go true others = all.0 m n d
+    go false others = others
+
+call_within : (name : List ℕ) → ReadsWithin (call_of name)
 unfolding call_of
-call_within m ops.Get n d = behind (IsWithin m) (needed key n members.Key d) _ (λ k c e. refl)
-call_within m ops.GetAll n d = behind (IsWithin m) (needed keys n members.Keys d) _ (λ ks c e. refl)
-call_within m ops.Contains n d = behind (IsWithin m) (needed key n members.Key d) _ (λ k c e. refl)
-call_within m ops.Put n d = behind (IsWithin m) (key_and_value n d) _ (λ row c e. refl)
-call_within m ops.GetAndPut n d = behind (IsWithin m) (key_and_value n d) _ (λ row c e. refl)
-call_within m ops.PutIfAbsent n d = behind (IsWithin m) (key_and_value n d) _ (λ row c e. refl)
-call_within m ops.Replace n d = behind (IsWithin m) (key_and_value n d) _ (λ row c e. refl)
-call_within m ops.ReplaceIf n d =
-    behind (IsWithin m) (needed key n members.Key d) _ (λ k. behind (IsWithin m) (needed value n members.Expect d) _ (λ x. behind (IsWithin m) (needed value n members.Value d) _ (λ v c e. refl)))
-call_within m ops.GetAndReplace n d = behind (IsWithin m) (key_and_value n d) _ (λ row c e. refl)
-call_within m ops.Remove n d = behind (IsWithin m) (needed key n members.Key d) _ (λ k c e. refl)
-call_within m ops.RemoveIf n d = behind (IsWithin m) (needed key n members.Key d) _ (λ k. behind (IsWithin m) (needed value n members.Expect d) _ (λ x c e. refl))
-call_within m ops.GetAndRemove n d = behind (IsWithin m) (needed key n members.Key d) _ (λ k c e. refl)
-call_within m ops.Invoke n d =
-    behind (IsWithin m) (needed key n members.Key d) _ (λ k. knowing (λ p. nat_lt p m ≡ true) (IsWithin m) (needed (whole_below m) n members.Processor d) _ (processor_below m n d)
-    (λ p lt. behind (IsWithin m) (needed value n members.Argument d) _ (λ a c e. subst (λ (i : ℕ). ltb p i ≡ true) e lt)))
-call_within m ops.InvokeAll n d =
-    behind (IsWithin m) (needed keys n members.Keys d) _ (λ ks. knowing (λ p. nat_lt p m ≡ true) (IsWithin m) (needed (whole_below m) n members.Processor d) _ (processor_below m n d)
-    (λ p lt. behind (IsWithin m) (needed value n members.Argument d) _ (λ a c e. subst (λ (i : ℕ). ltb p i ≡ true) e lt)))
-call_within m ops.PutAll n d = behind (IsWithin m) (needed pairs n members.Pairs d) _ (λ ps c e. refl)
-call_within m ops.RemoveKeys n d = behind (IsWithin m) (needed keys n members.Keys d) _ (λ ks c e. refl)
-call_within m ops.RemoveAll n d = λ c e. refl
-call_within m ops.Clear n d = λ c e. refl
-call_within m ops.LoadAll n d = behind (IsWithin m) (needed keys n members.Keys d) _ (λ ks. behind (IsWithin m) (needed as_bool n members.Replace d) _ (λ replace c e. refl))
-call_within m ops.Entries n d = λ c e. refl
-call_within m ops.Stats n d = λ c e. refl
-call_within m ops.ClearStats n d = λ c e. refl
+call_within name m n d = chosen_within (on_one ++ on_many) operations_within name m n d
 
 -- Lines.
 
 line_named : (caches : List CacheConfig) (n : ℕ) (d : Data) → IfOk (line_of caches n d) (Names caches)
 unfolding line_of
 line_named caches n d =
-    behind (Names caches) (needed (whole_below 64) n members.Session d) _ (λ s. knowing (Stands caches) (Names caches) (needed (cache caches) n members.Cache d) _ (cache_stands caches n d)
-    (λ id at. behind (Names caches) (needed whole n members.At d) _ (λ moment. behind (Names caches) (needed operation n members.Op d) _
-    (λ o. knowing (IsWithin (processors_at caches id)) (Names caches) (call_of (processors_at caches id) o n d) _ (call_within (processors_at caches id) o n d)
+    behind (Names caches) (needed (whole_below sessions) n members.Session d) _ (λ s. knowing (Stands caches) (Names caches) (needed (cache caches) n members.Cache d) _ (cache_stands caches n d)
+    (λ id at. behind (Names caches) (needed whole n members.At d) _ (λ moment. behind (Names caches) (needed as_str n members.Op d) _
+    (λ name. knowing (IsWithin (processors_at caches id)) (Names caches) (call_of name (processors_at caches id) n d) _ (call_within name (processors_at caches id) n d)
     (λ call within. record { config = at.config; there = at.there; processor = within at.config (counted id at) })))))
   where
     counted : (id : ℕ) (at : Stands caches id) → processors_at caches id ≡ length at.config.processors
@@ -150,7 +212,7 @@ all_named caches n (piece ∷ pieces) = go (is_blank piece) (all_named caches (n
 
 script_named : (caches : List CacheConfig) (bytes : List ℕ) → IfOk (lines caches bytes) (AllName caches)
 unfolding lines
-script_named caches bytes = go (nat_lt 8388608 (length bytes))
+script_named caches bytes = go (nat_lt text_bytes (length bytes))
   where
     go : (b : Bool) → IfOk (if b then Err TooLong else lines_from caches 1 (slice_split is_feed bytes)) (AllName caches)
     go true = tt

@@ -1,7 +1,6 @@
 pub mod Cuts
 pub mod Lines
 pub mod Places
-pub mod Named
 pub mod Shown
 pub mod EachCache
 pub mod Existing

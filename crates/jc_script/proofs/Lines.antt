@@ -6,6 +6,7 @@ use Rattle.std.specs.List.{slice_split}
 use Rattle.std.proofs.Common.{le-ltb}
 use Rattle.std.specs.Prelude.{IfSome}
 use Rattle.jc_model.specs.declared.config.CacheConfig.{CacheConfig}
+use Rattle.jc_model.specs.Limits.{text_bytes}
 use Rattle.jc_script.specs.declared.line.Line.{Line}
 use Rattle.jc_script.specs.declared.fault.ScriptFault.{ScriptFault}
 use Rattle.jc_script.specs.declared.fault.ScriptFault.TheVariants.{TooLong, NotJson, NotObject, Bad, OutOfMemory}
@@ -64,6 +65,6 @@ pub is_done : (caches : List CacheConfig) (front : List Line) (n : ℕ) (total :
 unfolding lines_from
 is_done caches front n total so_far = sym so_far ∙ ap (λ (xs : List Line). Ok xs) (append-nil front)
 
-pub all_from : (caches : List CacheConfig) (bytes : List ℕ) → length bytes ≤ 8388608 → lines_from caches 1 (slice_split is_feed bytes) ≡ lines caches bytes
+pub all_from : (caches : List CacheConfig) (bytes : List ℕ) → length bytes ≤ text_bytes → lines_from caches 1 (slice_split is_feed bytes) ≡ lines caches bytes
 unfolding lines
-all_from caches bytes le = rw (le-ltb 8388608 (length bytes) le) refl
+all_from caches bytes le = rw (le-ltb text_bytes (length bytes) le) refl

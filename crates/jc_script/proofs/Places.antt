@@ -4,7 +4,7 @@ use Rattle.std.specs.Str.{bytes_eq}
 use Rattle.std.proofs.lemmas.Bool.{false_from_ne_true, false≢true}
 use Rattle.std.proofs.lemmas.Slice.Eq.{bytes_eq-Decides}
 use Rattle.jc_model.specs.declared.config.CacheConfig.{CacheConfig}
-use Rattle.jc_script.specs.Line.{place_from}
+use Rattle.jc_script.specs.Member.{place_from}
 
 -- what was found before, else what is found among the rest
 abbrev pub found_or : Option ℕ → Option ℕ → Option ℕ

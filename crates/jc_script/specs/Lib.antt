@@ -1,4 +1,5 @@
 pub mod Faults
+pub mod Member
 pub mod Operation
 pub mod Line
 pub mod Script

@@ -1,189 +1,15 @@
 -- What a line of a script says: its call, or the first fault.
-use Rattle.std.specs.Prelude.{ℕ, Bool, List, [], ◌∷◌, length, map, Option, Some, None, option_and_then, option_map, is_some, Result, Ok, Err, nat_lt, nat_le, ◌&&◌, if◌then◌else◌, codes, slice_get}
-use Rattle.std.specs.Option.{ok_or}
-use Rattle.std.specs.List.{position_from}
-use Rattle.std.specs.Str.{is_utf8, bytes_eq}
-use Rattle.serde_json.specs.Data.{Data, Items, no_items, item}
-use Rattle.serde_json.specs.Read.{read}
-use Rattle.serde_json.specs.Find.{get, as_array, as_bool, as_object, as_number, as_u64, as_str}
-use Rattle.jc_model.specs.declared.call.Call.{Call}
-use Rattle.jc_model.specs.declared.call.Call.TheVariants as calls
+use Rattle.std.specs.Prelude.{ℕ, List, length, Some, None, Result, Ok, slice_get}
+use Rattle.serde_json.specs.Data.{Data}
+use Rattle.serde_json.specs.Find.{as_str}
 use Rattle.jc_model.specs.declared.config.CacheConfig.{CacheConfig}
-use Rattle.jc_model.specs.Lists.{distinct}
-use Rattle.jc_script.specs.declared.fault.Member.{Member}
+use Rattle.jc_model.specs.Limits.{sessions}
 use Rattle.jc_script.specs.declared.fault.Member.TheVariants as members
 use Rattle.jc_script.specs.declared.fault.ScriptFault.{ScriptFault}
-use Rattle.jc_script.specs.declared.fault.ScriptFault.TheVariants.{NotJson, NotObject, Bad}
 use Rattle.jc_script.specs.declared.line.Line.{Line}
-use Rattle.jc_script.specs.declared.operation.Operation.{Operation}
-use Rattle.jc_script.specs.declared.operation.Operation.TheVariants as ops
 use Rattle.jc_script.specs.Faults.{◌>>=◌}
-use Rattle.jc_script.specs.Operation.{operation_named}
-
--- a text as `Value::from_slice` reads it: bytes that are not UTF-8 are no JSON
-unfoldable pub json_of : List ℕ → Option Data
-json_of bytes = if is_utf8 bytes then read bytes else None
-
-unfoldable pub object_of : ℕ → List ℕ → Result Data ScriptFault
-object_of n bytes = do
-  d ← ok_or (json_of bytes) (NotJson n)
-  if is_some (as_object d) then Ok d else Err (NotObject n)
-
--- Members.
-
-abbrev pub member_name : Member → List ℕ
-member_name members.Session = codes "s"
-member_name members.Cache = codes "c"
-member_name members.At = codes "at"
-member_name members.Op = codes "op"
-member_name members.Key = codes "k"
-member_name members.Keys = codes "ks"
-member_name members.Pairs = codes "kvs"
-member_name members.Expect = codes "expect"
-member_name members.Value = codes "v"
-member_name members.Replace = codes "replace"
-member_name members.Processor = codes "p"
-member_name members.Argument = codes "arg"
-
--- a member that is needed, as f takes it
-abbrev pub needed : {A : Type 0} → (Data → Option A) → ℕ → Member → Data → Result A ScriptFault
-needed f n m d = ok_or (option_and_then f (get (member_name m) d)) (Bad n m)
-
-abbrev pub whole : Data → Option ℕ
-whole d = option_and_then as_u64 (as_number d)
-
-abbrev pub whole_below : ℕ → Data → Option ℕ
-whole_below limit d = option_and_then (λ n. if nat_lt n limit then Some n else None) (whole d)
-
--- the place of the first cache of that name
-abbrev pub place_from : List ℕ → ℕ → List CacheConfig → Option ℕ
-place_from name n caches = position_from (λ c. bytes_eq name c.name) n caches
-
-abbrev pub place_of : List CacheConfig → List ℕ → Option ℕ
-place_of caches name = place_from name 0 caches
-
-abbrev pub cache : List CacheConfig → Data → Option ℕ
-cache caches d = option_and_then (place_of caches) (as_str d)
-
-abbrev pub operation : Data → Option Operation
-operation d = option_and_then operation_named (as_str d)
-
-abbrev pub key_text : List ℕ → Option (List ℕ)
-key_text text = if nat_lt 0 (length text) && nat_le (length text) 31 then Some text else None
-
-abbrev pub key : Data → Option (List ℕ)
-key d = option_and_then key_text (as_str d)
-
-abbrev pub value_text : List ℕ → Option (List ℕ)
-value_text text = if nat_le (length text) 65535 then Some text else None
-
-abbrev pub value : Data → Option (List ℕ)
-value d = option_and_then value_text (as_str d)
-
--- a key, and its value
-abbrev pub pair_of : Items → Option (List ℕ × List ℕ)
-pair_of (item k (item v no_items)) = option_and_then (λ a. option_map (λ b. (a, b)) (value v)) (key k)
-pair_of _ = None
-
-abbrev pub pair : Data → Option (List ℕ × List ℕ)
-pair d = option_and_then pair_of (as_array d)
-
--- Lists.
-
--- every item as f takes it, if f takes them all
-abbrev pub each : {A : Type 0} → (Data → Option A) → Items → Option (List A)
-each f no_items = Some []
-each f (item d ds) = option_and_then (λ x. option_map (λ xs. x ∷ xs) (each f ds)) (f d)
-
--- the keys of one call: few enough, and all different
-abbrev pub are_keys : List (List ℕ) → Bool
-are_keys ks = nat_le (length ks) 64 && distinct ks
-
-abbrev pub distinct_keys : List (List ℕ) → Option (List (List ℕ))
-distinct_keys ks = if are_keys ks then Some ks else None
-
-abbrev pub keys : Data → Option (List (List ℕ))
-keys d = option_and_then (λ ds. option_and_then distinct_keys (each key ds)) (as_array d)
-
-abbrev pub distinct_pairs : List (List ℕ × List ℕ) → Option (List (List ℕ × List ℕ))
-distinct_pairs ps = if are_keys (map (λ p. p.0) ps) then Some ps else None
-
-abbrev pub pairs : Data → Option (List (List ℕ × List ℕ))
-pairs d = option_and_then (λ ds. option_and_then distinct_pairs (each pair ds)) (as_array d)
-
--- The call, of a cache with so many processors.
-
-unfoldable pub key_and_value : ℕ → Data → Result (List ℕ × List ℕ) ScriptFault
-key_and_value n d = do
-  k ← needed key n members.Key d
-  v ← needed value n members.Value d
-  Ok (k, v)
-
-unfoldable pub call_of : ℕ → Operation → ℕ → Data → Result Call ScriptFault
-call_of processors ops.Get n d = do
-  k ← needed key n members.Key d
-  Ok (calls.Get k)
-call_of processors ops.GetAll n d = do
-  ks ← needed keys n members.Keys d
-  Ok (calls.GetAll ks)
-call_of processors ops.Contains n d = do
-  k ← needed key n members.Key d
-  Ok (calls.Contains k)
-call_of processors ops.Put n d = do
-  row ← key_and_value n d
-  Ok (calls.Put row.0 row.1)
-call_of processors ops.GetAndPut n d = do
-  row ← key_and_value n d
-  Ok (calls.GetAndPut row.0 row.1)
-call_of processors ops.PutIfAbsent n d = do
-  row ← key_and_value n d
-  Ok (calls.PutIfAbsent row.0 row.1)
-call_of processors ops.Replace n d = do
-  row ← key_and_value n d
-  Ok (calls.Replace row.0 row.1)
-call_of processors ops.ReplaceIf n d = do
-  k ← needed key n members.Key d
-  expected ← needed value n members.Expect d
-  v ← needed value n members.Value d
-  Ok (calls.ReplaceIf k expected v)
-call_of processors ops.GetAndReplace n d = do
-  row ← key_and_value n d
-  Ok (calls.GetAndReplace row.0 row.1)
-call_of processors ops.Remove n d = do
-  k ← needed key n members.Key d
-  Ok (calls.Remove k)
-call_of processors ops.RemoveIf n d = do
-  k ← needed key n members.Key d
-  expected ← needed value n members.Expect d
-  Ok (calls.RemoveIf k expected)
-call_of processors ops.GetAndRemove n d = do
-  k ← needed key n members.Key d
-  Ok (calls.GetAndRemove k)
-call_of processors ops.Invoke n d = do
-  k ← needed key n members.Key d
-  p ← needed (whole_below processors) n members.Processor d
-  a ← needed value n members.Argument d
-  Ok (calls.Invoke k p a)
-call_of processors ops.InvokeAll n d = do
-  ks ← needed keys n members.Keys d
-  p ← needed (whole_below processors) n members.Processor d
-  a ← needed value n members.Argument d
-  Ok (calls.InvokeAll ks p a)
-call_of processors ops.PutAll n d = do
-  ps ← needed pairs n members.Pairs d
-  Ok (calls.PutAll ps)
-call_of processors ops.RemoveKeys n d = do
-  ks ← needed keys n members.Keys d
-  Ok (calls.RemoveKeys ks)
-call_of processors ops.RemoveAll n d = Ok calls.RemoveAll
-call_of processors ops.Clear n d = Ok calls.Clear
-call_of processors ops.LoadAll n d = do
-  ks ← needed keys n members.Keys d
-  replace ← needed as_bool n members.Replace d
-  Ok (calls.LoadAll ks replace)
-call_of processors ops.Entries n d = Ok calls.Entries
-call_of processors ops.Stats n d = Ok calls.Stats
-call_of processors ops.ClearStats n d = Ok calls.ClearStats
+use Rattle.jc_script.specs.Member.{needed, whole, whole_below, cache}
+use Rattle.jc_script.specs.Operation.{call_of}
 
 -- how many processors the cache at a place has
 abbrev pub processors_at : List CacheConfig → ℕ → ℕ
@@ -191,9 +17,9 @@ processors_at caches id = elim (slice_get caches id) [ None ↦ 0 | Some c ↦ l
 
 unfoldable pub line_of : List CacheConfig → ℕ → Data → Result Line ScriptFault
 line_of caches n d = do
-  s ← needed (whole_below 64) n members.Session d
+  s ← needed (whole_below sessions) n members.Session d
   id ← needed (cache caches) n members.Cache d
   moment ← needed whole n members.At d
-  o ← needed operation n members.Op d
-  call ← call_of (processors_at caches id) o n d
+  name ← needed as_str n members.Op d
+  call ← call_of name (processors_at caches id) n d
   Ok (record { session = s; id = id; at = moment; call = call })

@@ -1,64 +1,137 @@
--- The names of the calls.
-use Rattle.std.specs.Prelude.{ℕ, Bool, List, Option, codes}
-use Rattle.std.specs.List.{find}
+-- The ops of a script, each in two tables: the name of a call, and the call of a name.
+use Rattle.std.specs.Prelude.{ℕ, Bool, List, [], ◌∷◌, ◌++◌, Result, Ok, Err, if◌then◌else◌, codes}
 use Rattle.std.specs.Str.{bytes_eq}
+use Rattle.serde_json.specs.Data.{Data}
+use Rattle.serde_json.specs.Find.{as_bool}
 use Rattle.jc_model.specs.declared.call.Call.{Call}
 use Rattle.jc_model.specs.declared.call.Call.TheVariants as calls
-use Rattle.jc_script.specs.declared.operation.Operation.{Operation}
-use Rattle.jc_script.specs.declared.operation.Operation.TheVariants as ops
-use Rattle.jc_script.specs.declared.operation.TheConstants.{OPERATIONS}
+use Rattle.jc_script.specs.declared.fault.Member.TheVariants as members
+use Rattle.jc_script.specs.declared.fault.ScriptFault.{ScriptFault}
+use Rattle.jc_script.specs.declared.fault.ScriptFault.TheVariants.{Bad}
+use Rattle.jc_script.specs.Faults.{◌>>=◌}
+use Rattle.jc_script.specs.Member.{needed, whole_below, key, keys, pairs, value}
 
-abbrev pub operation_name : Operation → List ℕ
-operation_name ops.Get = codes "get"
-operation_name ops.GetAll = codes "get_all"
-operation_name ops.Contains = codes "contains"
-operation_name ops.Put = codes "put"
-operation_name ops.GetAndPut = codes "get_and_put"
-operation_name ops.PutIfAbsent = codes "put_if_absent"
-operation_name ops.Replace = codes "replace"
-operation_name ops.ReplaceIf = codes "replace_if"
-operation_name ops.GetAndReplace = codes "get_and_replace"
-operation_name ops.Remove = codes "remove"
-operation_name ops.RemoveIf = codes "remove_if"
-operation_name ops.GetAndRemove = codes "get_and_remove"
-operation_name ops.Invoke = codes "invoke"
-operation_name ops.InvokeAll = codes "invoke_all"
-operation_name ops.PutAll = codes "put_all"
-operation_name ops.RemoveKeys = codes "remove_keys"
-operation_name ops.RemoveAll = codes "remove_all"
-operation_name ops.Clear = codes "clear"
-operation_name ops.LoadAll = codes "load_all"
-operation_name ops.Entries = codes "entries"
-operation_name ops.Stats = codes "stats"
-operation_name ops.ClearStats = codes "clear_stats"
+-- a call's name in a script and in a report
+abbrev pub name_of : Call → List ℕ
+name_of (calls.Get k) = codes "get"
+name_of (calls.GetAll ks) = codes "get_all"
+name_of (calls.Contains k) = codes "contains"
+name_of (calls.Put k v) = codes "put"
+name_of (calls.GetAndPut k v) = codes "get_and_put"
+name_of (calls.PutIfAbsent k v) = codes "put_if_absent"
+name_of (calls.Replace k v) = codes "replace"
+name_of (calls.ReplaceIf k expected v) = codes "replace_if"
+name_of (calls.GetAndReplace k v) = codes "get_and_replace"
+name_of (calls.Remove k) = codes "remove"
+name_of (calls.RemoveIf k expected) = codes "remove_if"
+name_of (calls.GetAndRemove k) = codes "get_and_remove"
+name_of (calls.Invoke k processor argument) = codes "invoke"
+name_of (calls.InvokeAll ks processor argument) = codes "invoke_all"
+name_of (calls.PutAll ps) = codes "put_all"
+name_of (calls.RemoveKeys ks) = codes "remove_keys"
+name_of calls.RemoveAll = codes "remove_all"
+name_of calls.Clear = codes "clear"
+name_of (calls.LoadAll ks replace) = codes "load_all"
+name_of calls.Entries = codes "entries"
+name_of calls.Stats = codes "stats"
+name_of calls.ClearStats = codes "clear_stats"
 
-abbrev pub has_name : List ℕ → Operation → Bool
-has_name name o = bytes_eq (operation_name o) name
+-- What a call is made of: the number of its cache's processors, the line's number and its object.
 
--- the operation of that name
-unfoldable pub operation_named : List ℕ → Option Operation
-operation_named name = find (has_name name) OPERATIONS
+abbrev pub Reading : Type 0
+Reading = ℕ → ℕ → Data → Result Call ScriptFault
 
-abbrev pub operation_of : Call → Operation
-operation_of (calls.Get k) = ops.Get
-operation_of (calls.GetAll ks) = ops.GetAll
-operation_of (calls.Contains k) = ops.Contains
-operation_of (calls.Put k v) = ops.Put
-operation_of (calls.GetAndPut k v) = ops.GetAndPut
-operation_of (calls.PutIfAbsent k v) = ops.PutIfAbsent
-operation_of (calls.Replace k v) = ops.Replace
-operation_of (calls.ReplaceIf k expected v) = ops.ReplaceIf
-operation_of (calls.GetAndReplace k v) = ops.GetAndReplace
-operation_of (calls.Remove k) = ops.Remove
-operation_of (calls.RemoveIf k expected) = ops.RemoveIf
-operation_of (calls.GetAndRemove k) = ops.GetAndRemove
-operation_of (calls.Invoke k processor argument) = ops.Invoke
-operation_of (calls.InvokeAll ks processor argument) = ops.InvokeAll
-operation_of (calls.PutAll ps) = ops.PutAll
-operation_of (calls.RemoveKeys ks) = ops.RemoveKeys
-operation_of calls.RemoveAll = ops.RemoveAll
-operation_of calls.Clear = ops.Clear
-operation_of (calls.LoadAll ks replace) = ops.LoadAll
-operation_of calls.Entries = ops.Entries
-operation_of calls.Stats = ops.Stats
-operation_of calls.ClearStats = ops.ClearStats
+abbrev pub of_nothing : Call → Reading
+of_nothing call processors n d = Ok call
+
+abbrev pub of_key : (List ℕ → Call) → Reading
+of_key call processors n d = do
+  k ← needed key n members.Key d
+  Ok (call k)
+
+abbrev pub of_key_value : (List ℕ → List ℕ → Call) → Reading
+of_key_value call processors n d = do
+  k ← needed key n members.Key d
+  v ← needed value n members.Value d
+  Ok (call k v)
+
+abbrev pub of_key_expected : (List ℕ → List ℕ → Call) → Reading
+of_key_expected call processors n d = do
+  k ← needed key n members.Key d
+  expected ← needed value n members.Expect d
+  Ok (call k expected)
+
+abbrev pub of_key_expected_value : (List ℕ → List ℕ → List ℕ → Call) → Reading
+of_key_expected_value call processors n d = do
+  k ← needed key n members.Key d
+  expected ← needed value n members.Expect d
+  v ← needed value n members.Value d
+  Ok (call k expected v)
+
+abbrev pub of_key_processor : (List ℕ → ℕ → List ℕ → Call) → Reading
+of_key_processor call processors n d = do
+  k ← needed key n members.Key d
+  p ← needed (whole_below processors) n members.Processor d
+  a ← needed value n members.Argument d
+  Ok (call k p a)
+
+abbrev pub of_keys : (List (List ℕ) → Call) → Reading
+of_keys call processors n d = do
+  ks ← needed keys n members.Keys d
+  Ok (call ks)
+
+abbrev pub of_keys_replace : (List (List ℕ) → Bool → Call) → Reading
+of_keys_replace call processors n d = do
+  ks ← needed keys n members.Keys d
+  replace ← needed as_bool n members.Replace d
+  Ok (call ks replace)
+
+abbrev pub of_keys_processor : (List (List ℕ) → ℕ → List ℕ → Call) → Reading
+of_keys_processor call processors n d = do
+  ks ← needed keys n members.Keys d
+  p ← needed (whole_below processors) n members.Processor d
+  a ← needed value n members.Argument d
+  Ok (call ks p a)
+
+abbrev pub of_pairs : (List (List ℕ × List ℕ) → Call) → Reading
+of_pairs call processors n d = do
+  ps ← needed pairs n members.Pairs d
+  Ok (call ps)
+
+-- The call of each name.
+
+abbrev pub on_one : List (List ℕ × Reading)
+on_one =
+    (codes "get", of_key calls.Get) ∷
+    (codes "contains", of_key calls.Contains) ∷
+    (codes "put", of_key_value calls.Put) ∷
+    (codes "get_and_put", of_key_value calls.GetAndPut) ∷
+    (codes "put_if_absent", of_key_value calls.PutIfAbsent) ∷
+    (codes "replace", of_key_value calls.Replace) ∷
+    (codes "replace_if", of_key_expected_value calls.ReplaceIf) ∷
+    (codes "get_and_replace", of_key_value calls.GetAndReplace) ∷
+    (codes "remove", of_key calls.Remove) ∷
+    (codes "remove_if", of_key_expected calls.RemoveIf) ∷
+    (codes "get_and_remove", of_key calls.GetAndRemove) ∷
+    (codes "invoke", of_key_processor calls.Invoke) ∷ []
+
+abbrev pub on_many : List (List ℕ × Reading)
+on_many =
+    (codes "get_all", of_keys calls.GetAll) ∷
+    (codes "invoke_all", of_keys_processor calls.InvokeAll) ∷
+    (codes "put_all", of_pairs calls.PutAll) ∷
+    (codes "remove_keys", of_keys calls.RemoveKeys) ∷
+    (codes "load_all", of_keys_replace calls.LoadAll) ∷
+    (codes "remove_all", of_nothing calls.RemoveAll) ∷
+    (codes "clear", of_nothing calls.Clear) ∷
+    (codes "entries", of_nothing calls.Entries) ∷
+    (codes "stats", of_nothing calls.Stats) ∷
+    (codes "clear_stats", of_nothing calls.ClearStats) ∷ []
+
+-- by the first of these with the name; a name that none has is the fault of the line's op
+unfoldable pub chosen : List (List ℕ × Reading) → List ℕ → Reading
+chosen [] name processors n d = Err (Bad n members.Op)
+chosen (op ∷ ops) name processors n d = if bytes_eq name op.0 then op.1 processors n d else chosen ops name processors n d
+
+unfoldable pub call_of : List ℕ → Reading
+call_of name processors n d = chosen (on_one ++ on_many) name processors n d

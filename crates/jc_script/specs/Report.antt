@@ -19,7 +19,7 @@ use Rattle.jc_model.specs.declared.event.End.{End}
 use Rattle.jc_model.specs.declared.event.End.TheVariants.{Waiting, Replied, GivenUp}
 use Rattle.jc_model.specs.declared.event.Entry.{Entry}
 use Rattle.jc_model.specs.Legal.{entries_of}
-use Rattle.jc_script.specs.Operation.{operation_name, operation_of}
+use Rattle.jc_script.specs.Operation.{name_of}
 
 -- a key or a value as a JSON string, and as hexadecimal digits where it is no text
 unfoldable pub bytes_text : List ℕ → List ℕ
@@ -87,7 +87,7 @@ end_text (Replied reply) = reply_text reply
 end_text GivenUp = codes "gave up"
 
 abbrev pub call_text : Entry → List ℕ
-call_text e = spaced e.session ++ operation_name (operation_of e.call) ++ codes " " ++ end_text e.end ++ codes "\n"
+call_text e = spaced e.session ++ name_of e.call ++ codes " " ++ end_text e.end ++ codes "\n"
 
 -- the notices that were told, then the call and its end
 abbrev pub entry_text : Entry → List ℕ

@@ -3,11 +3,13 @@ use Rattle.std.specs.Prelude.{ℕ, ◌+◌, ◌==◌, ◌||◌, List, [], ◌∷
 use Rattle.std.specs.Borrow.{Bor}
 use Rattle.std.specs.List.{slice_split, list_all}
 use Rattle.jc_model.specs.declared.config.CacheConfig.{CacheConfig}
+use Rattle.jc_model.specs.Limits.{text_bytes}
 use Rattle.jc_script.specs.declared.fault.ScriptFault.{ScriptFault}
 use Rattle.jc_script.specs.declared.fault.ScriptFault.TheVariants.{TooLong}
 use Rattle.jc_script.specs.declared.line.Line.{Line}
 use Rattle.jc_script.specs.Faults.{◌>>=◌}
-use Rattle.jc_script.specs.Line.{object_of, line_of}
+use Rattle.jc_script.specs.Line.{line_of}
+use Rattle.jc_script.specs.Member.{object_of}
 
 unfoldable pub piece_of : List CacheConfig → ℕ → List ℕ → Result Line ScriptFault
 piece_of caches n piece = do
@@ -36,4 +38,4 @@ lines_from caches n (piece ∷ pieces) = if is_blank piece then lines_from cache
 
 -- the bytes are cut at each line feed
 unfoldable pub lines : List CacheConfig → List ℕ → Result (List Line) ScriptFault
-lines caches bytes = if nat_lt 8388608 (length bytes) then Err TooLong else lines_from caches 1 (slice_split is_feed bytes)
+lines caches bytes = if nat_lt text_bytes (length bytes) then Err TooLong else lines_from caches 1 (slice_split is_feed bytes)

@@ -1,6 +1,6 @@
 //! Why a script is refused.
 ghost use Rattle.std.specs.Prelude.{◌≡◌, codes};
-ghost use Rattle.jc_script.specs.Line.{member_name};
+ghost use Rattle.jc_script.specs.Member.{member_name};
 ghost use Rattle.jc_script.specs.declared.fault.ScriptFault.TheVariants.{OutOfMemory};
 
 use std::alloc::{AllocError, AllocFailed};

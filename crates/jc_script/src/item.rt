@@ -2,17 +2,16 @@
 ghost use Rattle.std.specs.Prelude.{◌≡◌, ◌≤◌, length, IfOk, option_map};
 ghost use Rattle.serde_json.specs.Data.{no_items, item};
 ghost use Rattle.serde_json.specs.View.{view, items_view};
-ghost use Rattle.jc_script.specs.Line.{key, pair_of, each, distinct_keys, distinct_pairs};
+ghost use Rattle.jc_model.specs.Limits.{value_bytes};
+ghost use Rattle.jc_script.specs.Member.{key, pair_of, each, distinct_keys, distinct_pairs};
 
 use jc_model::key::Key;
 use jc_model::keys::{Keys, Pairs};
+use jc_model::limits::VALUE_BYTES;
 use jc_model::value;
 use jc_model::value::ValueFault;
 use serde_json::Value;
 use std::alloc::{AllocError, Global};
-
-/// The most bytes of a value.
-const MOST_BYTES: usize = 65_535;
 
 /// What a JSON value may stand for.
 pub trait Item: Sized + Drop {
@@ -38,7 +37,7 @@ pub fn key_in(item: &Value) -> Option<Key>
 }
 
 fn made(alloc: Global, text: &str) -> Result<Option<value::Value>, AllocError>
-    requires { length text.now ≤ 65535 }
+    requires { length text.now ≤ value_bytes }
     ensures { IfOk result (λ o. o ≡ Some text.now) }
 {
     let bytes = Vec::from_slice(alloc, text.as_bytes())?;
@@ -50,7 +49,8 @@ fn made(alloc: Global, text: &str) -> Result<Option<value::Value>, AllocError>
 }
 
 impl Item for Key {
-    ghost use Rattle.jc_script.specs.Line.{key};
+    ghost use Rattle.jc_model.specs.Limits.{value_bytes};
+    ghost use Rattle.jc_script.specs.Member.{key};
 
     ghost reading = { key };
 
@@ -60,13 +60,14 @@ impl Item for Key {
 }
 
 impl Item for value::Value {
-    ghost use Rattle.jc_script.specs.Line.{value};
+    ghost use Rattle.jc_model.specs.Limits.{value_bytes};
+    ghost use Rattle.jc_script.specs.Member.{value};
 
     ghost reading = { value };
 
     fn from_json(alloc: Global, item: &Value) -> Result<Option<value::Value>, AllocError> {
         match item.as_str() {
-            Some(text) if text.len() <= MOST_BYTES => made(alloc, text),
+            Some(text) if text.len() <= VALUE_BYTES => made(alloc, text),
             _ => Ok(None),
         }
     }
@@ -96,7 +97,8 @@ fn pair_of(alloc: Global, items: &[Value]) -> Result<Option<(Key, value::Value)>
 }
 
 impl Item for (Key, value::Value) {
-    ghost use Rattle.jc_script.specs.Line.{pair};
+    ghost use Rattle.jc_model.specs.Limits.{value_bytes};
+    ghost use Rattle.jc_script.specs.Member.{pair};
 
     ghost reading = { pair };
 
@@ -129,7 +131,8 @@ fn distinct_keys(keys: Vec<Key>) -> Option<Keys>
 }
 
 impl Item for Keys {
-    ghost use Rattle.jc_script.specs.Line.{keys};
+    ghost use Rattle.jc_model.specs.Limits.{value_bytes};
+    ghost use Rattle.jc_script.specs.Member.{keys};
 
     ghost reading = { keys };
 
@@ -148,7 +151,8 @@ fn distinct_pairs(pairs: Vec<(Key, value::Value)>) -> Option<Pairs>
 }
 
 impl Item for Pairs {
-    ghost use Rattle.jc_script.specs.Line.{pairs};
+    ghost use Rattle.jc_model.specs.Limits.{value_bytes};
+    ghost use Rattle.jc_script.specs.Member.{pairs};
 
     ghost reading = { pairs };
 

@@ -2,7 +2,6 @@
 #![tactic(auto)]
 
 mod caches;
-mod call;
 mod fault;
 mod groups;
 mod item;
@@ -17,7 +16,6 @@ mod script;
 
 pub use fault::{Member, ScriptFault};
 pub use line::Line;
-pub use operation::Operation;
 pub use reply::reply_text;
 pub use report_text::report;
 pub use script::read_script;

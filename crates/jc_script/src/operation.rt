@@ -1,141 +1,106 @@
-//! The names of the calls.
-ghost use Rattle.std.specs.Prelude.{◌≡◌, codes};
-ghost use Rattle.std.specs.List.{find};
-ghost use Rattle.jc_script.specs.Operation.{operation_name, has_name, operation_named, operation_of};
+//! The ops of a script, each in two tables: the name of a call, and the call of a name.
+ghost use Rattle.std.specs.Prelude.{◌≡◌, ◌≤◌, codes};
+ghost use Rattle.serde_json.specs.View.{view};
+ghost use Rattle.jc_model.specs.Limits.{most_processors};
+ghost use Rattle.jc_script.specs.Faults.{Gives};
+ghost use Rattle.jc_script.specs.Operation.{name_of, chosen, on_many, call_of};
 
+use crate::fault::{Member, ScriptFault};
+use crate::member::Reader;
 use jc_model::call::Call;
 
-/// What a line asks for, without its arguments.
-#[derive(Clone, Copy, Debug, PartialEq, Eq)]
-pub enum Operation {
-    Get,
-    GetAll,
-    Contains,
-    Put,
-    GetAndPut,
-    PutIfAbsent,
-    Replace,
-    ReplaceIf,
-    GetAndReplace,
-    Remove,
-    RemoveIf,
-    GetAndRemove,
-    Invoke,
-    InvokeAll,
-    PutAll,
-    RemoveKeys,
-    RemoveAll,
-    Clear,
-    LoadAll,
-    Entries,
-    Stats,
-    ClearStats,
-}
-
-impl Operation {
-    /// Its name in a script and in a report.
-    pub fn name(self) -> &'static str
-        ensures { result.now ≡ operation_name self }
-    {
-        match self {
-            Operation::Get => "get",
-            Operation::GetAll => "get_all",
-            Operation::Contains => "contains",
-            Operation::Put => "put",
-            Operation::GetAndPut => "get_and_put",
-            Operation::PutIfAbsent => "put_if_absent",
-            Operation::Replace => "replace",
-            Operation::ReplaceIf => "replace_if",
-            Operation::GetAndReplace => "get_and_replace",
-            Operation::Remove => "remove",
-            Operation::RemoveIf => "remove_if",
-            Operation::GetAndRemove => "get_and_remove",
-            Operation::Invoke => "invoke",
-            Operation::InvokeAll => "invoke_all",
-            Operation::PutAll => "put_all",
-            Operation::RemoveKeys => "remove_keys",
-            Operation::RemoveAll => "remove_all",
-            Operation::Clear => "clear",
-            Operation::LoadAll => "load_all",
-            Operation::Entries => "entries",
-            Operation::Stats => "stats",
-            Operation::ClearStats => "clear_stats",
-        }
-    }
-
-    /// The operation of a call.
-    pub fn of(call: &Call) -> Operation
-        ensures { result ≡ operation_of call.now }
-    {
-        match call {
-            Call::Get(_) => Operation::Get,
-            Call::GetAll(_) => Operation::GetAll,
-            Call::Contains(_) => Operation::Contains,
-            Call::Put(..) => Operation::Put,
-            Call::GetAndPut(..) => Operation::GetAndPut,
-            Call::PutIfAbsent(..) => Operation::PutIfAbsent,
-            Call::Replace(..) => Operation::Replace,
-            Call::ReplaceIf { .. } => Operation::ReplaceIf,
-            Call::GetAndReplace(..) => Operation::GetAndReplace,
-            Call::Remove(_) => Operation::Remove,
-            Call::RemoveIf { .. } => Operation::RemoveIf,
-            Call::GetAndRemove(_) => Operation::GetAndRemove,
-            Call::Invoke { .. } => Operation::Invoke,
-            Call::InvokeAll { .. } => Operation::InvokeAll,
-            Call::PutAll(_) => Operation::PutAll,
-            Call::RemoveKeys(_) => Operation::RemoveKeys,
-            Call::RemoveAll => Operation::RemoveAll,
-            Call::Clear => Operation::Clear,
-            Call::LoadAll { .. } => Operation::LoadAll,
-            Call::Entries => Operation::Entries,
-            Call::Stats => Operation::Stats,
-            Call::ClearStats => Operation::ClearStats,
-        }
-    }
-}
-
-/// All operations.
-const OPERATIONS: [Operation; 22] = [
-    Operation::Get,
-    Operation::GetAll,
-    Operation::Contains,
-    Operation::Put,
-    Operation::GetAndPut,
-    Operation::PutIfAbsent,
-    Operation::Replace,
-    Operation::ReplaceIf,
-    Operation::GetAndReplace,
-    Operation::Remove,
-    Operation::RemoveIf,
-    Operation::GetAndRemove,
-    Operation::Invoke,
-    Operation::InvokeAll,
-    Operation::PutAll,
-    Operation::RemoveKeys,
-    Operation::RemoveAll,
-    Operation::Clear,
-    Operation::LoadAll,
-    Operation::Entries,
-    Operation::Stats,
-    Operation::ClearStats,
-];
-
-/// The first of the operations that has the name.
-fn first_named(operations: &[Operation], name: &str) -> Option<Operation>
-    ensures { result ≡ find (has_name name.now) operations.now }
+/// A call's name in a script and in a report.
+pub fn name_of(call: &Call) -> &'static str
+    ensures { result.now ≡ name_of call.now }
 {
-    for operation in operations {
-        if operation.name() == name {
-            return Some(*operation);
-        }
+    match call {
+        Call::Get(_) => "get",
+        Call::GetAll(_) => "get_all",
+        Call::Contains(_) => "contains",
+        Call::Put(..) => "put",
+        Call::GetAndPut(..) => "get_and_put",
+        Call::PutIfAbsent(..) => "put_if_absent",
+        Call::Replace(..) => "replace",
+        Call::ReplaceIf { .. } => "replace_if",
+        Call::GetAndReplace(..) => "get_and_replace",
+        Call::Remove(_) => "remove",
+        Call::RemoveIf { .. } => "remove_if",
+        Call::GetAndRemove(_) => "get_and_remove",
+        Call::Invoke { .. } => "invoke",
+        Call::InvokeAll { .. } => "invoke_all",
+        Call::PutAll(_) => "put_all",
+        Call::RemoveKeys(_) => "remove_keys",
+        Call::RemoveAll => "remove_all",
+        Call::Clear => "clear",
+        Call::LoadAll { .. } => "load_all",
+        Call::Entries => "entries",
+        Call::Stats => "stats",
+        Call::ClearStats => "clear_stats",
     }
-    None
 }
 
-/// The operation of that name, if there is one.
-#[tactic(auto, unfolding(crate::specs::Operation::operation_named))]
-pub fn operation_named(name: &str) -> Option<Operation>
-    ensures { result ≡ operation_named name.now }
+/// The call of that name, made of the line's members, on a cache with so many processors.
+#[tactic(auto, unfolding(crate::specs::Operation::chosen, crate::specs::Operation::call_of))]
+pub fn read_call(reader: &Reader<'_>, processors: usize, name: &str) -> Result<Call, ScriptFault>
+    requires { processors ≤ most_processors }
+    ensures { Gives (λ x. x) result (call_of name.now processors reader.now.line (view reader.now.object.now)) }
 {
-    first_named(&OPERATIONS, name)
+    Ok(match name {
+        "get" => Call::Get(reader.key()?),
+        "contains" => Call::Contains(reader.key()?),
+        "put" => Call::Put(reader.key()?, reader.value()?),
+        "get_and_put" => Call::GetAndPut(reader.key()?, reader.value()?),
+        "put_if_absent" => Call::PutIfAbsent(reader.key()?, reader.value()?),
+        "replace" => Call::Replace(reader.key()?, reader.value()?),
+        "replace_if" => Call::ReplaceIf {
+            key: reader.key()?,
+            expected: reader.expected()?,
+            value: reader.value()?,
+        },
+        "get_and_replace" => Call::GetAndReplace(reader.key()?, reader.value()?),
+        "remove" => Call::Remove(reader.key()?),
+        "remove_if" => Call::RemoveIf {
+            key: reader.key()?,
+            expected: reader.expected()?,
+        },
+        "get_and_remove" => Call::GetAndRemove(reader.key()?),
+        "invoke" => Call::Invoke {
+            key: reader.key()?,
+            processor: reader.processor(processors)?,
+            argument: reader.argument()?,
+        },
+        _ => return read_call_on_many(reader, processors, name),
+    })
+}
+
+/// The same, of the calls on many keys or on none.
+#[tactic(auto, unfolding(crate::specs::Operation::chosen, crate::specs::Operation::call_of))]
+fn read_call_on_many(
+    reader: &Reader<'_>,
+    processors: usize,
+    name: &str,
+) -> Result<Call, ScriptFault>
+    requires { processors ≤ most_processors }
+    ensures { Gives (λ x. x) result (chosen on_many name.now processors reader.now.line (view reader.now.object.now)) }
+{
+    Ok(match name {
+        "get_all" => Call::GetAll(reader.keys()?),
+        "invoke_all" => Call::InvokeAll {
+            keys: reader.keys()?,
+            processor: reader.processor(processors)?,
+            argument: reader.argument()?,
+        },
+        "put_all" => Call::PutAll(reader.pairs()?),
+        "remove_keys" => Call::RemoveKeys(reader.keys()?),
+        "load_all" => Call::LoadAll {
+            keys: reader.keys()?,
+            replace: reader.replace()?,
+        },
+        "remove_all" => Call::RemoveAll,
+        "clear" => Call::Clear,
+        "entries" => Call::Entries,
+        "stats" => Call::Stats,
+        "clear_stats" => Call::ClearStats,
+        _ => return Err(reader.bad(Member::Op)),
+    })
 }

@@ -1,7 +1,7 @@
 //! One text of JSON.
 ghost use Rattle.std.specs.Prelude.{◌≡◌, IfOk, option_map};
 ghost use Rattle.serde_json.specs.View.{view};
-ghost use Rattle.jc_script.specs.Line.{json_of, object_of};
+ghost use Rattle.jc_script.specs.Member.{json_of, object_of};
 ghost use Rattle.jc_script.specs.Faults.{Gives};
 
 use crate::fault::ScriptFault;
@@ -25,7 +25,7 @@ fn parse(alloc: Global, bytes: &[u8]) -> Result<Option<Value>, AllocError>
 }
 
 /// The object that a line's bytes are.
-#[tactic(auto, unfolding(crate::specs::Line::object_of))]
+#[tactic(auto, unfolding(crate::specs::Member::object_of))]
 pub fn read_object(alloc: Global, bytes: &[u8], line: usize) -> Result<Value, ScriptFault>
     ensures { Gives view result (object_of line bytes.now) }
 {

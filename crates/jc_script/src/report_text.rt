@@ -4,7 +4,7 @@ ghost use Rattle.std.specs.List.{flat_map};
 ghost use Rattle.jc_script.specs.Report.{kind_text, event_text, end_text, call_text, entry_text, group, header, text};
 
 use crate::groups::grouped;
-use crate::operation::Operation;
+use crate::operation::name_of;
 use crate::quote::push_bytes;
 use crate::reply::{push_number, push_reply, push_spaced};
 use jc_model::call::{Kind, Notice};
@@ -68,7 +68,7 @@ fn push_call(alloc: Global, report: &mut String, entry: &Entry) -> Result<(), Al
     ensures { OnOk result (string_bytes report.new ≡ string_bytes report.old ++ call_text entry.now) }
 {
     push_spaced(alloc, report, entry.session as u64)?;
-    report.push_str(Operation::of(&entry.call).name())?;
+    report.push_str(name_of(&entry.call))?;
     report.push_str(" ")?;
     push_end(alloc, report, &entry.end)?;
     report.push_str("\n")

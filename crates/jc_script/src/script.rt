@@ -2,6 +2,7 @@
 ghost use Rattle.std.specs.Prelude.{◌≡◌, ◌≤◌, ◌<◌, ◌∷◌, length, IfSome, IfOk};
 ghost use Rattle.std.specs.List.{slice_split, list_all, All};
 ghost use Rattle.serde_json.specs.View.{view};
+ghost use Rattle.jc_model.specs.Limits.{most_processors};
 ghost use Rattle.jc_script.specs.Caches.{Finds};
 ghost use Rattle.jc_script.specs.Faults.{Gives};
 ghost use Rattle.jc_script.specs.Line.{line_of};
@@ -9,35 +10,27 @@ ghost use Rattle.jc_script.specs.Named.{AllName};
 ghost use Rattle.jc_script.specs.Script.{is_feed, is_blank, pieces_after, piece_of, lines};
 
 use crate::caches::{Caches, read_cache};
-use crate::call::read_call;
 use crate::fault::ScriptFault;
 use crate::line::Line;
-use crate::member::{read_moment, read_operation, read_session};
+use crate::member::Reader;
+use crate::operation::read_call;
 use crate::parse::read_object;
 use jc_config::Settings;
 use jc_model::event::CacheId;
-use serde_json::Value;
+use jc_model::limits::TEXT_BYTES;
 use std::alloc::Global;
 
-/// The most bytes of a script.
-const MOST_BYTES: usize = 8_388_608;
-
 #[tactic(auto, unfolding(crate::specs::Line::line_of))]
-fn read_line(
-    alloc: Global,
-    caches: &Caches,
-    object: &Value,
-    line: usize,
-) -> Result<Line, ScriptFault>
+fn read_line(caches: &Caches, reader: &Reader<'_>) -> Result<Line, ScriptFault>
     requires places { Finds caches.now.places caches.now.list.now }
-    requires processors { All (λ c. length c.processors ≤ 16) caches.now.list.now }
-    ensures { Gives (λ x. x) result (line_of caches.now.list.now line (view object.now)) }
+    requires processors { All (λ c. length c.processors ≤ most_processors) caches.now.list.now }
+    ensures { Gives (λ x. x) result (line_of caches.now.list.now reader.now.line (view reader.now.object.now)) }
 {
-    let session = read_session(object, line)?;
-    let place = read_cache(caches, object, line)?;
-    let at = read_moment(object, line)?;
-    let operation = read_operation(object, line)?;
-    let call = read_call(alloc, caches.processors(place), operation, object, line)?;
+    let session = reader.session()?;
+    let place = read_cache(caches, reader)?;
+    let at = reader.moment()?;
+    let name = reader.op()?;
+    let call = read_call(reader, caches.processors(place), name)?;
     Ok(Line {
         session,
         id: CacheId::new(place),
@@ -54,11 +47,18 @@ fn read_piece(
     line: usize,
 ) -> Result<Line, ScriptFault>
     requires places { Finds caches.now.places caches.now.list.now }
-    requires processors { All (λ c. length c.processors ≤ 16) caches.now.list.now }
+    requires processors { All (λ c. length c.processors ≤ most_processors) caches.now.list.now }
     ensures { Gives (λ x. x) result (piece_of caches.now.list.now line piece.now) }
 {
     let object = read_object(alloc, piece, line)?;
-    read_line(alloc, caches, &object, line)
+    read_line(
+        caches,
+        &Reader {
+            alloc,
+            line,
+            object: &object,
+        },
+    )
 }
 
 fn is_blank(piece: &[u8]) -> bool
@@ -92,7 +92,7 @@ pub fn read_script(
     ensures read { Gives (λ v. v.items) result (lines settings.now bytes.now) }
     ensures named { IfOk result (λ v. AllName settings.now v.items) }
 {
-    if bytes.len() > MOST_BYTES {
+    if bytes.len() > TEXT_BYTES {
         return Err(ScriptFault::TooLong);
     }
     let caches = Caches::new(alloc, settings.caches())?;

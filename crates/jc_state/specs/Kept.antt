@@ -1,10 +1,11 @@
 -- What a cache keeps, and what it means.
-use Rattle.std.specs.Prelude.{◌≡◌, ◌+◌, ◌≤◌, ℕ, List, length, map, Option, Some, None, true}
+use Rattle.std.specs.Prelude.{◌≡◌, ◌+◌, ◌≤◌, ℕ, Bool, List, length, map, Option, Some, None, true}
 use Rattle.jc_model.specs.declared.call.Counts.{Counts}
 use Rattle.jc_model.specs.declared.call.Notice.{Notice}
 use Rattle.jc_model.specs.declared.config.CacheConfig.{CacheConfig}
 use Rattle.jc_model.specs.State.{Item, State, row_of}
 use Rattle.jc_model.specs.Changes.{Progress}
+use Rattle.jc_model.specs.Whole.{holds}
 use Rattle.jc_rows.specs.Rows.{RowMap}
 use Rattle.jc_state.specs.declared.slots.Record.{Record}
 use Rattle.jc_state.specs.Noted.{Noted}
@@ -64,6 +65,10 @@ pub record IsRow (key : List ℕ) (k : Kept) (row : ℕ) (x : Item) : Type 0 whe
 abbrev pub FoundRow : List ℕ → Kept → Option ℕ → Type 0
 FoundRow key k None = row_of key (items_of k.cells) ≡ None
 FoundRow key k (Some row) = (x : Item) × IsRow key k row x
+
+-- the key has a live row
+abbrev pub has_live : ℕ → List ℕ → Kept → Bool
+has_live now key k = holds k.config now key (state_of k)
 
 -- What stays while a call moves its cache, however much room it uses.
 pub record Remains (m : RowMap) (k : Kept) (n : RowMap) (k' : Kept) : Type 0 where

@@ -15,7 +15,7 @@ ghost use Rattle.jc_model.specs.State.{zeros, one_more, live};
 ghost use Rattle.jc_model.specs.Whole.{holds};
 ghost use Rattle.jc_state.specs.declared.slots.Record.{Record};
 ghost use Rattle.jc_state.specs.Shelf.{seek, has_row};
-ghost use Rattle.jc_state.specs.Kept.{state_of, IsTied, FoundRow};
+ghost use Rattle.jc_state.specs.Kept.{state_of, has_live, IsTied, FoundRow};
 
 use crate::shelf::Shelf;
 use jc_expiry::counters::{with_hit, with_miss, with_put, with_removal};
@@ -108,7 +108,15 @@ impl<G: Ring> CacheState<G> {
         requires tied { IsTied (R.contents rows.now) self.now }
         ensures { result ≡ holds self.now.config now key.now (state_of self.now) }
     {
-        match self.find(rows, key) {
+        self.has_live(self.find(rows, key), now)
+    }
+
+    /// Whether a key that has this row, if any, has a live row.
+    pub fn has_live(&self, row: Option<u32>, now: u64) -> bool
+        requires there { (r : ℕ) → row ≡ Some r → has_row r self.now.cells ≡ true }
+        ensures { (key : List ℕ) → FoundRow key self.now row → result ≡ has_live now key self.now }
+    {
+        match row {
             Some(row) => self.is_live(row, now),
             None => false,
         }

@@ -19,6 +19,8 @@ mod closures;
 #[cfg(test)]
 mod large;
 #[cfg(test)]
+mod lookups;
+#[cfg(test)]
 mod manager;
 #[cfg(test)]
 mod places;

@@ -8,7 +8,7 @@ ghost use Rattle.jc_model.specs.Step.{counted, changed, ended_by};
 ghost use Rattle.jc_state.specs.Shelf.{has_row};
 ghost use Rattle.jc_state.specs.Noted.{HasPlaces, IsTold, StoredIsTold};
 ghost use Rattle.jc_state.specs.Kept.{items_of, progress_of, IsTied, Stays, IsRow, FoundRow};
-ghost use Rattle.jc_ops.specs.Lines.{stores};
+ghost use Rattle.jc_ops.specs.Lines.{stores, told_of};
 
 use crate::step::reply::reply_of;
 use jc_model::call::Reply;
@@ -56,9 +56,9 @@ fn change_live<R: Rows, G: Ring>(
 )
     requires tied { IsTied (R.contents rows.old) state.old }
     requires there { has_row row state.old.cells ≡ true }
-    requires places { HasPlaces state.old.config 1 notices.old }
+    requires places { HasPlaces state.old.config (told_of true change) notices.old }
     requires told { StoredIsTold state.old.config stored }
-    ensures stays { Stays 0 1 (R.contents rows.old) (R.spare rows.old) state.old notices.old (R.contents rows.new) (R.spare rows.new) state.new notices.new }
+    ensures stays { Stays 0 (told_of true change) (R.contents rows.old) (R.spare rows.old) state.old notices.old (R.contents rows.new) (R.spare rows.new) state.new notices.new }
     ensures progress { (key : List ℕ) (x : Item) → IsRow key state.old row x →
         progress_of state.new notices.new.told ≡ changed state.old.config now key change (Some x) (option_map (λ s. s.value) stored) (progress_of state.old notices.old.told) }
 {
@@ -117,10 +117,10 @@ fn change_absent<R: Rows, G: Ring>(
 )
     requires tied { IsTied (R.contents rows.old) state.old }
     requires absent { row_of key (items_of state.old.cells) ≡ None }
-    requires places { HasPlaces state.old.config 2 notices.old }
+    requires places { HasPlaces state.old.config (told_of false change) notices.old }
     requires told { StoredIsTold state.old.config stored }
     requires room { stores change ≡ true → is_some stored ≡ true → 0 < R.spare rows.old }
-    ensures stays { Stays 1 2 (R.contents rows.old) (R.spare rows.old) state.old notices.old (R.contents rows.new) (R.spare rows.new) state.new notices.new }
+    ensures stays { Stays 1 (told_of false change) (R.contents rows.old) (R.spare rows.old) state.old notices.old (R.contents rows.new) (R.spare rows.new) state.new notices.new }
     ensures progress { progress_of state.new notices.new.told ≡ changed state.old.config now key change None (option_map (λ s. s.value) stored) (progress_of state.old notices.old.told) }
 {
     match change {
@@ -151,10 +151,10 @@ fn change<R: Rows, G: Ring>(
 )
     requires tied { IsTied (R.contents rows.old) state.old }
     requires row { FoundRow at.now.key state.old at.now.row }
-    requires places { HasPlaces state.old.config 2 notices.old }
+    requires places { HasPlaces state.old.config (told_of (is_some at.now.row) change) notices.old }
     requires told { StoredIsTold state.old.config stored }
     requires room { is_some at.now.row ≡ false → stores change ≡ true → is_some stored ≡ true → 0 < R.spare rows.old }
-    ensures stays { Stays 1 2 (R.contents rows.old) (R.spare rows.old) state.old notices.old (R.contents rows.new) (R.spare rows.new) state.new notices.new }
+    ensures stays { Stays 1 (told_of (is_some at.now.row) change) (R.contents rows.old) (R.spare rows.old) state.old notices.old (R.contents rows.new) (R.spare rows.new) state.new notices.new }
     ensures progress { progress_of state.new notices.new.told ≡ changed state.old.config at.now.moment at.now.key change (row_of at.now.key (items_of state.old.cells)) (option_map (λ s. s.value) stored) (progress_of state.old notices.old.told) }
 {
     match at.row {
@@ -175,10 +175,10 @@ pub(crate) fn end<R: Rows, G: Ring>(
 ) -> Thrice<Reply>
     requires tied { IsTied (R.contents rows.old) state.old }
     requires row { FoundRow at.now.key state.old at.now.row }
-    requires places { HasPlaces state.old.config 2 notices.old }
+    requires places { HasPlaces state.old.config (told_of (is_some at.now.row) line.change) notices.old }
     requires told { StoredIsTold state.old.config stored }
     requires room { is_some at.now.row ≡ false → stores line.change ≡ true → is_some stored ≡ true → 0 < R.spare rows.old }
-    ensures stays { Stays 1 2 (R.contents rows.old) (R.spare rows.old) state.old notices.old (R.contents rows.new) (R.spare rows.new) state.new notices.new }
+    ensures stays { Stays 1 (told_of (is_some at.now.row) line.change) (R.contents rows.old) (R.spare rows.old) state.old notices.old (R.contents rows.new) (R.spare rows.new) state.new notices.new }
     ensures run { ended_by state.old.config at.now.moment at.now.key line (row_of at.now.key (items_of state.old.cells)) (option_map (λ s. s.value) stored) shown (progress_of state.old notices.old.told) ≡ ended (progress_of state.new notices.new.told) result }
 {
     count(state, line.counts, at.row.is_some());

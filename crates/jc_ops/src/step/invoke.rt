@@ -3,6 +3,7 @@ ghost use Rattle.std.specs.Prelude.{◌≡◌, List, ℕ, Option, true, false, S
 ghost use Rattle.jc_model.specs.declared.call.Notice.{Notice};
 ghost use Rattle.jc_model.specs.declared.call.Verdict.{Verdict};
 ghost use Rattle.jc_model.specs.declared.config.CacheConfig.{CacheConfig};
+ghost use Rattle.jc_model.specs.declared.table.Change.TheVariants.{Put};
 ghost use Rattle.jc_model.specs.Changes.{find_row};
 ghost use Rattle.jc_model.specs.Run.{ended, resume, is_written, loaded_by, verdict_of};
 ghost use Rattle.jc_model.specs.Suspended.{key_run};
@@ -10,8 +11,8 @@ ghost use Rattle.jc_state.specs.Noted.{HasPlaces, StoredIsTold};
 ghost use Rattle.jc_state.specs.Kept.{items_of, progress_of, IsTied, Stays, FoundRow};
 ghost use Rattle.jc_ops.specs.Given.{given_by, value_in};
 ghost use Rattle.jc_ops.specs.Invoked.{part_of, wait_of};
-ghost use Rattle.jc_ops.specs.Lines.{asks_writer};
-ghost use Rattle.jc_ops.specs.Supply.{CoversVerdict, CoversAnswer, HasRoomBy, HasRoomAt};
+ghost use Rattle.jc_ops.specs.Lines.{asks_writer, told_of};
+ghost use Rattle.jc_ops.specs.Supply.{CoversVerdict, CoversAnswer, HasRoom, adds_by, adds_at};
 ghost use Rattle.jc_ops.specs.Stepped.{StepsTo, StaysAt, IsWaiting, invoked};
 ghost use Rattle.jc_ops.specs.Verdicts.{verdict_line, awaits_load, act_on, done_on, processed_on, loaded_on, agreed_on};
 
@@ -165,12 +166,13 @@ fn end_verdict<R: Rows, G: Ring>(
 ) -> Thrice<Reply>
     requires tied { IsTied (R.contents rows.old) state.old }
     requires row { FoundRow at.now.key state.old at.now.row }
-    requires places { HasPlaces state.old.config 2 notices.old }
+    requires places { HasPlaces state.old.config (told_of (is_some at.now.row) Put) notices.old }
     requires covered { CoversVerdict false state.old.config (value_in loaded.now) verdict.now supply }
-    requires room { HasRoomBy false (value_in loaded.now) verdict.now (R.spare rows.old) }
-    ensures stays { Stays 1 2 (R.contents rows.old) (R.spare rows.old) state.old notices.old (R.contents rows.new) (R.spare rows.new) state.new notices.new }
+    requires room { HasRoom (adds_by (is_some at.now.row) false (value_in loaded.now) verdict.now) (R.spare rows.old) }
+    ensures stays { Stays 1 (told_of (is_some at.now.row) Put) (R.contents rows.old) (R.spare rows.old) state.old notices.old (R.contents rows.new) (R.spare rows.new) state.new notices.new }
     ensures run { done_on state.old.config at.now.moment at.now.key (find_row at.now.key (progress_of state.old notices.old.told)) (value_in loaded.now) (progress_of state.old notices.old.told) verdict.now ≡ ended (progress_of state.new notices.new.told) result }
 {
+    // The clauses alone name what was loaded: the supply has it already.
     let _loaded = loaded.is_some();
     let line = verdict_line(&verdict.action, at.row.is_some());
     end(state, rows, notices, at, line, supply.stored, supply.shown)
@@ -187,11 +189,11 @@ fn act<R: Rows, G: Ring>(
 ) -> Next
     requires tied { IsTied (R.contents rows.old) state.old }
     requires row { FoundRow invocation.at.key state.old invocation.at.row }
-    requires places { HasPlaces state.old.config 2 notices.old }
+    requires places { HasPlaces state.old.config (told_of (is_some invocation.at.row) Put) notices.old }
     requires covered { CoversVerdict state.old.config.writer state.old.config (value_in invocation.loaded) verdict supply }
-    requires room { HasRoomBy state.old.config.writer (value_in invocation.loaded) verdict (R.spare rows.old) }
+    requires room { HasRoom (adds_by (is_some invocation.at.row) state.old.config.writer (value_in invocation.loaded) verdict) (R.spare rows.old) }
     requires means { key_run state.old.config (progress_of state.old notices.old.told) (wait_of invocation (Some verdict)) ≡ act_on state.old.config invocation.at.moment invocation.at.key (find_row invocation.at.key (progress_of state.old notices.old.told)) (value_in invocation.loaded) (progress_of state.old notices.old.told) verdict }
-    ensures stays { Stays 1 2 (R.contents rows.old) (R.spare rows.old) state.old notices.old (R.contents rows.new) (R.spare rows.new) state.new notices.new }
+    ensures stays { Stays 1 (told_of (is_some invocation.at.row) Put) (R.contents rows.old) (R.spare rows.old) state.old notices.old (R.contents rows.new) (R.spare rows.new) state.new notices.new }
     ensures next { StepsTo state.old.config (key_run state.old.config (progress_of state.old notices.old.told) (wait_of invocation (Some verdict))) result state.new notices.new.told }
     ensures call_stays { StaysAt invocation.at.moment (part_of invocation) result }
 {
@@ -229,11 +231,11 @@ fn answer_process<R: Rows, G: Ring>(
 ) -> Next
     requires tied { IsTied (R.contents rows.old) state.old }
     requires row { FoundRow invocation.at.key state.old invocation.at.row }
-    requires places { HasPlaces state.old.config 2 notices.old }
+    requires places { HasPlaces state.old.config (told_of (is_some invocation.at.row) Put) notices.old }
     requires covered { (v : Verdict) → verdict_of answer ≡ Some v → CoversVerdict state.old.config.writer state.old.config (value_in invocation.loaded) v supply }
-    requires room { (v : Verdict) → verdict_of answer ≡ Some v → HasRoomBy state.old.config.writer (value_in invocation.loaded) v (R.spare rows.old) }
+    requires room { (v : Verdict) → verdict_of answer ≡ Some v → HasRoom (adds_by (is_some invocation.at.row) state.old.config.writer (value_in invocation.loaded) v) (R.spare rows.old) }
     requires means { key_run state.old.config (progress_of state.old notices.old.told) (wait_of invocation None) ≡ processed_on state.old.config invocation.at.moment invocation.at.key invocation.processor invocation.argument (find_row invocation.at.key (progress_of state.old notices.old.told)) (value_in invocation.loaded) (progress_of state.old notices.old.told) }
-    ensures stays { Stays 1 2 (R.contents rows.old) (R.spare rows.old) state.old notices.old (R.contents rows.new) (R.spare rows.new) state.new notices.new }
+    ensures stays { Stays 1 (told_of (is_some invocation.at.row) Put) (R.contents rows.old) (R.spare rows.old) state.old notices.old (R.contents rows.new) (R.spare rows.new) state.new notices.new }
     ensures next { StepsTo state.old.config (resume (key_run state.old.config (progress_of state.old notices.old.told) (wait_of invocation None)) answer) result state.new notices.new.told }
     ensures call_stays { StaysAt invocation.at.moment (part_of invocation) result }
 {
@@ -258,10 +260,10 @@ fn answer_verdict<R: Rows, G: Ring>(
 ) -> Next
     requires tied { IsTied (R.contents rows.old) state.old }
     requires row { FoundRow invocation.now.at.key state.old invocation.now.at.row }
-    requires places { HasPlaces state.old.config 2 notices.old }
+    requires places { HasPlaces state.old.config (told_of (is_some invocation.now.at.row) Put) notices.old }
     requires covered { is_written answer.now ≡ true → CoversVerdict false state.old.config (value_in invocation.now.loaded) verdict.now supply }
-    requires room { is_written answer.now ≡ true → HasRoomBy false (value_in invocation.now.loaded) verdict.now (R.spare rows.old) }
-    ensures stays { Stays 1 2 (R.contents rows.old) (R.spare rows.old) state.old notices.old (R.contents rows.new) (R.spare rows.new) state.new notices.new }
+    requires room { is_written answer.now ≡ true → HasRoom (adds_by (is_some invocation.now.at.row) false (value_in invocation.now.loaded) verdict.now) (R.spare rows.old) }
+    ensures stays { Stays 1 (told_of (is_some invocation.now.at.row) Put) (R.contents rows.old) (R.spare rows.old) state.old notices.old (R.contents rows.new) (R.spare rows.new) state.new notices.new }
     ensures next { StepsTo state.old.config (agreed_on state.old.config invocation.now.at.moment invocation.now.at.key (find_row invocation.now.at.key (progress_of state.old notices.old.told)) (value_in invocation.now.loaded) (progress_of state.old notices.old.told) verdict.now (is_written answer.now)) result state.new notices.new.told }
     ensures call_stays { StaysAt invocation.now.at.moment (part_of invocation.now) result }
 {
@@ -285,11 +287,11 @@ pub(super) fn answer_invoke<R: Rows, G: Ring>(
 ) -> Next
     requires tied { IsTied (R.contents rows.old) state.old }
     requires row { FoundRow invocation.at.key state.old invocation.at.row }
-    requires places { HasPlaces state.old.config 2 notices.old }
+    requires places { HasPlaces state.old.config (told_of (is_some invocation.at.row) Put) notices.old }
     requires covered { CoversAnswer state.old.config (wait_of invocation verdict) answer (items_of state.old.cells) supply }
-    requires room { HasRoomAt state.old.config (wait_of invocation verdict) answer (R.spare rows.old) }
+    requires room { HasRoom (adds_at (is_some invocation.at.row) state.old.config (wait_of invocation verdict) answer) (R.spare rows.old) }
     requires waits { IsWaiting state.old.config (progress_of state.old notices.old.told) (wait_of invocation verdict) }
-    ensures stays { Stays 1 2 (R.contents rows.old) (R.spare rows.old) state.old notices.old (R.contents rows.new) (R.spare rows.new) state.new notices.new }
+    ensures stays { Stays 1 (told_of (is_some invocation.at.row) Put) (R.contents rows.old) (R.spare rows.old) state.old notices.old (R.contents rows.new) (R.spare rows.new) state.new notices.new }
     ensures next { StepsTo state.old.config (resume (key_run state.old.config (progress_of state.old notices.old.told) (wait_of invocation verdict)) answer) result state.new notices.new.told }
     ensures call_stays { StaysAt invocation.at.moment (part_of invocation) result }
 {

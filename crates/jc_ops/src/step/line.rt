@@ -10,8 +10,8 @@ ghost use Rattle.jc_state.specs.Shelf.{has_row};
 ghost use Rattle.jc_state.specs.Kept.{items_of, progress_of, IsTied, Stays, FoundRow};
 ghost use Rattle.jc_model.specs.declared.call.KeyCall.{KeyCall};
 ghost use Rattle.jc_ops.specs.Heard.{heard};
-ghost use Rattle.jc_ops.specs.Lines.{is_invoke, is_load, is_shown, line_at};
-ghost use Rattle.jc_ops.specs.Supply.{Covers, CoversAnswer, HasRoom, HasRoomAt};
+ghost use Rattle.jc_ops.specs.Lines.{is_invoke, is_load, is_shown, line_at, told_of, told_on};
+ghost use Rattle.jc_ops.specs.Supply.{Covers, CoversAnswer, HasRoom, adds, adds_at};
 ghost use Rattle.jc_ops.specs.Stepped.{StepsTo, StaysAt, IsWaiting, waits_first};
 
 use crate::step::change::{At, count, end};
@@ -94,11 +94,11 @@ pub(super) fn begin<R: Rows, G: Ring>(
 ) -> Next
     requires tied { IsTied (R.contents rows.old) state.old }
     requires row { FoundRow at.now.key state.old at.now.row }
-    requires places { HasPlaces state.old.config 2 notices.old }
+    requires places { HasPlaces state.old.config (told_on (is_some at.now.row) op) notices.old }
     requires covered { Covers state.old.config.writer state.old.config (record { key = at.now.key; op = op }) (items_of state.old.cells) supply }
-    requires room { HasRoom state.old.config.writer op (R.spare rows.old) }
+    requires room { HasRoom (adds (is_some at.now.row) state.old.config.writer op) (R.spare rows.old) }
     requires purged { purge state.old.config at.now.moment at.now.key (progress_of state.old notices.old.told) ≡ progress_of state.old notices.old.told }
-    ensures stays { Stays 1 2 (R.contents rows.old) (R.spare rows.old) state.old notices.old (R.contents rows.new) (R.spare rows.new) state.new notices.new }
+    ensures stays { Stays 1 (told_on (is_some at.now.row) op) (R.contents rows.old) (R.spare rows.old) state.old notices.old (R.contents rows.new) (R.spare rows.new) state.new notices.new }
     ensures next { StepsTo state.old.config (step_of state.old.config at.now.moment (record { key = at.now.key; op = op }) (progress_of state.old notices.old.told)) result state.new notices.new.told }
     ensures call_stays { StaysAt at.now.moment (record { key = at.now.key; op = op }) result }
 {
@@ -135,12 +135,12 @@ fn answer_loaded<R: Rows, G: Ring>(
 ) -> Next
     requires tied { IsTied (R.contents rows.old) state.old }
     requires row { FoundRow at.now.key state.old at.now.row }
-    requires places { HasPlaces state.old.config 2 notices.old }
+    requires places { HasPlaces state.old.config (told_of (is_some at.now.row) line.change) notices.old }
     requires told { StoredIsTold state.old.config supply.stored }
     requires stored { (v : Option (List ℕ)) → loaded_by answer.now ≡ Some v → option_map (λ s. s.value) supply.stored ≡ v }
     requires shown { (v : Option (List ℕ)) → loaded_by answer.now ≡ Some v → is_shown line.reply ≡ true → supply.shown ≡ v }
-    requires room { (v : List ℕ) → loaded_by answer.now ≡ Some (Some v) → 0 < R.spare rows.old }
-    ensures stays { Stays 1 2 (R.contents rows.old) (R.spare rows.old) state.old notices.old (R.contents rows.new) (R.spare rows.new) state.new notices.new }
+    requires room { is_some at.now.row ≡ false → (v : List ℕ) → loaded_by answer.now ≡ Some (Some v) → 0 < R.spare rows.old }
+    ensures stays { Stays 1 (told_of (is_some at.now.row) line.change) (R.contents rows.old) (R.spare rows.old) state.old notices.old (R.contents rows.new) (R.spare rows.new) state.new notices.new }
     ensures next { StepsTo state.old.config (heard state.old.config at.now.moment at.now.key line (row_of at.now.key (items_of state.old.cells)) (progress_of state.old notices.old.told) (loaded_by answer.now)) result state.new notices.new.told }
     ensures call_stays { (call : KeyCall) → StaysAt at.now.moment call result }
 {
@@ -168,12 +168,12 @@ pub(super) fn answer_line<R: Rows, G: Ring>(
 ) -> Next
     requires tied { IsTied (R.contents rows.old) state.old }
     requires row { FoundRow at.now.key state.old at.now.row }
-    requires places { HasPlaces state.old.config 2 notices.old }
+    requires places { HasPlaces state.old.config (told_on (is_some at.now.row) op.now) notices.old }
     requires invoke { is_invoke op.now ≡ false }
     requires covered { CoversAnswer state.old.config (waits_first at.now.moment (record { key = at.now.key; op = op.now })) answer.now (items_of state.old.cells) supply }
-    requires room { HasRoomAt state.old.config (waits_first at.now.moment (record { key = at.now.key; op = op.now })) answer.now (R.spare rows.old) }
+    requires room { HasRoom (adds_at (is_some at.now.row) state.old.config (waits_first at.now.moment (record { key = at.now.key; op = op.now })) answer.now) (R.spare rows.old) }
     requires waits { IsWaiting state.old.config (progress_of state.old notices.old.told) (waits_first at.now.moment (record { key = at.now.key; op = op.now })) }
-    ensures stays { Stays 1 2 (R.contents rows.old) (R.spare rows.old) state.old notices.old (R.contents rows.new) (R.spare rows.new) state.new notices.new }
+    ensures stays { Stays 1 (told_on (is_some at.now.row) op.now) (R.contents rows.old) (R.spare rows.old) state.old notices.old (R.contents rows.new) (R.spare rows.new) state.new notices.new }
     ensures next { StepsTo state.old.config (resume (key_run state.old.config (progress_of state.old notices.old.told) (waits_first at.now.moment (record { key = at.now.key; op = op.now }))) answer.now) result state.new notices.new.told }
     ensures call_stays { StaysAt at.now.moment (record { key = at.now.key; op = op.now }) result }
 {

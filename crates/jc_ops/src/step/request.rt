@@ -116,6 +116,7 @@ pub(crate) fn first_request(
     requires copy { copy ≡ handed config.now.writer op.now }
     ensures { result ≡ first_request config.now key.now op.now asks live }
 {
+    // For its clause alone, which says what the operation stores.
     let _stored = value_of(op);
     match op {
         Op::Invoke { processor, .. } => ask_processor(config, key, *processor, live, copy),

@@ -1,11 +1,14 @@
 //! Which values an operation or a verdict stores, replies and hands to its hooks.
 ghost use Rattle.std.specs.Prelude.{◌≡◌, if◌then◌else◌, None, option_map};
 ghost use Rattle.jc_model.specs.Table.{value_of};
-ghost use Rattle.jc_ops.specs.Lines.{is_shown, stores, handed, shows, shows_loaded, creates, is_invoke};
+ghost use Rattle.jc_ops.specs.Lines.{is_shown, stores, handed, shows, shows_loaded, creates, is_invoke, told_of, told_by, most_told};
 ghost use Rattle.jc_ops.specs.Verdicts.{stores_by, hands_by};
+ghost use Rattle.jc_ops.specs.Supply.{adds, adds_loaded, adds_by, adds_at};
 
-use jc_model::call::{Action, Op};
-use jc_model::table::{Ask, Change, Replied, absent_line, live_line, value_of};
+use crate::step::KeyStep;
+use jc_model::call::{Action, Answer, Op, Verdict};
+use jc_model::config::CacheConfig;
+use jc_model::table::{Ask, Change, Line, Replied, absent_line, live_line, value_of};
 use jc_model::value::Value;
 
 /// Whether a value is replied.
@@ -51,6 +54,79 @@ pub fn creates(op: &Op) -> bool
     match line.asks {
         Ask::Load => false,
         _ => stores(line.change),
+    }
+}
+
+/// How many notices a change may tell: of a live row one, and of a new one its victim's too.
+fn told_of(there: bool, change: Change) -> usize
+    ensures { result ≡ told_of there change }
+{
+    match change {
+        Change::Keep => 0,
+        Change::Access => 0,
+        Change::Store => if there { 1 } else { 2 },
+        Change::Put => if there { 1 } else { 2 },
+        Change::Remove => if there { 1 } else { 0 },
+    }
+}
+
+/// How many notices a line may tell; a processor may decide for any change.
+fn told_by(there: bool, line: Line) -> usize
+    ensures { result ≡ told_by there line.asks line.change }
+{
+    match line.asks {
+        Ask::Process => told_of(there, Change::Put),
+        _ => told_of(there, line.change),
+    }
+}
+
+/// How many notices a step may tell, by whether its key has a live row: where it has none, first of its expired row.
+pub fn most_notices(op: &Op, there: bool) -> usize
+    ensures { result ≡ most_told there op.now }
+{
+    if there {
+        told_by(true, live_line(op))
+    } else {
+        told_by(false, absent_line(op)) + 1
+    }
+}
+
+/// Whether a step adds a row to the table as it begins, by whether its key has a live row.
+pub(super) fn adds(there: bool, writer: bool, op: &Op) -> bool
+    ensures { result ≡ adds there writer op.now }
+{
+    !there && !writer && creates(op)
+}
+
+/// Whether a step adds a row at its loader's answer.
+fn adds_loaded(there: bool, op: &Op, loaded: Option<&Value>) -> bool
+    ensures { result ≡ adds_loaded there op.now (option_map (λ v. v.now) loaded.entry) }
+{
+    !there && !is_invoke(op) && loaded.is_some()
+}
+
+/// Whether a verdict adds a row, where the loader gave `loaded`; not yet where the writer is asked before.
+fn adds_by(there: bool, writer: bool, loaded: Option<&Value>, verdict: &Verdict) -> bool
+    ensures { result ≡ adds_by there writer (option_map (λ v. v.now) loaded.entry) verdict.now }
+{
+    !there && stored_by(&verdict.action, loaded, writer).is_some()
+}
+
+/// Whether a step that waits adds a row to the table at this answer.
+pub(super) fn adds_at(there: bool, config: &CacheConfig, step: &KeyStep, answer: &Answer) -> bool
+    ensures { result ≡ adds_at there config.now step.entry.now answer.now }
+{
+    match answer {
+        Answer::Written => match step.verdict() {
+            None => adds(there, false, &step.call().op),
+            Some(verdict) => adds_by(there, false, step.loaded(), verdict),
+        },
+        Answer::Loaded(loaded) => adds_loaded(there, &step.call().op, loaded.as_ref()),
+        Answer::Processed(judged) => match judged {
+            Ok(verdict) => adds_by(there, config.writer, step.loaded(), verdict),
+            Err(_) => false,
+        },
+        _ => false,
     }
 }
 

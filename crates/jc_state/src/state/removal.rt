@@ -1,12 +1,12 @@
 //! Rows that go: expired ones as they are met, and removed ones.
-ghost use Rattle.std.specs.Prelude.{◌≡◌, ℕ, ◌+◌, List, length, true, Some, None};
+ghost use Rattle.std.specs.Prelude.{◌≡◌, ℕ, ◌+◌, if◌then◌else◌, List, length, true, false, Some, None, is_some};
 ghost use Rattle.std.specs.FinMap as map;
-ghost use Rattle.jc_model.specs.State.{Item};
+ghost use Rattle.jc_model.specs.State.{Item, live};
 ghost use Rattle.jc_model.specs.Changes.{purge, delete};
 ghost use Rattle.jc_state.specs.declared.slots.Record.{Record};
 ghost use Rattle.jc_state.specs.Shelf.{seek, has_row, without_row};
 ghost use Rattle.jc_state.specs.Noted.{HasPlaces, told_after};
-ghost use Rattle.jc_state.specs.Kept.{progress_of, IsTied, Stays, IsRow, FoundRow};
+ghost use Rattle.jc_state.specs.Kept.{has_live, progress_of, IsTied, Stays, IsRow, FoundRow};
 
 use super::CacheState;
 use crate::notices::Notices;
@@ -38,7 +38,8 @@ impl<G: Ring> CacheState<G> {
         notices.note_for(self.config(), kind, gone.key, None, Some(gone.value));
     }
 
-    /// Of a key's row, if it has one, the number where it is live. An expired row is removed here, with its notice.
+    /// Of a key's row, if it has one, the number where it is live. An expired row is removed here, with its notice; a live
+    /// one tells nothing.
     pub fn purge<R: Rows>(
         &mut self,
         rows: &mut R,
@@ -48,8 +49,9 @@ impl<G: Ring> CacheState<G> {
     ) -> Option<u32>
         requires tied { IsTied (R.contents rows.old) self.old }
         requires there { (r : ℕ) → row ≡ Some r → has_row r self.old.cells ≡ true }
-        requires places { HasPlaces self.old.config 1 notices.old }
-        ensures stays { Stays 0 1 (R.contents rows.old) (R.spare rows.old) self.old notices.old (R.contents rows.new) (R.spare rows.new) self.new notices.new }
+        requires places { (r : ℕ) (held : Record) → row ≡ Some r → seek r self.old.cells ≡ Some held → live now held.expiry ≡ false → HasPlaces self.old.config 1 notices.old }
+        ensures stays { Stays 0 (if is_some result then 0 else 1) (R.contents rows.old) (R.spare rows.old) self.old notices.old (R.contents rows.new) (R.spare rows.new) self.new notices.new }
+        ensures live { (key : List ℕ) → FoundRow key self.old row → is_some result ≡ has_live now key self.old }
         ensures progress { (key : List ℕ) → FoundRow key self.old row → progress_of self.new notices.new.told ≡ purge self.old.config now key (progress_of self.old notices.old.told) }
         ensures found { (key : List ℕ) → FoundRow key self.old row → FoundRow key self.new result }
     {

@@ -27,8 +27,8 @@ go_on_after-requires-clause-covered g c =
 
 pub returns-in-Waiting-clause-ok : goal.returns-in-Waiting-clause-ok
 returns-in-Waiting-clause-ok g c =
-    let b : Bulk = record { key = c.bulk.inside.step; rest = c.bulk.inside.ahead.rest.items; adds = c.bulk.inside.ahead.adds; sum = sum_of c.bulk.inside.ahead.sum } in
-    let next : Bulk = record { key = c.in-Waiting.step; rest = c.bulk.inside.ahead.rest.items; adds = c.bulk.inside.ahead.adds; sum = sum_of c.bulk.inside.ahead.sum } in
+    let b : Bulk = record { key = c.bulk.inside.step; rest = c.bulk.inside.ahead.rest.items; needs = c.bulk.inside.ahead.needs; sum = sum_of c.bulk.inside.ahead.sum } in
+    let next : Bulk = record { key = c.in-Waiting.step; rest = c.bulk.inside.ahead.rest.items; needs = c.bulk.inside.ahead.needs; sum = sum_of c.bulk.inside.ahead.sum } in
     let before : Progress = progress_of c.args.state.now c.prepare_answer.new.notices.told in
     let after : Progress = progress_of c.answer.new.state c.answer.new.notices.told in
     let waits : IsWaiting c.args.state.now.config before b.key =
@@ -48,7 +48,7 @@ returns-in-Waiting-clause-ok g c =
 
 pub returns-in-Ended-clause-ok : goal.returns-in-Ended-clause-ok
 returns-in-Ended-clause-ok g c =
-    let b : Bulk = record { key = c.bulk.inside.step; rest = c.bulk.inside.ahead.rest.items; adds = c.bulk.inside.ahead.adds; sum = sum_of c.bulk.inside.ahead.sum } in
+    let b : Bulk = record { key = c.bulk.inside.step; rest = c.bulk.inside.ahead.rest.items; needs = c.bulk.inside.ahead.needs; sum = sum_of c.bulk.inside.ahead.sum } in
     let before : Progress = progress_of c.args.state.now c.prepare_answer.new.notices.told in
     let after : Progress = progress_of c.answer.new.state c.answer.new.notices.told in
     let waits : IsWaiting c.args.state.now.config before b.key =

@@ -4,7 +4,7 @@ use Rattle.std.specs.List.{All}
 use mathlib.Core.List.{IsPrefix}
 use Rattle.jc_stripes.specs.Stripes.{Stayed, Front, SomeOdd, last_of, stacked, glance_of, stripes_in}
 use Rattle.jc_index.specs.Spelling.{image_in}
-use Rattle.jc_cuckoo.specs.Images.{Image}
+use Rattle.jc_rows.specs.Images.{Image}
 use Rattle.jc_index.specs.Found.{found}
 use Rattle.jc_index.proofs.Found.{decides, spelt_in}
 use Rattle.jc_index.proofs.Taking.{few_versions, some_versions, all_in}

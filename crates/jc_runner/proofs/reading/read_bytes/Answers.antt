@@ -1,20 +1,21 @@
 use Rattle.std.proofs.Common.{vec_len, arith, rules, subst, sym, ◌∙◌}
 use Rattle.std.specs.Io.KnownBytes.{Consumes}
+use Rattle.jc_runner.specs.Meters.{most_reads}
 use Rattle.jc_runner.proofs.Known.{reads_more}
 use Rattle.jc_runner.proofs.Meters.{one_added}
 use Rattle.jc_runner.proofs.reading.read_bytes.Goals as goal
 
 pub returns-in-Err-clause-reads : goal.returns-in-Err-clause-reads
-returns-in-Err-clause-reads g c = one_added (vec_len c.loop-n.bytes) 8388609 _ _ _ c.loop-n.invariant.reads c.read.ensures.reads (omega (arith, c.loop-n.invariant.most))
+returns-in-Err-clause-reads g c = one_added (vec_len c.loop-n.bytes) most_reads _ _ _ c.loop-n.invariant.reads c.read.ensures.reads (omega (arith, c.loop-n.invariant.most))
 
 pub returns-then-n-eq0-clause-reads : goal.returns-then-n-eq0-clause-reads
-returns-then-n-eq0-clause-reads g c = one_added (vec_len c.loop-n.bytes) 8388609 _ _ _ c.loop-n.invariant.reads c.read.ensures.reads (omega (arith, c.loop-n.invariant.most))
+returns-then-n-eq0-clause-reads g c = one_added (vec_len c.loop-n.bytes) most_reads _ _ _ c.loop-n.invariant.reads c.read.ensures.reads (omega (arith, c.loop-n.invariant.most))
 
 pub returns-then-n-len-clause-reads : goal.returns-then-n-len-clause-reads
-returns-then-n-len-clause-reads g c = one_added (vec_len c.loop-n.bytes) 8388609 _ _ _ c.loop-n.invariant.reads c.read.ensures.reads (omega (arith, c.loop-n.invariant.most))
+returns-then-n-len-clause-reads g c = one_added (vec_len c.loop-n.bytes) most_reads _ _ _ c.loop-n.invariant.reads c.read.ensures.reads (omega (arith, c.loop-n.invariant.most))
 
 pub returns-in_err-extend_from_slice-clause-reads : goal.returns-in_err-extend_from_slice-clause-reads
-returns-in_err-extend_from_slice-clause-reads g c = one_added (vec_len c.loop-n.bytes) 8388609 _ _ _ c.loop-n.invariant.reads c.read.ensures.reads (omega (arith, c.loop-n.invariant.most))
+returns-in_err-extend_from_slice-clause-reads g c = one_added (vec_len c.loop-n.bytes) most_reads _ _ _ c.loop-n.invariant.reads c.read.ensures.reads (omega (arith, c.loop-n.invariant.most))
 
 pub loop-n-preserved : goal.loop-n-preserved
 loop-n-preserved g c = record {

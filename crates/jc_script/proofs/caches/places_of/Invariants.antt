@@ -1,6 +1,6 @@
 use Rattle.std.proofs.Common.{◌≡◌, List, ℕ, drop}
 use Rattle.std.specs.Borrow.{Bor}
-use Rattle.jc_script.specs.Line.{place_from}
+use Rattle.jc_script.specs.Member.{place_from}
 use Rattle.jc_script.specs.Caches.{found}
 use Rattle.jc_script.proofs.Places.{found_or}
 use Rattle.jc_script.proofs.caches.places_of.Given as goal

@@ -1,7 +1,7 @@
 use Rattle.std.proofs.Common.{◌≡◌, ◌≢◌, List, [], ◌∷◌, length, None, refl, sym}
 use Rattle.serde_json.specs.View.{items_view}
 use Rattle.serde_json.specs.declared.value.Value.{Value}
-use Rattle.jc_script.specs.Line.{pair_of}
+use Rattle.jc_script.specs.Member.{pair_of}
 use Rattle.jc_script.proofs.item.pair_of.Goals as goal
 
 -- a list of other than two items is no pair

@@ -1,6 +1,6 @@
 use Rattle.std.proofs.Common.{◌≡◌, ◌++◌, drop, option_map}
 use Rattle.serde_json.specs.View.{items_view}
-use Rattle.jc_script.specs.Line.{each}
+use Rattle.jc_script.specs.Member.{each}
 use Rattle.jc_script.proofs.item.read_each.Given as goal
 
 -- the items so far, and then what is left, are all

@@ -11,7 +11,7 @@ returns-in_err-line-clause-read c =
     let same : c.in_ok-caches.caches.list.now ≡ c.args.settings.now = c.in_ok-caches.ensures.list ∙ c.caches.ensures.same in
     let p = err_from_is_err_and c.from_residual-in_err-line.result c.from_residual-in_err-line.ensures.1 in
     let cut : pieces_after c.loop-left.left ≡ c.first_piece.result.0.now ∷ pieces_after c.first_piece.result.1 = rw c.in-Some.is c.first_piece.ensures.cut in
-    rw (p.1, p.2) (ends c.in_err-line.field-0.0 c.args.settings.now c.loop-left.lines.items (c.loop-left.number + 1) (pieces_after c.loop-left.left) (pieces_after c.first_piece.result.1) c.first_piece.result.0.now (lines c.args.settings.now c.args.bytes.now) cut (search rules) (c.loop-left.invariant.exact ∙ all_from c.args.settings.now c.args.bytes.now c.if-bytes-gt-MOST_BYTES.false) (rw same at c.in_err-line.ensures))
+    rw (p.1, p.2) (ends c.in_err-line.field-0.0 c.args.settings.now c.loop-left.lines.items (c.loop-left.number + 1) (pieces_after c.loop-left.left) (pieces_after c.first_piece.result.1) c.first_piece.result.0.now (lines c.args.settings.now c.args.bytes.now) cut (search rules) (c.loop-left.invariant.exact ∙ all_from c.args.settings.now c.args.bytes.now c.if-bytes-gt-TEXT_BYTES.false) (rw same at c.in_err-line.ensures))
 
 pub loop-left-preserved-in-Continue-branch-3 : goal.loop-left-preserved-in-Continue-branch-3
 loop-left-preserved-in-Continue-branch-3 c =
@@ -37,7 +37,7 @@ loop-left-preserved c =
 pub returns-clause-read : goal.returns-clause-read
 returns-clause-read c =
     let so_far : with_front c.loop-left.lines.items (lines_from c.args.settings.now (c.loop-left.number + 1) []) ≡ lines_from c.args.settings.now 1 (slice_split is_feed c.args.bytes.now) = rw c.in_default.is at c.loop-left.invariant.exact in
-    is_done c.args.settings.now c.loop-left.lines.items (c.loop-left.number + 1) (lines c.args.settings.now c.args.bytes.now) (so_far ∙ all_from c.args.settings.now c.args.bytes.now c.if-bytes-gt-MOST_BYTES.false)
+    is_done c.args.settings.now c.loop-left.lines.items (c.loop-left.number + 1) (lines c.args.settings.now c.args.bytes.now) (so_far ∙ all_from c.args.settings.now c.args.bytes.now c.if-bytes-gt-TEXT_BYTES.false)
 
 pub returns-clause-named : goal.returns-clause-named
 returns-clause-named c = lines_named c.args.settings.now c.args.bytes.now c.loop-left.lines.items (returns-clause-read c)

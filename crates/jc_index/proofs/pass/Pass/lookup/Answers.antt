@@ -1,5 +1,5 @@
 use Rattle.std.proofs.Common.{◌≡◌, ◌⊎◌, ℕ, List, None, inr, subst}
-use Rattle.jc_cuckoo.specs.Images.{last_image}
+use Rattle.jc_rows.specs.Images.{last_image}
 use Rattle.jc_index.specs.Found.{found}
 use Rattle.jc_index.specs.Passes.{Moved, images_of}
 use Rattle.jc_index.proofs.pass.Pass.lookup.Goals as goal

@@ -3,7 +3,8 @@ use Rattle.std.specs.List.{All}
 use mathlib.Core.List.{map-append}
 use Rattle.jc_stripes.specs.Stripes.{Changes, IsCommitted, desk_of, last_of, set_all}
 use Rattle.jc_stripes.proofs.Lists.{last-append}
-use Rattle.jc_cuckoo.specs.Images.{Image, IsImage, last_image, written}
+use Rattle.jc_rows.specs.Images.{Image, last_image}
+use Rattle.jc_cuckoo.specs.Images.{IsImage, written}
 use Rattle.jc_index.specs.Spelling.{IsSpelt, IsLawful, image_in}
 use Rattle.jc_index.specs.Batches.{count_for, is_some, stripes_for}
 use Rattle.jc_index.proofs.Seeing.{last_images}
@@ -16,7 +17,7 @@ of-change-requires g c = c.requires.few
 pub commit-requires-clause-inside : goal.commit-requires-clause-inside
 commit-requires-clause-inside g c =
     let me = c.self.inside in
-    let is = c.self.invariant in
+    let is = c.self.invariant.0 in
     let asked = rw (← c.self.view_is) at c.requires.inside in
     let inside = slots_inside me.placer me.buckets me.count me.lineage is c.args.writes.now asked in
     let wide : 24 * me.buckets + 66 ≡ me.lineage.writer.seat.table_id.words = omega (arith, is.wide) in
@@ -25,7 +26,7 @@ commit-requires-clause-inside g c =
 pub commit-requires-clause-lawful : goal.commit-requires-clause-lawful
 commit-requires-clause-lawful g c =
     let me = c.self.inside in
-    let is = c.self.invariant in
+    let is = c.self.invariant.0 in
     let asked = rw (← c.self.view_is) at c.requires.inside in
     let wanted = rw (← c.self.view_is) at c.requires.image in
     let inside = slots_inside me.placer me.buckets me.count me.lineage is c.args.writes.now asked in
@@ -40,7 +41,7 @@ commit-requires-clause-lawful g c =
 pub invariant_of-self : goal.invariant_of-self
 invariant_of-self g c =
     let me = c.self.inside in
-    let is = c.self.invariant in
+    let is = c.self.invariant.0 in
     let asked = rw (← c.self.view_is) at c.requires.inside in
     let inside = slots_inside me.placer me.buckets me.count me.lineage is c.args.writes.now asked in
     let front = me.lineage.writer.seat.me.0.front in
@@ -48,18 +49,18 @@ invariant_of-self g c =
     let k = c.of-change.ensures.image me.buckets content inside is.spelt is.counted in
     let last : last_of c.commit.new.self.writer.seat.me.0.front ≡ set_all content (take c.of-change.result.batch.length c.of-change.result.batch.writes) =
     ap last_of c.commit.ensures.front ∙ (last-append [] front (set_all content c.writes.result.now) ∙ ap (set_all content) c.writes.ensures) in
-    record {
+    (record {
       lawful = c.commit.ensures.same.1 ∙ is.lawful;
       size = is.size;
       wide = is.wide ∙ ap (λ z. z.words) (sym c.commit.ensures.same.0);
       spelt = subst (IsSpelt me.buckets) (sym last) k.0;
       counted = ap (λ (l : List ℕ). (image_in l).stash) last ∙ ap (λ (image : Image). image.stash) k.1;
-    }
+    }, c.commit.ensures.name ∙ c.self.invariant.1)
 
 pub returns-clause-images : goal.returns-clause-images
 returns-clause-images g c =
     let me = c.self.inside in
-    let is = c.self.invariant in
+    let is = c.self.invariant.0 in
     let asked = rw (← c.self.view_is) at c.requires.inside in
     let inside = slots_inside me.placer me.buckets me.count me.lineage is c.args.writes.now asked in
     let front = me.lineage.writer.seat.me.0.front in
@@ -73,7 +74,7 @@ returns-clause-images g c =
 pub returns-clause-versions : goal.returns-clause-versions
 returns-clause-versions g c =
     let me = c.self.inside in
-    let stash = last_stash me.placer me.buckets me.count me.lineage c.self.invariant in
+    let stash = last_stash me.placer me.buckets me.count me.lineage c.self.invariant.0 in
     let taken : c.stripes.result.now ≡ stripes_for c.args.writes.now (is_some (count_for (length c.args.writes.now) (last_image (map image_in me.lineage.writer.seat.me.0.front)).stash c.args.stash)) =
     c.stripes.ensures ∙ (c.of-change.ensures.stripes ∙ ap (λ (n : ℕ). stripes_for c.args.writes.now (is_some (count_for (length c.args.writes.now) n c.args.stash))) (sym stash)) in
     rw (← c.self.view_is) (subst (λ (js : List ℕ). Changes IsCommitted js (desk_of me.lineage.writer.seat.me.0).versions (desk_of c.commit.new.self.writer.seat.me.0).versions) taken c.commit.ensures.versions)

@@ -2,7 +2,8 @@ use Rattle.std.proofs.Common.{◌≡◌, ◌*◌, ◌++◌, ℕ, List, [], ◌�
 use mathlib.Core.List.{map-append}
 use Rattle.jc_stripes.specs.Stripes.{last_of}
 use Rattle.jc_stripes.proofs.Lists.{last-append}
-use Rattle.jc_cuckoo.specs.Images.{Image, grown}
+use Rattle.jc_rows.specs.Images.{Image}
+use Rattle.jc_cuckoo.specs.Images.{grown}
 use Rattle.jc_index.specs.Spelling.{IsLawful, IsSpelt, encoded, image_in}
 use Rattle.jc_index.proofs.Blank.{split_versions, all_coded, filled_image}
 use Rattle.jc_index.proofs.Kept.{grown_lawful, grown_size}
@@ -14,7 +15,7 @@ follow-requires-clause-lawful g c =
     let asked = rw (← c.self.view_is) at c.requires.growth in
     let split = split_versions c.in_ok-words.words.items (encoded (grown c.args.slots.now c.args.stash)) c.in_ok-words.ensures.0 in
     let placing = g.P.Placer.placing me.placer in
-    let lawful = grown_lawful me.placer me.buckets me.count me.lineage c.self.invariant placing c.args.slots.now c.args.stash asked c.in_ok-words.ensures.1 in
+    let lawful = grown_lawful me.placer me.buckets me.count me.lineage c.self.invariant.0 placing c.args.slots.now c.args.stash asked c.in_ok-words.ensures.1 in
     subst (λ (l : List ℕ). IsLawful placing (2 * me.buckets) l) (sym split.1) lawful
 
 pub invariant_of-self-2 : goal.invariant_of-self-2
@@ -23,16 +24,16 @@ invariant_of-self-2 g c =
     let asked = rw (← c.self.view_is) at c.requires.growth in
     let image = grown c.args.slots.now c.args.stash in
     let split = split_versions c.in_ok-words.words.items (encoded image) c.in_ok-words.ensures.0 in
-    let lawful = grown_lawful me.placer me.buckets me.count me.lineage c.self.invariant (g.P.Placer.placing me.placer) c.args.slots.now c.args.stash asked c.in_ok-words.ensures.1 in
+    let lawful = grown_lawful me.placer me.buckets me.count me.lineage c.self.invariant.0 (g.P.Placer.placing me.placer) c.args.slots.now c.args.stash asked c.in_ok-words.ensures.1 in
     let writer = c.follow.new.self.writer in
     let last : last_of writer.seat.me.0.front ≡ encoded image = ap last_of c.in_ok-follow.ensures.ok.1 ∙ (last-append [] me.lineage.writer.seat.me.0.front _ ∙ split.1) in
-    record {
+    (record {
       lawful = c.in_ok-follow.ensures.ok.0;
-      size = grown_size me.placer me.buckets me.count me.lineage c.self.invariant (g.P.Placer.placing me.placer) c.args.slots.now c.args.stash asked;
+      size = grown_size me.placer me.buckets me.count me.lineage c.self.invariant.0 (g.P.Placer.placing me.placer) c.args.slots.now c.args.stash asked;
       wide = omega (arith, writer.sized.0, ap length last, lawful.spelt.wide);
       spelt = subst (IsSpelt (2 * me.buckets)) (sym last) lawful.spelt;
       counted = ap (λ (l : List ℕ). (image_in l).stash) last;
-    }
+    }, c.follow.ensures.name ∙ c.self.invariant.1)
 
 pub returns-clause-images : goal.returns-clause-images
 returns-clause-images g c =

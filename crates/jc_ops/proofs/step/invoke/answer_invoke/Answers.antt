@@ -20,7 +20,7 @@ answer_verdict-requires-clause-covered g c =
 pub answer_verdict-requires-clause-room : goal.answer_verdict-requires-clause-room
 answer_verdict-requires-clause-room g c =
     let i = c.args.invocation in
-    λ written. room_agreed c.args.state.now.config i.at.moment i.at.key i.processor i.argument i.loaded c.args.verdict c.args.answer _ c.in-Some.verdict c.in-Some.is c.requires.room written
+    λ written. room_agreed c.args.state.now.config i.at.moment i.at.key i.processor i.argument i.loaded c.args.verdict c.args.answer (is_some i.at.row) _ c.in-Some.verdict c.in-Some.is c.requires.room written
 
 pub returns-in-Some-clause-next : goal.returns-in-Some-clause-next
 returns-in-Some-clause-next g c =
@@ -62,7 +62,7 @@ answer_process-requires-clause-covered g c =
 pub answer_process-requires-clause-room : goal.answer_process-requires-clause-room
 answer_process-requires-clause-room g c =
     let i = c.args.invocation in
-    λ v is. room_judged c.args.state.now.config i.at.moment i.at.key i.processor i.argument i.loaded c.args.verdict c.args.answer _ v c.requires.room is
+    λ v is. room_judged c.args.state.now.config i.at.moment i.at.key i.processor i.argument i.loaded c.args.verdict c.args.answer (is_some i.at.row) _ v c.requires.room is
 
 pub answer_process-requires-clause-means : goal.answer_process-requires-clause-means
 answer_process-requires-clause-means g c =

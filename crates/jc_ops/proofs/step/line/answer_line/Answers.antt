@@ -1,5 +1,5 @@
-use Rattle.std.proofs.Common.{◌≡◌, true, sym, ◌∙◌, ap, subst, refl}
-use Rattle.std.specs.Prelude.{option_map}
+use Rattle.std.proofs.Common.{◌≡◌, true, false, if◌then◌else◌, sym, ◌∙◌, ap, subst, refl}
+use Rattle.std.specs.Prelude.{option_map, is_some, Some}
 use Rattle.jc_model.specs.declared.table.Line.{Line}
 use Rattle.jc_model.specs.Changes.{find_row}
 use Rattle.jc_model.specs.Run.{Run, ended, is_written, loaded_by}
@@ -7,10 +7,11 @@ use Rattle.jc_model.specs.Step.{live_in, ended_by}
 use Rattle.jc_model.specs.Table.{value_of}
 use Rattle.jc_state.specs.Kept.{progress_of}
 use Rattle.jc_ops.specs.Heard.{heard, agreed}
-use Rattle.jc_ops.specs.Lines.{line_at, is_load, is_shown}
-use Rattle.jc_ops.specs.Stepped.{StepsTo}
-use Rattle.jc_ops.proofs.Judged.{row_is_there}
-use Rattle.jc_ops.proofs.Lined.{ended_same, loads_shown}
+use Rattle.jc_ops.specs.Lines.{line_at, is_load, is_shown, is_invoke}
+use Rattle.jc_ops.specs.Stepped.{StepsTo, waits_first}
+use Rattle.jc_ops.specs.Supply.{adds_at}
+use Rattle.jc_ops.proofs.Judged.{row_is_there, loaded_is}
+use Rattle.jc_ops.proofs.Lined.{told_fits, ended_same, loads_shown}
 use Rattle.jc_ops.proofs.Answered.{where_is, shown_live, by_writer, by_loader, load_is}
 use Rattle.jc_ops.proofs.step.line.answer_line.Goals as goal
 
@@ -25,7 +26,9 @@ answer_loaded-requires-clause-shown g c = λ v is h.
     (c.requires.covered.loaded v is).shown c.requires.invoke (loads_shown c.args.state.now.config c.args.at.now.moment c.args.at.now.key c.args.op.now row load (ap (λ (l : Line). is_shown l.reply) (sym line) ∙ h))
 
 pub answer_loaded-requires-clause-room : goal.answer_loaded-requires-clause-room
-answer_loaded-requires-clause-room g c = λ v is. c.requires.room.loaded c.requires.invoke v is
+answer_loaded-requires-clause-room g c = λ gone v is.
+    c.requires.room (ap (adds_at (is_some c.args.at.now.row) c.args.state.now.config (waits_first c.args.at.now.moment (record { key = c.args.at.now.key; op = c.args.op.now }))) (loaded_is c.args.answer.now (Some v) is)
+    ∙ (ap (λ b. if b then false else (if is_invoke c.args.op.now then false else true)) gone ∙ ap (λ b. if b then false else true) c.requires.invoke))
 
 pub returns-then-is_load-clause-next : goal.returns-then-is_load-clause-next
 returns-then-is_load-clause-next g c =
@@ -66,3 +69,21 @@ returns-clause-next g c =
     ∙ (ended_same s.config now k (line_at c.args.op.now (live_in row)) row (value_of c.args.op.now) stored (live_in row) c.where_there-shown.result p (λ h. sym cov.stored)
     (λ h. sym (where_is row c.is_some.result c.where_there-shown.result c.args.supply.shown (row_is_there k s c.args.at.now.row c.requires.row ∙ sym c.is_some.ensures) c.where_there-shown.ensures.there c.where_there-shown.ensures.absent (λ x e. cov.shown (shown_live c.args.op.now row x c.requires.invoke h e) x e)))
     ∙ (ap (λ (l : Line). ended_by s.config now k l row stored c.where_there-shown.result p) (sym line) ∙ c.end.ensures.run)))
+
+pub returns-clause-stays : goal.returns-clause-stays
+returns-clause-stays g c =
+    let s = c.args.state.now in
+    let row = find_row c.args.at.now.key (progress_of s c.args.notices.now.told) in
+    record {
+      keeps = c.end.ensures.stays.keeps;
+      places = told_fits c.args.op.now row _ c.line_at-line.result _ _ (row_is_there c.args.at.now.key s c.args.at.now.row c.requires.row) (c.line_at-line.ensures ∙ ap (line_at c.args.op.now) c.live_at.ensures) c.end.ensures.stays.places;
+    }
+
+pub returns-then-is_load-clause-stays : goal.returns-then-is_load-clause-stays
+returns-then-is_load-clause-stays g c =
+    let s = c.args.state.now in
+    let row = find_row c.args.at.now.key (progress_of s c.args.notices.now.told) in
+    record {
+      keeps = c.answer_loaded.ensures.stays.keeps;
+      places = told_fits c.args.op.now row _ c.line_at-line.result _ _ (row_is_there c.args.at.now.key s c.args.at.now.row c.requires.row) (c.line_at-line.ensures ∙ ap (line_at c.args.op.now) c.live_at.ensures) c.answer_loaded.ensures.stays.places;
+    }

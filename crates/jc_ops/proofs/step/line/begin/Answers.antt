@@ -9,7 +9,7 @@ use Rattle.jc_state.specs.Kept.{progress_of}
 use Rattle.jc_ops.specs.Lines.{line_at, first_request}
 use Rattle.jc_ops.specs.Stepped.{StepWaits}
 use Rattle.jc_ops.proofs.Judged.{row_is_there}
-use Rattle.jc_ops.proofs.Lined.{carries, ends_at_once, waits_first_for}
+use Rattle.jc_ops.proofs.Lined.{told_fits, carries, ends_at_once, waits_first_for}
 use Rattle.jc_ops.proofs.Answered.{where_is, shown_live}
 use Rattle.jc_ops.proofs.step.line.begin.Goals as goal
 
@@ -42,3 +42,12 @@ returns-in-None-clause-next g c =
     let is = ends_at_once s.config now k c.args.op row p c.where_there-entry.result stored c.where_there-shown.result asks c.requires.covered.stored
     (λ no h. where_is row c.is_some-there.result c.where_there-shown.result c.args.supply.shown (row_is_there k s c.args.at.now.row c.requires.row ∙ sym c.is_some-there.ensures) c.where_there-shown.ensures.there c.where_there-shown.ensures.absent (λ x e. c.requires.covered.shown (shown_live c.args.op row x no h e) x e)) in
     carries s.config now k c.args.op p c.requires.purged ∙ (is ∙ (ap (λ (l : Line). ended_by s.config now k l row stored c.where_there-shown.result p) (sym line) ∙ c.end.ensures.run))
+
+pub returns-in-None-clause-stays : goal.returns-in-None-clause-stays
+returns-in-None-clause-stays g c =
+    let s = c.args.state.now in
+    let row = find_row c.args.at.now.key (progress_of s c.args.notices.now.told) in
+    record {
+      keeps = c.end.ensures.stays.keeps;
+      places = told_fits c.args.op row _ c.line_at-line.result _ _ (row_is_there c.args.at.now.key s c.args.at.now.row c.requires.row) (c.line_at-line.ensures ∙ ap (line_at c.args.op) c.live_at.ensures) c.end.ensures.stays.places;
+    }

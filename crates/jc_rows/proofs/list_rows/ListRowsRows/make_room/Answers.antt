@@ -3,8 +3,8 @@ use Rattle.jc_rows.proofs.Found.{len_found, same_found}
 use Rattle.std.proofs.lemmas.Result.{on_ok_weaker}
 use Rattle.jc_rows.proofs.list_rows.ListRowsRows.make_room.Goals as goal
 
-pub returns-then-n-held-clause-ok : goal.returns-then-n-held-clause-ok
-returns-then-n-held-clause-ok c = rw (← c.self.view_is) (omega (arith, len_found c.self.inside.rows.entries c.len-held.ensures.unique))
+pub returns-then-n-capacity-clause-ok : goal.returns-then-n-capacity-clause-ok
+returns-then-n-capacity-clause-ok c = rw (← c.self.view_is) (omega (arith, len_found c.self.inside.rows.entries c.len-held.ensures.unique, c.capacity.ensures, c.if-n-capacity.true))
 
 pub returns-clause-same : goal.returns-clause-same
 returns-clause-same c = rw (← c.self.view_is) (same_found c.self.inside.rows.entries c.reserve.new.self.entries c.reserve.ensures.entries.2)
@@ -14,3 +14,6 @@ returns-clause-ok c = on_ok_weaker c.reserve.result (λ room. omega (arith, len_
 
 pub returns-clause-succeeds : goal.returns-clause-succeeds
 returns-clause-succeeds c = rw (← c.self.view_is) (λ h. c.reserve.ensures.succeeds (omega (arith, h, len_found c.self.inside.rows.entries c.len-held.ensures.unique, c.len-held.ensures.len)))
+
+pub returns-clause-there : goal.returns-clause-there
+returns-clause-there c = rw (← c.self.view_is) (λ h. absurd (omega (arith, h, len_found c.self.inside.rows.entries c.len-held.ensures.unique, c.capacity.ensures, c.if-n-capacity.false)))

@@ -1,9 +1,9 @@
 use Rattle.std.proofs.Common.{◌≡◌, ℕ, List, [], ◌∷◌, length, map, refl, ap, sym, subst, ◌∙◌, arith}
 use Rattle.jc_stripes.specs.Stripes.{last_of}
-use Rattle.jc_cuckoo.specs.Images.{Image}
+use Rattle.jc_rows.specs.Images.{Image}
 use Rattle.jc_index.specs.Spelling.{IsLawful, IsSpelt, image_in}
 use Rattle.jc_index.proofs.Blank.{split_versions, blank, blank_items, blank_image, blank_spelt, blank_lawful, empty_is}
-use Rattle.jc_index.proofs.words.Words.new.Goals as goal
+use Rattle.jc_index.proofs.naming.Unnamed.new.Goals as goal
 
 pub new-requires-clause-versions : goal.new-requires-clause-versions
 new-requires-clause-versions g c = let items = c.in_ok-words.words.items in (split_versions items (blank c.args.buckets items c.in_ok-words.ensures) (blank_items c.args.buckets items c.in_ok-words.ensures)).0

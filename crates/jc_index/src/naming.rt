@@ -1,0 +1,76 @@
+//! The name of an index, and words that have none yet.
+ghost use Rattle.std.specs.Prelude.{◌≡◌, ◌*◌, [], ◌∷◌, None, IfOk, replicate};
+ghost use Rattle.jc_place.specs.Place.{IsTableSize};
+ghost use Rattle.jc_cuckoo.specs.Images.{image_of};
+
+use crate::fill::blank;
+use crate::placed::Placed;
+use crate::words::Words;
+use jc_model::OutOfMemory;
+use jc_place::place::Placer;
+use jc_stripes::lineage::Lineage;
+use std::alloc::Global;
+use std::marker::{Brand, Model, PhantomData};
+
+/// Which index it is: its words and its passes carry the name, so that a pass meets its own words alone. Each call of a
+/// program picks it.
+pub trait Naming {
+    ghost use Rattle.atomic_table.specs.Seated.{TableId};
+
+    ghost name: { TableId };
+}
+
+impl Naming for Brand {
+    ghost use Rattle.std.specs.Prelude.{[]};
+
+    ghost name = { record { words = 0; slots = 0; views_name = 0; atom = 0; block = 0; offset = 0; slot_names = [] } };
+}
+
+/// Words with one empty image, which have no name yet.
+#[derive(Drop)]
+pub struct Unnamed<P: Placer + Drop> {
+    lineage: Lineage<Placed<P>>,
+    placer: P,
+    buckets: u32,
+}
+
+impl<P: Placer + Drop> Model for Unnamed<P> {
+    ghost use Rattle.jc_index.specs.Indexes.{Index, IsIndex, index_of};
+
+    ghost Value = { Index P };
+
+    ghost view = { λ w. index_of w.placer w.buckets w.lineage };
+
+    ghost invariant = { λ w. IsIndex w.placer w.buckets 0 w.lineage };
+}
+
+impl<P: Placer + Drop> Unnamed<P> {
+    /// One empty image of so many buckets.
+    pub fn new(alloc: Global, placer: P, buckets: u32) -> Result<Unnamed<P>, OutOfMemory>
+        requires { IsTableSize buckets }
+        ensures { IfOk result (λ w. (w.images ≡ image_of buckets (replicate (4 * buckets) None) ∷ []) × (w.placer ≡ placer) × (w.buckets ≡ buckets)) }
+    {
+        let words = blank(alloc.clone()?, buckets)?;
+        let law = Placed { placer, buckets };
+        let lineage = Lineage::new(alloc, &law, &words)?;
+        Ok(Unnamed {
+            lineage,
+            placer,
+            buckets,
+        })
+    }
+
+    /// The words under their name.
+    pub fn named<N: Naming>(self) -> Words<N, P>
+        requires { self.name ≡ N.name }
+        ensures { result ≡ self }
+    {
+        Words {
+            lineage: self.lineage,
+            placer: self.placer,
+            buckets: self.buckets,
+            count: 0,
+            name: PhantomData,
+        }
+    }
+}
