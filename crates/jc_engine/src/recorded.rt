@@ -111,6 +111,7 @@ impl<R: Rows, G: Ring> Recorded<R, G> {
         ensures legal { IsLegal (configs_of self.now.caches) self.now.transcript }
         ensures tells { Tells self.now.transcript (map status_of self.now.caches) }
     {
+        // The clauses follow from the invariant of all fields, and so the places are read too.
         let _places = &self.places;
         &self.transcript
     }
