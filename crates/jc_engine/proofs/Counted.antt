@@ -70,9 +70,9 @@ fewer m id [] distinct there = omega arith
 fewer m id (x ∷ xs) distinct there =
     let one = len-removed m (id, x.key) (there x.key (own_key x xs)) in
     let rest = fewer (table.remove m (id, x.key)) id xs distinct.1 (λ key is.
-        subst (λ (o : Found). IsSome o)
-        (sym (get-removed_other m (id, x.key) (id, key) (λ same. is (subst (λ (q : List ℕ). row_of q xs ≡ None) (sym (ap (λ (p : ℕ × List ℕ). p.1) same)) (lacking x.key xs distinct.0)))))
-        (there key (later_key x xs key is))) in
+    subst (λ (o : Found). IsSome o)
+    (sym (get-removed_other m (id, x.key) (id, key) (λ same. is (subst (λ (q : List ℕ). row_of q xs ≡ None) (sym (ap (λ (p : ℕ × List ℕ). p.1) same)) (lacking x.key xs distinct.0)))))
+    (there key (later_key x xs key is))) in
     omega arith
 
 -- Where the table tells the same expiries as the rings, it has their rows.

@@ -45,6 +45,7 @@ module _ {G : Type 0} (m : RowMap) (caches : List (Managed G)) (names : List (Li
       at id =
           sym (slice_get-map status_of (map cache_in caches) id ∙ ap (option_map status_of) (slice_get-map cache_in caches id))
           ∙ (ap (λ (ks : List Status). slice_get ks id) fresh ∙ slice_get-map opened configs id)
+
       by : (id : ℕ) (found : Option (Managed G)) (config : Option CacheConfig) → IsAt m id found → option_map status_of (option_map cache_in found) ≡ option_map opened config → IsAt table.empty id found
       by id None config is e = λ key. get-empty (id, key)
       by id (Some cache) None is e = absurd cc

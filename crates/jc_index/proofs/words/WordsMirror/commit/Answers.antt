@@ -48,14 +48,16 @@ invariant_of-self g c =
     let content = last_of front in
     let k = c.of-change.ensures.image me.buckets content inside is.spelt is.counted in
     let last : last_of c.commit.new.self.writer.seat.me.0.front ≡ set_all content (take c.of-change.result.batch.length c.of-change.result.batch.writes) =
-    ap last_of c.commit.ensures.front ∙ (last-append [] front (set_all content c.writes.result.now) ∙ ap (set_all content) c.writes.ensures) in
-    (record {
-      lawful = c.commit.ensures.same.1 ∙ is.lawful;
-      size = is.size;
-      wide = is.wide ∙ ap (λ z. z.words) (sym c.commit.ensures.same.0);
-      spelt = subst (IsSpelt me.buckets) (sym last) k.0;
-      counted = ap (λ (l : List ℕ). (image_in l).stash) last ∙ ap (λ (image : Image). image.stash) k.1;
-    }, c.commit.ensures.name ∙ c.self.invariant.1)
+    ap last_of c.commit.ensures.front ∙ (last-append [] front (set_all content c.writes.result.now) ∙ ap (set_all content) c.writes.ensures) in (
+      record {
+        lawful = c.commit.ensures.same.1 ∙ is.lawful;
+        size = is.size;
+        wide = is.wide ∙ ap (λ z. z.words) (sym c.commit.ensures.same.0);
+        spelt = subst (IsSpelt me.buckets) (sym last) k.0;
+        counted = ap (λ (l : List ℕ). (image_in l).stash) last ∙ ap (λ (image : Image). image.stash) k.1;
+      },
+      c.commit.ensures.name ∙ c.self.invariant.1,
+    )
 
 pub returns-clause-images : goal.returns-clause-images
 returns-clause-images g c =

@@ -26,14 +26,16 @@ invariant_of-self-2 g c =
     let split = split_versions c.in_ok-words.words.items (encoded image) c.in_ok-words.ensures.0 in
     let lawful = grown_lawful me.placer me.buckets me.count me.lineage c.self.invariant.0 (g.P.Placer.placing me.placer) c.args.slots.now c.args.stash asked c.in_ok-words.ensures.1 in
     let writer = c.follow.new.self.writer in
-    let last : last_of writer.seat.me.0.front ≡ encoded image = ap last_of c.in_ok-follow.ensures.ok.1 ∙ (last-append [] me.lineage.writer.seat.me.0.front _ ∙ split.1) in
-    (record {
-      lawful = c.in_ok-follow.ensures.ok.0;
-      size = grown_size me.placer me.buckets me.count me.lineage c.self.invariant.0 (g.P.Placer.placing me.placer) c.args.slots.now c.args.stash asked;
-      wide = omega (arith, writer.sized.0, ap length last, lawful.spelt.wide);
-      spelt = subst (IsSpelt (2 * me.buckets)) (sym last) lawful.spelt;
-      counted = ap (λ (l : List ℕ). (image_in l).stash) last;
-    }, c.follow.ensures.name ∙ c.self.invariant.1)
+    let last : last_of writer.seat.me.0.front ≡ encoded image = ap last_of c.in_ok-follow.ensures.ok.1 ∙ (last-append [] me.lineage.writer.seat.me.0.front _ ∙ split.1) in (
+      record {
+        lawful = c.in_ok-follow.ensures.ok.0;
+        size = grown_size me.placer me.buckets me.count me.lineage c.self.invariant.0 (g.P.Placer.placing me.placer) c.args.slots.now c.args.stash asked;
+        wide = omega (arith, writer.sized.0, ap length last, lawful.spelt.wide);
+        spelt = subst (IsSpelt (2 * me.buckets)) (sym last) lawful.spelt;
+        counted = ap (λ (l : List ℕ). (image_in l).stash) last;
+      },
+      c.follow.ensures.name ∙ c.self.invariant.1,
+    )
 
 pub returns-clause-images : goal.returns-clause-images
 returns-clause-images g c =
