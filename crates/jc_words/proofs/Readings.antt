@@ -1,13 +1,12 @@
 -- What the getters of matches read, in the words of their rows.
-use Rattle.std.proofs.Common.{◌≡◌, ◌≢◌, ◌<◌, ◌^◌, ℕ, Bool, true, false, List, Option, Some, ◌∷◌, None, Result, Ok, Err, option_map, refl, sym, ap, subst, inl, inr, IfSome, ◌∙◌, codes}
+use Rattle.std.proofs.Common.{◌≡◌, ◌≢◌, ◌<◌, ◌^◌, ℕ, Bool, true, false, List, Option, Some, None, Result, Ok, Err, option_map, refl, sym, ap, subst, inl, IfSome, ◌∙◌, codes}
 use Rattle.std.specs.Bool.{MatchBool}
 use Rattle.std.specs.Str.Parse.{ParsesUnsigned}
 use Rattle.clap.specs.Words.{Text, Row, ReadsOne, is_simple}
-use Rattle.clap.specs.Kinds.{Kinds, HasKind}
+use Rattle.clap.specs.Kinds.{HasKind}
 use Rattle.clap.specs.Faults.{fault_of, is_simple_and_free}
 use Rattle.clap.specs.Simple.{App}
 use Rattle.clap.specs.declared.error.Error.{Error}
-use Rattle.clap.specs.declared.error.kind.ErrorKind.TheVariants as kinds
 use Rattle.jc_words.specs.Program.{IsNumber, truth, Asks, HaveNoRun, IsWithinLimits, options_of, MayRefuse, program}
 use Rattle.clap.proofs.OnLiterals.{clap_on_literals}
 use Rattle.jc_words.specs.declared.run.Run.{Run}

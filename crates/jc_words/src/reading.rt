@@ -61,9 +61,11 @@ fn asked(alloc: Global, matches: &ArgMatches<'_>) -> Result<Option<Run>, AllocEr
 ///
 /// The error's text is for the user; it is the help where that was asked for.
 ///
-/// What the clauses do not say: that words which `clap` takes are answered by a run, since its contract does not give
-/// the rows of a subcommand for every such words (where they do ask for a run, the fault is `clap`'s or `OutOfMemory`); that want of memory comes only where memory was refused; which of
-/// several mistakes is told, and the texts of mistakes and of help.
+/// Words that ask for a run within the limits are refused for a fault of `clap`'s or for want of memory alone.
+///
+/// What the clauses do not say: that words which `clap` takes ask for a run, since its contract does not give the rows
+/// of a subcommand for every such words; that want of memory comes only where memory was refused; which of several
+/// mistakes is told, and the texts of mistakes and of help.
 pub fn read_words<'a>(alloc: Global, words: &'a [&'a str]) -> Result<Option<Run>, Error>
     ensures none { IfOk result (λ run. (run ≡ None) ↔ (words.entry.now ≡ [])) }
     ensures exact { IfOk result (λ run. IfSome run (AsksFor (map (λ word. word.now) words.entry.now))) }
