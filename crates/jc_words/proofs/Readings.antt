@@ -1,14 +1,13 @@
 -- What the getters of matches read, in the words of their rows.
-use Rattle.std.proofs.Common.{◌≡◌, ℕ, Bool, true, false, List, Option, Some, ◌∷◌, None, Result, Ok, option_map, refl, sym, ap, subst, inl, inr, IfSome, ◌∙◌, codes}
+use Rattle.std.proofs.Common.{◌≡◌, ◌≢◌, ◌<◌, ◌^◌, ℕ, Bool, true, false, List, Option, Some, None, Result, Ok, Err, option_map, refl, sym, ap, subst, inl, IfSome, ◌∙◌, codes}
 use Rattle.std.specs.Bool.{MatchBool}
 use Rattle.std.specs.Str.Parse.{ParsesUnsigned}
 use Rattle.clap.specs.Words.{Text, Row, ReadsOne, is_simple}
-use Rattle.clap.specs.Kinds.{Kinds, HasKind}
+use Rattle.clap.specs.Kinds.{HasKind}
 use Rattle.clap.specs.Faults.{fault_of, is_simple_and_free}
 use Rattle.clap.specs.Simple.{App}
 use Rattle.clap.specs.declared.error.Error.{Error}
-use Rattle.clap.specs.declared.error.kind.ErrorKind.TheVariants as kinds
-use Rattle.jc_words.specs.Program.{IsNumber, truth, Asks, MayRefuse, program}
+use Rattle.jc_words.specs.Program.{IsNumber, truth, Asks, HaveNoRun, IsWithinLimits, options_of, MayRefuse, program}
 use Rattle.clap.proofs.OnLiterals.{clap_on_literals}
 use Rattle.jc_words.specs.declared.run.Run.{Run}
 use Rattle.std.specs.Borrow.{Bor}
@@ -42,11 +41,41 @@ is_free_program : is_simple_and_free program ≡ true
 unfolding clap_on_literals
 is_free_program = refl
 
-widened : (faults : Kinds) (e : Error) → HasKind faults e → HasKind (kinds.InvalidSubcommand ∷ faults) e
-widened faults e (inl memory) = inl memory
-widened faults e (inr among) = inr (inr among)
-
 pub refused : (app : App) (words : List Text) (e : Error) → app ≡ program → (is_simple_and_free app ≡ true → HasKind (fault_of app words) e) → MayRefuse words e
 refused app words e is fails =
     let Q : App → Type 0 = λ a. HasKind (fault_of a words) e in
-    widened (fault_of program words) e (subst Q is (fails (ap is_simple_and_free is ∙ is_free_program)))
+    inl (subst Q is (fails (ap is_simple_and_free is ∙ is_free_program)))
+
+-- What is not read was not asked for.
+
+same_text : (t u : Text) → Some t ≡ Some u → t ≡ u
+same_text t u e = cc
+
+pub no_number : {E : Type 0} (G : List ℕ → Result ℕ E → Type 0) (k : ℕ) (o : Option Text) (n : ℕ) → ((t : Text) (r : Result ℕ E) → G t r → ParsesUnsigned k 10 t r) → ((t : Text) → o ≡ Some t → ReadsOne G t None) → n < 2 ^ k → IsNumber o n → ⊥
+no_number G k None n is value below asked = asked
+no_number G k (Some t) n is value below asked =
+    let (e, gives) = value t refl in
+    is t (Err e) gives (asked.0, rw asked.1 below)
+
+pub no_truth : {E : Type 0} (o : Option Text) (b : Bool) → ((t : Text) → o ≡ Some t → (e : E) × ((t ≢ codes "true") × (t ≢ codes "false"))) → o ≡ Some (truth b) → ⊥
+no_truth None b value asked = cc
+no_truth (Some t) true value asked = (value t refl).1.0 (same_text t (codes "true") asked)
+no_truth (Some t) false value asked = (value t refl).1.1 (same_text t (codes "false") asked)
+
+pub same_number : (o : Option Text) (m n : ℕ) → IsNumber o m → IsNumber o n → m ≡ n
+same_number None m n x y = absurd x
+same_number (Some t) m n x y = sym x.1 ∙ y.1
+
+pub no_text : (o : Option (Bor (List ℕ))) (t : Option Text) (bytes : Text) → option_map (λ s. s.now) o ≡ t → o ≡ None → t ≡ Some bytes → ⊥
+no_text o t bytes e is asked = cc
+
+-- the rows of the subcommand that was met ask for no run, or none was met
+pub no_run : (o : Option (Text × List Row)) (rows : Option (List Row)) (run : Run) → rows ≡ option_map (λ p. p.1) o → IfSome rows HaveNoRun → (p : Text × List Row) × (o ≡ Some p) × Asks p.1 run → IsWithinLimits (options_of run) → ⊥
+no_run None rows run e none asked within = absurd cc
+no_run (Some p) rows run e none asked within =
+    let (q, is, asks) = asked in
+    let here : HaveNoRun p.1 = subst (λ (found : Option (List Row)). IfSome found HaveNoRun) e none in
+    here run (subst (λ (r : Text × List Row). Asks r.1 run) (sym (same_pair p q is)) asks) within
+  where
+    same_pair : (p q : Text × List Row) → Some p ≡ Some q → p ≡ q
+    same_pair p q e = cc

@@ -1,5 +1,5 @@
 -- The program's command, and what words ask of it as `clap` reads them.
-use Rattle.std.specs.Prelude.{◌≡◌, ℕ, pos, Bool, true, false, List, [], ◌∷◌, Option, Some, None, codes, string_bytes}
+use Rattle.std.specs.Prelude.{◌≡◌, ◌≤◌, ◌<◌, ◌^◌, ◌⊎◌, ℕ, pos, Bool, true, false, List, [], ◌∷◌, Option, Some, None, codes, string_bytes}
 use Rattle.std.specs.Str.Parse.{IsNumeral, without_leading_plus, digits_value}
 use Rattle.clap.specs.Kinds.{HasKind}
 use Rattle.clap.specs.Words.{App, Row, Rule, Text, new_app, new_rule, one_of, first_of, subcommand_of, with_rule, with_subcommand, fault_of}
@@ -64,6 +64,19 @@ pub record Asks (rows : List Row) (run : Run) : Type 0 where
 abbrev pub AsksFor : List Text → Run → Type 0
 AsksFor words run = (p : Text × List Row) × (subcommand_of program words ≡ Some p) × Asks p.1 run
 
--- a kind of fault that `clap` has for the words, want of memory, or that the words name no run
+abbrev pub IsWithinLimits : Options → Type 0
+IsWithinLimits options = (1 ≤ options.workers) × (options.workers ≤ 8) × (options.seed < 2 ^ 63)
+
+-- rows of matches that ask for no options, for no run
+abbrev pub HaveNoOptions : List Row → Type 0
+HaveNoOptions rows = (options : Options) → AsksOptions rows options → IsWithinLimits options → ⊥
+
+abbrev pub HaveNoRun : List Row → Type 0
+HaveNoRun rows = (run : Run) → Asks rows run → IsWithinLimits (options_of run) → ⊥
+
+abbrev pub AskForNone : List Text → Type 0
+AskForNone words = (run : Run) → AsksFor words run → IsWithinLimits (options_of run) → ⊥
+
+-- a kind of fault that `clap` has for the words, or want of memory; or that the words ask for no run
 abbrev pub MayRefuse : List Text → Error → Type 0
-MayRefuse words e = HasKind (kinds.InvalidSubcommand ∷ fault_of program words) e
+MayRefuse words e = HasKind (fault_of program words) e ⊎ (HasKind (kinds.InvalidSubcommand ∷ []) e × AskForNone words)

@@ -2,7 +2,7 @@
 
 ghost use Rattle.std.specs.Prelude.{◌≡◌, ◌≤◌, ◌<◌, ◌^◌, ◌↔◌, [], IfOk, IfErr, IfSome, None, map, string_bytes};
 ghost use Rattle.clap.specs.Words.{found_of, rows_of};
-ghost use Rattle.jc_words.specs.Program.{Asks, AsksFor, AsksOptions, MayRefuse};
+ghost use Rattle.jc_words.specs.Program.{Asks, AsksFor, AsksOptions, HaveNoOptions, HaveNoRun, MayRefuse};
 
 use crate::command::program;
 use crate::run::{Options, Run};
@@ -17,6 +17,7 @@ fn options(matches: &ArgMatches<'_>) -> Option<Options>
     ensures asks { IfSome result (AsksOptions (rows_of (found_of matches.now))) }
     ensures workers { IfSome result (λ o. (1 ≤ o.workers) × (o.workers ≤ 8)) }
     ensures seed { IfSome result (λ o. o.seed < 2 ^ 63) }
+    ensures none { result ≡ None → HaveNoOptions (rows_of (found_of matches.now)) }
 {
     let workers = matches.get_one::<u8>("workers")?;
     let seed = matches.get_one::<u64>("seed")?;
@@ -36,10 +37,15 @@ fn asked(alloc: Global, matches: &ArgMatches<'_>) -> Result<Option<Run>, AllocEr
     ensures asks { IfOk result (λ run. IfSome run (Asks (rows_of (found_of matches.now)))) }
     ensures workers { IfOk result (λ run. IfSome run (λ r. (1 ≤ r.workers) × (r.workers ≤ 8))) }
     ensures seed { IfOk result (λ run. IfSome run (λ r. r.seed < 2 ^ 63)) }
+    ensures none { IfOk result (λ run. run ≡ None → HaveNoRun (rows_of (found_of matches.now))) }
 {
-    let config = matches.get_str("CONFIG");
-    let script = matches.get_str("SCRIPT");
-    let (Some(config), Some(script), Some(options)) = (config, script, options(matches)) else {
+    let Some(config) = matches.get_str("CONFIG") else {
+        return Ok(None);
+    };
+    let Some(script) = matches.get_str("SCRIPT") else {
+        return Ok(None);
+    };
+    let Some(options) = options(matches) else {
         return Ok(None);
     };
     Ok(Some(Run {
@@ -55,9 +61,11 @@ fn asked(alloc: Global, matches: &ArgMatches<'_>) -> Result<Option<Run>, AllocEr
 ///
 /// The error's text is for the user; it is the help where that was asked for.
 ///
-/// What the clauses do not say: that words which `clap` takes are answered by a run, since its contract does not give
-/// the rows of a subcommand for every such words; that want of memory comes only where memory was refused; which of
-/// several mistakes is told, and the texts of mistakes and of help.
+/// Words that ask for a run within the limits are refused for a fault of `clap`'s or for want of memory alone.
+///
+/// What the clauses do not say: that words which `clap` takes ask for a run, since its contract does not give the rows
+/// of a subcommand for every such words; that want of memory comes only where memory was refused; which of several
+/// mistakes is told, and the texts of mistakes and of help.
 pub fn read_words<'a>(alloc: Global, words: &'a [&'a str]) -> Result<Option<Run>, Error>
     ensures none { IfOk result (λ run. (run ≡ None) ↔ (words.entry.now ≡ [])) }
     ensures exact { IfOk result (λ run. IfSome run (AsksFor (map (λ word. word.now) words.entry.now))) }
