@@ -5,11 +5,13 @@
 mod fakes;
 mod log;
 mod placers;
+mod refusing;
 mod trouble;
 
 pub use fakes::{NotedListener, NotedLoader, NotedProcessor, NotedWriter, PoorLoader};
 pub use log::{Log, Text};
-pub use placers::{ConstantPlacer, RefusingMirror, TablePlacer};
+pub use placers::{ConstantPlacer, TablePlacer};
+pub use refusing::{RefusingMirror, RefusingRows};
 pub use trouble::{Trouble, key, no_hooks, plain_cache, value_of};
 
 #[cfg(test)]
@@ -22,6 +24,8 @@ mod large;
 mod lookups;
 #[cfg(test)]
 mod manager;
+#[cfg(test)]
+mod memory;
 #[cfg(test)]
 mod places;
 #[cfg(test)]

@@ -1,12 +1,8 @@
-//! Places that a trial picks, and a mirror whose memory is always refused.
+//! Places that a trial picks.
 
-use jc_cuckoo::held::Held;
-use jc_cuckoo::mirror::Mirror;
-use jc_model::OutOfMemory;
 use jc_model::event::CacheId;
 use jc_model::key::Key;
 use jc_place::place::{Place, Placer};
-use std::alloc::AllocError;
 
 /// All keys have the buckets of 3 and the tag 1.
 #[derive(Clone, Copy, Debug)]
@@ -38,29 +34,5 @@ impl Placer for TablePlacer {
             first: self.firsts[at],
             tag: self.tags[at].max(1),
         }
-    }
-}
-
-/// It takes no larger table so many times, as if memory were refused.
-#[derive(Clone, Copy, Debug, Drop)]
-pub struct RefusingMirror {
-    pub refusals: u32,
-}
-
-impl Mirror for RefusingMirror {
-    ghost use Rattle.std.specs.Prelude.{None};
-
-    ghost images = { λ mirror. None };
-
-    ghost placing = { λ mirror id key. record { first = 0; tag = 1 } };
-
-    fn commit(&mut self, _writes: &[(u32, Option<Held>)], _stash: u32) {}
-
-    fn grow(&mut self, _slots: &[Option<Held>], _stash: u32) -> Result<(), OutOfMemory> {
-        if self.refusals == 0 {
-            return Ok(());
-        }
-        self.refusals -= 1;
-        Err(AllocError)
     }
 }

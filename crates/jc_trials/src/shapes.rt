@@ -1,6 +1,7 @@
 //! The shapes that the cuckoo table takes: displacement, stash, doubling, and doubling that finds no memory.
 
-use crate::placers::{ConstantPlacer, RefusingMirror, TablePlacer};
+use crate::placers::{ConstantPlacer, TablePlacer};
+use crate::refusing::RefusingMirror;
 use crate::trouble::{Trouble, key, plain_cache, value_of};
 use jc_cuckoo::cuckoo::Cuckoo;
 use jc_cuckoo::held::{Shape, Work};
@@ -16,7 +17,7 @@ use jc_rows::rows::Rows;
 use std::alloc::Global;
 
 /// The names of forty keys.
-const NAMES: [&str; 40] = [
+pub const NAMES: [&str; 40] = [
     "a", "b", "c", "d", "e", "f", "g", "h", "i", "j", "k", "l", "m", "n", "o", "p", "q", "r", "s",
     "t", "u", "v", "w", "x", "y", "z", "A", "B", "C", "D", "E", "F", "G", "H", "I", "J", "K", "L",
     "M", "N",

@@ -1,0 +1,108 @@
+//! A mirror and a table that find no memory when a trial says so.
+ghost use Rattle.std.specs.Prelude.{min};
+
+use jc_cuckoo::held::Held;
+use jc_cuckoo::mirror::Mirror;
+use jc_model::OutOfMemory;
+use jc_model::config::Expiry;
+use jc_model::event::CacheId;
+use jc_model::key::Key;
+use jc_rows::rows::Rows;
+use std::alloc::AllocError;
+
+/// It takes no larger table so many times, as if memory were refused.
+#[derive(Clone, Copy, Debug, Drop)]
+pub struct RefusingMirror {
+    pub refusals: u32,
+}
+
+impl Mirror for RefusingMirror {
+    ghost use Rattle.std.specs.Prelude.{None};
+
+    ghost images = { λ mirror. None };
+
+    ghost placing = { λ mirror id key. record { first = 0; tag = 1 } };
+
+    fn commit(&mut self, _writes: &[(u32, Option<Held>)], _stash: u32) {}
+
+    fn grow(&mut self, _slots: &[Option<Held>], _stash: u32) -> Result<(), OutOfMemory> {
+        if self.refusals == 0 {
+            return Ok(());
+        }
+        self.refusals -= 1;
+        Err(AllocError)
+    }
+}
+
+/// Another table, which refuses once to make room, after it did so this often.
+#[derive(Drop)]
+pub struct RefusingRows<R> {
+    rows: R,
+    room: usize,
+    refuses_after: Option<u32>,
+}
+
+impl<R: Rows> RefusingRows<R> {
+    ghost use Rattle.std.specs.Prelude.{◌≡◌};
+
+    pub fn new(rows: R, refuses_after: u32) -> RefusingRows<R>
+        ensures { R.contents result.rows ≡ R.contents rows }
+    {
+        RefusingRows {
+            rows,
+            room: 0,
+            refuses_after: Some(refuses_after),
+        }
+    }
+
+    /// Whether it has refused.
+    pub fn has_refused(&self) -> bool {
+        self.refuses_after.is_none()
+    }
+}
+
+impl<R: Rows> Rows for RefusingRows<R> {
+    ghost use Rattle.std.specs.Prelude.{min};
+
+    ghost contents = { λ t. R.contents t.rows };
+
+    ghost spare = { λ t. min t.room (R.spare t.rows) };
+
+    fn len(&self) -> usize {
+        self.rows.len()
+    }
+
+    fn make_room(&mut self, n: usize) -> Result<(), OutOfMemory> {
+        let more = n.saturating_sub(self.rows.len());
+        if more > self.room {
+            match self.refuses_after {
+                Some(0) => {
+                    self.refuses_after = None;
+                    return Err(AllocError);
+                }
+                Some(left) => self.refuses_after = Some(left - 1),
+                None => {}
+            }
+        }
+        self.rows.make_room(n)?;
+        self.room = self.room.max(more);
+        Ok(())
+    }
+
+    fn find(&self, id: CacheId, key: &Key) -> Option<u32> {
+        self.rows.find(id, key)
+    }
+
+    fn put(&mut self, id: CacheId, key: Key, row: u32, expiry: Expiry) {
+        self.rows.put(id, key, row, expiry);
+        self.room -= 1;
+    }
+
+    fn remove(&mut self, id: CacheId, key: &Key) -> Option<u32> {
+        self.rows.remove(id, key)
+    }
+
+    fn set_expiry(&mut self, id: CacheId, key: &Key, expiry: Expiry) {
+        self.rows.set_expiry(id, key, expiry)
+    }
+}
