@@ -6,7 +6,7 @@ ghost use Rattle.jc_model.specs.Changes.{Progress, begun};
 ghost use Rattle.jc_model.specs.Whole.{plan, steps_in, gathers};
 ghost use Rattle.jc_state.specs.Kept.{items_of, state_of, has_live, IsTied, FoundRow};
 ghost use Rattle.jc_state.specs.Noted.{HasPlaces};
-ghost use Rattle.jc_ops.specs.Lines.{most_told};
+ghost use Rattle.jc_ops.specs.Lines.{most_told, takes_value};
 ghost use Rattle.jc_ops.specs.Supply.{CoversAnswer, HasRoom, adds_at};
 ghost use Rattle.jc_bulk.specs.Provided.{calls_in, any_creates, any_tells, places_for, AreCovered, IsReady};
 ghost use Rattle.jc_bulk.specs.Tallied.{HasRoomFor, sum_of};
@@ -16,7 +16,7 @@ use crate::steps::steps_of;
 use crate::tally::Tally;
 use jc_model::OutOfMemory;
 use jc_model::call::{Answer, Call, KeyCall};
-use jc_ops::supply::{Supply, creates, make_room, most_notices};
+use jc_ops::supply::{Supply, creates, make_room, most_notices, takes_value};
 use jc_ring::ring::Ring;
 use jc_rows::rows::Rows;
 use jc_state::notices::Notices;
@@ -60,6 +60,18 @@ fn make_places<G: Ring>(
     }
 }
 
+/// The key's row, where the step's values are taken of it.
+fn row_for<R: Rows, G: Ring>(state: &CacheState<G>, rows: &R, call: &KeyCall) -> Option<u32>
+    requires tied { IsTied (R.contents rows.now) state.now }
+    ensures { takes_value call.now.op ≡ true → FoundRow call.now.key state.now result }
+{
+    if takes_value(&call.op) {
+        state.find(rows, &call.key)
+    } else {
+        None
+    }
+}
+
 /// The steps with their values.
 fn with_values<R: Rows, G: Ring>(
     alloc: Global,
@@ -73,7 +85,7 @@ fn with_values<R: Rows, G: Ring>(
 {
     let mut rest = VecDeque::with_capacity(alloc, calls.len())?;
     for call in calls {
-        let row = state.find(rows, &call.key);
+        let row = row_for(state, rows, &call);
         let supply = Supply::values_for(state, row, &call, state.config().writer)?;
         rest.push_back(Provided { call, supply })?;
     }

@@ -1,5 +1,5 @@
 -- What a step asks and does by its line of the case table.
-use Rattle.std.specs.Prelude.{◌+◌, ℕ, Bool, true, false, if◌then◌else◌, slice_index_or, List, Option, Some, None, is_some}
+use Rattle.std.specs.Prelude.{◌+◌, ℕ, Bool, true, false, if◌then◌else◌, ◌||◌, slice_index_or, List, Option, Some, None, is_some}
 use Rattle.std.specs.Str.{bytes_eq}
 use Rattle.jc_model.specs.declared.call.Answer.{Answer}
 use Rattle.jc_model.specs.declared.call.Answer.TheVariants.{Loaded}
@@ -46,6 +46,10 @@ is_invoke o = is_some (invoked_by o)
 -- whether it replies the live value
 abbrev pub shows : Op → Bool
 shows o = if is_invoke o then false else is_shown (live_line o).reply
+
+-- whether its supply takes the value of the key's row: to reply it, or to hand it to a processor
+abbrev pub takes_value : Op → Bool
+takes_value o = is_invoke o || shows o
 
 -- whether it replies the loaded value
 abbrev pub shows_loaded : Op → Bool

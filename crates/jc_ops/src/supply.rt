@@ -10,14 +10,14 @@ ghost use Rattle.std.specs.FinMap as map;
 ghost use Rattle.jc_model.specs.State.{Item, row_of};
 ghost use Rattle.jc_state.specs.Kept.{items_of, has_live, FoundRow};
 ghost use Rattle.jc_state.specs.Noted.{HasPlaces};
-ghost use Rattle.jc_ops.specs.Lines.{most_told};
+ghost use Rattle.jc_ops.specs.Lines.{most_told, takes_value};
 ghost use Rattle.jc_ops.specs.Supply.{Covers, CoversLoaded, CoversVerdict, CoversAnswer, HasRoom, adds, adds_at};
 
 use crate::step::KeyStep;
 use crate::supply::needs::{
     adds, adds_at, handed, handed_by, is_invoke, shows, shows_loaded, stored_by, stored_now,
 };
-pub use crate::supply::needs::{creates, most_notices};
+pub use crate::supply::needs::{creates, most_notices, takes_value};
 use jc_model::OutOfMemory;
 use jc_model::call::{Answer, KeyCall, Op, Verdict};
 use jc_model::config::CacheConfig;
@@ -95,7 +95,7 @@ fn value_if<'a, G: Ring>(
     row: Option<u32>,
     wanted: bool,
 ) -> Option<&'a Value>
-    requires row { FoundRow key.now state.now row }
+    requires row { wanted ≡ true → FoundRow key.now state.now row }
     ensures { wanted ≡ true → (x : Item) → row_of key.now (items_of state.now.cells) ≡ Some x → option_map (λ v. v.now) result ≡ Some x.value }
 {
     if !wanted {
@@ -122,14 +122,15 @@ impl Supply {
         }
     }
 
-    /// The values of a step that stores at once, or that asks its writer before: then he alone is given a copy.
+    /// The values of a step that stores at once, or that asks its writer before: then he alone is given a copy. The key's
+    /// row is wanted only where a value of it is taken.
     pub fn values_for<G: Ring>(
         state: &CacheState<G>,
         row: Option<u32>,
         call: &KeyCall,
         writer: bool,
     ) -> Result<Supply, OutOfMemory>
-        requires row { FoundRow call.now.key state.now row }
+        requires row { takes_value call.now.op ≡ true → FoundRow call.now.key state.now row }
         ensures { IfOk result (λ s. Covers writer state.now.config call.now (items_of state.now.cells) s) }
     {
         let shown = to_show(value_if(state, &call.key, row, shows(&call.op)))?;

@@ -1,7 +1,7 @@
 //! Which values an operation or a verdict stores, replies and hands to its hooks.
 ghost use Rattle.std.specs.Prelude.{◌≡◌, if◌then◌else◌, None, option_map};
 ghost use Rattle.jc_model.specs.Table.{value_of};
-ghost use Rattle.jc_ops.specs.Lines.{is_shown, stores, handed, shows, shows_loaded, creates, is_invoke, told_of, told_by, most_told};
+ghost use Rattle.jc_ops.specs.Lines.{is_shown, stores, handed, shows, shows_loaded, takes_value, creates, is_invoke, told_of, told_by, most_told};
 ghost use Rattle.jc_ops.specs.Verdicts.{stores_by, hands_by};
 ghost use Rattle.jc_ops.specs.Supply.{adds, adds_loaded, adds_by, adds_at};
 
@@ -30,6 +30,13 @@ pub(super) fn shows(op: &Op) -> bool
     ensures { result ≡ shows op.now }
 {
     !is_invoke(op) && is_shown(live_line(op).reply)
+}
+
+/// Whether an operation's supply takes the value of the key's row: to reply it, or to hand it to a processor.
+pub fn takes_value(op: &Op) -> bool
+    ensures { result ≡ takes_value op.now }
+{
+    is_invoke(op) || shows(op)
 }
 
 /// Whether an operation replies the loaded value.
