@@ -110,19 +110,8 @@ goes_on c f p p' w v a was there n m s same is still purged le waits covered roo
 -- what the code has of such a step
 
 pub not_invoke : (o : Op) → ((processor : ℕ) (argument : List ℕ) → o ≡ op.Invoke processor argument → ⊥) → is_invoke o ≡ false
-not_invoke op.Get h = refl
-not_invoke (op.Put v) h = refl
-not_invoke (op.GetAndPut v) h = refl
-not_invoke (op.PutIfAbsent v) h = refl
-not_invoke (op.Replace v) h = refl
-not_invoke (op.ReplaceIf expected v) h = refl
-not_invoke (op.GetAndReplace v) h = refl
-not_invoke op.Remove h = refl
-not_invoke (op.RemoveIf expected) h = refl
-not_invoke op.GetAndRemove h = refl
-not_invoke (op.Load replace) h = refl
-not_invoke op.Expire h = refl
 not_invoke (op.Invoke processor argument) h = absurd (h processor argument refl)
+not_invoke _ h = refl
 
 pub line_view : (now : ℕ) (call : KeyCall) (given : List Answer) (w : KeyWait) → given ≡ [] → ◌≡◌ {A = KeyWait} (record { now = now; call = call; given = given }) w → waits_first now call ≡ w
 line_view now call given w none view = ap (λ (g : List Answer). let t : KeyWait = record { now = now; call = call; given = g } in t) (sym none) ∙ view

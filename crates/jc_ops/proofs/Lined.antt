@@ -39,35 +39,13 @@ abbrev fits : Op → Bool → Line → Bool
 fits o there l = fits_by l.asks o there l
 
 live_fits : (o : Op) → fits o true (live_line o) ≡ true
-live_fits op.Get = refl
-live_fits (op.Put v) = refl
-live_fits (op.GetAndPut v) = refl
-live_fits (op.PutIfAbsent v) = refl
-live_fits (op.Replace v) = refl
-live_fits (op.ReplaceIf expected v) = refl
-live_fits (op.GetAndReplace v) = refl
-live_fits op.Remove = refl
-live_fits (op.RemoveIf expected) = refl
-live_fits op.GetAndRemove = refl
-live_fits (op.Invoke processor argument) = refl
 live_fits (op.Load true) = refl
 live_fits (op.Load false) = refl
-live_fits op.Expire = refl
+live_fits _ = refl
 
 absent_fits : (o : Op) → fits o false (absent_line o) ≡ true
 absent_fits op.Get = refl
-absent_fits (op.Put v) = refl
-absent_fits (op.GetAndPut v) = refl
-absent_fits (op.PutIfAbsent v) = refl
-absent_fits (op.Replace v) = refl
-absent_fits (op.ReplaceIf expected v) = refl
-absent_fits (op.GetAndReplace v) = refl
-absent_fits op.Remove = refl
-absent_fits (op.RemoveIf expected) = refl
-absent_fits op.GetAndRemove = refl
-absent_fits (op.Invoke processor argument) = refl
-absent_fits (op.Load replace) = refl
-absent_fits op.Expire = refl
+absent_fits _ = refl
 
 pub line_fits : (o : Op) (live : Option (List ℕ)) → fits o (is_some live) (line_at o live) ≡ true
 line_fits o None = absent_fits o
@@ -82,22 +60,11 @@ line_fits o (Some live) = go (expected_by o)
         choose false = refl
 
 invoked_is : (o : Op) (i : ℕ × List ℕ) → invoked_by o ≡ Some i → o ≡ op.Invoke i.0 i.1
-invoked_is op.Get i e = cc
-invoked_is (op.Put v) i e = cc
-invoked_is (op.GetAndPut v) i e = cc
-invoked_is (op.PutIfAbsent v) i e = cc
-invoked_is (op.Replace v) i e = cc
-invoked_is (op.ReplaceIf expected v) i e = cc
-invoked_is (op.GetAndReplace v) i e = cc
-invoked_is op.Remove i e = cc
-invoked_is (op.RemoveIf expected) i e = cc
-invoked_is op.GetAndRemove i e = cc
 invoked_is (op.Invoke processor argument) i e = same e
   where
     same : ◌≡◌ {A = Option (ℕ × List ℕ)} (Some (processor, argument)) (Some i) → op.Invoke processor argument ≡ op.Invoke i.0 i.1
     same e = cc
-invoked_is (op.Load replace) i e = cc
-invoked_is op.Expire i e = cc
+invoked_is _ i e = cc
 
 -- where a line shows the live value, its operation does
 pub shows_at : (o : Op) (live : List ℕ) → is_invoke o ≡ false → is_shown (line_at o (Some live)).reply ≡ true → shows o ≡ true
