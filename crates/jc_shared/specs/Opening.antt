@@ -11,10 +11,11 @@ use Rattle.jc_shared.specs.declared.fault.SharedRefusal.{SharedRefusal}
 use Rattle.jc_shared.specs.declared.fault.SharedRefusal.TheVariants.{Caches, HooksDiffer, OutOfMemory}
 use Rattle.jc_shared.specs.declared.hooks.SharedHooks.{SharedHooks}
 
--- the recorded engine has these configurations, and there is a hooks lock for each
-pub record IsOpened {T : Type 0} (configs : List CacheConfig) (recorded : Recording) (locks : List T) : Type 0 where
+-- the recorded engine has these configurations, and there are callbacks for each
+pub record IsOpened {S T : Type 0} (configs : List CacheConfig) (recorded : Recording) (locks : List S) (shared : List T) : Type 0 where
   pub configs_are : configs_of recorded.caches ≡ configs
-  pub counted : length locks ≡ length configs
+  pub locks_counted : length locks ≡ length configs
+  pub shared_counted : length shared ≡ length configs
 
 -- what was handed in, as a manager keeps it
 pub record Handed (L P : Type 0) : Type 0 where

@@ -1,7 +1,5 @@
 //! Carrying an open call on: each request is answered outside the engine's lock, each answer goes in under it.
-ghost use Rattle.std.specs.Prelude.{◌≡◌, ◌++◌, ◌∷◌, ◌⊎◌, [], List, IsTrue, IfOk, OnOk, OnErr, Some, slice_get};
-ghost use Rattle.jc_model.specs.declared.call.Answer.{Answer as Given};
-ghost use Rattle.jc_model.specs.declared.call.Notice.{Notice as Told};
+ghost use Rattle.std.specs.Prelude.{◌≡◌, ◌<◌, ◌++◌, ◌∷◌, [], IsTrue, IfOk, OnOk, OnErr, length, slice_get};
 ghost use Rattle.jc_model.specs.declared.event.End.TheVariants.{Waiting};
 ghost use Rattle.jc_model.specs.Run.{is_answer_to};
 ghost use Rattle.jc_shared.specs.Asking.{AsksOf};
@@ -41,15 +39,14 @@ impl<N: Name, L: Loader, W: Writer, P: Processor, K: Listener> Manager<N, L, W, 
         draft: &Entry,
         request: &Request,
     ) -> Result<Answer, OutOfMemory>
-        requires { AsksOf draft.now.call request.now }
+        requires known { draft.now.id < length N.configs }
+        requires asks { AsksOf draft.now.call request.now }
         ensures fits { IfOk result (λ a. IsTrue (is_answer_to request.now a)) }
         ensures stated { IfOk result (λ a. IsStatedBy (slice_get N.stated draft.now.id) draft.now.call a) }
         ensures served { IfOk result (λ a. Serves W.may K.state_after hooks.old hooks.new request.now a) }
     {
         let alloc = self.alloc;
-        let Some(shared) = self.shared.get(draft.id.number() as usize) else {
-            return Err(OutOfMemory);
-        };
+        let shared = &self.shared[draft.id.number() as usize];
         match request {
             Request::Load(key) => ask_loader(alloc, &shared.loader, key),
             Request::Write(key, value) => ask_to_write(alloc, &mut hooks.writer, key, value),
@@ -81,6 +78,7 @@ impl<N: Name, L: Loader, W: Writer, P: Processor, K: Listener> Manager<N, L, W, 
         draft: &mut Entry,
         request: Request,
     ) -> Result<Reply, CallFault>
+        requires known { draft.old.id < length N.configs }
         requires waits { draft.old.end ≡ Waiting }
         requires asks { AsksOf draft.old.call request }
         requires answered { AreStated (slice_get N.stated draft.old.id) draft.old.call draft.old.answers }

@@ -1,7 +1,7 @@
 //! A manager that threads share, its sessions, and the comparison at its close.
 #![tactic(auto)]
 
-mod audit;
+mod auditing;
 mod carry;
 mod directory;
 mod fault;
@@ -11,14 +11,14 @@ mod manager;
 mod name;
 mod session;
 mod shared;
-mod table;
+mod tables;
 mod turned;
 
-pub use audit::{Logged, SessionLog, audit};
+pub use auditing::{Logged, SessionLog, audit};
 pub use fault::{CallFault, CloseFault, SessionRefusal, SharedRefusal};
 pub use hooks::SharedHooks;
 pub use manager::Manager;
 pub use name::Name;
 pub use session::Session;
 pub use shared::Shared;
-pub use table::{Table, table};
+pub use tables::{Table, table};

@@ -11,10 +11,10 @@ ghost use Rattle.jc_shared.specs.Admitting.{Admits};
 ghost use Rattle.jc_shared.specs.Calls.{Stands, GoesOn, call_refusal};
 ghost use Rattle.jc_shared.specs.Finding.{IsOpenFor, StandsAt, Turns, IsReplied};
 
-use crate::audit::{Logged, audit};
+use crate::auditing::{Logged, audit};
 use crate::fault::{CallFault, CloseFault, SessionRefusal};
 use crate::name::Name;
-use crate::table::Table;
+use crate::tables::Table;
 use crate::turned::Turned;
 use jc_engine::recorded::Recorded;
 use jc_model::call::{Answer, Call, Reply};
@@ -189,7 +189,7 @@ impl<N: Name> Locked<N> {
 
     /// Gives a session its number, where there is room for its list. Numbers go upward from 0.
     pub(crate) fn admit(&mut self, room: bool) -> Result<u32, SessionRefusal>
-        ensures { Admits self.old.closed self.old.given room result self.new.given }
+        ensures admits { Admits self.old.closed self.old.given room result self.new.given }
         ensures kept { self.new.closed ≡ self.old.closed }
     {
         if self.closed {

@@ -32,7 +32,8 @@ pub struct Manager<N: Name, L: Loader, W: Writer, P: Processor, K: Listener> {
     pub(crate) locked: Mutex<Locked<N>>,
     ghost configs_are: { directory ≡ N.configs },
     ghost stated_are: { map (stated_by L.load_of P.verdict_of) shared.items ≡ N.stated },
-    ghost counted: { length locks.items ≡ length directory },
+    ghost locks_counted: { length locks.items ≡ length directory },
+    ghost shared_counted: { length shared.items ≡ length directory },
 }
 
 impl<N: Name, L: Loader, W: Writer, P: Processor, K: Listener> Manager<N, L, W, P, K> {

@@ -4,7 +4,7 @@ ghost use Rattle.jc_model.specs.declared.event.End.TheVariants.{Replied};
 ghost use Rattle.jc_engine.specs.Recording.{blank};
 ghost use Rattle.jc_shared.specs.Calls.{Adds, Fails, call_refusal};
 
-use crate::audit::Logged;
+use crate::auditing::Logged;
 use crate::fault::CallFault;
 use crate::manager::Manager;
 use crate::name::Name;

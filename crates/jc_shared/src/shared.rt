@@ -15,7 +15,7 @@ use crate::hooks::{AllHooks, LockedHooks, SharedHooks, apart, first_unsuited};
 use crate::locked::Locked;
 use crate::manager::Manager;
 use crate::name::Name;
-use crate::table::{Table, table};
+use crate::tables::{Table, table};
 use jc_engine::open::ids_by_name;
 use jc_engine::recorded::Recorded;
 use jc_hooks::{CacheHooks, Listener, Loader, Processor, Writer};
@@ -47,7 +47,7 @@ impl<L, W, P, K> Model for Shared<L, W, P, K> {
 
     ghost view = { λ s. record { configs = s.directory; shared = s.shared.items } };
 
-    ghost invariant = { λ s. IsOpened s.directory s.recorded s.locks.items };
+    ghost invariant = { λ s. IsOpened s.directory s.recorded s.locks.items s.shared.items };
 }
 
 fn copies(alloc: Global, configs: &[CacheConfig]) -> Result<Vec<CacheConfig>, OutOfMemory>
