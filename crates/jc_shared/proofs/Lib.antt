@@ -1,0 +1,5 @@
+pub mod Walking
+pub mod Asking
+pub mod Last
+pub mod Tenures
+pub mod Auditing

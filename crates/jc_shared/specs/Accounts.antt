@@ -1,6 +1,6 @@
 -- What an audit compares.
-use Rattle.std.specs.Prelude.{◌≡◌, ◌≢◌, ℕ, ◌<◌, ◌≤◌, ◌==◌, if◌then◌else◌, List, [], ◌∷◌, length, take, slice_get}
-use Rattle.std.specs.List.{filter, All}
+use Rattle.std.specs.Prelude.{◌≡◌, ◌≢◌, ℕ, ◌<◌, ◌≤◌, ◌==◌, if◌then◌else◌, List, [], ◌∷◌, length, take, slice_get, Option, Some, None}
+use Rattle.std.specs.List.{filter, count_by, All}
 use Rattle.jc_model.specs.declared.event.End.TheVariants.{Waiting}
 use Rattle.jc_model.specs.declared.event.Entry.{Entry}
 use Rattle.jc_shared.specs.declared.fault.CloseFault.{CloseFault}
@@ -11,9 +11,9 @@ use Rattle.jc_shared.specs.Calls.{Own}
 abbrev pub calls_of : ℕ → List Entry → List Entry
 calls_of session transcript = filter (λ e. e.session == session) transcript
 
--- the logs of a number
-abbrev pub logs_of : ℕ → List Own → List Own
-logs_of number logs = filter (λ o. o.number == number) logs
+-- how many logs have this number
+abbrev pub times : ℕ → List Own → ℕ
+times number logs = count_by (λ o. o.number == number) logs
 
 -- its list; a number without a log has the empty one
 abbrev pub own_of : ℕ → List Own → List Entry
@@ -22,7 +22,7 @@ own_of number (o ∷ logs) = if o.number == number then o.calls else own_of numb
 
 -- the numbers are those below this one, each once
 pub record AreGiven (given : ℕ) (logs : List Own) : Type 0 where
-  pub once : (number : ℕ) → number < given → length (logs_of number logs) ≡ 1
+  pub once : (number : ℕ) → number < given → times number logs ≡ 1
   pub below : All (λ o. o.number < given) logs
 
 abbrev pub NoneWaits : List Entry → Type 0
@@ -37,6 +37,12 @@ pub record PartAt (xs ys : List Entry) (place : ℕ) : Type 0 where
   pub within : (place ≤ length xs) × (place ≤ length ys)
   pub before : take place xs ≡ take place ys
   pub here : slice_get xs place ≢ slice_get ys place
+
+-- the least session from a number on that has an entry, if any has one
+abbrev pub IsLeastFrom : ℕ → List Entry → Option ℕ → Type 0
+IsLeastFrom given transcript None = (number : ℕ) → given ≤ number → calls_of number transcript ≡ []
+IsLeastFrom given transcript (Some least) =
+    (given ≤ least) × (calls_of least transcript ≢ []) × ((number : ℕ) → given ≤ number → number < least → calls_of number transcript ≡ [])
 
 -- this session is the least whose entries are not its list, and this is the first place where they part
 pub record DiffersFirst (transcript : List Entry) (logs : List Own) (session place : ℕ) : Type 0 where

@@ -30,7 +30,7 @@ keys_of (LoadAll ks replace) = ks
 keys_of _ = []
 
 abbrev pub IsKeyOf : List ℕ → Call → Type 0
-IsKeyOf key call = Contains key (keys_of call)
+IsKeyOf key call = Contains (keys_of call) key
 
 -- the processor that a call names, with its argument
 abbrev pub invoked_by : Call → Option (ℕ × List ℕ)

@@ -1,9 +1,9 @@
 -- What a session knows of its calls.
-use Rattle.std.specs.Prelude.{◌≡◌, ◌⊎◌, ℕ, List, [], ◌∷◌, ◌++◌, if◌then◌else◌, slice_get, Option, Some, None, Result, Ok, Err}
+use Rattle.std.specs.Prelude.{◌≡◌, ◌⊎◌, ℕ, List, [], ◌∷◌, ◌++◌, if◌then◌else◌, slice_get, Option, Some, None}
 use Rattle.jc_model.specs.declared.call.Answer.{Answer}
 use Rattle.jc_model.specs.declared.call.Call.{Call}
 use Rattle.jc_model.specs.declared.call.Notice.{Notice}
-use Rattle.jc_model.specs.declared.call.Reply.{Reply}
+use Rattle.jc_model.specs.declared.call.Request.{Request}
 use Rattle.jc_model.specs.declared.config.CacheConfig.{CacheConfig}
 use Rattle.jc_model.specs.declared.event.End.{End}
 use Rattle.jc_model.specs.declared.event.End.TheVariants as end
@@ -43,21 +43,31 @@ called session id at call answers told n =
     record { session = session; id = id; at = at; call = call; answers = answers; told = told; end = n }
 
 -- an entry of the same call
-abbrev pub of_call : Entry → List Answer → List Notice → End → Entry
-of_call e answers told n = called e.session e.id e.at e.call answers told n
+abbrev pub IsSameCall : Entry → Entry → Type 0
+IsSameCall old new = new ≡ called old.session old.id old.at old.call new.answers new.told new.end
 
--- it has ended so, in a legal transcript, with answers that were stated
-pub record HasEnded (configs : List CacheConfig) (stated : List Stated) (draft e : Entry) (n : End) : Type 0 where
-  pub is : e ≡ of_call draft e.answers e.told n
+-- a call has ended so, in a legal transcript, with answers that were stated
+pub record HasEnded (configs : List CacheConfig) (stated : List Stated) (e : Entry) (n : End) : Type 0 where
+  pub ended : e.end ≡ n
   pub stands : Stands configs e
-  pub answered : AreStated (slice_get stated draft.id) draft.call e.answers
+  pub answered : AreStated (slice_get stated e.id) e.call e.answers
 
--- a call that was carried on has ended; where it was overtaken its entry waits for ever
-abbrev pub Ends : List CacheConfig → List Stated → Entry → Entry → Result Reply CallFault → Type 0
-Ends configs stated draft e (Ok reply) = HasEnded configs stated draft e (end.Replied reply)
-Ends configs stated draft e (Err OutOfMemory) = HasEnded configs stated draft e end.GivenUp
-Ends configs stated draft e (Err Overtaken) = e ≡ of_call draft e.answers e.told end.Waiting
-Ends configs stated draft e (Err fault) = ⊥
+-- a call waits for the answer to a request of its own, after answers that were stated
+pub record IsWaiting (stated : List Stated) (e : Entry) (request : Request) : Type 0 where
+  pub waits : e.end ≡ end.Waiting
+  pub asks : AsksOf e.call request
+  pub answered : AreStated (slice_get stated e.id) e.call e.answers
+
+-- how a call stands
+abbrev pub Stays : List CacheConfig → List Stated → Turned → Entry → Type 0
+Stays configs stated (Asked request) e = IsWaiting stated e request
+Stays configs stated (Replied reply) e = HasEnded configs stated e (end.Replied reply)
+
+-- how it ends without a reply; where it was overtaken its entry waits for ever
+abbrev pub EndsFaulty : List CacheConfig → List Stated → CallFault → Entry → Type 0
+EndsFaulty configs stated OutOfMemory e = HasEnded configs stated e end.GivenUp
+EndsFaulty configs stated Overtaken e = e.end ≡ end.Waiting
+EndsFaulty configs stated fault e = ⊥
 
 -- a tenure of the lock has brought the call on
 abbrev pub GoesOn : List CacheConfig → Entry → Turned → Entry → Type 0

@@ -1,7 +1,9 @@
 //! Comparing the transcript with what the sessions have kept of their own calls.
-ghost use Rattle.std.specs.Prelude.{◌≡◌, ◌≢◌, ◌≤◌, ◌<◌, ◌↔◌, ℕ, [], IsTrue, OnOk, IfErr, MatchOption, map, length};
+ghost use Rattle.std.specs.Prelude.{◌≡◌, ◌≢◌, ◌≤◌, ◌<◌, ◌↔◌, ℕ, List, [], ◌∷◌, ◌++◌, Some, IsTrue, OnOk, IfErr, MatchOption, map, length, slice_get};
+ghost use Rattle.jc_model.specs.declared.event.End.TheVariants.{Waiting};
+ghost use Rattle.jc_model.specs.declared.event.Entry.{Entry as Entries};
 ghost use Rattle.std.specs.List.{All};
-ghost use Rattle.jc_shared.specs.Accounts.{calls_of, logs_of, own_of, AreGiven, NoneWaits, AllAgree, PartAt, DiffersFirst, Accounts, IsFault};
+ghost use Rattle.jc_shared.specs.Accounts.{calls_of, times, own_of, IsLeastFrom, AreGiven, NoneWaits, AllAgree, PartAt, DiffersFirst, Accounts, IsFault};
 
 use crate::fault::CloseFault;
 use jc_model::event::{End, Entry};
@@ -43,13 +45,15 @@ impl Logged for SessionLog {
 
 /// How many logs have this number.
 fn count_of<S: Logged>(logs: &[S], number: u32) -> usize
-    ensures { result ≡ length (logs_of number (map S.log logs.now)) }
+    ensures { result ≡ times number (map S.log logs.now) }
 {
     let mut count = 0;
-    for log in logs {
+    let mut left = logs;
+    while let Some((log, rest)) = left.split_first() {
         if log.log_number() == number {
             count += 1;
         }
+        left = rest;
     }
     count
 }
@@ -58,65 +62,92 @@ fn count_of<S: Logged>(logs: &[S], number: u32) -> usize
 fn are_below<S: Logged>(logs: &[S], given: u32) -> bool
     ensures { IsTrue result ↔ All (λ o. o.number < given) (map S.log logs.now) }
 {
-    for log in logs {
+    let mut left = logs;
+    while let Some((log, rest)) = left.split_first() {
         if log.log_number() >= given {
             return false;
         }
+        left = rest;
     }
     true
 }
 
-/// Whether the numbers are those below this one, each once.
-fn are_given<S: Logged>(logs: &[S], given: u32) -> bool
-    ensures { IsTrue result ↔ AreGiven given (map S.log logs.now) }
+/// Whether each number below this one has one log.
+fn are_once<S: Logged>(logs: &[S], given: u32) -> bool
+    ensures { IsTrue result ↔ ((number : ℕ) → number < given → times number (map S.log logs.now) ≡ 1) }
 {
     for number in 0..given {
         if count_of(logs, number) != 1 {
             return false;
         }
     }
-    are_below(logs, given)
+    true
 }
 
 /// The list of the first log with this number.
 fn own_of<'a, S: Logged>(logs: &'a [S], number: u32) -> &'a [Entry]
     ensures { result.now ≡ own_of number (map S.log logs.now) }
 {
-    for log in logs {
+    let mut left = logs;
+    while let Some((log, rest)) = left.split_first() {
         if log.log_number() == number {
             return log.log_calls();
         }
+        left = rest;
     }
     &[]
+}
+
+fn is_waiting(entry: &Entry) -> bool
+    ensures { IsTrue result ↔ (entry.now.end ≡ Waiting) }
+{
+    matches!(entry.end, End::Waiting)
 }
 
 /// Whether no call is open.
 fn none_waits(entries: &[Entry]) -> bool
     ensures { IsTrue result ↔ NoneWaits entries.now }
 {
-    for entry in entries {
-        if matches!(entry.end, End::Waiting) {
+    let mut left = entries;
+    while let Some((entry, rest)) = left.split_first() {
+        if is_waiting(entry) {
             return false;
         }
+        left = rest;
     }
     true
+}
+
+/// What is left of a list where it begins with this entry.
+fn past<'a>(own: &'a [Entry], entry: &Entry) -> Option<&'a [Entry]>
+    ensures { MatchOption result (slice_get own.now 0 ≢ Some entry.now) (λ rest. own.now ≡ entry.now ∷ rest.now) }
+{
+    match own.split_first() {
+        Some((first, rest)) => {
+            if first.same(entry) {
+                Some(rest)
+            } else {
+                None
+            }
+        }
+        None => None,
+    }
 }
 
 /// The first place at which a session's entries and this list part.
 fn parting(entries: &[Entry], session: u32, own: &[Entry]) -> Option<usize>
     ensures { MatchOption result (calls_of session entries.now ≡ own.now) (λ place. PartAt (calls_of session entries.now) own.now place) }
 {
+    let mut left = entries;
     let mut rest = own;
-    for entry in entries {
+    while let Some((entry, later)) = left.split_first() {
         if entry.session == session {
-            let Some((first, tail)) = rest.split_first() else {
-                return Some(own.len() - rest.len());
-            };
-            if !first.same(entry) {
-                return Some(own.len() - rest.len());
+            match past(rest, entry) {
+                Some(tail) => rest = tail,
+                None => return Some(own.len() - rest.len()),
             }
-            rest = tail;
         }
+        left = later;
     }
     if rest.is_empty() {
         None
@@ -125,18 +156,26 @@ fn parting(entries: &[Entry], session: u32, own: &[Entry]) -> Option<usize>
     }
 }
 
+/// The lesser of the least session so far and an entry's, where that is one from this number on.
+fn lesser(least: Option<u32>, session: u32, given: u32) -> Option<u32>
+    ensures { (done : List Entries) (e : Entries) → e.session ≡ session → IsLeastFrom given done least → IsLeastFrom given (done ++ e ∷ []) result }
+{
+    if session < given {
+        return least;
+    }
+    match least {
+        Some(found) => Some(found.min(session)),
+        None => Some(session),
+    }
+}
+
 /// The least session from this number on that has an entry.
 fn least_from(entries: &[Entry], given: u32) -> Option<u32>
-    ensures { MatchOption result ((number : ℕ) → given ≤ number → calls_of number entries.now ≡ []) (λ least. (given ≤ least) × (calls_of least entries.now ≢ []) × ((number : ℕ) → given ≤ number → number < least → calls_of number entries.now ≡ [])) }
+    ensures { IsLeastFrom given entries.now result }
 {
     let mut least = None;
     for entry in entries {
-        if entry.session >= given {
-            least = match least {
-                Some(found) if found <= entry.session => Some(found),
-                _ => Some(entry.session),
-            };
-        }
+        least = lesser(least, entry.session, given);
     }
     least
 }
@@ -173,7 +212,7 @@ pub fn audit<S: Logged>(
     ensures fault { IfErr result (λ f. IsFault given (map S.log logs.now) transcript.now f) }
 {
     let entries = transcript.entries();
-    if !are_given(logs, given) {
+    if !are_below(logs, given) || !are_once(logs, given) {
         return Err(CloseFault::Missing);
     }
     if !none_waits(entries) {

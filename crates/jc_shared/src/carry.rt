@@ -1,10 +1,12 @@
 //! Carrying an open call on: each request is answered outside the engine's lock, each answer goes in under it.
-ghost use Rattle.std.specs.Prelude.{◌≡◌, ◌<◌, ◌++◌, ◌∷◌, [], IsTrue, IfOk, OnOk, OnErr, length, slice_get};
+ghost use Rattle.std.specs.Prelude.{◌≡◌, ◌<◌, ◌++◌, ◌∷◌, [], List, IsTrue, IfOk, OnOk, OnErr, MatchResult, length, slice_get};
+ghost use Rattle.jc_model.specs.declared.call.Answer.{Answer as Given};
 ghost use Rattle.jc_model.specs.declared.event.End.TheVariants.{Waiting};
 ghost use Rattle.jc_model.specs.Run.{is_answer_to};
 ghost use Rattle.jc_shared.specs.Asking.{AsksOf};
-ghost use Rattle.jc_shared.specs.Calls.{Ends};
-ghost use Rattle.jc_shared.specs.Serving.{Serves};
+ghost use Rattle.jc_shared.specs.Calls.{IsSameCall, Stays, EndsFaulty};
+ghost use Rattle.jc_shared.specs.Serving.{Serves, Tells as TellsOf};
+ghost use Rattle.jc_shared.specs.declared.turned.Turned.TheVariants.{Asked, Replied};
 ghost use Rattle.jc_shared.specs.Stated.{IsStatedBy, AreStated};
 
 use crate::fault::CallFault;
@@ -29,6 +31,23 @@ fn note_answer(draft: &mut Entry, answer: &Answer) -> Result<(), OutOfMemory>
 {
     let copy = answer.share()?;
     draft.answers.push(copy)
+}
+
+/// Takes the last answer back.
+fn take_back(draft: &mut Entry)
+    ensures { (answers : List Given) (a : Given) → draft.old.answers ≡ answers ++ a ∷ [] → draft.new ≡ record draft.old { answers = answers } }
+{
+    draft.answers.pop();
+}
+
+/// Keeps the notices that a request tells.
+fn keep_told(draft: &mut Entry, request: Request)
+    ensures { draft.new ≡ record draft.old { told = draft.new.told } }
+{
+    match request {
+        Request::Tell(notices) => draft.told = notices,
+        _ => {}
+    }
 }
 
 impl<N: Name, L: Loader, W: Writer, P: Processor, K: Listener> Manager<N, L, W, P, K> {
@@ -70,40 +89,55 @@ impl<N: Name, L: Loader, W: Writer, P: Processor, K: Listener> Manager<N, L, W, 
         }
     }
 
-    /// Carries the draft's call on from a request to its end.
-    pub(crate) fn carry_on<R: Wait>(
+    /// Brings the draft's call on by the answer to a request.
+    fn advance<R: Wait>(
         &self,
         rt: &R,
         hooks: &mut LockedHooks<W, K>,
         draft: &mut Entry,
         request: Request,
+    ) -> Result<Turned, CallFault>
+        requires known { draft.old.id < length N.configs }
+        requires asked { Stays N.configs N.stated (Asked request) draft.old }
+        ensures same { IsSameCall draft.old draft.new }
+        ensures brought { MatchResult result (λ turned. Stays N.configs N.stated turned draft.new) (λ fault. EndsFaulty N.configs N.stated fault draft.new) }
+    {
+        let Ok(answer) = self.answer(hooks, draft, &request) else {
+            return Err(self.give_up(rt, hooks, draft));
+        };
+        keep_told(draft, request);
+        if note_answer(draft, &answer).is_err() {
+            return Err(self.give_up(rt, hooks, draft));
+        }
+        let resumed = self.locked.lock(rt).resume(draft, answer);
+        match resumed {
+            Ok(turned) => Ok(turned),
+            Err(CallFault::OutOfMemory) => {
+                take_back(draft);
+                Err(self.give_up(rt, hooks, draft))
+            }
+            Err(_) => Err(CallFault::Overtaken),
+        }
+    }
+
+    /// Carries the draft's call on to its end.
+    pub(crate) fn carry_on<R: Wait>(
+        &self,
+        rt: &R,
+        hooks: &mut LockedHooks<W, K>,
+        draft: &mut Entry,
+        begun: Turned,
     ) -> Result<Reply, CallFault>
         requires known { draft.old.id < length N.configs }
-        requires waits { draft.old.end ≡ Waiting }
-        requires asks { AsksOf draft.old.call request }
-        requires answered { AreStated (slice_get N.stated draft.old.id) draft.old.call draft.old.answers }
-        ensures { Ends N.configs N.stated draft.old draft.new result }
+        requires begun { Stays N.configs N.stated begun draft.old }
+        ensures same { IsSameCall draft.old draft.new }
+        ensures ends { MatchResult result (λ reply. Stays N.configs N.stated (Replied reply) draft.new) (λ fault. EndsFaulty N.configs N.stated fault draft.new) }
     {
-        let mut request = request;
+        let mut turned = begun;
         for _ in rt.forever() {
-            let Ok(answer) = self.answer(hooks, draft, &request) else {
-                return self.give_up(rt, hooks, draft);
-            };
-            if let Request::Tell(notices) = request {
-                draft.told = notices;
-            }
-            if note_answer(draft, &answer).is_err() {
-                return self.give_up(rt, hooks, draft);
-            }
-            let turned = self.locked.lock(rt).resume(draft, answer);
             match turned {
-                Ok(Turned::Asked(next)) => request = next,
-                Ok(Turned::Replied(reply)) => return Ok(reply),
-                Err(CallFault::OutOfMemory) => {
-                    draft.answers.pop();
-                    return self.give_up(rt, hooks, draft);
-                }
-                Err(_) => return Err(CallFault::Overtaken),
+                Turned::Replied(reply) => return Ok(reply),
+                Turned::Asked(request) => turned = self.advance(rt, hooks, draft, request)?,
             }
         }
         unreachable!()
@@ -115,19 +149,21 @@ impl<N: Name, L: Loader, W: Writer, P: Processor, K: Listener> Manager<N, L, W, 
         rt: &R,
         hooks: &mut LockedHooks<W, K>,
         draft: &mut Entry,
-    ) -> Result<Reply, CallFault>
+    ) -> CallFault
         requires waits { draft.old.end ≡ Waiting }
         requires answered { AreStated (slice_get N.stated draft.old.id) draft.old.call draft.old.answers }
-        ensures { Ends N.configs N.stated draft.old draft.new result }
+        ensures same { IsSameCall draft.old draft.new }
+        ensures ends { EndsFaulty N.configs N.stated result draft.new }
+        ensures told { (draft.old.told ≡ []) → TellsOf K.state_after hooks.old hooks.new draft.new.told }
     {
         let untold = draft.told.items().is_empty();
-        let ended = self.locked.lock(rt).give_up(draft);
+        let given_up = self.locked.lock(rt).give_up(draft);
         if untold {
             tell_all(hooks.listeners.as_mut_slice(), draft.told.items());
         }
-        match ended {
-            Ok(()) => Err(CallFault::OutOfMemory),
-            Err(_) => Err(CallFault::Overtaken),
+        match given_up {
+            Ok(()) => CallFault::OutOfMemory,
+            Err(_) => CallFault::Overtaken,
         }
     }
 }

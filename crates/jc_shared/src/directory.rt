@@ -6,6 +6,7 @@ ghost use Rattle.jc_engine.specs.Opening.{names_in};
 ghost use Rattle.jc_shared.specs.Calls.{call_refusal};
 
 use crate::fault::CallFault;
+use jc_engine::open::all_names;
 use jc_model::OutOfMemory;
 use jc_model::call::Call;
 use jc_model::config::CacheConfig;
@@ -47,7 +48,7 @@ impl Directory {
         requires { AreIds (Some ids) (names_in configs.items) }
         ensures { IfOk result (λ d. d ≡ configs.items) }
     {
-        let names = configs.iter().map(|config| config.name).collect(alloc)?;
+        let names = all_names(alloc, configs.as_slice())?;
         Ok(Directory {
             configs,
             names,

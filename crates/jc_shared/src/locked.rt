@@ -9,7 +9,7 @@ ghost use Rattle.jc_engine.specs.Results.{reply_in};
 ghost use Rattle.jc_shared.specs.Accounts.{Accounts};
 ghost use Rattle.jc_shared.specs.Admitting.{Admits};
 ghost use Rattle.jc_shared.specs.Calls.{Stands, GoesOn, call_refusal};
-ghost use Rattle.jc_shared.specs.Finding.{IsOpenFor, StandsAt, Turns, IsReplied};
+ghost use Rattle.jc_shared.specs.Finding.{fault_of, IsOfCall, IsOpenFor, StandsAt, Turns, IsReplied};
 
 use crate::auditing::{Logged, audit};
 use crate::fault::{CallFault, CloseFault, SessionRefusal};
@@ -17,9 +17,10 @@ use crate::name::Name;
 use crate::tables::Table;
 use crate::turned::Turned;
 use jc_engine::recorded::Recorded;
-use jc_model::call::{Answer, Call, Reply};
+use jc_model::call::{Answer, Call, Notice, Reply};
 use jc_model::event::{Cause, End, Entry, Step};
 use jc_model::exact::Exact;
+use jc_model::list::Sequence;
 use jc_model::transcript::Transcript;
 use jc_ring::link_ring::LinkRing;
 use std::marker::PhantomData;
@@ -38,13 +39,38 @@ pub(crate) struct Locked<N: Name> {
     ghost named: { configs_of recorded.caches ≡ N.configs },
 }
 
-fn fault_of(cause: Cause) -> CallFault {
+fn fault_of(cause: Cause) -> CallFault
+    ensures { result ≡ fault_of cause }
+{
     match cause {
         Cause::NoSuchCache => CallFault::NoSuchCache,
         Cause::NoSuchProcessor => CallFault::NoSuchProcessor,
         Cause::Busy => CallFault::Busy,
         Cause::NoTurn | Cause::WrongAnswer => CallFault::Overtaken,
         Cause::OutOfMemory => CallFault::OutOfMemory,
+    }
+}
+
+/// Whether an entry is of the draft's call.
+fn is_of_call(entry: &Entry, draft: &Entry) -> bool
+    ensures { IsTrue result → IsOfCall entry.now draft.now }
+{
+    entry.session == draft.session && entry.at == draft.at && entry.call.same(&draft.call)
+}
+
+fn end_with(draft: &mut Entry, end: End)
+    ensures { draft.new ≡ record draft.old { end = end } }
+{
+    draft.end = end;
+}
+
+/// Keeps the notices that a give-up hands out. Where the call has told its notices, none are left.
+fn keep_left(draft: &mut Entry, left: Sequence<Notice>)
+    ensures kept { draft.new ≡ record draft.old { told = draft.new.told } }
+    ensures told { (draft.old.told ≡ []) ⊎ (draft.new.told ≡ draft.old.told) }
+{
+    if draft.told.items().is_empty() {
+        draft.told = left;
     }
 }
 
@@ -57,7 +83,7 @@ fn turned(step: Step, copy: Option<Reply>, draft: &mut Entry) -> Turned
         Step::Need(request) => Turned::Asked(request),
         Step::Done(reply) => {
             if let Some(copy) = copy {
-                draft.end = End::Replied(copy);
+                end_with(draft, End::Replied(copy));
             }
             Turned::Replied(reply)
         }
@@ -83,8 +109,11 @@ impl<N: Name> Locked<N> {
     {
         let place = self.recorded.open_place(draft.id)?;
         let open = self.recorded.transcript().entries().get(place)?;
-        let is_own = open.session == draft.session && open.at == draft.at && open.call.same(&draft.call);
-        if is_own { Some(place) } else { None }
+        if is_of_call(open, draft) {
+            Some(place)
+        } else {
+            None
+        }
     }
 
     /// Whether the draft stands at a place of the transcript, just as it is.
@@ -116,7 +145,7 @@ impl<N: Name> Locked<N> {
                 if self.stands_at(place, draft) {
                     Ok(Turned::Replied(reply))
                 } else {
-                    draft.end = End::Waiting;
+                    end_with(draft, End::Waiting);
                     Err(CallFault::Overtaken)
                 }
             }
@@ -175,14 +204,12 @@ impl<N: Name> Locked<N> {
         let Ok(left) = self.recorded.give_up(draft.id) else {
             return Err(CallFault::Overtaken);
         };
-        if draft.told.items().is_empty() {
-            draft.told = left;
-        }
-        draft.end = End::GivenUp;
+        keep_left(draft, left);
+        end_with(draft, End::GivenUp);
         if self.stands_at(place, draft) {
             Ok(())
         } else {
-            draft.end = End::Waiting;
+            end_with(draft, End::Waiting);
             Err(CallFault::Overtaken)
         }
     }

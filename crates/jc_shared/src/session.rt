@@ -8,7 +8,6 @@ use crate::auditing::Logged;
 use crate::fault::CallFault;
 use crate::manager::Manager;
 use crate::name::Name;
-use crate::turned::Turned;
 use jc_hooks::{Listener, Loader, Processor, Writer};
 use jc_model::OutOfMemory;
 use jc_model::call::{Call, Reply};
@@ -125,11 +124,11 @@ impl<'a, N: Name, L: Loader, W: Writer, P: Processor, K: Listener> Session<'a, N
         };
         let mut hooks = manager.locks[id.number() as usize].lock(rt);
         let begun = manager.locked.lock(rt).begin(&mut draft, call);
-        let replied = match begun {
-            Ok(Turned::Replied(reply)) => Ok(reply),
-            Ok(Turned::Asked(request)) => manager.carry_on(rt, &mut hooks, &mut draft, request),
+        let turned = match begun {
+            Ok(turned) => turned,
             Err(fault) => return Err(fault),
         };
+        let replied = manager.carry_on(rt, &mut hooks, &mut draft, turned);
         self.own.push_reserved(draft);
         replied
     }
