@@ -70,14 +70,14 @@ module _ (c : CacheConfig) (now : ℕ) (call : Call) where
       go [] = tt
       go (n ∷ rest) = (tt, λ a. tt)
 
-  AllFit : Plan → Type 0
+  abbrev AllFit : Plan → Type 0
   AllFit (one k o) = Fits (record { key = k; op = o })
-  AllFit (many steps gathered) = All Fits steps
+  AllFit (many steps sum) = All Fits steps
   AllFit (at_once q r) = ⊤
 
   carried-asks : (todo : Plan) (p : Progress) → AllFit todo → Asks (carried_out c now todo p)
   carried-asks (one k o) p fit = weaker (record { key = k; op = o }) fit (step c now (record { key = k; op = o }) p) (step-asks c now (record { key = k; op = o }) p)
-  carried-asks (many steps gathered) p fit = each-asks steps (empty_sum gathered) p fit
+  carried-asks (many steps sum) p fit = each-asks steps (empty_sum sum) p fit
   carried-asks (at_once q r) p fit = tt
 
   by_plan : (s : State) → AllFit (plan c now call (begun s)) → Asks (whole c now call s)

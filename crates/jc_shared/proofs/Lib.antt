@@ -2,4 +2,6 @@ pub mod Walking
 pub mod Asking
 pub mod Last
 pub mod Tenures
-pub mod Auditing
+pub mod Comparing
+pub mod Carrying
+pub mod Opened

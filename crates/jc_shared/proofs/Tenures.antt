@@ -1,6 +1,6 @@
 -- What a tenure of the lock makes of the call that it brings on.
 use Rattle.std.proofs.Common.{◌≡◌, ◌⊎◌, ℕ, Bool, true, false, if◌then◌else◌, List, [], ◌∷◌, ◌++◌, map, Option, Some, None, Result, Ok, Err, inl, inr, refl, sym, ◌∙◌, ap, subst}
-use Rattle.std.specs.Prelude.{slice_get, option_map, ⊤}
+use Rattle.std.specs.Prelude.{slice_get, option_map, IfOk, ⊤}
 use Rattle.std.proofs.lemmas.Option.{slice_get-map}
 use Rattle.jc_model.specs.declared.call.Answer.{Answer}
 use Rattle.jc_model.specs.declared.call.Call.{Call}
@@ -44,6 +44,10 @@ pub same_configs : (old new : List Cache) (event : Event) (o : Outcome) → map 
 same_configs old new event o after =
     sym (map_map (λ (k : Status). k.config) status_of new) ∙ ap (map (λ (k : Status). k.config)) after ∙ configs_after (map status_of old) event o
     ∙ map_map (λ (k : Status). k.config) status_of old
+
+pub ok_then : {A E : Type 0} {P Q : A → Type 0} (r : Result A E) → ((x : A) → P x → Q x) → IfOk r P → IfOk r Q
+ok_then (Ok x) f h = f x h
+ok_then (Err e) f h = h
 
 abbrev Asks : Call → Run → Type 0
 Asks call run = AtEach (λ q p. AsksOf call q) (λ p r. Unit {0}) run

@@ -154,7 +154,7 @@ impl<N: Name, L: Loader, W: Writer, P: Processor, K: Listener> Manager<N, L, W, 
         requires answered { AreStated (slice_get N.stated draft.old.id) draft.old.call draft.old.answers }
         ensures same { IsSameCall draft.old draft.new }
         ensures ends { EndsFaulty N.configs N.stated result draft.new }
-        ensures told { (draft.old.told ≡ []) → TellsOf K.state_after hooks.old hooks.new draft.new.told }
+        ensures told { (draft.old.told ≡ []) → TellsOf W.may K.state_after hooks.old hooks.new draft.new.told }
     {
         let untold = draft.told.items().is_empty();
         let given_up = self.locked.lock(rt).give_up(draft);

@@ -38,7 +38,7 @@ pub(crate) fn apart<L: Loader, W: Writer, P: Processor, K: Listener>(
     hooks: Vec<CacheHooks<L, W, P, K>>,
 ) -> Result<AllHooks<L, W, P, K>, OutOfMemory>
     ensures shared { IfOk result (λ all. all.shared.items ≡ map shared_of hooks.items) }
-    ensures locks { IfOk result (λ all. length all.locks.items ≡ length hooks.items) }
+    ensures locks { IfOk result (λ all. length all.locks.items ≡ length all.shared.items) }
 {
     let mut shared = Vec::with_capacity(alloc, hooks.len())?;
     let mut locks = Vec::with_capacity(alloc, hooks.len())?;

@@ -1,6 +1,6 @@
 //! What lies under the manager's lock: the recorded engine, and which sessions there are. Each tenure begins a call,
 //! brings it on or gives it up, and no callback runs in it.
-ghost use Rattle.std.specs.Prelude.{◌≡◌, ◌⊎◌, ◌<◌, ◌+◌, ◌≤◌, ℕ, true, false, None, [], IsTrue, IfOk, IfErr, IfSome, OnOk, OnErr, Ok, Err, map, slice_get};
+ghost use Rattle.std.specs.Prelude.{◌≡◌, ◌⊎◌, true, false, None, [], IsTrue, IfOk, IfErr, IfSome, OnOk, OnErr, Err, Some, map, slice_get};
 ghost use Rattle.jc_model.specs.declared.event.End.TheVariants.{Waiting, GivenUp};
 ghost use Rattle.jc_model.specs.Legal.{IsLegal};
 ghost use Rattle.jc_engine.specs.Recording.{blank};
@@ -49,6 +49,13 @@ fn fault_of(cause: Cause) -> CallFault
         Cause::NoTurn | Cause::WrongAnswer => CallFault::Overtaken,
         Cause::OutOfMemory => CallFault::OutOfMemory,
     }
+}
+
+/// The entry at a place.
+fn entry_at(entries: &[Entry], place: usize) -> Option<&Entry>
+    ensures { IfSome result (λ e. slice_get entries.now place ≡ Some e.now) }
+{
+    entries.get(place)
 }
 
 /// Whether an entry is of the draft's call.
@@ -108,7 +115,7 @@ impl<N: Name> Locked<N> {
         ensures { IfSome result (λ place. IsOpenFor (map status_of self.now.recorded.caches) self.now.recorded.transcript draft.now place) }
     {
         let place = self.recorded.open_place(draft.id)?;
-        let open = self.recorded.transcript().entries().get(place)?;
+        let open = entry_at(self.recorded.transcript().entries(), place)?;
         if is_of_call(open, draft) {
             Some(place)
         } else {
@@ -120,7 +127,7 @@ impl<N: Name> Locked<N> {
     fn stands_at(&self, place: usize, draft: &Entry) -> bool
         ensures { IsTrue result → StandsAt N.configs self.now.recorded.transcript draft.now place }
     {
-        match self.recorded.transcript().entries().get(place) {
+        match entry_at(self.recorded.transcript().entries(), place) {
             Some(entry) => entry.same(draft),
             None => false,
         }

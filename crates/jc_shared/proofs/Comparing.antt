@@ -1,8 +1,8 @@
 -- Lists that part, and sessions that differ.
-use Rattle.std.proofs.Common.{◌≡◌, ◌≢◌, ℕ, ◌<◌, ◌≤◌, zero, suc, Bool, true, false, if◌then◌else◌, List, [], ◌∷◌, ◌++◌, map, length, take, Option, Some, None, refl, sym, ◌∙◌, ap, subst, arith, append-nil}
-use Rattle.std.specs.Prelude.{slice_get, ◌==◌}
+use Rattle.std.proofs.Common.{◌≡◌, ◌≢◌, ℕ, ◌+◌, ◌-◌, ◌<◌, ◌≤◌, zero, suc, Bool, true, false, if◌then◌else◌, List, [], ◌∷◌, ◌++◌, map, length, take, length-append, Option, Some, None, refl, sym, ◌∙◌, ap, subst, arith, append-nil}
+use Rattle.std.specs.Prelude.{slice_get, ltb, ◌==◌}
 use Rattle.std.specs.List.{All}
-use Rattle.std.proofs.lemmas.List.Elements.{filter-append, All-head, All-tail}
+use Rattle.std.proofs.lemmas.List.Elements.{filter-append, All-head, All-tail, All-cons}
 use Rattle.std.proofs.lemmas.Bool.Decides.{nat_tests}
 use Rattle.jc_model.specs.declared.event.Entry.{Entry}
 use Rattle.jc_shared.specs.Calls.{Own}
@@ -76,3 +76,49 @@ own_beyond given (o ∷ logs) below number from =
 pub part_first : (xs ys : List Entry) → xs ≢ [] → ys ≡ [] → PartAt xs ys 0
 part_first [] ys some none = absurd (some refl)
 part_first (x ∷ xs) ys some none = rw none (record { within = (omega arith, omega arith); before = refl; here = λ is. cc })
+
+-- what holds of all, holds of the first and of the rest
+pub all_rest : {X : Type 0} (P : X → Type 0) (xs rest : List X) (x : X) → xs ≡ x ∷ rest → All P xs → All P rest
+all_rest P xs rest x is h = All-tail P x rest (subst (All P) is h)
+
+pub all_with : {X : Type 0} (P : X → Type 0) (xs rest : List X) (x : X) → xs ≡ x ∷ rest → P x → All P rest → All P xs
+all_with P xs rest x is here h = subst (All P) (sym is) (All-cons P x rest here h)
+
+-- below the next number
+pub below_next : (P : ℕ → Type 0) (n : ℕ) → ((k : ℕ) → k < n → P k) → P n → (k : ℕ) → k < n + 1 → P k
+below_next P n before here k lt = go (k == n) refl
+  where
+    go : (b : Bool) → (k == n) ≡ b → P k
+    go true h = let same : n ≡ k = grind (arith, nat_tests) in subst P same here
+    go false h = before k (grind (arith, nat_tests))
+
+-- an entry of the session comes first
+pub calls_own : (session : ℕ) (e : Entry) (es : List Entry) → e.session ≡ session → calls_of session (e ∷ es) ≡ e ∷ calls_of session es
+calls_own session e es own = let test : (e.session == session) ≡ true = grind (arith, nat_tests) in rw test refl
+
+pub push_front : (front rest : List Entry) (e : Entry) → front ++ e ∷ rest ≡ (front ++ e ∷ []) ++ rest
+push_front [] rest e = refl
+push_front (x ∷ front) rest e = ap (λ xs. x ∷ xs) (push_front front rest e)
+
+pub front_length : (own front rest : List Entry) → own ≡ front ++ rest → length own - length rest ≡ length front
+front_length own front rest is = omega (arith, ap length is, length-append front rest)
+
+pub no_calls : (session : ℕ) (es : List Entry) → length es ≡ 0 → calls_of session es ≡ []
+no_calls session [] none = refl
+no_calls session (e ∷ es) none = absurd (omega (arith, none))
+
+pub none_here : (none rest : List Entry) → none ≡ [] → length rest ≢ 0 → slice_get none 0 ≢ slice_get rest 0
+none_here [] [] is some = absurd (some refl)
+none_here [] (x ∷ rest) is some = λ h. cc
+none_here (e ∷ none) rest is some = absurd cc
+
+-- A number is given out or not.
+pub agree_from : (given limit : ℕ) (transcript : List Entry) (logs : List Own) → All (λ o. o.number < given) logs → given ≤ limit → ((n : ℕ) → n < limit → calls_of n transcript ≡ own_of n logs)
+    → (n : ℕ) → (given ≤ n → calls_of n transcript ≡ []) → calls_of n transcript ≡ own_of n logs
+agree_from given limit transcript logs below le before n beyond = go (ltb n limit) refl
+  where
+    go : (b : Bool) → ltb n limit ≡ b → calls_of n transcript ≡ own_of n logs
+    go true h = before n (grind (arith, nat_tests))
+    go false h =
+        let from : given ≤ n = grind (arith, nat_tests, le) in
+        beyond from ∙ sym (own_beyond given logs below n from)
