@@ -3,6 +3,7 @@ use Rattle.std.proofs.Common.{◌≡◌, ◌≢◌, ℕ, ◌+◌, ◌-◌, ◌<�
 use Rattle.std.specs.Prelude.{slice_get, ltb, ◌==◌}
 use Rattle.std.specs.List.{All}
 use Rattle.std.proofs.lemmas.List.Elements.{filter-append, All-head, All-tail, All-cons}
+use Rattle.std.proofs.lemmas.Bool.{false≢true}
 use Rattle.std.proofs.lemmas.Bool.Decides.{nat_tests}
 use Rattle.jc_model.specs.declared.event.Entry.{Entry}
 use Rattle.jc_shared.specs.Calls.{Own}
@@ -107,8 +108,8 @@ pub no_calls : (session : ℕ) (es : List Entry) → length es ≡ 0 → calls_o
 no_calls session [] none = refl
 no_calls session (e ∷ es) none = absurd (omega (arith, none))
 
-pub none_here : (none rest : List Entry) → none ≡ [] → length rest ≢ 0 → slice_get none 0 ≢ slice_get rest 0
-none_here [] [] is some = absurd (some refl)
+pub none_here : (none rest : List Entry) → none ≡ [] → false ≡ (length rest == 0) → slice_get none 0 ≢ slice_get rest 0
+none_here [] [] is some = absurd (false≢true some)
 none_here [] (x ∷ rest) is some = λ h. cc
 none_here (e ∷ none) rest is some = absurd cc
 

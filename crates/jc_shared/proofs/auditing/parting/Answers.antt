@@ -29,4 +29,4 @@ returns-else-is_empty c =
     let front = c.loop-entry.invariant.0 in
     let none : calls_of c.args.session c.loop-entry.left.now ≡ [] = no_calls c.args.session c.loop-entry.left.now c.in_default.ensures.cases in
     part_here (calls_of c.args.session c.args.entries.now) c.args.own.now front [] c.loop-entry.rest.now _ (c.loop-entry.invariant.2 ∙ ap (λ (es : List Entry). front ++ es) none) c.loop-entry.invariant.1
-    (front_length c.args.own.now front c.loop-entry.rest.now c.loop-entry.invariant.1) (none_here [] c.loop-entry.rest.now refl (λ z. omega (arith, z, c.if-is_empty.false, c.is_empty.ensures)))
+    (front_length c.args.own.now front c.loop-entry.rest.now c.loop-entry.invariant.1) (none_here [] c.loop-entry.rest.now refl c.if-is_empty.ensures)
