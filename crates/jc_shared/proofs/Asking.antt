@@ -1,9 +1,8 @@
 -- What a whole call asks of loader and processors.
-use Rattle.std.proofs.Common.{◌≡◌, ℕ, Bool, true, false, if◌then◌else◌, List, [], ◌∷◌, map, refl, sym, ◌∙◌, subst, arith}
-use Rattle.std.specs.Prelude.{Option, Some, None, length, slice_index_or, ⊤}
+use Rattle.std.proofs.Common.{◌≡◌, ℕ, Bool, true, false, if◌then◌else◌, List, [], ◌∷◌, refl, sym, ◌∙◌, subst, arith}
+use Rattle.std.specs.Prelude.{Option, Some, None, slice_index_or, ⊤}
 use Rattle.std.specs.List.{All, Contains}
 use Rattle.std.proofs.lemmas.List.Elements.{All-map, All-weaker, All-head, All-tail, All-contains_itself}
-use Rattle.jc_model.specs.declared.call.Answer.{Answer}
 use Rattle.jc_model.specs.declared.call.Call.{Call}
 use Rattle.jc_model.specs.declared.call.Call.TheVariants.{Get, GetAll, Contains as ContainsKey, Put, GetAndPut, PutIfAbsent, Replace, ReplaceIf, GetAndReplace, Remove, RemoveIf, GetAndRemove, Invoke, InvokeAll, PutAll, RemoveKeys, RemoveAll, Clear, LoadAll, Entries, Stats, ClearStats}
 use Rattle.jc_model.specs.declared.call.Op.{Op}
@@ -18,7 +17,7 @@ use Rattle.jc_model.specs.declared.call.Request.TheVariants as request
 use Rattle.jc_model.specs.declared.config.CacheConfig.{CacheConfig}
 use Rattle.jc_model.specs.State.{Item, State, is_live}
 use Rattle.jc_model.specs.Changes.{Progress, begun}
-use Rattle.jc_model.specs.Run.{Run, ended, waiting, and_then}
+use Rattle.jc_model.specs.Run.{Run, ended, waiting}
 use Rattle.jc_model.specs.Table.{invoked_by}
 use Rattle.jc_model.specs.Step.{step}
 use Rattle.jc_model.specs.Bulk.{Sum, empty_sum, with_key, ends_call, same_op, put_each, remove_each}

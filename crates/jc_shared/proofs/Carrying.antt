@@ -1,7 +1,6 @@
 -- A call from its begin to its entry in the session's list.
-use Rattle.std.proofs.Common.{◌≡◌, ◌⊎◌, ℕ, ◌<◌, Bool, true, false, if◌then◌else◌, List, [], ◌∷◌, ◌++◌, length, Option, Some, None, Result, Ok, Err, inl, inr, refl, sym, ◌∙◌, ap, subst}
+use Rattle.std.proofs.Common.{◌≡◌, ℕ, ◌<◌, List, [], ◌∷◌, ◌++◌, length, Option, Some, None, Result, Ok, Err, inr, refl, sym, ◌∙◌, ap, subst}
 use Rattle.std.specs.Prelude.{slice_get, MatchResult, IfOk, IfErr}
-use Rattle.std.specs.List.{All}
 use Rattle.std.proofs.lemmas.List.Elements.{All-nil, All-push}
 use Rattle.std.proofs.lemmas.Option.{slice_get_within}
 use Rattle.jc_model.specs.declared.call.Answer.{Answer}
@@ -11,7 +10,6 @@ use Rattle.jc_model.specs.declared.config.CacheConfig.{CacheConfig}
 use Rattle.jc_model.specs.declared.event.End.{End}
 use Rattle.jc_model.specs.declared.event.End.TheVariants as ends
 use Rattle.jc_model.specs.declared.event.Entry.{Entry}
-use Rattle.jc_model.specs.Runs.{has_processor}
 use Rattle.jc_engine.specs.Recording.{blank}
 use Rattle.jc_shared.specs.declared.fault.CallFault.{CallFault}
 use Rattle.jc_shared.specs.declared.fault.CallFault.TheVariants as faults
@@ -19,7 +17,7 @@ use Rattle.jc_shared.specs.declared.turned.Turned.{Turned}
 use Rattle.jc_shared.specs.declared.turned.Turned.TheVariants.{Asked, Replied}
 use Rattle.jc_shared.specs.Asking.{AsksOf}
 use Rattle.jc_shared.specs.Stated.{Stated, AreStated, IsStatedBy}
-use Rattle.jc_shared.specs.Calls.{Own, Stands, called, IsSameCall, HasEnded, IsWaiting, Stays, EndsFaulty, GoesOn, Adds, AddsWaiting, Fails, refusal_in, call_refusal}
+use Rattle.jc_shared.specs.Calls.{Own, Stands, called, IsSameCall, HasEnded, Stays, EndsFaulty, GoesOn, Adds, AddsWaiting, Fails, refusal_in, call_refusal}
 
 -- a call that is not refused is of a known cache
 pub known_below : (configs : List CacheConfig) (id : ℕ) (call : Call) → call_refusal configs id call ≡ None → id < length configs

@@ -1,9 +1,7 @@
 -- The entry of an open call is the last of its cache.
-use Rattle.std.proofs.Common.{◌≡◌, ℕ, ◌+◌, ◌<◌, zero, suc, Bool, true, false, if◌then◌else◌, List, [], ◌∷◌, ◌++◌, map, length, take, drop, Option, Some, None, refl, sym, ◌∙◌, ap, subst, arith, add-one}
-use Rattle.std.specs.Prelude.{slice_get, slice_set, ◌==◌, ◌&&◌}
-use Rattle.std.specs.List.{All}
+use Rattle.std.proofs.Common.{◌≡◌, ℕ, zero, suc, Bool, true, false, if◌then◌else◌, List, [], ◌∷◌, ◌++◌, map, take, drop, Some, refl, sym, ◌∙◌, ap, subst, arith}
+use Rattle.std.specs.Prelude.{slice_get, slice_set, ◌==◌}
 use Rattle.std.proofs.lemmas.List.Elements.{filter-append}
-use Rattle.std.proofs.lemmas.Option.{slice_get_within}
 use Rattle.std.proofs.lemmas.Bool.Decides.{nat_tests}
 use Rattle.jc_model.specs.declared.config.CacheConfig.{CacheConfig}
 use Rattle.jc_model.specs.declared.event.End.{End}
@@ -13,12 +11,11 @@ use Rattle.jc_model.specs.State.{State}
 use Rattle.jc_model.specs.Run.{answered}
 use Rattle.jc_model.specs.Runs.{Standing, idle, busy, standing_of, Status}
 use Rattle.jc_model.specs.Solo.{run_of, after_call, standing_from, fresh}
-use Rattle.jc_model.specs.Legal.{is_waiting, played, IsLegalEntry, IsLegalFrom, entries_of, IsLegal, Tells, on_open}
+use Rattle.jc_model.specs.Legal.{is_waiting, played, IsLegalEntry, IsLegalFrom, entries_of, Tells, on_open}
 use Rattle.jc_model.proofs.EachCache.{at_same}
 use Rattle.jc_model.proofs.OneCache.{IsBusy, by_end, none_after}
-use Rattle.jc_model.proofs.Legal.{Follows, set_open}
+use Rattle.jc_model.proofs.Legal.{set_open}
 use Rattle.jc_engine.specs.Recording.{HasOpen}
-use Rattle.jc_shared.specs.Calls.{Stands}
 
 pub id_is_id : (id : ℕ) → (id == id) ≡ true
 id_is_id id = grind (arith, nat_tests)

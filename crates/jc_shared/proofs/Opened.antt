@@ -1,6 +1,6 @@
 -- Opening a manager.
-use Rattle.std.proofs.Common.{◌≡◌, ℕ, ◌<◌, ◌≤◌, zero, suc, Bool, true, false, if◌then◌else◌, List, [], ◌∷◌, map, length, Option, Some, None, refl, sym, ◌∙◌, ap, subst, arith}
-use Rattle.std.specs.Prelude.{slice_get, ltb}
+use Rattle.std.proofs.Common.{◌≡◌, ◌≤◌, suc, Bool, true, false, if◌then◌else◌, List, [], ◌∷◌, map, length, Option, Some, None, refl, sym, ◌∙◌, ap, subst, arith}
+use Rattle.std.specs.Prelude.{ltb}
 use Rattle.std.proofs.lemmas.Bool.Decides.{nat_tests}
 use Rattle.std.proofs.lemmas.List.{map-id}
 use Rattle.jc_model.specs.declared.config.CacheConfig.{CacheConfig}
@@ -13,7 +13,7 @@ use Rattle.jc_engine.specs.declared.open.OpenRefusal.TheVariants.{TooManyCaches}
 use Rattle.jc_engine.specs.Caches.{Cache, status_of, configs_of}
 use Rattle.jc_engine.specs.Opening.{open_refusal}
 use Rattle.jc_engine.proofs.Places.{map_map}
-use Rattle.jc_shared.specs.Opening.{SuitAt, AllSuit, DifferFirst}
+use Rattle.jc_shared.specs.Opening.{AllSuit}
 
 -- an opened engine has the configurations
 pub configs_opened : (caches : List Cache) (configs : List CacheConfig) → map status_of caches ≡ map opened configs → configs_of caches ≡ configs

@@ -1,6 +1,6 @@
 -- What a tenure of the lock makes of the call that it brings on.
-use Rattle.std.proofs.Common.{◌≡◌, ◌⊎◌, ℕ, Bool, true, false, if◌then◌else◌, List, [], ◌∷◌, ◌++◌, map, Option, Some, None, Result, Ok, Err, inl, inr, refl, sym, ◌∙◌, ap, subst}
-use Rattle.std.specs.Prelude.{slice_get, option_map, IfOk, ⊤}
+use Rattle.std.proofs.Common.{◌≡◌, ◌⊎◌, ℕ, Bool, true, false, if◌then◌else◌, List, map, Option, Some, None, Result, Ok, Err, inl, inr, refl, sym, ◌∙◌, ap, subst}
+use Rattle.std.specs.Prelude.{slice_get, option_map, IfOk}
 use Rattle.std.proofs.lemmas.Option.{slice_get-map}
 use Rattle.jc_model.specs.declared.call.Answer.{Answer}
 use Rattle.jc_model.specs.declared.call.Call.{Call}
@@ -18,14 +18,13 @@ use Rattle.jc_model.specs.declared.event.Outcome.TheVariants as outcome
 use Rattle.jc_model.specs.declared.event.Step.{Step}
 use Rattle.jc_model.specs.declared.event.Step.TheVariants.{Done, Need}
 use Rattle.jc_model.specs.State.{State}
-use Rattle.jc_model.specs.Changes.{Progress}
 use Rattle.jc_model.specs.Run.{Run, ended, waiting, answered, fits, awaited_by}
 use Rattle.jc_model.specs.Whole.{whole}
 use Rattle.jc_model.specs.Runs.{Standing, idle, busy, Status, begins, answers, gives_up, has_processor, standing_of, shown, reply_of, refuse_last, answer_of, answer_to, statuses_after}
 use Rattle.jc_model.specs.Solo.{run_of}
 use Rattle.jc_model.specs.Legal.{played, IsLegal, Tells, entries_of, on_open, recorded, with_outcome, with_answer}
 use Rattle.jc_model.specs.Everywhere.{AtEach}
-use Rattle.jc_model.proofs.Everywhere.{at_each-resume, at_each-answered}
+use Rattle.jc_model.proofs.Everywhere.{at_each-answered}
 use Rattle.jc_model.proofs.Legal.{configs_after}
 use Rattle.jc_engine.specs.Caches.{Cache, status_of, configs_of}
 use Rattle.jc_engine.specs.Recording.{HasOpen, blank}

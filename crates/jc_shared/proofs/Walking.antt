@@ -1,13 +1,11 @@
 -- What one key's step asks of loader and processors, over the case table.
-use Rattle.std.proofs.Common.{◌≡◌, ℕ, Bool, true, false, if◌then◌else◌, List, [], ◌∷◌, refl}
+use Rattle.std.proofs.Common.{◌≡◌, ℕ, Bool, true, false, if◌then◌else◌, List, refl}
 use Rattle.std.specs.Prelude.{Option, Some, None, slice_index_or, ⊤}
 use Rattle.std.specs.Str.{bytes_eq}
-use Rattle.jc_model.specs.declared.call.Answer.{Answer}
 use Rattle.jc_model.specs.declared.call.Op.{Op}
 use Rattle.jc_model.specs.declared.call.Op.TheVariants as op
 use Rattle.jc_model.specs.declared.call.KeyCall.{KeyCall}
 use Rattle.jc_model.specs.declared.call.Verdict.{Verdict}
-use Rattle.jc_model.specs.declared.call.Reply.{Reply}
 use Rattle.jc_model.specs.declared.call.Reply.TheVariants.{Fault}
 use Rattle.jc_model.specs.declared.call.By.TheVariants as by
 use Rattle.jc_model.specs.declared.call.Request.{Request}

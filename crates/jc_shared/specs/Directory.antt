@@ -1,5 +1,5 @@
 -- Configurations with their names, and the way from a name to its cache.
-use Rattle.std.specs.Prelude.{◌≡◌, ℕ, List, map, position, Option}
+use Rattle.std.specs.Prelude.{◌≡◌, ℕ, List, position, Option}
 use Rattle.std.specs.Str.{bytes_eq}
 use Rattle.jc_model.specs.declared.config.CacheConfig.{CacheConfig}
 use Rattle.jc_engine.specs.Opening.{names_in}

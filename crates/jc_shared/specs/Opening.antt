@@ -6,7 +6,6 @@ use Rattle.jc_model.specs.declared.config.CacheConfig.{CacheConfig}
 use Rattle.jc_engine.specs.Caches.{configs_of}
 use Rattle.jc_engine.specs.Recording.{Recording}
 use Rattle.jc_engine.specs.Opening.{open_refusal}
-use Rattle.jc_engine.specs.declared.open.OpenRefusal.{OpenRefusal}
 use Rattle.jc_shared.specs.declared.fault.SharedRefusal.{SharedRefusal}
 use Rattle.jc_shared.specs.declared.fault.SharedRefusal.TheVariants.{Caches, HooksDiffer, OutOfMemory}
 use Rattle.jc_shared.specs.declared.hooks.SharedHooks.{SharedHooks}

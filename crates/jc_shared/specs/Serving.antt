@@ -4,7 +4,7 @@ use Rattle.jc_hooks.specs.Asking.{MayGiveBy, states_after}
 use Rattle.jc_model.specs.declared.call.Answer.{Answer}
 use Rattle.jc_model.specs.declared.call.Notice.{Notice}
 use Rattle.jc_model.specs.declared.call.Request.{Request}
-use Rattle.jc_model.specs.declared.call.Request.TheVariants.{Load, Write, Delete, Process, Tell}
+use Rattle.jc_model.specs.declared.call.Request.TheVariants.{Write, Delete, Tell}
 use Rattle.jc_shared.specs.declared.hooks.LockedHooks.{LockedHooks}
 
 module _ {W K : Type 0} (may : W → List (Request × Answer) → Type 0) (state_after : K → List Notice → List ℕ) where

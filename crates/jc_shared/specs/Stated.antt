@@ -1,5 +1,5 @@
 -- What the callbacks that all sessions share state, and answers that they stated.
-use Rattle.std.specs.Prelude.{◌≡◌, ℕ, List, [], ◌∷◌, map, option_map, slice_get, Option, Some, None, Result, ⊤}
+use Rattle.std.specs.Prelude.{◌≡◌, ℕ, List, map, option_map, slice_get, Option, Some, None, Result, ⊤}
 use Rattle.std.specs.List.{All}
 use Rattle.jc_model.specs.declared.call.Answer.{Answer}
 use Rattle.jc_model.specs.declared.call.Answer.TheVariants.{Loaded as LoadedValue, LoadFailed, Processed}

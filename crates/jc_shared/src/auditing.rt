@@ -123,13 +123,7 @@ fn past<'a>(own: &'a [Entry], entry: &Entry) -> Option<&'a [Entry]>
     ensures { MatchOption result (slice_get own.now 0 ≢ Some entry.now) (λ rest. own.now ≡ entry.now ∷ rest.now) }
 {
     match own.split_first() {
-        Some((first, rest)) => {
-            if first.same(entry) {
-                Some(rest)
-            } else {
-                None
-            }
-        }
+        Some((first, rest)) => { if first.same(entry) { Some(rest) } else { None } }
         None => None,
     }
 }
@@ -181,11 +175,7 @@ fn least_from(entries: &[Entry], given: u32) -> Option<u32>
 }
 
 /// The least session whose entries are not its list, and the first place where they part.
-fn first_difference<S: Logged>(
-    entries: &[Entry],
-    logs: &[S],
-    given: u32,
-) -> Option<(u32, usize)>
+fn first_difference<S: Logged>(entries: &[Entry], logs: &[S], given: u32) -> Option<(u32, usize)>
     requires { AreGiven given (map S.log logs.now) }
     ensures { MatchOption result (AllAgree entries.now (map S.log logs.now)) (λ d. DiffersFirst entries.now (map S.log logs.now) d.0 d.1) }
 {
@@ -203,11 +193,7 @@ fn first_difference<S: Logged>(
 /// Compares a transcript with the logs of all sessions; `given` is how many numbers were given out, from 0 upward.
 ///
 /// `Missing`, `StillOpen`, `Differs`, in this order. It takes no memory.
-pub fn audit<S: Logged>(
-    transcript: &Transcript,
-    logs: &[S],
-    given: u32,
-) -> Result<(), CloseFault>
+pub fn audit<S: Logged>(transcript: &Transcript, logs: &[S], given: u32) -> Result<(), CloseFault>
     ensures ok { OnOk result (Accounts given (map S.log logs.now) transcript.now) }
     ensures fault { IfErr result (λ f. IsFault given (map S.log logs.now) transcript.now f) }
 {

@@ -54,10 +54,7 @@ impl<N: Name, L: Loader, W: Writer, P: Processor, K: Listener> Manager<N, L, W, 
     /// A new session, which has made no call. Sessions have the numbers from 0 upward.
     ///
     /// Refused as `Closed`, `TooManySessions`, `OutOfMemory`, in this order.
-    pub fn session<R: Wait>(
-        &self,
-        rt: &R,
-    ) -> Result<Session<'_, N, L, W, P, K>, SessionRefusal>
+    pub fn session<R: Wait>(&self, rt: &R) -> Result<Session<'_, N, L, W, P, K>, SessionRefusal>
         ensures { IfOk result (λ s. s.calls ≡ []) }
     {
         let own = Vec::with_capacity(self.alloc, FIRST_CALLS);

@@ -27,8 +27,7 @@ pub struct Session<'a, N: Name, L: Loader, W: Writer, P: Processor, K: Listener>
 }
 
 impl<'a, N: Name, L: Loader, W: Writer, P: Processor, K: Listener> Model
-    for Session<'a, N, L, W, P, K>
-{
+    for Session<'a, N, L, W, P, K> {
     ghost use Rattle.jc_shared.specs.Calls.{Own};
 
     ghost Value = { Own };
@@ -37,8 +36,7 @@ impl<'a, N: Name, L: Loader, W: Writer, P: Processor, K: Listener> Model
 }
 
 impl<'a, N: Name, L: Loader, W: Writer, P: Processor, K: Listener> Logged
-    for Session<'a, N, L, W, P, K>
-{
+    for Session<'a, N, L, W, P, K> {
     ghost log = { λ s. s };
 
     fn log_number(&self) -> u32 {
