@@ -1,5 +1,5 @@
 -- The outcomes of a manager's inner calls, which keep the copies that a transcript needs.
-use Rattle.std.specs.Prelude.{◌≡◌, ℕ, List, [], Result, Ok, Err, slice_set}
+use Rattle.std.specs.Prelude.{◌≡◌, ℕ, Bool, false, is_some, List, [], Result, Ok, Err, slice_set}
 use Rattle.std.specs.Prelude.{Option, Some, None}
 use Rattle.jc_model.specs.declared.event.Cause.{Cause}
 use Rattle.jc_model.specs.declared.event.Cause.TheVariants.{OutOfMemory}
@@ -32,6 +32,10 @@ LeavesAt (Some k) left = LeavesNotices k left
 abbrev pub ClosedAt : Option Cache → Type 0
 ClosedAt None = ⊥
 ClosedAt (Some k) = k.turn ≡ None
+
+abbrev pub is_open_in : Option Cache → Bool
+is_open_in None = false
+is_open_in (Some k) = is_some k.turn
 
 -- no cache but one has changed
 pub record ChangesOne (old : List Cache) (id : ℕ) (new : List Cache) : Type 0 where

@@ -8,9 +8,9 @@ ghost use Rattle.jc_model.specs.Run.{fits, for_tell};
 ghost use Rattle.jc_model.specs.Whole.{is_free};
 ghost use Rattle.jc_engine.specs.Caches.{status_of};
 ghost use Rattle.jc_engine.specs.Managed.{is_step};
-ghost use Rattle.jc_engine.specs.Advances.{outcome_of, of_abandon, FitsAt, LeavesAt, ClosedAt, ChangesOne};
+ghost use Rattle.jc_engine.specs.Advances.{outcome_of, of_abandon, FitsAt, LeavesAt, ClosedAt, ChangesOne, is_open_in};
 
-use crate::cache::Advance;
+use crate::cache::{Advance, Turn};
 use crate::engine::Engine;
 use jc_model::OutOfMemory;
 use jc_model::call::{Answer, Call};
@@ -20,6 +20,16 @@ use jc_rows::rows::Rows;
 use jc_state::notices::Notices;
 
 impl<R: Rows, G: Ring> Engine<R, G> {
+    /// Whether a call is open.
+    pub(crate) fn is_open(&self, id: CacheId) -> bool
+        ensures { result ≡ is_open_in (slice_get self.now id) }
+    {
+        match self.caches.get(id.number() as usize) {
+            Some(cache) => !matches!(cache.turn, Turn::Idle),
+            None => false,
+        }
+    }
+
     /// Why a call can't begin now, where memory suffices.
     pub(crate) fn begin_refusal(&self, id: CacheId, call: &Call) -> Option<Cause>
         ensures { (now : ℕ) → let reply = answer_to (map status_of self.now) (Begin id now call.now) false in MatchOption result (is_step reply ≡ true) (λ cause. reply ≡ Refused cause) }

@@ -68,8 +68,7 @@ impl<R: Rows, G: Ring> Engine<R, G> {
         ensures memory { IfErr result (λ refusal. (open_refusal configs.items ≡ Some refusal) ⊎ (refusal ≡ OpenRefusal.OutOfMemory)) }
         ensures opened { IfOk result (λ engine. engine ≡ map fresh_cache configs.items) }
     {
-        let some = HashMap::with_capacity(alloc, configs.len()).ok();
-        let ids = checked(some, &configs)?;
+        let ids = ids_by_name(alloc, &configs)?;
         let Some(ids) = ids else {
             return Err(OpenRefusal::OutOfMemory);
         };
@@ -93,6 +92,20 @@ pub fn open_refusal(configs: &[CacheConfig]) -> Option<OpenRefusal>
         Ok(_) => None,
         Err(refusal) => Some(refusal),
     }
+}
+
+/// The ids of the caches by name, or `None` where memory was refused for them, unless a manager does not open with
+/// these caches.
+pub fn ids_by_name(
+    alloc: Global,
+    configs: &[CacheConfig],
+) -> Result<Option<HashMap<Key, u32>>, OpenRefusal>
+    ensures ok { IfOk result (λ ids. open_refusal configs.now ≡ None) }
+    ensures ids { IfOk result (λ ids. AreIds ids (names_in configs.now)) }
+    ensures refused { IfErr result (λ refusal. open_refusal configs.now ≡ Some refusal) }
+{
+    let some = HashMap::with_capacity(alloc, configs.len()).ok();
+    checked(some, configs)
 }
 
 /// The ids of the caches by name, where there is a map for them and memory suffices, unless a manager does not open
@@ -200,7 +213,8 @@ fn total_capacity(configs: &[CacheConfig]) -> u64
     total
 }
 
-fn all_names(alloc: Global, configs: &[CacheConfig]) -> Result<Vec<Key>, OutOfMemory>
+/// The names of the caches, in their order.
+pub fn all_names(alloc: Global, configs: &[CacheConfig]) -> Result<Vec<Key>, OutOfMemory>
     ensures { IfOk result (λ names. names.items ≡ names_in configs.now) }
 {
     configs.iter().map(|config| config.name).collect(alloc)

@@ -13,7 +13,7 @@ ghost use Rattle.jc_engine.specs.Caches.{AreSound, status_of, configs_of, names_
 ghost use Rattle.jc_engine.specs.Opening.{open_refusal};
 ghost use Rattle.jc_engine.specs.Results.{of_recorded_begin, of_recorded_resume, of_give_up, reply_in};
 ghost use Rattle.jc_engine.specs.Managed.{step_of};
-ghost use Rattle.jc_engine.specs.Recording.{CanTell, blank, left_in};
+ghost use Rattle.jc_engine.specs.Recording.{CanTell, HasOpen, blank, left_in};
 
 use crate::cache::Advance;
 use crate::engine::Engine;
@@ -121,6 +121,17 @@ impl<R: Rows, G: Ring> Recorded<R, G> {
         ensures { MatchOption result (self.now.transcript ≡ []) (λ e. (before : List Entry) × (self.now.transcript ≡ before ++ e.now ∷ [])) }
     {
         self.transcript.last()
+    }
+
+    /// The place of the entry of a cache's open call in the transcript, if a call is open there.
+    pub fn open_place(&self, id: CacheId) -> Option<usize>
+        ensures { IfSome result (λ place. HasOpen self.now.transcript id place) }
+    {
+        if !self.engine.is_open(id) {
+            return None;
+        }
+        let place = self.places[id.number() as usize];
+        Some(place)
     }
 
     /// Begins a call of a session, which becomes the transcript's last entry. At `Done` the second part is an equal

@@ -1,1 +1,3 @@
 pub mod Stated
+pub mod Wanting
+pub mod InTurn

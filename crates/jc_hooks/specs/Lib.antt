@@ -4,3 +4,5 @@ pub mod Program
 pub mod Processors
 pub mod Stated
 pub mod Tallies
+pub mod Asking
+pub mod Suits

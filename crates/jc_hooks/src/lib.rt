@@ -6,20 +6,26 @@
 #![tactic(auto)]
 
 mod answer;
+mod asking;
 mod cache_hooks;
 mod closure;
 mod listener;
 mod loader;
 mod processor;
 pub mod program;
+mod suiting;
 mod tally;
+mod telling;
 mod writer;
 
 pub use answer::{load_answer, process_answer, write_answer};
+pub use asking::{ask_loader, ask_processor, ask_to_delete, ask_to_write};
 pub use cache_hooks::CacheHooks;
 pub use closure::{ClosureLoader, ClosureProcessor, LoadClosure, ProcessClosure};
 pub use listener::Listener;
 pub use loader::{Loaded, Loader};
 pub use processor::Processor;
+pub use suiting::suits;
 pub use tally::{Tally, TallyListener};
+pub use telling::tell_all;
 pub use writer::Writer;

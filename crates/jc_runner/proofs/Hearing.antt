@@ -11,7 +11,8 @@ use Rattle.jc_model.specs.declared.call.Verdict.{Verdict}
 use Rattle.jc_model.specs.Run.{told_by}
 use Rattle.jc_hooks.specs.declared.cache_hooks.CacheHooks.{CacheHooks}
 use Rattle.jc_hooks.specs.declared.loader.Loaded.{Loaded}
-use Rattle.jc_runner.specs.Answering.{is_write, written_in, notices_in, load_by, verdict_by, IsStated, AllStated, MayGiveBy, states_after, Served, Heard}
+use Rattle.jc_hooks.specs.Asking.{load_by, verdict_by, MayGiveBy, states_after}
+use Rattle.jc_runner.specs.Answering.{is_write, written_in, notices_in, IsStated, AllStated, Served, Heard}
 
 written-append : (xs ys : List (Request × Answer)) → written_in (xs ++ ys) ≡ written_in xs ++ written_in ys
 written-append xs ys = filter-append (λ x. is_write x.0) xs ys

@@ -7,7 +7,6 @@ pub mod Answered
 pub mod Hearing
 pub mod Reached
 pub mod Bounds
-pub mod InTurn
 pub mod Suiting
 pub mod Steps
 pub mod Told

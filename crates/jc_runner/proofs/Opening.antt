@@ -28,7 +28,8 @@ use Rattle.jc_hooks.specs.Processors.{wants_of}
 use Rattle.jc_hooks.specs.Tallies.{no_notices}
 use Rattle.jc_model.specs.Limits.{most_rows, most_listeners, most_processors, most_caches, most_rows_together, text_bytes}
 use Rattle.jc_model.specs.declared.config.CacheConfig.{CacheConfig}
-use Rattle.jc_runner.specs.Hooks.{Suits, AllSuit}
+use Rattle.jc_hooks.specs.Suits.{Suits}
+use Rattle.jc_runner.specs.Hooks.{AllSuit}
 use Rattle.jc_runner.specs.Naming.{ProgramHooks, loader_named, writer_named, processor_named, IsNamed, AllNamed}
 use Rattle.jc_runner.specs.Opens.{HasKinds, AllHaveKinds, Opens}
 use Rattle.jc_runner.specs.Program.{demonstration}

@@ -1,15 +1,15 @@
 -- What the callbacks of a cache answer to its requests, and how that leaves them.
-use Rattle.std.specs.Prelude.{◌≡◌, ℕ, Bool, true, false, IsTrue, List, [], ◌∷◌, ◌++◌, map, slice_get, slice_set, Option, Some, None, Result, Err, ⊤}
+use Rattle.std.specs.Prelude.{◌≡◌, ℕ, Bool, true, false, IsTrue, List, [], ◌∷◌, ◌++◌, slice_get, Option, Some, None, Result, ⊤}
 use Rattle.std.specs.List.{filter, flat_map}
 use Rattle.jc_model.specs.declared.call.Answer.{Answer}
-use Rattle.jc_model.specs.declared.call.Answer.TheVariants.{LoadFailed, Processed, Told}
+use Rattle.jc_model.specs.declared.call.Answer.TheVariants.{Told}
 use Rattle.jc_model.specs.declared.call.Notice.{Notice}
 use Rattle.jc_model.specs.declared.call.ProcessorFault.{ProcessorFault}
 use Rattle.jc_model.specs.declared.call.Request.{Request}
 use Rattle.jc_model.specs.declared.call.Request.TheVariants.{Load, Write, Delete, Process, Tell}
 use Rattle.jc_model.specs.declared.call.Verdict.{Verdict}
 use Rattle.jc_model.specs.Run.{for_write, fits, told_by}
-use Rattle.jc_hooks.specs.Answers.{load_answer_of, MayGive}
+use Rattle.jc_hooks.specs.Asking.{load_by, verdict_by, MayGiveBy, states_after}
 use Rattle.jc_hooks.specs.declared.cache_hooks.CacheHooks.{CacheHooks}
 use Rattle.jc_hooks.specs.declared.loader.Loaded.{Loaded}
 
@@ -25,30 +25,6 @@ written_in given = filter (λ x. is_write x.0) given
 -- the notices that these requests tell
 abbrev pub notices_in : List (Request × Answer) → List Notice
 notices_in given = flat_map (λ x. told_by x.0) given
-
--- What each callback states of itself. One that is not there fails.
-
-abbrev pub load_by : {L : Type 0} → (L → List ℕ → Loaded) → Option L → List ℕ → Answer
-load_by load_of None key = LoadFailed
-load_by load_of (Some loader) key = load_answer_of (load_of loader key)
-
-abbrev pub verdict_by : {P : Type 0} → (P → Option (List ℕ) → List ℕ → Result Verdict ProcessorFault) → Option P → Option (List ℕ) → List ℕ → Answer
-verdict_by verdict_of None value argument = Processed (Err (record {}))
-verdict_by verdict_of (Some processor) value argument = Processed (verdict_of processor value argument)
-
--- a writer that is not there states nothing
-abbrev pub MayGiveBy : {W : Type 0} → (W → List (Request × Answer) → Type 0) → Option W → List (Request × Answer) → Type 0
-MayGiveBy may None given = ⊤
-MayGiveBy may (Some writer) given = MayGive (may writer) given
-
--- the states of all listeners
-abbrev pub states_after : {K : Type 0} → (K → List Notice → List ℕ) → List K → List Notice → List (List ℕ)
-states_after state_after listeners notices = map (λ k. state_after k notices) listeners
-
--- the listener at this place was told, and no other
-abbrev pub TellsAt : {K : Type 0} → (K → List Notice → List ℕ) → List K → List K → ℕ → Notice → Type 0
-TellsAt {K} state_after old new place notice =
-    (before after : K) × (slice_get old place ≡ Some before) × (new ≡ slice_set old place after) × ((rest : List Notice) → state_after after rest ≡ state_after before (notice ∷ rest))
 
 module _ {L W P K : Type 0} (load_of : L → List ℕ → Loaded) (may : W → List (Request × Answer) → Type 0) (verdict_of : P → Option (List ℕ) → List ℕ → Result Verdict ProcessorFault) (state_after : K → List Notice → List ℕ) where
   -- the answers of loader and processors are their functions of the request

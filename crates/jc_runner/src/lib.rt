@@ -15,7 +15,6 @@ mod reading;
 mod run;
 mod saying;
 mod streams;
-mod telling;
 mod watched;
 mod writing;
 

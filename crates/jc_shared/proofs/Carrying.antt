@@ -1,0 +1,107 @@
+-- A call from its begin to its entry in the session's list.
+use Rattle.std.proofs.Common.{◌≡◌, ℕ, ◌<◌, List, [], ◌∷◌, ◌++◌, length, Option, Some, None, Result, Ok, Err, inr, refl, sym, ◌∙◌, ap, subst}
+use Rattle.std.specs.Prelude.{slice_get, MatchResult, IfOk, IfErr}
+use Rattle.std.proofs.lemmas.List.Elements.{All-nil, All-push}
+use Rattle.std.proofs.lemmas.Option.{slice_get_within}
+use Rattle.jc_model.specs.declared.call.Answer.{Answer}
+use Rattle.jc_model.specs.declared.call.Call.{Call}
+use Rattle.jc_model.specs.declared.call.Reply.{Reply}
+use Rattle.jc_model.specs.declared.config.CacheConfig.{CacheConfig}
+use Rattle.jc_model.specs.declared.event.End.{End}
+use Rattle.jc_model.specs.declared.event.End.TheVariants as ends
+use Rattle.jc_model.specs.declared.event.Entry.{Entry}
+use Rattle.jc_engine.specs.Recording.{blank}
+use Rattle.jc_shared.specs.declared.fault.CallFault.{CallFault}
+use Rattle.jc_shared.specs.declared.fault.CallFault.TheVariants as faults
+use Rattle.jc_shared.specs.declared.turned.Turned.{Turned}
+use Rattle.jc_shared.specs.declared.turned.Turned.TheVariants.{Asked, Replied}
+use Rattle.jc_shared.specs.Asking.{AsksOf}
+use Rattle.jc_shared.specs.Stated.{Stated, AreStated, IsStatedBy}
+use Rattle.jc_shared.specs.Calls.{Own, Stands, called, IsSameCall, HasEnded, Stays, EndsFaulty, GoesOn, Adds, AddsWaiting, Fails, refusal_in, call_refusal}
+
+-- a call that is not refused is of a known cache
+pub known_below : (configs : List CacheConfig) (id : ℕ) (call : Call) → call_refusal configs id call ≡ None → id < length configs
+known_below configs id call known = at (slice_get configs id) refl known
+  where
+    at : (c : Option CacheConfig) → slice_get configs id ≡ c → refusal_in c call ≡ None → id < length configs
+    at None here known = absurd cc
+    at (Some c) here known = slice_get_within configs id c here
+
+-- no answers are stated ones
+no_answers : (h : Option Stated) (call : Call) (answers : List Answer) → answers ≡ [] → AreStated h call answers
+no_answers h call answers none = subst (AreStated h call) (sym none) (All-nil (IsStatedBy h call))
+
+pub one_more_answer : (h : Option Stated) (call : Call) (answers : List Answer) (a : Answer) → AreStated h call answers → IsStatedBy h call a → AreStated h call (answers ++ a ∷ [])
+one_more_answer h call answers a s is = All-push (IsStatedBy h call) answers a s is
+
+-- the answer that the draft was given
+pub noted_waits : (stated : List Stated) (d told d' : Entry) (a : Answer) → told ≡ record d { told = told.told } → d' ≡ record told { answers = told.answers ++ a ∷ [] } → d.end ≡ ends.Waiting → AreStated (slice_get stated d.id) d.call d.answers
+    → IsStatedBy (slice_get stated d.id) d.call a → (d'.end ≡ ends.Waiting) × AreStated (slice_get stated d'.id) d'.call d'.answers
+noted_waits stated d told d' a kept noted waits answered is =
+    let same : d' ≡ record d { told = told.told; answers = d.answers ++ a ∷ [] } = noted ∙ ap (λ (e : Entry). record e { answers = e.answers ++ a ∷ [] }) kept in (
+      ap (λ (e : Entry). e.end) same ∙ waits,
+      subst (λ (e : Entry). AreStated (slice_get stated e.id) e.call e.answers) (sym same) (one_more_answer (slice_get stated d.id) d.call d.answers a answered is),
+    )
+
+-- a tenure has brought it on
+pub goes_stays : (configs : List CacheConfig) (stated : List Stated) (d e : Entry) (turned : Turned) → GoesOn configs d turned e → (d.end ≡ ends.Waiting) × AreStated (slice_get stated d.id) d.call d.answers → Stays configs stated turned e
+goes_stays configs stated d e (Asked q) goes h = record {
+  waits = ap (λ (x : Entry). x.end) goes.0 ∙ h.0;
+  asks = subst (λ (x : Entry). AsksOf x.call q) (sym goes.0) goes.1;
+  answered = subst (λ (x : Entry). AreStated (slice_get stated x.id) x.call x.answers) (sym goes.0) h.1;
+}
+goes_stays configs stated d e (Replied r) goes h = record {
+  ended = ap (λ (x : Entry). x.end) goes.0;
+  stands = goes.1;
+  answered = subst (λ (x : Entry). AreStated (slice_get stated x.id) x.call x.answers) (sym goes.0) h.1;
+}
+
+-- the call has begun
+pub begun_stays : (configs : List CacheConfig) (stated : List Stated) (session id at : ℕ) (call : Call) (draft draft' : Entry) (turned : Turned) → draft ≡ blank session id at call → GoesOn configs draft turned draft' → Stays configs stated turned draft'
+begun_stays configs stated session id at call draft draft' turned is goes =
+    goes_stays configs stated draft draft' turned goes (ap (λ (e : Entry). e.end) is, no_answers (slice_get stated draft.id) draft.call draft.answers (ap (λ (e : Entry). e.answers) is))
+
+-- it is the call of its draft
+pub begun_same : (configs : List CacheConfig) (draft draft' : Entry) (turned : Turned) → GoesOn configs draft turned draft' → IsSameCall draft draft'
+begun_same configs draft draft' (Asked q) goes = subst (IsSameCall draft) (sym goes.0) refl
+begun_same configs draft draft' (Replied r) goes = subst (IsSameCall draft) (sym goes.0) refl
+
+pub same_call : (d e f : Entry) → IsSameCall d e → IsSameCall e f → IsSameCall d f
+same_call d e f first second = second ∙ ap (λ (x : Entry). called x.session x.id x.at x.call f.answers f.told f.end) first
+
+module _ (configs : List CacheConfig) (stated : List Stated) (old new : Own) (id at : ℕ) (call : Call) (draft e : Entry) (is : draft ≡ blank old.number id at call) (same : IsSameCall draft e) (added : new.calls ≡ old.calls ++ e ∷ []) where
+  entry_is : e ≡ called old.number id at call e.answers e.told e.end
+  entry_is = same ∙ ap (λ (x : Entry). called x.session x.id x.at x.call e.answers e.told e.end) is
+
+  ended_as : (n : End) → e.end ≡ n → e ≡ called old.number id at call e.answers e.told n
+  ended_as n ended = entry_is ∙ ap (called old.number id at call e.answers e.told) ended
+
+  pub adds : (n : End) → HasEnded configs stated e n → Adds configs stated old new id at call n
+  adds n h =
+      let whole : e ≡ called old.number id at call e.answers e.told n = ended_as n h.ended in
+      record {
+        answers = e.answers;
+        told = e.told;
+        added = added ∙ ap (λ (x : Entry). old.calls ++ x ∷ []) whole;
+        stands = subst (Stands configs) whole h.stands;
+        answered = subst (λ (x : Entry). AreStated (slice_get stated x.id) x.call e.answers) entry_is h.answered;
+      }
+
+  adds_waiting : e.end ≡ ends.Waiting → AddsWaiting old new id at call
+  adds_waiting ended = record { answers = e.answers; told = e.told; added = added ∙ ap (λ (x : Entry). old.calls ++ x ∷ []) (ended_as ends.Waiting ended) }
+
+  pub fails : (fault : CallFault) → EndsFaulty configs stated fault e → Fails configs stated old new id at call fault
+  fails faults.NoSuchCache h = absurd h
+  fails faults.NoSuchProcessor h = absurd h
+  fails faults.Busy h = absurd h
+  fails faults.Overtaken h = adds_waiting h
+  fails faults.OutOfMemory h = inr (adds ends.GivenUp h)
+
+  -- at a reply, and else
+  pub added_ok : (r : Result Reply CallFault) → MatchResult r (λ reply. Stays configs stated (Replied reply) e) (λ fault. EndsFaulty configs stated fault e) → IfOk r (λ reply. Adds configs stated old new id at call (ends.Replied reply))
+  added_ok (Ok reply) h = adds (ends.Replied reply) h
+  added_ok (Err fault) h = tt
+
+  pub added_err : (r : Result Reply CallFault) → MatchResult r (λ reply. Stays configs stated (Replied reply) e) (λ fault. EndsFaulty configs stated fault e) → IfErr r (λ fault. Fails configs stated old new id at call fault)
+  added_err (Ok reply) h = tt
+  added_err (Err fault) h = fails fault h

@@ -1,0 +1,7 @@
+use Rattle.jc_shared.specs.Calls.{IsSameCall, Stays}
+use Rattle.jc_shared.proofs.manager.Manager.carry_on.Given as goal
+
+-- it is the same call, and stands as it was brought to
+abbrev pub invariant-loop : goal.invariant-loop
+invariant-loop g l =
+    (goal.iterator-loop g).can_next l.iterator' × (goal.iterator-loop g).is_finite l.iterator' × IsSameCall l.fn.draft l.draft × Stays g.N.Name.configs g.N.Name.stated l.turned l.draft

@@ -1,0 +1,64 @@
+-- What an audit compares.
+use Rattle.std.specs.Prelude.{◌≡◌, ◌≢◌, ℕ, ◌<◌, ◌≤◌, ◌==◌, if◌then◌else◌, List, [], ◌∷◌, length, take, slice_get, Option, Some, None}
+use Rattle.std.specs.List.{filter, count_by, All}
+use Rattle.jc_model.specs.declared.event.End.TheVariants.{Waiting}
+use Rattle.jc_model.specs.declared.event.Entry.{Entry}
+use Rattle.jc_shared.specs.declared.fault.CloseFault.{CloseFault}
+use Rattle.jc_shared.specs.declared.fault.CloseFault.TheVariants.{Missing, StillOpen, Differs, OutOfMemory}
+use Rattle.jc_shared.specs.Calls.{Own}
+
+-- the entries of a session
+abbrev pub calls_of : ℕ → List Entry → List Entry
+calls_of session transcript = filter (λ e. e.session == session) transcript
+
+-- how many logs have this number
+abbrev pub times : ℕ → List Own → ℕ
+times number logs = count_by (λ o. o.number == number) logs
+
+-- its list; a number without a log has the empty one
+abbrev pub own_of : ℕ → List Own → List Entry
+own_of number [] = []
+own_of number (o ∷ logs) = if o.number == number then o.calls else own_of number logs
+
+-- the numbers are those below this one, each once
+pub record AreGiven (given : ℕ) (logs : List Own) : Type 0 where
+  pub once : (number : ℕ) → number < given → times number logs ≡ 1
+  pub below : All (λ o. o.number < given) logs
+
+abbrev pub NoneWaits : List Entry → Type 0
+NoneWaits transcript = All (λ e. e.end ≢ Waiting) transcript
+
+-- every number's entries are its list
+abbrev pub AllAgree : List Entry → List Own → Type 0
+AllAgree transcript logs = (number : ℕ) → calls_of number transcript ≡ own_of number logs
+
+-- two lists part first at this place
+pub record PartAt (xs ys : List Entry) (place : ℕ) : Type 0 where
+  pub within : (place ≤ length xs) × (place ≤ length ys)
+  pub before : take place xs ≡ take place ys
+  pub here : slice_get xs place ≢ slice_get ys place
+
+-- the least session from a number on that has an entry, if any has one
+abbrev pub IsLeastFrom : ℕ → List Entry → Option ℕ → Type 0
+IsLeastFrom given transcript None = (number : ℕ) → given ≤ number → calls_of number transcript ≡ []
+IsLeastFrom given transcript (Some least) =
+    (given ≤ least) × (calls_of least transcript ≢ []) × ((number : ℕ) → given ≤ number → number < least → calls_of number transcript ≡ [])
+
+-- this session is the least whose entries are not its list, and this is the first place where they part
+pub record DiffersFirst (transcript : List Entry) (logs : List Own) (session place : ℕ) : Type 0 where
+  pub parts : PartAt (calls_of session transcript) (own_of session logs) place
+  pub least : (number : ℕ) → number < session → calls_of number transcript ≡ own_of number logs
+
+-- the logs account for the transcript
+pub record Accounts (given : ℕ) (logs : List Own) (transcript : List Entry) : Type 0 where
+  pub numbers : AreGiven given logs
+  pub ended : NoneWaits transcript
+  pub agree : AllAgree transcript logs
+
+-- why they do not
+abbrev pub IsFault : ℕ → List Own → List Entry → CloseFault → Type 0
+IsFault given logs transcript Missing = AreGiven given logs → ⊥
+IsFault given logs transcript StillOpen = AreGiven given logs × (NoneWaits transcript → ⊥)
+IsFault given logs transcript (Differs session place) =
+    AreGiven given logs × NoneWaits transcript × DiffersFirst transcript logs session place
+IsFault given logs transcript OutOfMemory = ⊥

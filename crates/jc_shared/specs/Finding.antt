@@ -1,0 +1,52 @@
+-- Where a call's entry stands in the transcript.
+use Rattle.std.specs.Prelude.{◌≡◌, ℕ, List, Some, slice_get, ⊤}
+use Rattle.jc_model.specs.declared.config.CacheConfig.{CacheConfig}
+use Rattle.jc_model.specs.declared.event.Cause.{Cause}
+use Rattle.jc_model.specs.declared.event.Cause.TheVariants as causes
+use Rattle.jc_shared.specs.declared.fault.CallFault.{CallFault}
+use Rattle.jc_shared.specs.declared.fault.CallFault.TheVariants.{NoSuchCache, NoSuchProcessor, Busy, Overtaken, OutOfMemory}
+use Rattle.jc_model.specs.declared.event.Entry.{Entry}
+use Rattle.jc_model.specs.declared.event.End.TheVariants as end
+use Rattle.jc_model.specs.declared.event.Step.{Step}
+use Rattle.jc_model.specs.declared.event.Step.TheVariants.{Done, Need}
+use Rattle.jc_shared.specs.declared.turned.Turned.{Turned}
+use Rattle.jc_shared.specs.declared.turned.Turned.TheVariants.{Asked, Replied}
+use Rattle.jc_model.specs.Runs.{Status}
+use Rattle.jc_model.specs.Legal.{IsLegal, Tells}
+use Rattle.jc_engine.specs.Recording.{HasOpen}
+
+-- why a call has no reply, by why the engine refuses it
+abbrev pub fault_of : Cause → CallFault
+fault_of causes.NoSuchCache = NoSuchCache
+fault_of causes.NoSuchProcessor = NoSuchProcessor
+fault_of causes.Busy = Busy
+fault_of causes.NoTurn = Overtaken
+fault_of causes.WrongAnswer = Overtaken
+fault_of causes.OutOfMemory = OutOfMemory
+
+-- the entry is of the draft's call
+pub record IsOfCall (e draft : Entry) : Type 0 where
+  pub session : e.session ≡ draft.session
+  pub at : e.at ≡ draft.at
+  pub call : e.call ≡ draft.call
+
+-- the open call of the draft's cache stands at this place, and is the draft's
+pub record IsOpenFor (statuses : List Status) (transcript : List Entry) (draft : Entry) (place : ℕ) : Type 0 where
+  pub tells : Tells transcript statuses
+  pub opened : HasOpen transcript draft.id place
+  pub own : IsOfCall opened.entry draft
+
+-- the draft stands at this place of a legal transcript, just as it is
+pub record StandsAt (configs : List CacheConfig) (transcript : List Entry) (draft : Entry) (place : ℕ) : Type 0 where
+  pub legal : IsLegal configs transcript
+  pub there : slice_get transcript place ≡ Some draft
+
+-- what a step comes to
+abbrev pub Turns : Entry → Step → Turned → Entry → Type 0
+Turns old (Need request) (Asked asked) new = (asked ≡ request) × (new ≡ old)
+Turns old (Done reply) (Replied replied) new = (replied ≡ reply) × (new ≡ record old { end = end.Replied reply })
+Turns old _ _ new = ⊥
+
+abbrev pub IsReplied : Turned → Type 0
+IsReplied (Asked request) = ⊥
+IsReplied (Replied reply) = ⊤

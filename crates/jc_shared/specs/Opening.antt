@@ -1,0 +1,47 @@
+-- With which configurations and callbacks a manager opens.
+use Rattle.std.specs.Prelude.{◌≡◌, ℕ, ◌<◌, Bool, List, length, slice_get, Option, Some, None, ⊤}
+use Rattle.jc_hooks.specs.Suits.{Suits}
+use Rattle.jc_hooks.specs.declared.cache_hooks.CacheHooks.{CacheHooks}
+use Rattle.jc_model.specs.declared.config.CacheConfig.{CacheConfig}
+use Rattle.jc_engine.specs.Caches.{configs_of}
+use Rattle.jc_engine.specs.Recording.{Recording}
+use Rattle.jc_engine.specs.Opening.{open_refusal}
+use Rattle.jc_shared.specs.declared.fault.SharedRefusal.{SharedRefusal}
+use Rattle.jc_shared.specs.declared.fault.SharedRefusal.TheVariants.{Caches, HooksDiffer, OutOfMemory}
+use Rattle.jc_shared.specs.declared.hooks.SharedHooks.{SharedHooks}
+
+-- the recorded engine has these configurations, and there are callbacks for each
+pub record IsOpened {S T : Type 0} (configs : List CacheConfig) (recorded : Recording) (locks : List S) (shared : List T) : Type 0 where
+  pub configs_are : configs_of recorded.caches ≡ configs
+  pub locks_counted : length locks ≡ length configs
+  pub shared_counted : length shared ≡ length configs
+
+-- what was handed in, as a manager keeps it
+pub record Handed (L P : Type 0) : Type 0 where
+  pub configs : List CacheConfig
+  pub shared : List (SharedHooks L P)
+
+module _ {L W P K : Type 0} (wants : P → Bool) where
+  abbrev pub SuitAt : Option CacheConfig → Option (CacheHooks L W P K) → Type 0
+  SuitAt None None = ⊤
+  SuitAt None (Some h) = ⊥
+  SuitAt (Some c) None = ⊥
+  SuitAt (Some c) (Some h) = Suits wants c h
+
+  -- each cache has the callbacks that its configuration names
+  abbrev pub AllSuit : List CacheConfig → List (CacheHooks L W P K) → Type 0
+  AllSuit configs hooks = (place : ℕ) → SuitAt (slice_get configs place) (slice_get hooks place)
+
+  -- this is the first place at which they differ, or one of the two is missing
+  pub record DifferFirst (configs : List CacheConfig) (hooks : List (CacheHooks L W P K)) (place : ℕ) : Type 0 where
+    pub before : (earlier : ℕ) → earlier < place → SuitAt (slice_get configs earlier) (slice_get hooks earlier)
+    pub here : SuitAt (slice_get configs place) (slice_get hooks place) → ⊥
+
+  abbrev pub CanOpen : List CacheConfig → List (CacheHooks L W P K) → Type 0
+  CanOpen configs hooks = (open_refusal configs ≡ None) × AllSuit configs hooks
+
+  -- why nothing opens
+  abbrev pub IsRefusal : List CacheConfig → List (CacheHooks L W P K) → SharedRefusal → Type 0
+  IsRefusal configs hooks (Caches refusal) = open_refusal configs ≡ Some refusal
+  IsRefusal configs hooks (HooksDiffer cache) = (open_refusal configs ≡ None) × DifferFirst configs hooks cache
+  IsRefusal configs hooks OutOfMemory = CanOpen configs hooks

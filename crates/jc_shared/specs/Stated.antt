@@ -1,0 +1,54 @@
+-- What the callbacks that all sessions share state, and answers that they stated.
+use Rattle.std.specs.Prelude.{◌≡◌, ℕ, List, map, option_map, slice_get, Option, Some, None, Result, ⊤}
+use Rattle.std.specs.List.{All}
+use Rattle.jc_model.specs.declared.call.Answer.{Answer}
+use Rattle.jc_model.specs.declared.call.Answer.TheVariants.{Loaded as LoadedValue, LoadFailed, Processed}
+use Rattle.jc_model.specs.declared.call.Call.{Call}
+use Rattle.jc_model.specs.declared.call.ProcessorFault.{ProcessorFault}
+use Rattle.jc_model.specs.declared.call.Verdict.{Verdict}
+use Rattle.jc_hooks.specs.Answers.{load_answer_of}
+use Rattle.jc_hooks.specs.declared.cache_hooks.CacheHooks.{CacheHooks}
+use Rattle.jc_hooks.specs.declared.loader.Loaded.{Loaded}
+use Rattle.jc_shared.specs.declared.hooks.SharedHooks.{SharedHooks}
+use Rattle.jc_shared.specs.Asking.{IsKeyOf, invoked_by}
+
+-- the loader's answer by the key, and each processor's by value and argument
+pub record Stated : Type 0 where
+  pub load : Option (List ℕ → Loaded)
+  pub verdicts : List (Option (List ℕ) → List ℕ → Result Verdict ProcessorFault)
+
+module _ {L P : Type 0} (load_of : L → List ℕ → Loaded) (verdict_of : P → Option (List ℕ) → List ℕ → Result Verdict ProcessorFault) where
+  abbrev pub stated_by : SharedHooks L P → Stated
+  stated_by h = record { load = option_map load_of h.loader; verdicts = map verdict_of h.processors.items }
+
+-- of all callbacks of a cache, as they are handed in
+abbrev pub shared_of : {L W P K : Type 0} → CacheHooks L W P K → SharedHooks L P
+shared_of h = record { loader = h.loader; processors = h.processors }
+
+-- where there is a loader, it answers so for a key of the call
+abbrev pub LoadsBy : Option (List ℕ → Loaded) → Call → Answer → Type 0
+LoadsBy None call a = ⊤
+LoadsBy (Some load) call a = (key : List ℕ) × IsKeyOf key call × (a ≡ load_answer_of (load key))
+
+-- where the processor is there that the call names, it decides so by the call's argument and some value or none
+abbrev pub DecidesBy : Option (Option (List ℕ) → List ℕ → Result Verdict ProcessorFault) → List ℕ → Result Verdict ProcessorFault → Type 0
+DecidesBy None argument v = ⊤
+DecidesBy (Some verdict) argument v = (value : Option (List ℕ)) × (v ≡ verdict value argument)
+
+abbrev pub ProcessesBy : List (Option (List ℕ) → List ℕ → Result Verdict ProcessorFault) → Option (ℕ × List ℕ) → Result Verdict ProcessorFault → Type 0
+ProcessesBy verdicts None v = ⊤
+ProcessesBy verdicts (Some named) v = DecidesBy (slice_get verdicts named.0) named.1 v
+
+-- an answer of loader or processor is a stated one
+abbrev pub IsStated : Stated → Call → Answer → Type 0
+IsStated h call (LoadedValue v) = LoadsBy h.load call (LoadedValue v)
+IsStated h call LoadFailed = LoadsBy h.load call LoadFailed
+IsStated h call (Processed v) = ProcessesBy h.verdicts (invoked_by call) v
+IsStated h call _ = ⊤
+
+abbrev pub IsStatedBy : Option Stated → Call → Answer → Type 0
+IsStatedBy None call a = ⊤
+IsStatedBy (Some h) call a = IsStated h call a
+
+abbrev pub AreStated : Option Stated → Call → List Answer → Type 0
+AreStated h call answers = All (IsStatedBy h call) answers

@@ -1,0 +1,169 @@
+//! Carrying an open call on: each request is answered outside the engine's lock, each answer goes in under it.
+ghost use Rattle.std.specs.Prelude.{◌≡◌, ◌<◌, ◌++◌, ◌∷◌, [], List, IsTrue, IfOk, OnOk, OnErr, MatchResult, length, slice_get};
+ghost use Rattle.jc_model.specs.declared.call.Answer.{Answer as Given};
+ghost use Rattle.jc_model.specs.declared.event.End.TheVariants.{Waiting};
+ghost use Rattle.jc_model.specs.Run.{is_answer_to};
+ghost use Rattle.jc_shared.specs.Asking.{AsksOf};
+ghost use Rattle.jc_shared.specs.Calls.{IsSameCall, Stays, EndsFaulty};
+ghost use Rattle.jc_shared.specs.Serving.{Serves, Tells as TellsOf};
+ghost use Rattle.jc_shared.specs.declared.turned.Turned.TheVariants.{Asked, Replied};
+ghost use Rattle.jc_shared.specs.Stated.{IsStatedBy, AreStated};
+
+use crate::fault::CallFault;
+use crate::hooks::LockedHooks;
+use crate::manager::Manager;
+use crate::name::Name;
+use crate::turned::Turned;
+use jc_hooks::{
+    Listener, Loader, Processor, Writer, ask_loader, ask_processor, ask_to_delete, ask_to_write,
+    tell_all,
+};
+use jc_model::OutOfMemory;
+use jc_model::call::{Answer, Reply, Request};
+use jc_model::event::Entry;
+use jc_model::share::Share;
+use std::sync::Wait;
+
+/// Adds an equal copy of the answer to the draft.
+fn note_answer(draft: &mut Entry, answer: &Answer) -> Result<(), OutOfMemory>
+    ensures ok { OnOk result (draft.new ≡ record draft.old { answers = draft.old.answers ++ answer.now ∷ [] }) }
+    ensures err { OnErr result (draft.new ≡ draft.old) }
+{
+    let copy = answer.share()?;
+    draft.answers.push(copy)
+}
+
+/// Takes the last answer back.
+fn take_back(draft: &mut Entry)
+    ensures { (answers : List Given) (a : Given) → draft.old.answers ≡ answers ++ a ∷ [] → draft.new ≡ record draft.old { answers = answers } }
+{
+    draft.answers.pop();
+}
+
+/// Keeps the notices that a request tells.
+fn keep_told(draft: &mut Entry, request: Request)
+    ensures { draft.new ≡ record draft.old { told = draft.new.told } }
+{
+    match request {
+        Request::Tell(notices) => draft.told = notices,
+        _ => {}
+    }
+}
+
+impl<N: Name, L: Loader, W: Writer, P: Processor, K: Listener> Manager<N, L, W, P, K> {
+    /// The answer of a cache's callbacks to a request. One that is not there fails.
+    fn answer(
+        &self,
+        hooks: &mut LockedHooks<W, K>,
+        draft: &Entry,
+        request: &Request,
+    ) -> Result<Answer, OutOfMemory>
+        requires known { draft.now.id < length N.configs }
+        requires asks { AsksOf draft.now.call request.now }
+        ensures fits { IfOk result (λ a. IsTrue (is_answer_to request.now a)) }
+        ensures stated { IfOk result (λ a. IsStatedBy (slice_get N.stated draft.now.id) draft.now.call a) }
+        ensures served { IfOk result (λ a. Serves W.may K.state_after hooks.old hooks.new request.now a) }
+    {
+        let alloc = self.alloc;
+        let shared = &self.shared[draft.id.number() as usize];
+        match request {
+            Request::Load(key) => ask_loader(alloc, &shared.loader, key),
+            Request::Write(key, value) => ask_to_write(alloc, &mut hooks.writer, key, value),
+            Request::Delete(key) => ask_to_delete(alloc, &mut hooks.writer, key),
+            Request::Process {
+                key: _,
+                processor,
+                value,
+                argument,
+            } => ask_processor(
+                alloc,
+                shared.processors.as_slice(),
+                *processor,
+                value.as_ref(),
+                argument,
+            ),
+            Request::Tell(notices) => {
+                tell_all(hooks.listeners.as_mut_slice(), notices.items());
+                Ok(Answer::Told)
+            }
+        }
+    }
+
+    /// Brings the draft's call on by the answer to a request.
+    fn advance<R: Wait>(
+        &self,
+        rt: &R,
+        hooks: &mut LockedHooks<W, K>,
+        draft: &mut Entry,
+        request: Request,
+    ) -> Result<Turned, CallFault>
+        requires known { draft.old.id < length N.configs }
+        requires asked { Stays N.configs N.stated (Asked request) draft.old }
+        ensures same { IsSameCall draft.old draft.new }
+        ensures brought { MatchResult result (λ turned. Stays N.configs N.stated turned draft.new) (λ fault. EndsFaulty N.configs N.stated fault draft.new) }
+    {
+        let Ok(answer) = self.answer(hooks, draft, &request) else {
+            return Err(self.give_up(rt, hooks, draft));
+        };
+        keep_told(draft, request);
+        if note_answer(draft, &answer).is_err() {
+            return Err(self.give_up(rt, hooks, draft));
+        }
+        let resumed = self.locked.lock(rt).resume(draft, answer);
+        match resumed {
+            Ok(turned) => Ok(turned),
+            Err(CallFault::OutOfMemory) => {
+                take_back(draft);
+                Err(self.give_up(rt, hooks, draft))
+            }
+            Err(_) => Err(CallFault::Overtaken),
+        }
+    }
+
+    /// Carries the draft's call on to its end.
+    pub(crate) fn carry_on<R: Wait>(
+        &self,
+        rt: &R,
+        hooks: &mut LockedHooks<W, K>,
+        draft: &mut Entry,
+        begun: Turned,
+    ) -> Result<Reply, CallFault>
+        requires known { draft.old.id < length N.configs }
+        requires begun { Stays N.configs N.stated begun draft.old }
+        ensures same { IsSameCall draft.old draft.new }
+        ensures ends { MatchResult result (λ reply. Stays N.configs N.stated (Replied reply) draft.new) (λ fault. EndsFaulty N.configs N.stated fault draft.new) }
+    {
+        let mut turned = begun;
+        for _ in rt.forever() {
+            match turned {
+                Turned::Replied(reply) => return Ok(reply),
+                Turned::Asked(request) => turned = self.advance(rt, hooks, draft, request)?,
+            }
+        }
+        unreachable!()
+    }
+
+    /// Gives the draft's call up, and tells the listeners what they were not told of it.
+    fn give_up<R: Wait>(
+        &self,
+        rt: &R,
+        hooks: &mut LockedHooks<W, K>,
+        draft: &mut Entry,
+    ) -> CallFault
+        requires waits { draft.old.end ≡ Waiting }
+        requires answered { AreStated (slice_get N.stated draft.old.id) draft.old.call draft.old.answers }
+        ensures same { IsSameCall draft.old draft.new }
+        ensures ends { EndsFaulty N.configs N.stated result draft.new }
+        ensures told { (draft.old.told ≡ []) → TellsOf W.may K.state_after hooks.old hooks.new draft.new.told }
+    {
+        let untold = draft.told.items().is_empty();
+        let given_up = self.locked.lock(rt).give_up(draft);
+        if untold {
+            tell_all(hooks.listeners.as_mut_slice(), draft.told.items());
+        }
+        match given_up {
+            Ok(()) => CallFault::OutOfMemory,
+            Err(_) => CallFault::Overtaken,
+        }
+    }
+}

@@ -1,0 +1,49 @@
+//! Why the calls of a shared manager are refused.
+use jc_engine::open::OpenRefusal;
+
+/// Why a shared manager does not open.
+#[derive(Debug, Drop, PartialEq, Eq)]
+pub enum SharedRefusal {
+    /// A manager does not open with these caches.
+    Caches(OpenRefusal),
+    /// The callbacks at this place, from 0, are not those that the configuration there names, or one of the two is
+    /// missing.
+    HooksDiffer { cache: u32 },
+    OutOfMemory,
+}
+
+/// Why there is no further session.
+#[derive(Clone, Copy, Debug, PartialEq, Eq)]
+pub enum SessionRefusal {
+    /// The manager is closed.
+    Closed,
+    /// There are 64 already.
+    TooManySessions,
+    OutOfMemory,
+}
+
+/// Why a session's call has no reply.
+#[derive(Clone, Copy, Debug, PartialEq, Eq)]
+pub enum CallFault {
+    NoSuchCache,
+    NoSuchProcessor,
+    /// A call on the cache is open.
+    Busy,
+    /// The entry under the lock is not that of this call.
+    Overtaken,
+    /// Memory was refused, before the call began, or in its midst: then it was given up.
+    OutOfMemory,
+}
+
+/// Why a manager does not close, or an audit finds fault.
+#[derive(Clone, Copy, Debug, PartialEq, Eq)]
+pub enum CloseFault {
+    /// The numbers are not those that were given out, each once, or the manager is closed already.
+    Missing,
+    /// A call is still open.
+    StillOpen,
+    /// The transcript's entries of this session, the least such one, are not its own list. `place`, from 0, is the
+    /// first at which the two part.
+    Differs { session: u32, place: usize },
+    OutOfMemory,
+}

@@ -1,0 +1,24 @@
+//! A manager that threads share, its sessions, and the comparison at its close.
+#![tactic(auto)]
+
+mod auditing;
+mod carry;
+mod directory;
+mod fault;
+mod hooks;
+mod locked;
+mod manager;
+mod name;
+mod session;
+mod shared;
+mod tables;
+mod turned;
+
+pub use auditing::{Logged, SessionLog, audit};
+pub use fault::{CallFault, CloseFault, SessionRefusal, SharedRefusal};
+pub use hooks::SharedHooks;
+pub use manager::Manager;
+pub use name::Name;
+pub use session::Session;
+pub use shared::Shared;
+pub use tables::{Table, table};

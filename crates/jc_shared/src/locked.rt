@@ -1,0 +1,262 @@
+//! What lies under the manager's lock: the recorded engine, and which sessions there are. Each tenure begins a call,
+//! brings it on or gives it up, and no callback runs in it.
+ghost use Rattle.std.specs.Prelude.{◌≡◌, ◌⊎◌, true, false, None, [], IsTrue, IfOk, IfErr, IfSome, OnOk, OnErr, Err, Some, map, slice_get};
+ghost use Rattle.jc_model.specs.declared.event.End.TheVariants.{Waiting, GivenUp};
+ghost use Rattle.jc_model.specs.Legal.{IsLegal};
+ghost use Rattle.jc_engine.specs.Recording.{blank};
+ghost use Rattle.jc_engine.specs.Caches.{configs_of, status_of};
+ghost use Rattle.jc_engine.specs.Results.{reply_in};
+ghost use Rattle.jc_shared.specs.Accounts.{Accounts};
+ghost use Rattle.jc_shared.specs.Admitting.{Admits};
+ghost use Rattle.jc_shared.specs.Calls.{Stands, GoesOn, call_refusal};
+ghost use Rattle.jc_shared.specs.Finding.{fault_of, IsOfCall, IsOpenFor, StandsAt, Turns, IsReplied};
+
+use crate::auditing::{Logged, audit};
+use crate::fault::{CallFault, CloseFault, SessionRefusal};
+use crate::name::Name;
+use crate::tables::Table;
+use crate::turned::Turned;
+use jc_engine::recorded::Recorded;
+use jc_model::call::{Answer, Call, Notice, Reply};
+use jc_model::event::{Cause, End, Entry, Step};
+use jc_model::exact::Exact;
+use jc_model::list::Sequence;
+use jc_model::transcript::Transcript;
+use jc_ring::link_ring::LinkRing;
+use std::marker::PhantomData;
+
+/// The most sessions of a manager.
+const MOST_SESSIONS: u32 = 64;
+
+/// A recorded engine whose configurations are those that the name tells.
+#[derive(Drop)]
+pub(crate) struct Locked<N: Name> {
+    recorded: Recorded<Table, LinkRing>,
+    /// How many numbers were given out to sessions.
+    given: u32,
+    closed: bool,
+    of: PhantomData<N>,
+    ghost named: { configs_of recorded.caches ≡ N.configs },
+}
+
+fn fault_of(cause: Cause) -> CallFault
+    ensures { result ≡ fault_of cause }
+{
+    match cause {
+        Cause::NoSuchCache => CallFault::NoSuchCache,
+        Cause::NoSuchProcessor => CallFault::NoSuchProcessor,
+        Cause::Busy => CallFault::Busy,
+        Cause::NoTurn | Cause::WrongAnswer => CallFault::Overtaken,
+        Cause::OutOfMemory => CallFault::OutOfMemory,
+    }
+}
+
+/// The entry at a place.
+fn entry_at(entries: &[Entry], place: usize) -> Option<&Entry>
+    ensures { IfSome result (λ e. slice_get entries.now place ≡ Some e.now) }
+{
+    entries.get(place)
+}
+
+/// Whether an entry is of the draft's call.
+fn is_of_call(entry: &Entry, draft: &Entry) -> bool
+    ensures { IsTrue result → IsOfCall entry.now draft.now }
+{
+    entry.session == draft.session && entry.at == draft.at && entry.call.same(&draft.call)
+}
+
+fn end_with(draft: &mut Entry, end: End)
+    ensures { draft.new ≡ record draft.old { end = end } }
+{
+    draft.end = end;
+}
+
+/// Keeps the notices that a give-up hands out. Where the call has told its notices, none are left.
+fn keep_left(draft: &mut Entry, left: Sequence<Notice>)
+    ensures kept { draft.new ≡ record draft.old { told = draft.new.told } }
+    ensures told { (draft.old.told ≡ []) ⊎ (draft.new.told ≡ draft.old.told) }
+{
+    if draft.told.items().is_empty() {
+        draft.told = left;
+    }
+}
+
+/// What a step comes to. At a reply the entry ends with the second copy.
+fn turned(step: Step, copy: Option<Reply>, draft: &mut Entry) -> Turned
+    requires { copy ≡ reply_in step }
+    ensures { Turns draft.old step result draft.new }
+{
+    match step {
+        Step::Need(request) => Turned::Asked(request),
+        Step::Done(reply) => {
+            if let Some(copy) = copy {
+                end_with(draft, End::Replied(copy));
+            }
+            Turned::Replied(reply)
+        }
+    }
+}
+
+impl<N: Name> Locked<N> {
+    pub(crate) fn new(recorded: Recorded<Table, LinkRing>) -> Locked<N>
+        requires { configs_of recorded.caches ≡ N.configs }
+        ensures { (result.given ≡ 0) × (result.closed ≡ false) }
+    {
+        Locked {
+            recorded,
+            given: 0,
+            closed: false,
+            of: PhantomData,
+        }
+    }
+
+    /// The place of the open call of the draft's cache, where that is the draft's call.
+    fn open_place(&self, draft: &Entry) -> Option<usize>
+        ensures { IfSome result (λ place. IsOpenFor (map status_of self.now.recorded.caches) self.now.recorded.transcript draft.now place) }
+    {
+        let place = self.recorded.open_place(draft.id)?;
+        let open = entry_at(self.recorded.transcript().entries(), place)?;
+        if is_of_call(open, draft) {
+            Some(place)
+        } else {
+            None
+        }
+    }
+
+    /// Whether the draft stands at a place of the transcript, just as it is.
+    fn stands_at(&self, place: usize, draft: &Entry) -> bool
+        ensures { IsTrue result → StandsAt N.configs self.now.recorded.transcript draft.now place }
+    {
+        match entry_at(self.recorded.transcript().entries(), place) {
+            Some(entry) => entry.same(draft),
+            None => false,
+        }
+    }
+
+    /// What a step comes to; at a reply, whether the draft now stands in the transcript.
+    fn settle(
+        &self,
+        place: usize,
+        draft: &mut Entry,
+        step: Step,
+        copy: Option<Reply>,
+    ) -> Result<Turned, CallFault>
+        requires waits { draft.old.end ≡ Waiting }
+        requires copy { copy ≡ reply_in step }
+        ensures ok { IfOk result (λ t. Turns draft.old step t draft.new × (IsReplied t → StandsAt N.configs self.now.recorded.transcript draft.new place)) }
+        ensures err { IfErr result (λ fault. (fault ≡ CallFault.Overtaken) × (draft.new ≡ draft.old)) }
+    {
+        match turned(step, copy, draft) {
+            Turned::Asked(request) => Ok(Turned::Asked(request)),
+            Turned::Replied(reply) => {
+                if self.stands_at(place, draft) {
+                    Ok(Turned::Replied(reply))
+                } else {
+                    end_with(draft, End::Waiting);
+                    Err(CallFault::Overtaken)
+                }
+            }
+        }
+    }
+
+    /// Begins the draft's call.
+    pub(crate) fn begin(&mut self, draft: &mut Entry, call: Call) -> Result<Turned, CallFault>
+        requires blank { draft.old ≡ blank draft.old.session draft.old.id draft.old.at call }
+        requires known { call_refusal N.configs draft.old.id call ≡ None }
+        ensures ok { IfOk result (λ turned. GoesOn N.configs draft.old turned draft.new) }
+        ensures err { IfErr result (λ fault. (fault ≡ CallFault.Busy) ⊎ (fault ≡ CallFault.OutOfMemory)) }
+        ensures same { OnErr result (draft.new ≡ draft.old) }
+    {
+        match self.recorded.begin(draft.session, draft.id, draft.at, call) {
+            Ok(pair) => {
+                let (step, copy) = pair;
+                let _legal = self.recorded.transcript();
+                Ok(turned(step, copy, draft))
+            }
+            Err((cause, _)) => Err(fault_of(cause)),
+        }
+    }
+
+    /// Gives the draft's call its next answer, which the draft has already. At the reply the draft ends with it, where
+    /// the transcript has it just so.
+    pub(crate) fn resume(&mut self, draft: &mut Entry, answer: Answer) -> Result<Turned, CallFault>
+        requires { draft.old.end ≡ Waiting }
+        ensures ok { IfOk result (λ turned. GoesOn N.configs draft.old turned draft.new) }
+        ensures err { IfErr result (λ fault. (fault ≡ CallFault.Overtaken) ⊎ (fault ≡ CallFault.OutOfMemory)) }
+        ensures same { OnErr result (draft.new ≡ draft.old) }
+    {
+        let Some(place) = self.open_place(draft) else {
+            return Err(CallFault::Overtaken);
+        };
+        match self.recorded.resume(draft.id, answer) {
+            Ok(pair) => {
+                let (step, copy) = pair;
+                self.settle(place, draft, step, copy)
+            }
+            Err((Cause::OutOfMemory, _)) => Err(CallFault::OutOfMemory),
+            Err(_) => Err(CallFault::Overtaken),
+        }
+    }
+
+    /// Ends the draft's call without a reply. The draft then has the notices that no one was told.
+    pub(crate) fn give_up(&mut self, draft: &mut Entry) -> Result<(), CallFault>
+        requires { draft.old.end ≡ Waiting }
+        ensures ok { OnOk result ((draft.new ≡ record draft.old { told = draft.new.told; end = GivenUp }) × Stands N.configs draft.new) }
+        ensures err { IfErr result (λ fault. (fault ≡ CallFault.Overtaken) × (draft.new ≡ record draft.old { told = draft.new.told })) }
+        ensures told { (draft.old.told ≡ []) ⊎ (draft.new.told ≡ draft.old.told) }
+    {
+        let Some(place) = self.open_place(draft) else {
+            return Err(CallFault::Overtaken);
+        };
+        let Ok(left) = self.recorded.give_up(draft.id) else {
+            return Err(CallFault::Overtaken);
+        };
+        keep_left(draft, left);
+        end_with(draft, End::GivenUp);
+        if self.stands_at(place, draft) {
+            Ok(())
+        } else {
+            end_with(draft, End::Waiting);
+            Err(CallFault::Overtaken)
+        }
+    }
+
+    /// Gives a session its number, where there is room for its list. Numbers go upward from 0.
+    pub(crate) fn admit(&mut self, room: bool) -> Result<u32, SessionRefusal>
+        ensures admits { Admits self.old.closed self.old.given room result self.new.given }
+        ensures kept { self.new.closed ≡ self.old.closed }
+    {
+        if self.closed {
+            return Err(SessionRefusal::Closed);
+        }
+        if self.given >= MOST_SESSIONS {
+            return Err(SessionRefusal::TooManySessions);
+        }
+        if !room {
+            return Err(SessionRefusal::OutOfMemory);
+        }
+        let number = self.given;
+        self.given += 1;
+        Ok(number)
+    }
+
+    /// Closes the manager, where the logs account for the transcript, and hands the transcript out.
+    pub(crate) fn finish<S: Logged>(&mut self, logs: &[S]) -> Result<Transcript, CloseFault>
+        ensures legal { IfOk result (λ t. IsLegal N.configs t) }
+        ensures accounts { IfOk result (λ t. Accounts self.old.given (map S.log logs.now) t) }
+        ensures closed { OnOk result ((self.old.closed ≡ false) × (self.new.closed ≡ true)) }
+        ensures again { self.old.closed ≡ true → result ≡ Err CloseFault.Missing }
+        ensures same { OnErr result (self.new ≡ self.old) }
+    {
+        if self.closed {
+            return Err(CloseFault::Missing);
+        }
+        let transcript = self.recorded.transcript();
+        audit(transcript, logs, self.given)?;
+        let Ok(copy) = transcript.share() else {
+            return Err(CloseFault::OutOfMemory);
+        };
+        self.closed = true;
+        Ok(copy)
+    }
+}

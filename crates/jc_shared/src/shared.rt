@@ -1,0 +1,157 @@
+//! Opening a manager.
+ghost use Rattle.std.specs.Prelude.{◌≡◌, None, IfOk, IfErr, OnOk, length, map};
+ghost use Rattle.std.specs.FinMap as finite;
+ghost use Rattle.jc_model.specs.Solo.{opened};
+ghost use Rattle.jc_cuckoo.specs.Cells.{rows_in};
+ghost use Rattle.jc_engine.specs.Caches.{configs_of};
+ghost use Rattle.jc_engine.specs.Fresh.{AreIds};
+ghost use Rattle.jc_engine.specs.Opening.{open_refusal, names_in};
+ghost use Rattle.jc_shared.specs.Opening.{CanOpen, IsRefusal};
+ghost use Rattle.jc_shared.specs.Stated.{stated_by, shared_of};
+
+use crate::directory::Directory;
+use crate::fault::SharedRefusal;
+use crate::hooks::{AllHooks, LockedHooks, SharedHooks, apart, first_unsuited};
+use crate::locked::Locked;
+use crate::manager::Manager;
+use crate::name::Name;
+use crate::tables::{Table, table};
+use jc_engine::open::ids_by_name;
+use jc_engine::recorded::Recorded;
+use jc_hooks::{CacheHooks, Listener, Loader, Processor, Writer};
+use jc_model::OutOfMemory;
+use jc_model::config::CacheConfig;
+use jc_model::key::Key;
+use jc_model::share::Share;
+use jc_ring::link_ring::LinkRing;
+use std::alloc::{AllocError, Global};
+use std::collections::HashMap;
+use std::marker::Model;
+use std::sync::Mutex;
+
+/// What will be a manager once it has a name. Contracts see the configurations, and of each cache its loader and
+/// processors.
+#[derive(Drop)]
+pub struct Shared<L, W, P, K> {
+    alloc: Global,
+    directory: Directory,
+    shared: Vec<SharedHooks<L, P>>,
+    locks: Vec<Mutex<LockedHooks<W, K>>>,
+    recorded: Recorded<Table, LinkRing>,
+}
+
+impl<L, W, P, K> Model for Shared<L, W, P, K> {
+    ghost use Rattle.jc_shared.specs.Opening.{Handed, IsOpened};
+
+    ghost Value = { Handed L P };
+
+    ghost view = { λ s. record { configs = s.directory; shared = s.shared.items } };
+
+    ghost invariant = { λ s. IsOpened s.directory s.recorded s.locks.items s.shared.items };
+}
+
+fn copies(alloc: Global, configs: &[CacheConfig]) -> Result<Vec<CacheConfig>, OutOfMemory>
+    ensures { IfOk result (λ copies. copies.items ≡ configs.now) }
+{
+    let mut copies = Vec::with_capacity(alloc, configs.len())?;
+    for config in configs {
+        copies.push(config.share()?)?;
+    }
+    Ok(copies)
+}
+
+/// The recorded engine over an empty table.
+fn recorded(
+    alloc: Global,
+    configs: Vec<CacheConfig>,
+    seed: u64,
+) -> Result<Recorded<Table, LinkRing>, OutOfMemory>
+    requires { open_refusal configs.items ≡ None }
+    ensures { IfOk result (λ r. configs_of r.caches ≡ configs.items) }
+{
+    let rows = table(alloc, seed)?;
+    match Recorded::open(alloc, rows, configs) {
+        Ok(recorded) => Ok(recorded),
+        Err(_) => Err(AllocError),
+    }
+}
+
+/// All that a manager has, where memory suffices.
+fn opened<L: Loader, W: Writer, P: Processor, K: Listener>(
+    alloc: Global,
+    configs: Vec<CacheConfig>,
+    ids: Option<HashMap<Key, u32>>,
+    hooks: Vec<CacheHooks<L, W, P, K>>,
+    seed: u64,
+) -> Result<Shared<L, W, P, K>, OutOfMemory>
+    requires opens { open_refusal configs.items ≡ None }
+    requires ids { AreIds ids (names_in configs.items) }
+    requires counted { length hooks.items ≡ length configs.items }
+    ensures configs { IfOk result (λ s. s.configs ≡ configs.items) }
+    ensures shared { IfOk result (λ s. s.shared ≡ map shared_of hooks.items) }
+{
+    let Some(ids) = ids else {
+        return Err(AllocError);
+    };
+    let second = copies(alloc, configs.as_slice())?;
+    let recorded = recorded(alloc, second, seed)?;
+    let directory = Directory::new(alloc, configs, ids)?;
+    let AllHooks { shared, locks } = apart(alloc, hooks)?;
+    Ok(Shared {
+        alloc,
+        directory,
+        shared,
+        locks,
+        recorded,
+    })
+}
+
+impl<L: Loader, W: Writer, P: Processor, K: Listener> Shared<L, W, P, K> {
+    /// Opens a manager with these caches and their callbacks, over an empty table. The seed picks the places there.
+    ///
+    /// Refused as `Caches`, with the engine's refusal; as `HooksDiffer`; as `OutOfMemory`.
+    pub fn open(
+        alloc: Global,
+        configs: Vec<CacheConfig>,
+        hooks: Vec<CacheHooks<L, W, P, K>>,
+        seed: u64,
+    ) -> Result<Shared<L, W, P, K>, SharedRefusal>
+        ensures configs { IfOk result (λ s. s.configs ≡ configs.items) }
+        ensures shared { IfOk result (λ s. s.shared ≡ map shared_of hooks.items) }
+        ensures opens { OnOk result (CanOpen P.wants configs.items hooks.items) }
+        ensures refused { IfErr result (λ refusal. IsRefusal P.wants configs.items hooks.items refusal) }
+    {
+        let ids = match ids_by_name(alloc, configs.as_slice()) {
+            Ok(ids) => ids,
+            Err(refusal) => return Err(SharedRefusal::Caches(refusal)),
+        };
+        if let Some(cache) = first_unsuited(configs.as_slice(), hooks.as_slice()) {
+            return Err(SharedRefusal::HooksDiffer { cache });
+        }
+        match opened(alloc, configs, ids, hooks, seed) {
+            Ok(shared) => Ok(shared),
+            Err(_) => Err(SharedRefusal::OutOfMemory),
+        }
+    }
+
+    /// The manager under a name, which tells these configurations and what these loaders and processors state.
+    pub fn named<N: Name>(self) -> Manager<N, L, W, P, K>
+        requires configs { self.configs ≡ N.configs }
+        requires stated { map (stated_by L.load_of P.verdict_of) self.shared ≡ N.stated }
+    {
+        let Shared {
+            alloc,
+            directory,
+            shared,
+            locks,
+            recorded,
+        } = self;
+        Manager {
+            alloc,
+            directory,
+            shared,
+            locks,
+            locked: Mutex::new(Locked::new(recorded)),
+        }
+    }
+}
