@@ -1,10 +1,10 @@
 -- A processor's step: what each answer leads to.
 use Rattle.std.proofs.Common.{◌≡◌, ℕ, Bool, true, false, if◌then◌else◌, List, [], refl, sym, ◌∙◌, ap, subst}
-use Rattle.std.specs.Prelude.{Option, Some, None, is_some, Ok, Err}
+use Rattle.std.specs.Prelude.{Option, Some, None, is_some, Ok}
 use Rattle.jc_model.specs.declared.call.Action.{Action}
 use Rattle.jc_model.specs.declared.call.Action.TheVariants.{Keep, Set, Remove}
 use Rattle.jc_model.specs.declared.call.Answer.{Answer}
-use Rattle.jc_model.specs.declared.call.Answer.TheVariants.{Loaded, LoadFailed, Written, WriteFailed, Processed, Told}
+use Rattle.jc_model.specs.declared.call.Answer.TheVariants.{Loaded, Written, Processed}
 use Rattle.jc_model.specs.declared.call.By.TheVariants as by
 use Rattle.jc_model.specs.declared.call.KeyCall.{KeyCall}
 use Rattle.jc_model.specs.declared.call.Op.TheVariants as op

@@ -2,7 +2,7 @@
 use Rattle.std.proofs.Common.{◌≡◌, ℕ, Bool, true, false, List, refl, sym, subst}
 use Rattle.std.specs.Prelude.{Option, Some, None, Result, Ok, Err, IfOk}
 use Rattle.jc_model.specs.declared.call.Answer.{Answer}
-use Rattle.jc_model.specs.declared.call.Answer.TheVariants.{Loaded, LoadFailed, Written, WriteFailed, Processed, Told}
+use Rattle.jc_model.specs.declared.call.Answer.TheVariants.{Loaded, Written, Processed}
 use Rattle.jc_model.specs.declared.call.KeyCall.{KeyCall}
 use Rattle.jc_model.specs.declared.call.ProcessorFault.{ProcessorFault}
 use Rattle.jc_model.specs.declared.call.Verdict.{Verdict}

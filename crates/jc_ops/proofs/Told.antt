@@ -1,10 +1,10 @@
 -- How many notices a change, a line and a step may tell at most.
-use Rattle.std.proofs.Common.{◌≤◌, ◌+◌, arith, Bool, true, false}
+use Rattle.std.proofs.Common.{◌≤◌, arith, Bool, true, false}
 use Rattle.jc_model.specs.declared.call.Op.{Op}
 use Rattle.jc_model.specs.declared.table.Ask.{Ask}
 use Rattle.jc_model.specs.declared.table.Ask.TheVariants as ask
 use Rattle.jc_model.specs.declared.table.Change.{Change}
-use Rattle.jc_model.specs.declared.table.Change.TheVariants.{Keep, Access, Store, Put, Remove}
+use Rattle.jc_model.specs.declared.table.Change.TheVariants.{Put, Remove}
 use Rattle.jc_model.specs.Table.{live_line, absent_line}
 use Rattle.jc_ops.specs.Lines.{told_of, told_by, told_on, most_told}
 

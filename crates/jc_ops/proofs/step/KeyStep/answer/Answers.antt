@@ -1,4 +1,4 @@
-use Rattle.std.proofs.Common.{◌≡◌, ℕ, ◌≤◌, ◌+◌, sym, subst}
+use Rattle.std.proofs.Common.{ℕ, ◌≤◌, ◌+◌, sym, subst}
 use Rattle.std.specs.Prelude.{is_some}
 use Rattle.jc_model.specs.declared.config.CacheConfig.{CacheConfig}
 use Rattle.jc_model.specs.Run.{Run, resume}
