@@ -20,11 +20,8 @@ use Rattle.jc_ops.proofs.Goes.{waits_purged}
 use Rattle.jc_ops.proofs.Lined.{carries, writer_answers, loader_answers, shows_at}
 
 pub load_is : (a : Ask) → is_load a ≡ true → a ≡ ask.Load
-load_is ask.Nothing e = cc
 load_is ask.Load e = refl
-load_is ask.Write e = cc
-load_is ask.Delete e = cc
-load_is ask.Process e = cc
+load_is _ e = cc
 
 pub not_load : (a : Ask) → is_load a ≡ false → a ≡ ask.Load → ⊥
 not_load a e is = let no : true ≡ false = ap is_load (sym is) ∙ e in cc

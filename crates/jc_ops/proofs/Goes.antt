@@ -1,6 +1,6 @@
 -- A step that goes on over what its key's expired row left.
 use Rattle.std.proofs.Common.{◌≡◌, ℕ, ◌<◌, ◌≤◌, ◌+◌, arith, Bool, true, false, if◌then◌else◌, List, [], refl, sym, ◌∙◌, ap, subst}
-use Rattle.std.specs.Prelude.{Option}
+use Rattle.std.specs.Prelude.{Option, is_some}
 use Rattle.jc_model.specs.declared.call.Answer.{Answer}
 use Rattle.jc_model.specs.declared.call.KeyCall.{KeyCall}
 use Rattle.jc_model.specs.declared.call.Op.{Op}
@@ -15,6 +15,8 @@ use Rattle.jc_model.specs.Suspended.{KeyWait, key_run}
 use Rattle.jc_model.proofs.Everywhere.{at_each-answered}
 use Rattle.jc_model.proofs.Purge.{purged_row, purge-again, step-purged}
 use Rattle.jc_model.proofs.Waits.{step-waits}
+use Rattle.jc_rows.specs.Rows.{RowMap}
+use Rattle.jc_state.specs.Kept.{Kept, items_of, progress_of, has_live, FoundRow, Stays}
 use Rattle.jc_state.specs.Noted.{Noted, HasPlaces}
 use Rattle.jc_ops.specs.Stepped.{IsWaiting, waits_first, invoked}
 use Rattle.jc_ops.specs.declared.supply.Supply.{Supply}
@@ -89,22 +91,38 @@ begins c f now call p p' was there n m s same still is le covered room = subst (
 
 -- A step that waits, once its key's row was looked for anew: nothing has changed but the room, which has grown.
 
-pub record GoesOn (c f : CacheConfig) (p p' : Progress) (w v : KeyWait) (a : Answer) (there : Bool) (m : ℕ) (s : Supply) : Type 0 where
-  pub waits : IsWaiting f p' v
-  pub same : resume (key_run f p' v) a ≡ resume (key_run c p w) a
-  pub covered : CoversAnswer f v a p'.state.ring s
+pub record GoesOn (k k' : Kept) (f : CacheConfig) (s t : Noted) (w v : KeyWait) (a : Answer) (there : Bool) (m : ℕ) (y : Supply) : Type 0 where
+  pub waits : IsWaiting f (progress_of k' t.told) v
+  pub same : resume (key_run f (progress_of k' t.told) v) a ≡ resume (key_run k.config (progress_of k s.told) w) a
+  pub covered : CoversAnswer f v a (items_of k'.cells) y
   pub room : HasRoom (adds_at there f v a) m
+  pub places : HasPlaces f (told_on there v.call.op) t
+  pub told : (n : ℕ) → t.spare ≤ n + told_on there v.call.op → s.spare ≤ n + most_told (has_live w.now w.call.key k) w.call.op
 
-pub goes_on : (c f : CacheConfig) (p p' : Progress) (w v : KeyWait) (a : Answer) (was there : Bool) (n m : ℕ) (s : Supply) → f ≡ c → v ≡ w → there ≡ was → p' ≡ purge c v.now v.call.key p → n ≤ m + 0 →
-    IsWaiting c p w → CoversAnswer c w a p.state.ring s → HasRoom (adds_at was c w a) n → GoesOn c f p p' w v a there m s
-goes_on c f p p' w v a was there n m s same is still purged le waits covered room =
-    let waits_v : IsWaiting c p v = subst (λ (t : KeyWait). IsWaiting c p t) (sym is) waits in
-    let here : p' ≡ p = purged ∙ waits_purged c p v waits_v in
-    subst (λ (d : CacheConfig). GoesOn c d p p' w v a there m s) (sym same) (record {
-      waits = subst (λ (q : Progress). IsWaiting c q v) (sym here) waits_v;
-      same = ap (λ (q : Progress). resume (key_run c q v) a) here ∙ ap (λ (t : KeyWait). resume (key_run c p t) a) is;
-      covered = answer_serves c v a p p' s purged (subst (λ (t : KeyWait). CoversAnswer c t a p.state.ring s) (sym is) covered);
-      room = has_room (adds_at there c v a) n m (omega (arith, le)) (subst (λ (t : KeyWait). HasRoom (adds_at there c t a) n) (sym is) (subst (λ (b : Bool). HasRoom (adds_at b c w a) n) (sym still) room));
+-- where the code has this view of it, and what purging the row ensures
+pub goes_on : (k k' : Kept) (s t : Noted) (u v w : KeyWait) (a : Answer) (row found : Option ℕ) (m n : RowMap) (room left : ℕ) (y : Supply) → u ≡ w → v ≡ w →
+    Stays 0 (if is_some found then 0 else 1) m room k s n left k' t → ((key : List ℕ) → FoundRow key k row → is_some found ≡ has_live u.now key k) →
+    ((key : List ℕ) → FoundRow key k row → progress_of k' t.told ≡ purge k.config u.now key (progress_of k s.told)) → FoundRow w.call.key k row → HasPlaces k.config (most_told (has_live w.now w.call.key k) w.call.op) s →
+    IsWaiting k.config (progress_of k s.told) w → CoversAnswer k.config w a (items_of k.cells) y → HasRoom (adds_at (has_live w.now w.call.key k) k.config w a) room → GoesOn k k' k'.config s t w v a (is_some found) left y
+goes_on k k' s t u v w a row found m n room left y view is stays live progress at places waits covered adds =
+    let c = k.config in
+    let p = progress_of k s.told in
+    let p' = progress_of k' t.told in
+    let was = has_live w.now w.call.key k in
+    let there = is_some found in
+    let here : FoundRow u.call.key k row = subst (λ (x : KeyWait). FoundRow x.call.key k row) (sym view) at in
+    let still : there ≡ was = subst (λ (x : KeyWait). there ≡ has_live x.now x.call.key k) view (live u.call.key here) in
+    let purged : p' ≡ purge c v.now v.call.key p = subst (λ (x : KeyWait). p' ≡ purge c x.now x.call.key p) (view ∙ sym is) (progress u.call.key here) in
+    let waits_v : IsWaiting c p v = subst (λ (x : KeyWait). IsWaiting c p x) (sym is) waits in
+    let gone : p' ≡ p = purged ∙ waits_purged c p v waits_v in
+    let grown = stays.keeps.room in
+    subst (λ (d : CacheConfig). GoesOn k k' d s t w v a there left y) (sym stays.keeps.config) (record {
+      waits = subst (λ (q : Progress). IsWaiting c q v) (sym gone) waits_v;
+      same = ap (λ (q : Progress). resume (key_run c q v) a) gone ∙ ap (λ (x : KeyWait). resume (key_run c p x) a) is;
+      covered = answer_serves c v a p p' y purged (subst (λ (x : KeyWait). CoversAnswer c x a p.state.ring y) (sym is) covered);
+      room = has_room (adds_at there c v a) room left (omega (arith, grown)) (subst (λ (x : KeyWait). HasRoom (adds_at there c x a) room) (sym is) (subst (λ (b : Bool). HasRoom (adds_at b c w a) room) (sym still) adds));
+      places = places_left c c v.call.op was there s t refl still stays.places (subst (λ (x : KeyWait). HasPlaces c (most_told was x.call.op) s) (sym is) places);
+      told = λ n rest. told_in_all w.call.op was there s.spare t.spare n still stays.places (subst (λ (x : KeyWait). t.spare ≤ n + told_on there x.call.op) is rest);
     })
 
 -- what the code has of such a step

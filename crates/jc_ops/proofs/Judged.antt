@@ -1,10 +1,10 @@
 -- A processor's step: what each answer leads to.
 use Rattle.std.proofs.Common.{◌≡◌, ℕ, Bool, true, false, if◌then◌else◌, List, [], refl, sym, ◌∙◌, ap, subst}
-use Rattle.std.specs.Prelude.{Option, Some, None, is_some, Ok, Err}
+use Rattle.std.specs.Prelude.{Option, Some, None, is_some, Ok}
 use Rattle.jc_model.specs.declared.call.Action.{Action}
 use Rattle.jc_model.specs.declared.call.Action.TheVariants.{Keep, Set, Remove}
 use Rattle.jc_model.specs.declared.call.Answer.{Answer}
-use Rattle.jc_model.specs.declared.call.Answer.TheVariants.{Loaded, LoadFailed, Written, WriteFailed, Processed, Told}
+use Rattle.jc_model.specs.declared.call.Answer.TheVariants.{Loaded, Written, Processed}
 use Rattle.jc_model.specs.declared.call.By.TheVariants as by
 use Rattle.jc_model.specs.declared.call.KeyCall.{KeyCall}
 use Rattle.jc_model.specs.declared.call.Op.TheVariants as op
@@ -47,28 +47,15 @@ verdict_given (Some o) (Some v) = refl
 
 pub loaded_is : (a : Answer) (o : Option (List ℕ)) → loaded_by a ≡ Some o → a ≡ Loaded o
 loaded_is (Loaded v) o e = let same : v ≡ o = cc in ap Loaded same
-loaded_is LoadFailed o e = cc
-loaded_is Written o e = cc
-loaded_is WriteFailed o e = cc
-loaded_is (Processed verdict) o e = cc
-loaded_is Told o e = cc
+loaded_is _ o e = cc
 
 pub written_is : (a : Answer) → is_written a ≡ true → a ≡ Written
-written_is (Loaded o) e = cc
-written_is LoadFailed e = cc
 written_is Written e = refl
-written_is WriteFailed e = cc
-written_is (Processed verdict) e = cc
-written_is Told e = cc
+written_is _ e = cc
 
 pub verdict_is : (a : Answer) (v : Verdict) → verdict_of a ≡ Some v → a ≡ Processed (Ok v)
-verdict_is (Loaded o) v e = cc
-verdict_is LoadFailed v e = cc
-verdict_is Written v e = cc
-verdict_is WriteFailed v e = cc
 verdict_is (Processed (Ok w)) v e = let same : w ≡ v = cc in ap (λ t. Processed (Ok t)) same
-verdict_is (Processed (Err fault)) v e = cc
-verdict_is Told v e = cc
+verdict_is _ v e = cc
 
 -- where the key has a row
 pub row_is_there : (key : List ℕ) (k : Kept) (row : Option ℕ) → FoundRow key k row → is_some (row_of key (items_of k.cells)) ≡ is_some row
@@ -122,20 +109,13 @@ module _ (c : CacheConfig) (now : ℕ) (k : List ℕ) where
   asks_of v there loaded = written_by k (verdict_line v.action there).asks (decided loaded v.action)
 
   copy_serves : (action : Action) (there : Bool) (loaded : Option (List ℕ)) → asks_writer c k (verdict_line action there).asks (hands_by c.writer action) ≡ asks_writer c k (verdict_line action there).asks (decided loaded action)
-  copy_serves Keep true loaded = refl
-  copy_serves Keep false loaded = refl
-  copy_serves (Set v) true loaded = go c.writer
+  copy_serves (Set v) there loaded = go c.writer
     where
-      go : (w : Bool) → (if w then written_by k (verdict_line (Set v) true).asks (if w then Some v else None) else None) ≡ (if w then written_by k (verdict_line (Set v) true).asks (Some v) else None)
+      go : (w : Bool) → (if w then written_by k (verdict_line (Set v) there).asks (if w then Some v else None) else None) ≡ (if w then written_by k (verdict_line (Set v) there).asks (Some v) else None)
       go true = refl
       go false = refl
-  copy_serves (Set v) false loaded = go c.writer
-    where
-      go : (w : Bool) → (if w then written_by k (verdict_line (Set v) false).asks (if w then Some v else None) else None) ≡ (if w then written_by k (verdict_line (Set v) false).asks (Some v) else None)
-      go true = refl
-      go false = refl
-  copy_serves Remove true loaded = refl
-  copy_serves Remove false loaded = refl
+  copy_serves _ true loaded = refl
+  copy_serves _ false loaded = refl
 
   -- what is not asked of the writer is stored at once
   pub stores_at_once : (loaded : Option (List ℕ)) (action : Action) (there : Bool) → asks_writer c k (verdict_line action there).asks (hands_by c.writer action) ≡ None → stores_by c.writer loaded action ≡ stores_by false loaded action
@@ -150,8 +130,7 @@ module _ (c : CacheConfig) (now : ℕ) (k : List ℕ) where
 
   pub decides : (loaded : Option (List ℕ)) (action : Action) → stores_by false loaded action ≡ decided loaded action
   decides loaded Keep = refl
-  decides loaded (Set v) = refl
-  decides loaded Remove = refl
+  decides loaded _ = refl
 
   acts : (row : Option Item) (loaded : Option (List ℕ)) (p : Progress) (v : Verdict) →
       act_on c now k row loaded p v ≡ asked_run c.writer (asks_of v (is_some row) loaded) p (done_on c now k row loaded p v)
@@ -160,11 +139,8 @@ module _ (c : CacheConfig) (now : ℕ) (k : List ℕ) where
       by : (row : Option Item) (action : Action) (answer : Option (List ℕ)) → act_on c now k row loaded p (record { action = action; answer = answer })
           ≡ asked_run c.writer (written_by k (verdict_line action (is_some row)).asks (decided loaded action)) p (done_on c now k row loaded p (record { action = action; answer = answer }))
       by (Some x) Keep answer = refl
-      by (Some x) (Set v) answer = refl
-      by (Some x) Remove answer = refl
       by None Keep answer = refl
-      by None (Set v) answer = refl
-      by None Remove answer = refl
+      by _ _ answer = refl
 
   pub act_none : (row : Option Item) (loaded : Option (List ℕ)) (p : Progress) (v : Verdict) → asks_writer c k (verdict_line v.action (is_some row)).asks (hands_by c.writer v.action) ≡ None → act_on c now k row loaded p v ≡ done_on c now k row loaded p v
   act_none row loaded p v e =
@@ -281,5 +257,4 @@ verdict_asks c now key action k row found there is f same l line copy copied =
 
 pub hands_none : (action : Action) → None ≡ hands_by false action
 hands_none Keep = refl
-hands_none (Set v) = refl
-hands_none Remove = refl
+hands_none _ = refl

@@ -11,9 +11,9 @@ use Rattle.jc_model.specs.declared.config.CacheConfig.{CacheConfig}
 use Rattle.jc_model.specs.declared.table.Ask.{Ask}
 use Rattle.jc_model.specs.declared.table.Ask.TheVariants as ask
 use Rattle.jc_model.specs.declared.table.Change.{Change}
-use Rattle.jc_model.specs.declared.table.Change.TheVariants.{Keep, Access, Store, Put, Remove}
+use Rattle.jc_model.specs.declared.table.Change.TheVariants.{Access, Store, Put, Remove}
 use Rattle.jc_model.specs.declared.table.Replied.{Replied}
-use Rattle.jc_model.specs.declared.table.Replied.TheVariants.{Done, Truth, Shown}
+use Rattle.jc_model.specs.declared.table.Replied.TheVariants.{Shown}
 use Rattle.jc_model.specs.declared.table.Line.{Line}
 use Rattle.jc_model.specs.State.{Item}
 use Rattle.jc_model.specs.Changes.{Progress, purge, find_row}
@@ -106,18 +106,15 @@ told_fits o row there l s t is line told =
 
 module _ (c : CacheConfig) (now : ℕ) (k : List ℕ) where
   changed_same : (ch : Change) (row : Option Item) (v w : Option (List ℕ)) (p : Progress) → (stores ch ≡ true → v ≡ w) → changed c now k ch row v p ≡ changed c now k ch row w p
-  changed_same Keep row v w p h = refl
-  changed_same Access None v w p h = refl
-  changed_same Access (Some x) v w p h = refl
   changed_same Store row v w p h = ap (λ t. changed c now k Store row t p) (h refl)
   changed_same Put row v w p h = ap (λ t. changed c now k Put row t p) (h refl)
+  changed_same Access None v w p h = refl
   changed_same Remove None v w p h = refl
-  changed_same Remove (Some x) v w p h = refl
+  changed_same _ _ v w p h = refl
 
   reply_same : (r : Replied) (s t : Option (List ℕ)) → (is_shown r ≡ true → s ≡ t) → reply_by r s ≡ reply_by r t
-  reply_same Done s t h = refl
-  reply_same (Truth answer) s t h = refl
   reply_same Shown s t h = ap (reply_by Shown) (h refl)
+  reply_same _ s t h = refl
 
   pub ended_same : (l : Line) (row : Option Item) (v w s t : Option (List ℕ)) (p : Progress) → (stores l.change ≡ true → v ≡ w) → (is_shown l.reply ≡ true → s ≡ t) → ended_by c now k l row v s p ≡ ended_by c now k l row w t p
   ended_same l row v w s t p stores shows =

@@ -2,7 +2,7 @@
 use Rattle.std.proofs.Common.{◌≡◌, ℕ, Bool, true, false, List, refl, sym, subst}
 use Rattle.std.specs.Prelude.{Option, Some, None, Result, Ok, Err, IfOk}
 use Rattle.jc_model.specs.declared.call.Answer.{Answer}
-use Rattle.jc_model.specs.declared.call.Answer.TheVariants.{Loaded, LoadFailed, Written, WriteFailed, Processed, Told}
+use Rattle.jc_model.specs.declared.call.Answer.TheVariants.{Loaded, Written, Processed}
 use Rattle.jc_model.specs.declared.call.KeyCall.{KeyCall}
 use Rattle.jc_model.specs.declared.call.ProcessorFault.{ProcessorFault}
 use Rattle.jc_model.specs.declared.call.Verdict.{Verdict}
@@ -33,11 +33,9 @@ idle_failed a e is = subst IsIdle (sym is) (record { written = refl; loaded = re
 
 pub idle_else : (a : Answer) → (a ≡ Written → ⊥) → ((o : Option (List ℕ)) → a ≡ Loaded o → ⊥) → ((r : Result Verdict ProcessorFault) → a ≡ Processed r → ⊥) → IsIdle a
 idle_else (Loaded o) h i j = absurd (i o refl)
-idle_else LoadFailed h i j = record { written = refl; loaded = refl; judged = refl }
 idle_else Written h i j = absurd (h refl)
-idle_else WriteFailed h i j = record { written = refl; loaded = refl; judged = refl }
 idle_else (Processed r) h i j = absurd (j r refl)
-idle_else Told h i j = record { written = refl; loaded = refl; judged = refl }
+idle_else _ h i j = record { written = refl; loaded = refl; judged = refl }
 
 not_true : {P : Type 0} (b : Bool) → b ≡ false → b ≡ true → P
 not_true b e f = cc

@@ -7,7 +7,7 @@ use Rattle.jc_model.specs.State.{Item, row_of, without, with_row}
 use Rattle.jc_rows.specs.Rows.{RowMap}
 use Rattle.jc_state.specs.declared.slots.Record.{Record}
 use Rattle.jc_state.specs.Shelf.{Cell, seek, without_row, stored}
-use Rattle.jc_state.specs.Tied.{Placed, Tied}
+use Rattle.jc_state.specs.Tied.{Placed}
 use Rattle.jc_state.specs.Kept.{Kept, item_of, items_of, record_of, IsTied, IsRow, FoundRow}
 use Rattle.jc_state.proofs.Ties.{RowIsKey, row_is_key, row_there, placed_at, key_tells}
 

@@ -1,13 +1,13 @@
 -- A walk along the ring, from one row to the row behind it.
-use Rattle.std.proofs.Common.{◌≡◌, ◌<◌, ◌≤◌, ◌+◌, ℕ, suc, Bool, true, false, eqb, ◌||◌, cond, List, [], ◌∷◌, ◌++◌, length, map, Option, Some, None, option_map, refl, sym, ap, ◌∙◌, subst, arith, length-append, append_assoc, append-nil}
+use Rattle.std.proofs.Common.{◌≡◌, ◌<◌, ℕ, suc, Bool, true, false, eqb, cond, List, [], ◌∷◌, ◌++◌, length, map, Option, Some, None, option_map, refl, sym, ap, ◌∙◌, subst, arith, length-append, append_assoc, append-nil}
 use Rattle.std.proofs.lemmas.Grind.{common_steps}
 use Rattle.std.proofs.lemmas.Bool.{eq-eqb}
 use Rattle.std.proofs.lemmas.Bool.Decides.{nat_tests}
 use Rattle.jc_ring.specs.Ring.{first, after}
 use Rattle.jc_state.specs.declared.slots.Record.{Record}
-use Rattle.jc_state.specs.Shelf.{Cell, seek, has_row, row_after, cells_of, cell_at}
+use Rattle.jc_state.specs.Shelf.{Cell, seek, has_row, row_after, cells_of}
 use Rattle.jc_state.specs.Tied.{Distinct}
-use Rattle.jc_state.specs.Kept.{item_of, items_of}
+use Rattle.jc_state.specs.Kept.{items_of}
 use Rattle.jc_state.proofs.Cells.{has_row-append}
 
 pub row_after-cells : (slots : List (Option Record)) (r : ℕ) (ps : List (ℕ × Bool)) → after r ps ≡ row_after r (cells_of slots ps)

@@ -43,7 +43,7 @@ impl Notices {
     }
 
     /// Makes places for so many more. Where memory runs out, the notices and their places stay.
-    pub fn reserve(&mut self, more: usize) -> Result<(), OutOfMemory>
+    fn reserve(&mut self, more: usize) -> Result<(), OutOfMemory>
         ensures told { self.new.told ≡ self.old.told }
         ensures places { OnOk result (more ≤ self.new.spare) }
         ensures succeeds { more ≤ self.old.spare → IsOk result }
@@ -65,13 +65,6 @@ impl Notices {
         self.reserve(more)
     }
 
-    /// How many there are.
-    pub fn len(&self) -> usize
-        ensures { result ≡ length self.now.told }
-    {
-        self.told.len()
-    }
-
     /// Whether there are none.
     pub fn is_empty(&self) -> bool
         ensures { result ≡ eqb (length self.now.told) 0 }
@@ -80,7 +73,7 @@ impl Notices {
     }
 
     /// Adds a notice. It needs a place, and takes no memory.
-    pub fn note(
+    fn note(
         &mut self,
         kind: Kind,
         key: Key,
@@ -109,7 +102,7 @@ impl Notices {
     }
 
     /// Adds a notice where the cache has listeners.
-    pub fn note_for(
+    pub(crate) fn note_for(
         &mut self,
         config: &CacheConfig,
         kind: Kind,

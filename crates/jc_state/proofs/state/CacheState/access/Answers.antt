@@ -1,5 +1,5 @@
 use Rattle.std.proofs.Common.{◌≡◌, ap, ◌∙◌, sym, true}
-use Rattle.jc_model.specs.State.{Item, after_access, with_row}
+use Rattle.jc_model.specs.State.{after_access, with_row}
 use Rattle.jc_model.specs.Changes.{with_ring}
 use Rattle.jc_model.specs.declared.config.CacheConfig.{CacheConfig}
 use Rattle.jc_model.specs.declared.config.Expiry.{Expiry}

@@ -1,4 +1,4 @@
-use Rattle.std.proofs.Common.{◌≡◌, ap, ◌∙◌, None, ℕ}
+use Rattle.std.proofs.Common.{ap, ◌∙◌, ℕ}
 use Rattle.std.specs.FinMap as map
 use Rattle.jc_state.proofs.Found.{absent_there}
 use Rattle.jc_state.proofs.state.CacheState.create.Goals as goal

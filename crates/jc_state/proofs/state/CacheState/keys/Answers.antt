@@ -1,4 +1,4 @@
-use Rattle.std.proofs.Common.{◌≡◌, ◌++◌, ◌∷◌, [], true, ap, sym, ◌∙◌, subst, length, ◌<◌, arith}
+use Rattle.std.proofs.Common.{◌≡◌, ◌++◌, ◌∷◌, [], ap, sym, ◌∙◌, subst, length, ◌<◌, arith}
 use Rattle.std.proofs.lemmas.Grind.{common_steps}
 use Rattle.jc_state.specs.Shelf.{has_row, row_after}
 use Rattle.jc_state.proofs.Walk.{WalkedTo, IsAt, stands_at, at-there, walk_goes_on, walk_is_shorter}

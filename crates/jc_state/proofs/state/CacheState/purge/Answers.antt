@@ -1,5 +1,4 @@
-use Rattle.std.proofs.Common.{◌∙◌, subst, sym, ◌≡◌, List, ℕ, Some, None}
-use Rattle.jc_state.specs.Kept.{FoundRow}
+use Rattle.std.proofs.Common.{◌∙◌, sym}
 use Rattle.jc_state.proofs.Purges.{where_expired, stayed_absent, not_held, held_is, stayed, gone, found_gone}
 use Rattle.jc_state.proofs.state.CacheState.purge.Goals as goal
 

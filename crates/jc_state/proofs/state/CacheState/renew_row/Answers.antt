@@ -1,7 +1,5 @@
-use Rattle.std.proofs.Common.{◌≡◌, Some, option_map, ap, sym, subst, refl}
-use Rattle.std.specs.FinMap as map
+use Rattle.std.proofs.Common.{option_map, ap, sym, subst, refl}
 use Rattle.jc_state.specs.Shelf.{with_expiry_of}
-use Rattle.jc_state.specs.declared.slots.Record.{Record}
 use Rattle.jc_state.specs.Tied.{Tied}
 use Rattle.jc_state.specs.Kept.{Kept, IsTied}
 use Rattle.jc_state.proofs.Changes.{keeps-stored}

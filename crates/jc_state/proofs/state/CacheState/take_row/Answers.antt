@@ -1,6 +1,6 @@
 use Rattle.std.proofs.Common.{sym, subst}
 use Rattle.jc_rows.proofs.Laws.{get-removed_same, get-removed_absent}
-use Rattle.jc_state.specs.Kept.{Kept, IsTied}
+use Rattle.jc_state.specs.Kept.{IsTied}
 use Rattle.jc_state.proofs.Changes.{keeps-removed}
 use Rattle.jc_state.proofs.state.CacheState.take_row.Goals as goal
 

@@ -1,4 +1,4 @@
-use Rattle.std.proofs.Common.{◌≡◌, ◌<◌, true, List, ℕ, Option, option_map, Some, ap, ◌∙◌, sym, refl}
+use Rattle.std.proofs.Common.{◌≡◌, ◌<◌, true, List, ℕ, Option, option_map, Some, ap, ◌∙◌, sym}
 use Rattle.jc_model.specs.declared.call.Notice.{Notice}
 use Rattle.jc_model.specs.declared.call.Kind.TheVariants.{Updated}
 use Rattle.jc_model.specs.declared.config.Expiry.{Expiry}

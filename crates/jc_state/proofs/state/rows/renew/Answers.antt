@@ -1,4 +1,4 @@
-use Rattle.std.proofs.Common.{◌≡◌, ap, ◌∙◌, Some}
+use Rattle.std.proofs.Common.{ap, ◌∙◌, Some}
 use Rattle.jc_state.proofs.Changes.{same_expiry}
 use Rattle.jc_state.proofs.state.rows.renew.Goals as goal
 
