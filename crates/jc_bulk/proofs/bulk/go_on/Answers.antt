@@ -1,4 +1,4 @@
-use Rattle.std.proofs.Common.{◌≡◌, List, ◌∷◌, refl, sym, ap, ◌∙◌, subst}
+use Rattle.std.proofs.Common.{List, ◌∷◌, refl, sym, ap, ◌∙◌, subst}
 use Rattle.jc_model.specs.Bulk.{ends_call}
 use Rattle.jc_model.specs.declared.config.CacheConfig.{CacheConfig}
 use Rattle.jc_model.specs.Changes.{Progress}

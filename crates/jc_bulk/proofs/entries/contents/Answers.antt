@@ -1,4 +1,4 @@
-use Rattle.std.proofs.Common.{◌≡◌, ◌<◌, ◌+◌, ◌++◌, List, ℕ, length, get_or, drop, Option, ap, ◌∙◌, subst, arith}
+use Rattle.std.proofs.Common.{◌+◌, ◌++◌, List, ℕ, drop, Option, ap, ◌∙◌, arith}
 use Rattle.jc_model.specs.State.{Item}
 use Rattle.jc_model.specs.Whole.{contents}
 use Rattle.jc_state.specs.Kept.{items_of}

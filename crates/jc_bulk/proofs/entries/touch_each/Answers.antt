@@ -1,4 +1,4 @@
-use Rattle.std.proofs.Common.{◌≡◌, ◌<◌, ◌+◌, List, [], ◌∷◌, ℕ, length, get_or, drop, refl, Some, sym, ap, ◌∙◌, subst}
+use Rattle.std.proofs.Common.{◌≡◌, ◌+◌, List, [], ◌∷◌, ℕ, drop, refl, Some, sym, ap, ◌∙◌, subst}
 use Rattle.jc_model.specs.State.{Item, row_of}
 use Rattle.jc_model.specs.Changes.{Progress, begun}
 use Rattle.jc_model.specs.Whole.{touch_each}

@@ -1,10 +1,10 @@
-use Rattle.std.proofs.Common.{◌≡◌, ◌<◌, ◌+◌, ◌++◌, ◌∷◌, [], List, ℕ, length, get_or, drop, if◌then◌else◌, refl, sym, ap, ◌∙◌, subst, append_assoc}
+use Rattle.std.proofs.Common.{◌≡◌, ◌+◌, ◌++◌, ◌∷◌, [], List, ℕ, drop, if◌then◌else◌, refl, sym, ap, ◌∙◌, append_assoc}
 use Rattle.jc_model.specs.declared.call.KeyCall.{KeyCall}
 use Rattle.jc_model.specs.declared.call.Op.TheVariants as op
 use Rattle.jc_model.specs.Bulk.{remove_each}
 use Rattle.jc_model.specs.State.{Item, is_live}
 use Rattle.jc_state.specs.Kept.{items_of, state_of}
-use Rattle.jc_bulk.proofs.Rows.{keys_of, RowAt, row_at, holds_row, removed_row}
+use Rattle.jc_bulk.proofs.Rows.{RowAt, row_at, holds_row, removed_row}
 use Rattle.jc_bulk.proofs.TiedKeys.{tied_keys}
 use Rattle.jc_bulk.proofs.steps.each_row.Goals as goal
 
