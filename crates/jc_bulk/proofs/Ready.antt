@@ -88,7 +88,7 @@ module _ {c : CacheConfig} {items : List Item} {notices : Noted} {spare : ℕ} {
       stores false true = λ e. absurd (let no : false ≡ true = e in cc)
       stores false false = λ e. go needs.adds refl e
 
-  -- the steps behind the first, once it is done
+  -- the steps behind the first
   ahead_of : IsAhead (p.call.key ∷ keys_in (calls_in ps)) (calls_in ps) sum needs
   ahead_of = record {
     apart = r.ahead.apart;
@@ -98,6 +98,7 @@ module _ {c : CacheConfig} {items : List Item} {notices : Noted} {spare : ℕ} {
     telling = λ e. any_rest (ltb 1 (most_told false p.call.op)) (any_tells (calls_in ps)) (r.ahead.telling e);
   }
 
+  -- and all that they need, once it is done
   pub ready_next : (there : Bool) (items' : List Item) (notices' : Noted) (spare' : ℕ) (sum' : Tally) → AreCovered c items' ps → notices.spare ≤ notices'.spare + most_told there p.call.op → spare ≤ spare' + 1 → sum'.done ≡ sum.done + 1 → ((n : ℕ) → HasRoomFor (n + 1) sum.collected → HasRoomFor n sum'.collected) → IsReady c items' notices' spare' ps sum' needs
   ready_next there items' notices' spare' sum' covered places fewer done lists = record {
     ahead = ahead_next p.call.key ps sum needs ahead_of sum' done lists;
