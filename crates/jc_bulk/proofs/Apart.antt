@@ -1,7 +1,8 @@
 -- The keys of a call's steps are different.
-use Rattle.std.proofs.Common.{◌≡◌, ℕ, Bool, true, false, List, [], ◌∷◌, map, refl, sym, ap, ◌∙◌, subst, arith}
+use Rattle.std.proofs.Common.{◌≡◌, ◌≤◌, ℕ, Bool, true, false, List, [], ◌∷◌, map, length, take, refl, sym, ap, ◌∙◌, subst, arith}
 use Rattle.std.specs.Prelude.{IsTrue, Result, Ok, Err, IfOk}
 use Rattle.std.proofs.lemmas.Grind.{common_steps}
+use Rattle.std.proofs.lemmas.List.{take_all}
 use Rattle.std.specs.List.{list_any}
 use Rattle.std.specs.Str.{bytes_eq}
 use Rattle.std.proofs.lemmas.Slice.Eq.{bytes_eq-Decides}
@@ -49,11 +50,16 @@ row_keys : (now : ℕ) (ring : List Item) → keys_in (remove_each now ring) ≡
 row_keys now [] = refl
 row_keys now (x ∷ xs) = ap (λ l. x.key ∷ l) (row_keys now xs)
 
-pub same_apart : (o : Op) (ks : List (List ℕ)) → AreKeys ks → AreApart (keys_in (same_op o ks))
-same_apart o ks h = subst AreApart (sym (same_keys o ks)) (are_apart ks (is_true (distinct ks) h.1))
+-- the steps that a loop has made when it has gone through all keys or pairs
+pub same_apart : {calls : List KeyCall} {ks given : List (List ℕ)} (o : Op) (i : ℕ) → calls ≡ same_op o (take i ks) → length ks ≤ i → ks ≡ given → AreKeys given → AreApart (keys_in calls)
+same_apart {calls} {ks} {given} o i made all same h =
+    let keys : keys_in calls ≡ given = ap keys_in made ∙ (same_keys o (take i ks) ∙ (take_all i ks all ∙ same)) in
+    subst AreApart (sym keys) (are_apart given (is_true (distinct given) h.1))
 
-pub put_apart : (ps : List (List ℕ × List ℕ)) → AreKeys (map (λ p. p.0) ps) → AreApart (keys_in (put_each ps))
-put_apart ps h = subst AreApart (sym (put_keys ps)) (are_apart (map (λ p. p.0) ps) (is_true (distinct (map (λ p. p.0) ps)) h.1))
+pub put_apart : {calls : List KeyCall} {ps given : List (List ℕ × List ℕ)} (i : ℕ) → calls ≡ put_each (take i ps) → length ps ≤ i → ps ≡ given → AreKeys (map (λ p. p.0) given) → AreApart (keys_in calls)
+put_apart {calls} {ps} {given} i made all same h =
+    let keys : keys_in calls ≡ map (λ p. p.0) given = ap keys_in made ∙ (put_keys (take i ps) ∙ ap (λ (ps : List (List ℕ × List ℕ)). map (λ p. p.0) ps) (take_all i ps all ∙ same)) in
+    subst AreApart (sym keys) (are_apart (map (λ p. p.0) given) (is_true (distinct (map (λ p. p.0) given)) h.1))
 
 lacks_none : (k : List ℕ) (ring : List Item) → Lacks k ring → IsNone k (keys_of ring)
 lacks_none k [] l = tt

@@ -1,5 +1,5 @@
 -- A call on many keys, by what its next step comes to.
-use Rattle.std.proofs.Common.{◌≡◌, ℕ, List, Option, Some, None, refl, sym, ap, ◌∙◌}
+use Rattle.std.proofs.Common.{◌≡◌, ℕ, List, ◌∷◌, Option, Some, None, refl, sym, ap, ◌∙◌}
 use Rattle.jc_model.specs.declared.call.Answer.{Answer}
 use Rattle.jc_model.specs.declared.call.By.{By}
 use Rattle.jc_model.specs.declared.call.KeyCall.{KeyCall}
@@ -11,25 +11,15 @@ use Rattle.jc_model.specs.declared.config.CacheConfig.{CacheConfig}
 use Rattle.jc_model.specs.Changes.{Progress}
 use Rattle.jc_model.specs.Run.{Run, ended, and_then, resume, awaited_by}
 use Rattle.jc_model.specs.Bulk.{Sum, with_key, ends_call}
+use Rattle.jc_model.specs.Step.{step}
 use Rattle.jc_model.specs.Whole.{after_key, each}
 use Rattle.jc_model.specs.Suspended.{many, key_run, bulk_run}
+use Rattle.jc_state.specs.Kept.{Kept, progress_of}
 use Rattle.jc_ops.specs.Stepped.{StepWaits, IsWaiting}
 use Rattle.jc_bulk.specs.Moved.{WaitsOn}
 use Rattle.jc_bulk.specs.Paused.{bulk_wait}
 use Rattle.jc_bulk.specs.Provided.{calls_in, AreCovered}
 use Rattle.jc_bulk.specs.Waits.{Bulk}
-
-module _ (k : List ℕ) (go_on : Sum → Progress → Run) (sum : Sum) (run : Run) (p : Progress) (r : Reply) (e : run ≡ ended p r) where
-  pub step_ended : and_then run (after_key k go_on sum) ≡ after_key k go_on sum p r
-  step_ended = ap (λ (run : Run). and_then run (after_key k go_on sum)) e
-
-pub goes_on : (k : List ℕ) (go_on : Sum → Progress → Run) (sum : Sum) (p : Progress) (r : Reply) → ends_call r ≡ None → after_key k go_on sum p r ≡ go_on (with_key k r sum) p
-goes_on k go_on sum p r e =
-    ap (λ (o : Option By). elim o [ Some by ↦ ended p (Fault by (Some sum.done)) | None ↦ go_on (with_key k r sum) p ]) e
-
-pub fails : (k : List ℕ) (go_on : Sum → Progress → Run) (sum : Sum) (p : Progress) (r : Reply) (b : By) → ends_call r ≡ Some b → after_key k go_on sum p r ≡ ended p (Fault b (Some sum.done))
-fails k go_on sum p r b e =
-    ap (λ (o : Option By). elim o [ Some by ↦ ended p (Fault by (Some sum.done)) | None ↦ go_on (with_key k r sum) p ]) e
 
 -- what comes after a step of a call
 abbrev pub afterwards : CacheConfig → ℕ → List ℕ → List KeyCall → Sum → Progress → Reply → Run
@@ -49,8 +39,21 @@ step_waits c now key b notices run p request at same w covered = record {
   held = (record { request = request; resumed = w.resumed; run_is = w.meaning ∙ w.run_is }, covered);
 }
 
--- an answer goes to the step that waits
-pub step_answered : (c : CacheConfig) (p : Progress) (b : Bulk) (a : Answer) → IsWaiting c p b.key → resume (bulk_run c p (bulk_wait b)) a ≡ and_then (resume (key_run c p b.key) a) (afterwards c b.key.now b.key.call.key (calls_in b.rest) b.sum)
-step_answered c p b a w =
-    let next : Progress → Reply → Run = afterwards c b.key.now b.key.call.key (calls_in b.rest) b.sum in
-    ap (λ (run : Run). resume (and_then run next) a) w.run_is ∙ sym (ap (λ (run : Run). and_then (resume run a) next) w.run_is)
+-- where the step has ended and no fault ends the call, the call goes on with those after it
+pub step_ended : (c : CacheConfig) (now : ℕ) (call : KeyCall) (calls : List KeyCall) (sum sum' : Sum) (p q : Progress) (r : Reply) → step c now call p ≡ ended q r → ends_call r ≡ None → sum' ≡ with_key call.key r sum → each c now calls sum' q ≡ each c now (call ∷ calls) sum p
+step_ended c now call calls sum sum' p q r run none added =
+    ap (λ (s : Sum). each c now calls s q) added
+    ∙ (sym (ap (λ (o : Option By). elim o [ Some by ↦ ended q (Fault by (Some sum.done)) | None ↦ each c now calls (with_key call.key r sum) q ]) none)
+    ∙ sym (ap (λ (run : Run). and_then run (afterwards c now call.key calls sum)) run))
+
+-- what comes after the step that waits
+abbrev pub after_wait : CacheConfig → Bulk → Progress → Reply → Run
+after_wait c b = afterwards c b.key.now b.key.call.key (calls_in b.rest) b.sum
+
+-- An answer goes to the step that waits. The code has the call and its notices under other names.
+pub step_answered : {b w : Bulk} {told told' : List Notice} (c : CacheConfig) (k : Kept) (a : Answer) → b ≡ w → told' ≡ told → IsWaiting c (progress_of k told) w.key → resume (bulk_run c (progress_of k told) (bulk_wait w)) a ≡ and_then (resume (key_run c (progress_of k told') b.key) a) (after_wait c b)
+step_answered {b} {w} {told} {told'} c k a same same_told waits =
+    ap (λ (run : Run). resume (and_then run (after_wait c w)) a) waits.run_is
+    ∙ (sym (ap (λ (run : Run). and_then (resume run a) (after_wait c w)) waits.run_is)
+    ∙ (ap (λ (t : List Notice). and_then (resume (key_run c (progress_of k t) w.key) a) (after_wait c w)) (sym same_told)
+    ∙ ap (λ (b : Bulk). and_then (resume (key_run c (progress_of k told') b.key) a) (after_wait c b)) (sym same)))

@@ -1,6 +1,6 @@
 -- A call with steps, by its plan.
 use Rattle.std.proofs.Common.{◌≡◌, ℕ, false, refl, sym, ap}
-use Rattle.std.specs.Prelude.{Option, Some, None}
+use Rattle.std.specs.Prelude.{Some, None}
 use Rattle.jc_model.specs.declared.call.KeyCall.{KeyCall}
 use Rattle.jc_model.specs.declared.config.CacheConfig.{CacheConfig}
 use Rattle.jc_model.specs.Bulk.{empty_sum}

@@ -1,41 +1,20 @@
 -- What the next step needs, and what the steps after it still have when it is done.
-use Rattle.std.proofs.Common.{◌≡◌, ◌≢◌, ◌<◌, ◌≤◌, ◌+◌, ◌*◌, ◌^◌, ℕ, suc, Bool, true, false, ◌||◌, ltb, List, [], ◌∷◌, ◌++◌, length, Option, Some, None, option_to_list, refl, sym, ap, ◌∙◌, subst, arith}
+use Rattle.std.proofs.Common.{◌≡◌, ◌<◌, ◌≤◌, ◌+◌, ◌^◌, ℕ, suc, Bool, true, false, ◌||◌, ltb, List, [], ◌∷◌, ◌++◌, length, Option, Some, option_to_list, refl, sym, ap, ◌∙◌, subst, arith}
 use Rattle.std.proofs.lemmas.Bool.{ltb-false}
 use Rattle.std.proofs.lemmas.Grind.{common_steps}
 use Rattle.jc_model.specs.declared.config.CacheConfig.{CacheConfig}
 use Rattle.jc_model.specs.State.{Item}
-use Rattle.jc_model.specs.Sound.{HasDistinctKeys}
 use Rattle.jc_state.specs.Noted.{Noted, HasPlaces}
 use Rattle.jc_ops.specs.Lines.{creates, most_told}
 use Rattle.jc_ops.specs.Supply.{HasRoom, adds}
 use Rattle.jc_ops.proofs.Told.{most_three, most_absent}
 use Rattle.jc_bulk.specs.declared.bulk.Needs.{Needs}
 use Rattle.jc_bulk.specs.declared.bulk.Provided.{Provided}
-use Rattle.jc_bulk.specs.declared.tally.Collected.{Collected}
-use Rattle.jc_bulk.specs.declared.tally.Collected.TheVariants.{Nothing, Pairs, Results}
 use Rattle.jc_bulk.specs.declared.tally.Tally.{Tally}
 use Rattle.jc_bulk.specs.Provided.{calls_in, keys_in, AreCovered, any_creates, any_tells, places_for, IsAhead, IsReady}
 use Rattle.jc_bulk.specs.Tallied.{HasRoomFor}
-use Rattle.jc_bulk.proofs.Left.{FitsStay, covered-stays}
 
-pub popped : (rest left : List Provided) (o : Option Provided) (p : Provided) → rest ≡ option_to_list o ++ left → o ≡ Some p → rest ≡ p ∷ left
-popped rest left o p e is = e ∙ ap (λ (o : Option Provided). option_to_list o ++ left) is
-
-pub none_left : (rest left : List Provided) (o : Option Provided) → rest ≡ option_to_list o ++ left → o ≡ None → length left ≡ 0 → rest ≡ []
-none_left rest [] o e is n = e ∙ ap (λ (o : Option Provided). option_to_list o ++ []) is
-none_left rest (x ∷ xs) o e is n = absurd (omega (arith, n))
-
-pub less_room : (n : ℕ) (t : Collected) → HasRoomFor (n + 1) t → HasRoomFor n t
-less_room n Nothing h = tt
-less_room n (Pairs l) h = omega (arith, h)
-less_room n (Results l) h = omega (arith, h)
-
-pub some_room : (n : ℕ) (t : Collected) → HasRoomFor (n + 1) t → HasRoomFor 1 t
-some_room n Nothing h = tt
-some_room n (Pairs l) h = omega (arith, h)
-some_room n (Results l) h = omega (arith, h)
-
-pub same_length : (rest : List Provided) → length (keys_in (calls_in rest)) ≡ length rest
+same_length : (rest : List Provided) → length (keys_in (calls_in rest)) ≡ length rest
 same_length [] = refl
 same_length (p ∷ ps) = ap suc (same_length ps)
 
@@ -47,14 +26,8 @@ module _ (key : List ℕ) (rest : List Provided) (sum : Tally) (needs : Needs) (
   counted : length (key ∷ keys_in (calls_in rest)) ≡ length rest + 1
   counted = ap suc (same_length rest) ∙ suc-plus (length rest)
 
-  pub room_for_all : HasRoomFor (length rest + 1) sum.collected
+  room_for_all : HasRoomFor (length rest + 1) sum.collected
   room_for_all = subst (λ n. HasRoomFor n sum.collected) counted a.lists
-
-  pub room_for_one : HasRoomFor 1 sum.collected
-  room_for_one = some_room (length rest) sum.collected room_for_all
-
-  pub one_more_fits : sum.done + 1 < 2 ^ 32
-  one_more_fits = let few : sum.done + length (key ∷ keys_in (calls_in rest)) < 2 ^ 32 = a.few in omega (arith, few, counted)
 
   -- once the key is counted
   pub ahead_next : (sum' : Tally) → sum'.done ≡ sum.done + 1 → ((n : ℕ) → HasRoomFor (n + 1) sum.collected → HasRoomFor n sum'.collected) → IsAhead (keys_in (calls_in rest)) (calls_in rest) sum' needs
@@ -74,7 +47,15 @@ any_rest : (a b : Bool) → (a || b) ≡ false → b ≡ false
 any_rest true b e = cc
 any_rest false b e = e
 
-module _ (c : CacheConfig) (items : List Item) (notices : Noted) (spare : ℕ) (p : Provided) (ps : List Provided) (sum : Tally) (needs : Needs) (r : IsReady c items notices spare (p ∷ ps) sum needs) where
+-- the first step that is left, and those after it
+pub popped : {rest : List Provided} {o : Option Provided} {p : Provided} (left : List Provided) → rest ≡ option_to_list o ++ left → o ≡ Some p → rest ≡ p ∷ left
+popped left e is = e ∙ ap (λ (o : Option Provided). option_to_list o ++ left) is
+
+pub first_ready : {c : CacheConfig} {items : List Item} {notices : Noted} {spare : ℕ} {rest : List Provided} {sum : Tally} {needs : Needs} {o : Option Provided} {p : Provided} (left : List Provided) → IsReady c items notices spare rest sum needs → rest ≡ option_to_list o ++ left → o ≡ Some p → IsReady c items notices spare (p ∷ left) sum needs
+first_ready {c} {items} {notices} {spare} {rest} {sum} {needs} {o} {p} left r e is =
+    subst (λ (ps : List Provided). IsReady c items notices spare ps sum needs) (popped left e is) r
+
+module _ {c : CacheConfig} {items : List Item} {notices : Noted} {spare : ℕ} {p : Provided} {ps : List Provided} {sum : Tally} {needs : Needs} (r : IsReady c items notices spare (p ∷ ps) sum needs) where
   first_tells : most_told false p.call.op ≤ places_for needs.tells 1
   first_tells = go needs.tells refl
     where
@@ -82,15 +63,18 @@ module _ (c : CacheConfig) (items : List Item) (notices : Noted) (spare : ℕ) (
       go true e = (let most : most_told false p.call.op ≤ 3 = most_three p.call.op in omega (arith, most))
       go false e = (let none : any_tells (calls_in (p ∷ ps)) ≡ false = r.ahead.telling e in ltb-false 1 (most_told false p.call.op) (any_first (ltb 1 (most_told false p.call.op)) (any_tells (calls_in ps)) none))
 
-  -- whether or not its key has a live row
-  pub first_places : (there : Bool) → HasPlaces c (most_told there p.call.op) notices
-  first_places there = λ listens. (let all : places_for needs.tells (length (p ∷ ps)) ≤ notices.spare = r.places listens in
+  -- places for the first step and for those after it, whether or not its key has a live row
+  first_and_rest : (there : Bool) → HasPlaces c (most_told there p.call.op + places_for needs.tells (length ps)) notices
+  first_and_rest there = λ listens. (let all : places_for needs.tells (length (p ∷ ps)) ≤ notices.spare = r.places listens in
       let own : most_told there p.call.op ≤ most_told false p.call.op = most_absent there p.call.op in
       go needs.tells all own first_tells)
     where
-      go : (b : Bool) → places_for b (length (p ∷ ps)) ≤ notices.spare → most_told there p.call.op ≤ most_told false p.call.op → most_told false p.call.op ≤ places_for b 1 → most_told there p.call.op ≤ notices.spare
+      go : (b : Bool) → places_for b (length (p ∷ ps)) ≤ notices.spare → most_told there p.call.op ≤ most_told false p.call.op → most_told false p.call.op ≤ places_for b 1 → most_told there p.call.op + places_for b (length ps) ≤ notices.spare
       go true all own one = omega (arith, all, own, one)
       go false all own one = omega (arith, all, own, one)
+
+  pub first_places : (there : Bool) → HasPlaces c (most_told there p.call.op) notices
+  first_places there = λ listens. (let all : most_told there p.call.op + places_for needs.tells (length ps) ≤ notices.spare = first_and_rest there listens in omega (arith, all))
 
   pub first_room : (there : Bool) → HasRoom (adds there c.writer p.call.op) spare
   first_room there = stores there c.writer
@@ -105,7 +89,7 @@ module _ (c : CacheConfig) (items : List Item) (notices : Noted) (spare : ℕ) (
       stores false false = λ e. go needs.adds refl e
 
   -- the steps behind the first
-  pub ahead_of : IsAhead (p.call.key ∷ keys_in (calls_in ps)) (calls_in ps) sum needs
+  ahead_of : IsAhead (p.call.key ∷ keys_in (calls_in ps)) (calls_in ps) sum needs
   ahead_of = record {
     apart = r.ahead.apart;
     lists = r.ahead.lists;
@@ -114,17 +98,11 @@ module _ (c : CacheConfig) (items : List Item) (notices : Noted) (spare : ℕ) (
     telling = λ e. any_rest (ltb 1 (most_told false p.call.op)) (any_tells (calls_in ps)) (r.ahead.telling e);
   }
 
-  pub covered_next : (items' : List Item) → HasDistinctKeys items → ((q : List ℕ) → p.call.key ≢ q → FitsStay q items items') → AreCovered c items' ps
-  covered_next items' d stay = covered-stays c p.call.key items items' ps r.ahead.apart.0 d stay r.covered.1
-
-  pub places_next : (there : Bool) (notices' : Noted) → notices.spare ≤ notices'.spare + most_told there p.call.op → HasPlaces c (places_for needs.tells (length ps)) notices'
-  places_next there notices' fewer = λ listens. (let all : places_for needs.tells (length (p ∷ ps)) ≤ notices.spare = r.places listens in
-      let own : most_told there p.call.op ≤ most_told false p.call.op = most_absent there p.call.op in
-      go needs.tells all own first_tells)
-    where
-      go : (b : Bool) → places_for b (length (p ∷ ps)) ≤ notices.spare → most_told there p.call.op ≤ most_told false p.call.op → most_told false p.call.op ≤ places_for b 1 → places_for b (length ps) ≤ notices'.spare
-      go true all own one = omega (arith, all, own, one, fewer)
-      go false all own one = omega (arith, all, own, one, fewer)
-
-  pub room_next : (spare' : ℕ) → spare ≤ spare' + 1 → needs.adds ≡ true → length ps ≤ spare'
-  room_next spare' fewer = λ e. (let all : length (p ∷ ps) ≤ spare = r.room e in omega (arith, all, fewer))
+  -- and all that they need, once it is done
+  pub ready_next : (there : Bool) (items' : List Item) (notices' : Noted) (spare' : ℕ) (sum' : Tally) → AreCovered c items' ps → notices.spare ≤ notices'.spare + most_told there p.call.op → spare ≤ spare' + 1 → sum'.done ≡ sum.done + 1 → ((n : ℕ) → HasRoomFor (n + 1) sum.collected → HasRoomFor n sum'.collected) → IsReady c items' notices' spare' ps sum' needs
+  ready_next there items' notices' spare' sum' covered places fewer done lists = record {
+    ahead = ahead_next p.call.key ps sum needs ahead_of sum' done lists;
+    covered = covered;
+    places = λ listens. (let all : most_told there p.call.op + places_for needs.tells (length ps) ≤ notices.spare = first_and_rest there listens in omega (arith, all, places));
+    room = λ e. (let all : length (p ∷ ps) ≤ spare = r.room e in omega (arith, all, fewer));
+  }

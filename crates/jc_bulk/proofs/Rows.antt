@@ -1,5 +1,5 @@
 -- The rows of a ring, one after the other, by their keys.
-use Rattle.std.proofs.Common.{◌≡◌, ◌<◌, ◌≤◌, ◌+◌, ℕ, suc, zero, Bool, true, false, cond, if◌then◌else◌, List, [], ◌∷◌, ◌++◌, length, map, drop, get_or, refl, sym, ap, ◌∙◌, subst, arith, append_assoc}
+use Rattle.std.proofs.Common.{◌≡◌, ◌≢◌, ◌<◌, ◌+◌, ℕ, suc, zero, Bool, true, false, cond, if◌then◌else◌, List, [], ◌∷◌, ◌++◌, length, map, drop, get_or, refl, sym, ap, ◌∙◌, subst, arith, append_assoc}
 use Rattle.std.specs.Prelude.{Option, Some, None}
 use Rattle.std.specs.List.{filter}
 use Rattle.std.specs.Str.{bytes_eq}
@@ -16,58 +16,51 @@ use Rattle.jc_bulk.specs.Tallied.{pushed}
 abbrev pub keys_of : List Item → List (List ℕ)
 keys_of ring = map (λ x. x.key) ring
 
--- the row at an index, by its key
-pub record RowAt (ring : List Item) (i : ℕ) (k : List ℕ) : Type 0 where
-  pub row : Item
-  pub key_is : row.key ≡ k
-  pub here : drop i ring ≡ row ∷ drop (i + 1) ring
-  pub found : row_of k ring ≡ Some row
-
-lacks_found : (k : List ℕ) (ring : List Item) (x : Item) → Lacks k ring → row_of k ring ≡ Some x → ⊥
-lacks_found k [] x l e = cc
-lacks_found k (y ∷ ys) x l e = go (bytes_eq y.key k) (bytes_eq-Decides y.key k).0 e (lacks_found k ys x l.1)
-  where
-    go : (b : Bool) → (b ≡ true → y.key ≡ k) → cond b (Some y) (row_of k ys) ≡ Some x → (row_of k ys ≡ Some x → ⊥) → ⊥
-    go true d e ih = l.0 (d refl)
-    go false d e ih = ih e
+-- these rows stand in the ring as they are
+abbrev pub StillThere : List Item → List Item → Type 0
+StillThere [] ring = Unit {0}
+StillThere (x ∷ xs) ring = (row_of x.key ring ≡ Some x) × StillThere xs ring
 
 found_first : (y : Item) (ys : List Item) → row_of y.key (y ∷ ys) ≡ Some y
 found_first y ys = ap (λ b. cond b (Some y) (row_of y.key ys)) ((bytes_eq-Decides y.key y.key).1 refl)
 
-found_behind : (y : Item) (ys : List Item) (k : List ℕ) (x : Item) → Lacks y.key ys → row_of k ys ≡ Some x → row_of k (y ∷ ys) ≡ Some x
-found_behind y ys k x l e = go (bytes_eq y.key k) (bytes_eq-Decides y.key k).0
+pub found_past : (y : Item) (ys : List Item) (k : List ℕ) → k ≢ y.key → row_of k (y ∷ ys) ≡ row_of k ys
+found_past y ys k d = go (bytes_eq y.key k) (bytes_eq-Decides y.key k).0
   where
-    go : (b : Bool) → (b ≡ true → y.key ≡ k) → cond b (Some y) (row_of k ys) ≡ Some x
-    go true d = absurd (lacks_found k ys x (subst (λ q. Lacks q ys) (d refl) l) e)
-    go false d = e
+    go : (b : Bool) → (b ≡ true → y.key ≡ k) → cond b (Some y) (row_of k ys) ≡ row_of k ys
+    go true e = absurd (d (sym (e refl)))
+    go false e = refl
 
-pub row_at : (ring : List Item) (i : ℕ) (k : List ℕ) → HasDistinctKeys ring → i < length (keys_of ring) → k ≡ get_or (keys_of ring) i k → RowAt ring i k
-row_at [] i k d h e = absurd (omega (arith, h))
-row_at (y ∷ ys) zero k d h e = record {
-  row = y;
-  key_is = sym e;
-  here = refl;
-  found = subst (λ q. row_of q (y ∷ ys) ≡ Some y) (sym e) (found_first y ys);
-}
-row_at (y ∷ ys) (suc i) k d h e =
+past_all : (y : Item) (ys xs : List Item) → Lacks y.key xs → StillThere xs ys → StillThere xs (y ∷ ys)
+past_all y ys [] l s = tt
+past_all y ys (x ∷ xs) l s = (found_past y ys x.key l.0 ∙ s.0, past_all y ys xs l.1 s.1)
+
+pub all_there : (ring : List Item) → HasDistinctKeys ring → StillThere ring ring
+all_there [] d = tt
+all_there (y ∷ ys) d = (found_first y ys, past_all y ys ys d.0 (all_there ys d.1))
+
+-- the row at an index of the rows that are left, by its key
+pub record RowIn (whole left : List Item) (i : ℕ) (k : List ℕ) : Type 0 where
+  pub row : Item
+  pub key_is : row.key ≡ k
+  pub here : drop i left ≡ row ∷ drop (i + 1) left
+  pub found : row_of k whole ≡ Some row
+
+abbrev pub RowAt : List Item → ℕ → List ℕ → Type 0
+RowAt ring i k = RowIn ring ring i k
+
+row_in : (whole left : List Item) (i : ℕ) (k : List ℕ) → StillThere left whole → i < length (keys_of left) → k ≡ get_or (keys_of left) i k → RowIn whole left i k
+row_in whole [] i k s h e = absurd (omega (arith, h))
+row_in whole (y ∷ ys) zero k s h e = record { row = y; key_is = sym e; here = refl; found = ap (λ q. row_of q whole) e ∙ s.0 }
+row_in whole (y ∷ ys) (suc i) k s h e =
     let less : i < length (keys_of ys) = omega (arith, h) in
-    let behind : RowAt ys i k = row_at ys i k d.1 less e in
+    let behind : RowIn whole ys i k = row_in whole ys i k s.1 less e in
     let place : suc i + 1 ≡ suc (i + 1) = omega arith in
-    record {
-      row = behind.row;
-      key_is = behind.key_is;
-      here = behind.here ∙ ap (λ n. behind.row ∷ drop n (y ∷ ys)) (sym place);
-      found = found_behind y ys k behind.row d.0 behind.found;
-    }
+    record { row = behind.row; key_is = behind.key_is; here = behind.here ∙ ap (λ n. behind.row ∷ drop n (y ∷ ys)) (sym place); found = behind.found }
 
-drop-none : (i : ℕ) → drop {A = Item} i [] ≡ []
-drop-none zero = refl
-drop-none (suc i) = refl
-
-pub drop-all : (xs : List Item) (i : ℕ) → length (keys_of xs) ≤ i → drop i xs ≡ []
-drop-all [] i h = drop-none i
-drop-all (x ∷ xs) zero h = absurd (omega (arith, h))
-drop-all (x ∷ xs) (suc i) h = drop-all xs i (omega (arith, h))
+pub row_at : {keys : List (List ℕ)} (ring : List Item) (i : ℕ) (k : List ℕ) → HasDistinctKeys ring → keys ≡ keys_of ring → i < length keys → k ≡ get_or keys i k → RowAt ring i k
+row_at ring i k d same h e =
+    row_in ring ring i k (all_there ring d) (subst (λ (l : List (List ℕ)). i < length l) same h) (subst (λ (l : List (List ℕ)). k ≡ get_or l i k) same e)
 
 -- What is made of the rows that are left.
 

@@ -8,34 +8,12 @@ use Rattle.jc_model.specs.State.{Item, row_of, with_row, is_live, after_access}
 use Rattle.jc_model.specs.Changes.{Progress, hit, access}
 use Rattle.jc_model.specs.Sound.{Lacks, HasDistinctKeys}
 use Rattle.jc_model.specs.Whole.{touch_each}
-
--- these rows stand in the ring as they are
-abbrev pub StillThere : List Item → List Item → Type 0
-StillThere [] ring = Unit {0}
-StillThere (x ∷ xs) ring = (row_of x.key ring ≡ Some x) × StillThere xs ring
+use Rattle.jc_bulk.proofs.Rows.{StillThere, found_past, all_there}
 
 -- the rows that are left to be used, which no use so far has touched
 pub record AreLeft (left : List Item) (ring : List Item) : Type 0 where
   pub there : StillThere left ring
   pub apart : HasDistinctKeys left
-
-found_front : (y : Item) (ys : List Item) → row_of y.key (y ∷ ys) ≡ Some y
-found_front y ys = ap (λ b. cond b (Some y) (row_of y.key ys)) ((bytes_eq-Decides y.key y.key).1 refl)
-
-found_past : (y : Item) (ys : List Item) (k : List ℕ) → k ≢ y.key → row_of k (y ∷ ys) ≡ row_of k ys
-found_past y ys k d = go (bytes_eq y.key k) (bytes_eq-Decides y.key k).0
-  where
-    go : (b : Bool) → (b ≡ true → y.key ≡ k) → cond b (Some y) (row_of k ys) ≡ row_of k ys
-    go true e = absurd (d (sym (e refl)))
-    go false e = refl
-
-past_all : (y : Item) (ys xs : List Item) → Lacks y.key xs → StillThere xs ys → StillThere xs (y ∷ ys)
-past_all y ys [] l s = tt
-past_all y ys (x ∷ xs) l s = (found_past y ys x.key l.0 ∙ s.0, past_all y ys xs l.1 s.1)
-
-all_there : (ring : List Item) → HasDistinctKeys ring → StillThere ring ring
-all_there [] d = tt
-all_there (y ∷ ys) d = (found_front y ys, past_all y ys ys d.0 (all_there ys d.1))
 
 pub all_left : (ring : List Item) → HasDistinctKeys ring → AreLeft ring ring
 all_left ring d = record { there = all_there ring d; apart = d }

@@ -34,7 +34,7 @@ pub struct Provided {
 }
 
 /// What steps may need beside their values.
-#[derive(Clone, Copy, Debug, PartialEq, Eq)]
+#[derive(Clone, Copy)]
 pub struct Needs {
     /// Whether one may itself store a key that is not there.
     pub adds: bool,

@@ -1,11 +1,11 @@
 //! Every call on one cache: on one key, on many, and at once.
 #![tactic(auto)]
 
-pub mod bulk;
+mod bulk;
 pub mod call;
-pub mod entries;
-pub mod lists;
-pub mod provide;
-pub mod steps;
-pub mod tally;
+mod entries;
+mod lists;
+mod provide;
+mod steps;
+mod tally;
 pub mod waits;

@@ -149,6 +149,7 @@ pub fn prepare_answer<R: Rows, G: Ring>(
     ensures told { notices.new.told ≡ notices.old.told }
     ensures places { OnOk result (HasPlaces state.now.config (places_for bulk.entry.now.needs.tells (length bulk.entry.now.rest) + most_told (has_live bulk.entry.now.key.now bulk.entry.now.key.call.key state.now) bulk.entry.now.key.call.op) notices.new) }
     ensures room { OnOk result (HasRoom (adds_at (has_live bulk.entry.now.key.now bulk.entry.now.key.call.key state.now) state.now.config bulk.entry.now.key answer.now) (R.spare rows.new)) }
+    ensures asks { HasRoom (adds_at (has_live bulk.entry.now.key.now bulk.entry.now.key.call.key state.now) state.now.config bulk.entry.now.key answer.now) (R.spare rows.old) → (bulk.entry.now.needs.adds ≡ true → length bulk.entry.now.rest + 1 ≤ R.spare rows.old) → R.spare rows.new ≡ R.spare rows.old }
     ensures rest_room { OnOk result (bulk.entry.now.needs.adds ≡ true → length bulk.entry.now.rest + 1 ≤ R.spare rows.new) }
     ensures covers { IfOk result (λ s. CoversAnswer state.now.config bulk.entry.now.key answer.now (items_of state.now.cells) s) }
 {

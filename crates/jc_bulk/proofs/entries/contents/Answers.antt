@@ -1,4 +1,4 @@
-use Rattle.std.proofs.Common.{◌≡◌, ◌<◌, ◌+◌, ◌++◌, List, ℕ, length, get_or, drop, Option, ap, ◌∙◌, subst, arith}
+use Rattle.std.proofs.Common.{◌+◌, ◌++◌, List, ℕ, drop, Option, ap, ◌∙◌, arith}
 use Rattle.jc_model.specs.State.{Item}
 use Rattle.jc_model.specs.Whole.{contents}
 use Rattle.jc_state.specs.Kept.{items_of}
@@ -12,8 +12,7 @@ loop-key-preserved g c =
     let ring : List Item = items_of c.args.state.now.cells in
     let i : ℕ = c.loop-key.key-index in
     let key : List ℕ = c.key-item.result in
-    let row : RowAt ring i key =
-    row_at ring i key (tied_keys _ _ _ c.requires.tied) (subst (λ (l : List (List ℕ)). i < length l) c.requires.keys c.loop-key-test.true) (subst (λ (l : List (List ℕ)). key ≡ get_or l i key) c.requires.keys c.key-item.is) in
+    let row : RowAt ring i key = row_at ring i key (tied_keys _ _ _ c.requires.tied) c.requires.keys c.loop-key-test.true c.key-item.is in
     let left : List (List ℕ × List ℕ) = contents c.args.state.now.config c.args.now (drop (i + 1) ring) in
     record {
       listed =

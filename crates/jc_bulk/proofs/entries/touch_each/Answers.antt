@@ -1,4 +1,4 @@
-use Rattle.std.proofs.Common.{◌≡◌, ◌<◌, ◌+◌, List, [], ◌∷◌, ℕ, length, get_or, drop, refl, Some, sym, ap, ◌∙◌, subst}
+use Rattle.std.proofs.Common.{◌≡◌, ◌+◌, List, [], ◌∷◌, ℕ, drop, refl, Some, sym, ap, ◌∙◌, subst}
 use Rattle.jc_model.specs.State.{Item, row_of}
 use Rattle.jc_model.specs.Changes.{Progress, begun}
 use Rattle.jc_model.specs.Whole.{touch_each}
@@ -23,8 +23,7 @@ loop-key-preserved g c =
     let i : ℕ = c.loop-key.key-index in
     let key : List ℕ = c.key-item.result in
     let before : Progress = begun (state_of c.loop-key.state) in
-    let row : RowAt ring i key =
-    row_at ring i key (tied_keys _ _ _ c.requires.tied) (subst (λ (l : List (List ℕ)). i < length l) c.requires.keys c.loop-key-test.true) (subst (λ (l : List (List ℕ)). key ≡ get_or l i key) c.requires.keys c.key-item.is) in
+    let row : RowAt ring i key = row_at ring i key (tied_keys _ _ _ c.requires.tied) c.requires.keys c.loop-key-test.true c.key-item.is in
     let left : List Item = drop (i + 1) ring in
     let all : AreLeft (row.row ∷ left) (items_of c.loop-key.state.cells) = subst (λ (l : List Item). AreLeft l (items_of c.loop-key.state.cells)) row.here c.loop-key.invariant.left in
     let there : row_of key (items_of c.loop-key.state.cells) ≡ Some row.row = ap (λ k. row_of k (items_of c.loop-key.state.cells)) (sym row.key_is) ∙ all.there.0 in

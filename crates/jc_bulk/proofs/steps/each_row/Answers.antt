@@ -1,10 +1,10 @@
-use Rattle.std.proofs.Common.{◌≡◌, ◌<◌, ◌+◌, ◌++◌, ◌∷◌, [], List, ℕ, length, get_or, drop, if◌then◌else◌, refl, sym, ap, ◌∙◌, subst, append_assoc}
+use Rattle.std.proofs.Common.{◌≡◌, ◌+◌, ◌++◌, ◌∷◌, [], List, ℕ, drop, if◌then◌else◌, refl, sym, ap, ◌∙◌, append_assoc}
 use Rattle.jc_model.specs.declared.call.KeyCall.{KeyCall}
 use Rattle.jc_model.specs.declared.call.Op.TheVariants as op
 use Rattle.jc_model.specs.Bulk.{remove_each}
 use Rattle.jc_model.specs.State.{Item, is_live}
 use Rattle.jc_state.specs.Kept.{items_of, state_of}
-use Rattle.jc_bulk.proofs.Rows.{keys_of, RowAt, row_at, holds_row, removed_row}
+use Rattle.jc_bulk.proofs.Rows.{RowAt, row_at, holds_row, removed_row}
 use Rattle.jc_bulk.proofs.TiedKeys.{tied_keys}
 use Rattle.jc_bulk.proofs.steps.each_row.Goals as goal
 
@@ -13,9 +13,7 @@ loop-key-preserved g c =
     let ring : List Item = items_of c.args.state.now.cells in
     let i : ℕ = c.loop-key.key-index in
     let key : List ℕ = c.key-item.result in
-    let keys : c.deref-key-items.result.now ≡ keys_of ring = c.deref-key-items.ensures.value ∙ c.in_ok-keys.ensures.keys in
-    let row : RowAt ring i key =
-    row_at ring i key (tied_keys _ _ _ c.requires.tied) (subst (λ (l : List (List ℕ)). i < length l) keys c.loop-key-test.true) (subst (λ (l : List (List ℕ)). key ≡ get_or l i key) keys c.key-item.is) in
+    let row : RowAt ring i key = row_at ring i key (tied_keys _ _ _ c.requires.tied) (c.deref-key-items.ensures.value ∙ c.in_ok-keys.ensures.keys) c.loop-key-test.true c.key-item.is in
     let live : c.holds.result ≡ is_live c.args.now row.row = c.holds.ensures ∙ holds_row c.args.now ring i key row c.args.state.now.config (state_of c.args.state.now) refl in
     let op_is : c.removal-op.result ≡ (if is_live c.args.now row.row then op.Remove else op.Expire) = c.removal-op.ensures ∙ ap (λ b. if b then op.Remove else op.Expire) live in
     let call : KeyCall = record { key = key; op = c.removal-op.result } in
