@@ -1,5 +1,5 @@
 -- How many requests a call can make, whatever they are answered.
-use Rattle.std.proofs.Common.{◌≡◌, ℕ, ◌+◌, ◌-◌, ◌<◌, true, false, List, [], ◌∷◌, length, Option, Some, None, refl, ap, arith}
+use Rattle.std.proofs.Common.{◌≡◌, ℕ, ◌+◌, ◌-◌, ◌<◌, List, [], ◌∷◌, length, Option, Some, None, arith}
 use Rattle.std.specs.List.{flat_map}
 use Rattle.std.proofs.lemmas.Bool.{false≢true}
 use Rattle.jc_model.specs.declared.call.Answer.{Answer}
@@ -10,9 +10,9 @@ use Rattle.jc_model.specs.declared.event.Entry.{Entry}
 use Rattle.jc_model.specs.declared.event.Outcome.TheVariants.{Step as Stepped}
 use Rattle.jc_model.specs.declared.event.Step.TheVariants.{Need}
 use Rattle.jc_model.specs.State.{State}
-use Rattle.jc_model.specs.Changes.{Progress, begun}
+use Rattle.jc_model.specs.Changes.{begun}
 use Rattle.jc_model.specs.Run.{Run, ended, waiting, answered}
-use Rattle.jc_model.specs.Whole.{Plan, one, many, at_once, plan, asked_by, whole}
+use Rattle.jc_model.specs.Whole.{plan, asked_by, whole}
 use Rattle.jc_model.specs.Runs.{Status, Standing, idle, busy, shown}
 use Rattle.jc_model.specs.Legal.{Fits}
 use Rattle.jc_model.specs.Everywhere.{Within}

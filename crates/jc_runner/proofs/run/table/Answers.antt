@@ -1,4 +1,4 @@
-use Rattle.std.proofs.Common.{◌≡◌, refl, arith}
+use Rattle.std.proofs.Common.{refl, arith}
 use Rattle.jc_place.specs.Place.{IsTableSize}
 use Rattle.jc_runner.proofs.run.table.Goals as goal
 
