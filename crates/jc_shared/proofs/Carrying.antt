@@ -1,11 +1,14 @@
 -- A call from its begin to its entry in the session's list.
-use Rattle.std.proofs.Common.{◌≡◌, ℕ, ◌<◌, List, [], ◌∷◌, ◌++◌, length, Option, Some, None, Result, Ok, Err, inr, refl, sym, ◌∙◌, ap, subst}
-use Rattle.std.specs.Prelude.{slice_get, MatchResult, IfOk, IfErr}
+use Rattle.std.proofs.Common.{◌≡◌, ℕ, ◌<◌, List, [], ◌∷◌, ◌++◌, length, true, Option, Some, None, Result, Ok, Err, inr, refl, sym, ◌∙◌, ap, subst}
+use Rattle.std.specs.Prelude.{slice_get, is_err, OnErr, MatchResult, IfOk, IfErr}
 use Rattle.std.proofs.lemmas.List.Elements.{All-nil, All-push}
 use Rattle.std.proofs.lemmas.Option.{slice_get_within}
 use Rattle.jc_model.specs.declared.call.Answer.{Answer}
 use Rattle.jc_model.specs.declared.call.Call.{Call}
+use Rattle.jc_model.specs.declared.call.Notice.{Notice}
 use Rattle.jc_model.specs.declared.call.Reply.{Reply}
+use Rattle.jc_model.specs.declared.call.Request.{Request}
+use Rattle.jc_model.specs.declared.call.Request.TheVariants.{Load, Write, Delete, Process, Tell}
 use Rattle.jc_model.specs.declared.config.CacheConfig.{CacheConfig}
 use Rattle.jc_model.specs.declared.event.End.{End}
 use Rattle.jc_model.specs.declared.event.End.TheVariants as ends
@@ -16,6 +19,9 @@ use Rattle.jc_shared.specs.declared.fault.CallFault.TheVariants as faults
 use Rattle.jc_shared.specs.declared.turned.Turned.{Turned}
 use Rattle.jc_shared.specs.declared.turned.Turned.TheVariants.{Asked, Replied}
 use Rattle.jc_shared.specs.Asking.{AsksOf}
+use Rattle.jc_hooks.specs.Asking.{states_after}
+use Rattle.jc_shared.specs.declared.hooks.LockedHooks.{LockedHooks}
+use Rattle.jc_shared.specs.Serving.{told_behind, TellsOnce, Tells, TellsOn, Serves}
 use Rattle.jc_shared.specs.Stated.{Stated, AreStated, IsStatedBy}
 use Rattle.jc_shared.specs.Calls.{Own, Stands, called, IsSameCall, HasEnded, Stays, EndsFaulty, GoesOn, Adds, AddsWaiting, Fails, refusal_in, call_refusal}
 
@@ -34,11 +40,40 @@ no_answers h call answers none = subst (AreStated h call) (sym none) (All-nil (I
 pub one_more_answer : (h : Option Stated) (call : Call) (answers : List Answer) (a : Answer) → AreStated h call answers → IsStatedBy h call a → AreStated h call (answers ++ a ∷ [])
 one_more_answer h call answers a s is = All-push (IsStatedBy h call) answers a s is
 
+pub on_err : {A E P : Type 0} (r : Result A E) → OnErr r P → is_err r ≡ true → P
+on_err (Ok x) p err = absurd cc
+on_err (Err e) p err = p
+
+-- What the listeners were told, from one moment to the next.
+module _ {W K : Type 0} (state_after : K → List Notice → List ℕ) where
+  -- they were not told anything
+  pub tells_nothing : (old new : LockedHooks W K) (told told' : List Notice) → new.listeners ≡ old.listeners → told' ≡ told → TellsOn state_after old new told told'
+  tells_nothing old new told told' same same' = λ first h rest.
+      ap (λ ks. states_after state_after ks.items rest) same ∙ h rest ∙ ap (λ (ns : List Notice). states_after state_after first.listeners.items (ns ++ rest)) (sym same')
+
+  -- they were told the first notices of the call
+  pub tells_first : (old new : LockedHooks W K) (told told' : List Notice) → told ≡ [] → Tells state_after old new told' → TellsOn state_after old new told told'
+  tells_first old new told told' none now = λ first h rest.
+      now rest ∙ h (told' ++ rest) ∙ ap (λ (ns : List Notice). states_after state_after first.listeners.items (ns ++ (told' ++ rest))) none
+
+  -- by a request
+  pub served_on : (may : W → List (Request × Answer) → Type 0) (old new : LockedHooks W K) (q : Request) (a : Answer) (told : List Notice) → TellsOnce q told → Serves may state_after old new q a → TellsOn state_after old new told (told_behind q told)
+  served_on may old new (Tell notices) a told once s = tells_first old new told notices once s.0
+  served_on may old new (Write key value) a told once s = tells_nothing old new told told s.1 refl
+  served_on may old new (Delete key) a told once s = tells_nothing old new told told s.1 refl
+  served_on may old new (Load key) a told once s = tells_nothing old new told told (ap (λ (h : LockedHooks W K). h.listeners) s) refl
+  served_on may old new (Process key n value argument) a told once s = tells_nothing old new told told (ap (λ (h : LockedHooks W K). h.listeners) s) refl
+
+-- a tenure tells nothing
+pub goes_untold : (configs : List CacheConfig) (d e : Entry) (turned : Turned) → GoesOn configs d turned e → e.told ≡ d.told
+goes_untold configs d e (Asked q) goes = ap (λ (x : Entry). x.told) goes.0
+goes_untold configs d e (Replied r) goes = ap (λ (x : Entry). x.told) goes.0
+
 -- the answer that the draft was given
-pub noted_waits : (stated : List Stated) (d told d' : Entry) (a : Answer) → told ≡ record d { told = told.told } → d' ≡ record told { answers = told.answers ++ a ∷ [] } → d.end ≡ ends.Waiting → AreStated (slice_get stated d.id) d.call d.answers
+pub noted_waits : (stated : List Stated) (d told d' : Entry) (notices : List Notice) (a : Answer) → told ≡ record d { told = notices } → d' ≡ record told { answers = told.answers ++ a ∷ [] } → d.end ≡ ends.Waiting → AreStated (slice_get stated d.id) d.call d.answers
     → IsStatedBy (slice_get stated d.id) d.call a → (d'.end ≡ ends.Waiting) × AreStated (slice_get stated d'.id) d'.call d'.answers
-noted_waits stated d told d' a kept noted waits answered is =
-    let same : d' ≡ record d { told = told.told; answers = d.answers ++ a ∷ [] } = noted ∙ ap (λ (e : Entry). record e { answers = e.answers ++ a ∷ [] }) kept in (
+noted_waits stated d told d' notices a kept noted waits answered is =
+    let same : d' ≡ record d { told = notices; answers = d.answers ++ a ∷ [] } = noted ∙ ap (λ (e : Entry). record e { answers = e.answers ++ a ∷ [] }) kept in (
       ap (λ (e : Entry). e.end) same ∙ waits,
       subst (λ (e : Entry). AreStated (slice_get stated e.id) e.call e.answers) (sym same) (one_more_answer (slice_get stated d.id) d.call d.answers a answered is),
     )

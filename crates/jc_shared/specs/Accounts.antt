@@ -62,3 +62,8 @@ IsFault given logs transcript StillOpen = AreGiven given logs × (NoneWaits tran
 IsFault given logs transcript (Differs session place) =
     AreGiven given logs × NoneWaits transcript × DiffersFirst transcript logs session place
 IsFault given logs transcript OutOfMemory = ⊥
+
+-- why a manager that is not closed yet does not close
+abbrev pub IsCloseFault : ℕ → List Own → List Entry → CloseFault → Type 0
+IsCloseFault given logs transcript OutOfMemory = Accounts given logs transcript
+IsCloseFault given logs transcript fault = IsFault given logs transcript fault

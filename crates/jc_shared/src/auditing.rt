@@ -122,10 +122,8 @@ fn none_waits(entries: &[Entry]) -> bool
 fn past<'a>(own: &'a [Entry], entry: &Entry) -> Option<&'a [Entry]>
     ensures { MatchOption result (slice_get own.now 0 ≢ Some entry.now) (λ rest. own.now ≡ entry.now ∷ rest.now) }
 {
-    match own.split_first() {
-        Some((first, rest)) => { if first.same(entry) { Some(rest) } else { None } }
-        None => None,
-    }
+    let (first, rest) = own.split_first()?;
+    if first.same(entry) { Some(rest) } else { None }
 }
 
 /// The first place at which a session's entries and this list part.

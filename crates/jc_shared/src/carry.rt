@@ -1,11 +1,11 @@
 //! Carrying an open call on: each request is answered outside the engine's lock, each answer goes in under it.
-ghost use Rattle.std.specs.Prelude.{◌≡◌, ◌<◌, ◌++◌, ◌∷◌, [], List, IsTrue, IfOk, OnOk, OnErr, MatchResult, length, slice_get};
+ghost use Rattle.std.specs.Prelude.{◌≡◌, ◌<◌, ◌++◌, ◌∷◌, [], List, false, IsTrue, IfOk, OnOk, OnErr, MatchResult, length, slice_get};
 ghost use Rattle.jc_model.specs.declared.call.Answer.{Answer as Given};
 ghost use Rattle.jc_model.specs.declared.event.End.TheVariants.{Waiting};
 ghost use Rattle.jc_model.specs.Run.{is_answer_to};
 ghost use Rattle.jc_shared.specs.Asking.{AsksOf};
 ghost use Rattle.jc_shared.specs.Calls.{IsSameCall, Stays, EndsFaulty};
-ghost use Rattle.jc_shared.specs.Serving.{Serves, Tells as TellsOf};
+ghost use Rattle.jc_shared.specs.Serving.{Serves, TellsOn, TellsOnce, told_behind};
 ghost use Rattle.jc_shared.specs.declared.turned.Turned.TheVariants.{Asked, Replied};
 ghost use Rattle.jc_shared.specs.Stated.{IsStatedBy, AreStated};
 
@@ -40,9 +40,19 @@ fn take_back(draft: &mut Entry)
     draft.answers.pop();
 }
 
+/// Whether a request tells notices of a call that has told its notices.
+fn tells_again(draft: &Entry, request: &Request) -> bool
+    ensures { result ≡ false → TellsOnce request.now draft.now.told }
+{
+    match request {
+        Request::Tell(_) => !draft.told.items().is_empty(),
+        _ => false,
+    }
+}
+
 /// Keeps the notices that a request tells.
 fn keep_told(draft: &mut Entry, request: Request)
-    ensures { draft.new ≡ record draft.old { told = draft.new.told } }
+    ensures { draft.new ≡ record draft.old { told = told_behind request draft.old.told } }
 {
     match request {
         Request::Tell(notices) => draft.told = notices,
@@ -63,6 +73,7 @@ impl<N: Name, L: Loader, W: Writer, P: Processor, K: Listener> Manager<N, L, W, 
         ensures fits { IfOk result (λ a. IsTrue (is_answer_to request.now a)) }
         ensures stated { IfOk result (λ a. IsStatedBy (slice_get N.stated draft.now.id) draft.now.call a) }
         ensures served { IfOk result (λ a. Serves W.may K.state_after hooks.old hooks.new request.now a) }
+        ensures untold { OnErr result (hooks.new.listeners ≡ hooks.old.listeners) }
     {
         let alloc = self.alloc;
         let shared = &self.shared[draft.id.number() as usize];
@@ -101,7 +112,11 @@ impl<N: Name, L: Loader, W: Writer, P: Processor, K: Listener> Manager<N, L, W, 
         requires asked { Stays N.configs N.stated (Asked request) draft.old }
         ensures same { IsSameCall draft.old draft.new }
         ensures brought { MatchResult result (λ turned. Stays N.configs N.stated turned draft.new) (λ fault. EndsFaulty N.configs N.stated fault draft.new) }
+        ensures told { TellsOn K.state_after hooks.old hooks.new draft.old.told draft.new.told }
     {
+        if tells_again(draft, &request) {
+            return Err(CallFault::Overtaken);
+        }
         let Ok(answer) = self.answer(hooks, draft, &request) else {
             return Err(self.give_up(rt, hooks, draft));
         };
@@ -132,6 +147,7 @@ impl<N: Name, L: Loader, W: Writer, P: Processor, K: Listener> Manager<N, L, W, 
         requires begun { Stays N.configs N.stated begun draft.old }
         ensures same { IsSameCall draft.old draft.new }
         ensures ends { MatchResult result (λ reply. Stays N.configs N.stated (Replied reply) draft.new) (λ fault. EndsFaulty N.configs N.stated fault draft.new) }
+        ensures told { TellsOn K.state_after hooks.old hooks.new draft.old.told draft.new.told }
     {
         let mut turned = begun;
         for _ in rt.forever() {
@@ -154,7 +170,7 @@ impl<N: Name, L: Loader, W: Writer, P: Processor, K: Listener> Manager<N, L, W, 
         requires answered { AreStated (slice_get N.stated draft.old.id) draft.old.call draft.old.answers }
         ensures same { IsSameCall draft.old draft.new }
         ensures ends { EndsFaulty N.configs N.stated result draft.new }
-        ensures told { (draft.old.told ≡ []) → TellsOf W.may K.state_after hooks.old hooks.new draft.new.told }
+        ensures told { TellsOn K.state_after hooks.old hooks.new draft.old.told draft.new.told }
     {
         let untold = draft.told.items().is_empty();
         let given_up = self.locked.lock(rt).give_up(draft);

@@ -6,7 +6,7 @@ ghost use Rattle.jc_model.specs.Legal.{IsLegal};
 ghost use Rattle.jc_engine.specs.Recording.{blank};
 ghost use Rattle.jc_engine.specs.Caches.{configs_of, status_of};
 ghost use Rattle.jc_engine.specs.Results.{reply_in};
-ghost use Rattle.jc_shared.specs.Accounts.{Accounts};
+ghost use Rattle.jc_shared.specs.Accounts.{Accounts, IsCloseFault};
 ghost use Rattle.jc_shared.specs.Admitting.{Admits};
 ghost use Rattle.jc_shared.specs.Calls.{Stands, GoesOn, call_refusal};
 ghost use Rattle.jc_shared.specs.Finding.{fault_of, IsOfCall, IsOpenFor, StandsAt, Turns, IsReplied};
@@ -244,6 +244,8 @@ impl<N: Name> Locked<N> {
     pub(crate) fn finish<S: Logged>(&mut self, logs: &[S]) -> Result<Transcript, CloseFault>
         ensures legal { IfOk result (λ t. IsLegal N.configs t) }
         ensures accounts { IfOk result (λ t. Accounts self.old.given (map S.log logs.now) t) }
+        ensures whole { IfOk result (λ t. t ≡ self.old.recorded.transcript) }
+        ensures fault { self.old.closed ≡ false → IfErr result (λ f. IsCloseFault self.old.given (map S.log logs.now) self.old.recorded.transcript f) }
         ensures closed { OnOk result ((self.old.closed ≡ false) × (self.new.closed ≡ true)) }
         ensures again { self.old.closed ≡ true → result ≡ Err CloseFault.Missing }
         ensures same { OnErr result (self.new ≡ self.old) }

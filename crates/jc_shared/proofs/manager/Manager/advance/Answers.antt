@@ -1,10 +1,21 @@
-use Rattle.std.proofs.Common.{sym, ◌∙◌}
+use Rattle.std.proofs.Common.{◌≡◌, List, sym, ◌∙◌, ap, subst}
+use Rattle.jc_model.specs.declared.call.Notice.{Notice}
+use Rattle.jc_model.specs.declared.event.Entry.{Entry}
+use Rattle.jc_shared.specs.Serving.{told_behind, Tells}
 use Rattle.jc_engine.proofs.Recordings.{on_ok}
-use Rattle.jc_shared.proofs.Carrying.{noted_waits, goes_stays}
+use Rattle.jc_shared.proofs.Carrying.{on_err, served_on, noted_waits, goes_stays}
 use Rattle.jc_shared.proofs.manager.Manager.advance.Goals as goal
 
 pub returns-in-Ok-resumed-clause-brought : goal.returns-in-Ok-resumed-clause-brought
 returns-in-Ok-resumed-clause-brought g c =
     let noted = on_ok c.note_answer.result c.note_answer.ensures.ok (sym c.is_err.ensures.value ∙ c.if-is_err.false) in
     goes_stays g.N.Name.configs g.N.Name.stated c.note_answer.new.draft c.resume-resumed.new.draft c.in-Ok-resumed.turned c.in-Ok-resumed.ensures.ok
-    (noted_waits g.N.Name.stated c.args.draft.now c.keep_told.new.draft c.note_answer.new.draft c.in-Ok.answer c.keep_told.ensures noted c.requires.asked.waits c.requires.asked.answered c.in-Ok.ensures.stated)
+    (noted_waits g.N.Name.stated c.args.draft.now c.keep_told.new.draft c.note_answer.new.draft (told_behind c.args.request c.args.draft.now.told) c.in-Ok.answer c.keep_told.ensures noted c.requires.asked.waits c.requires.asked.answered c.in-Ok.ensures.stated)
+
+pub returns-then-is_err-clause-told : goal.returns-then-is_err-clause-told
+returns-then-is_err-clause-told g c =
+    let told = told_behind c.args.request c.args.draft.now.told in
+    let same : c.note_answer.new.draft ≡ c.keep_told.new.draft = on_err c.note_answer.result c.note_answer.ensures.err (sym c.is_err.ensures.value ∙ c.if-is_err.true) in
+    let kept : c.note_answer.new.draft.told ≡ told = ap (λ (e : Entry). e.told) same ∙ ap (λ (e : Entry). e.told) c.keep_told.ensures in
+    let served = served_on g.K.Listener.state_after g.W.Writer.may c.args.hooks.now c.answer.new.hooks c.args.request c.in-Ok.answer c.args.draft.now.told (c.tells_again.ensures c.if-tells_again.false) c.in-Ok.ensures.served in
+    λ first h. c.give_up-then-is_err.ensures.told first (subst (λ (ns : List Notice). Tells g.K.Listener.state_after first c.answer.new.hooks ns) (sym kept) (served first h))
