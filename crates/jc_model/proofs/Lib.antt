@@ -1,6 +1,7 @@
 pub mod Ring
 pub mod Everywhere
 pub mod Law
+pub mod Asking
 pub mod Rings
 pub mod Sound
 pub mod Keeps

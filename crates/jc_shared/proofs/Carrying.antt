@@ -18,7 +18,7 @@ use Rattle.jc_shared.specs.declared.fault.CallFault.{CallFault}
 use Rattle.jc_shared.specs.declared.fault.CallFault.TheVariants as faults
 use Rattle.jc_shared.specs.declared.turned.Turned.{Turned}
 use Rattle.jc_shared.specs.declared.turned.Turned.TheVariants.{Asked, Replied}
-use Rattle.jc_shared.specs.Asking.{AsksOf}
+use Rattle.jc_model.specs.Asking.{AsksOf}
 use Rattle.jc_hooks.specs.Asking.{states_after}
 use Rattle.jc_shared.specs.declared.hooks.LockedHooks.{LockedHooks}
 use Rattle.jc_shared.specs.Serving.{told_behind, TellsOnce, Tells, TellsOn, Serves}

@@ -1,5 +1,3 @@
-pub mod Walking
-pub mod Asking
 pub mod Last
 pub mod Tenures
 pub mod Comparing

@@ -29,13 +29,13 @@ use Rattle.jc_model.proofs.Legal.{configs_after}
 use Rattle.jc_engine.specs.Caches.{Cache, status_of, configs_of}
 use Rattle.jc_engine.specs.Recording.{HasOpen, blank}
 use Rattle.jc_engine.proofs.Places.{map_map}
-use Rattle.jc_shared.specs.Asking.{AsksOf, AsksIn}
+use Rattle.jc_model.specs.Asking.{AsksOf, AsksIn}
 use Rattle.jc_shared.specs.declared.fault.CallFault.TheVariants as faults
 use Rattle.jc_shared.specs.declared.turned.Turned.{Turned}
 use Rattle.jc_shared.specs.declared.turned.Turned.TheVariants.{Asked, Replied}
 use Rattle.jc_shared.specs.Calls.{Stands, GoesOn, refusal_in, call_refusal}
 use Rattle.jc_shared.specs.Finding.{fault_of, IsOpenFor, StandsAt, Turns, IsReplied}
-use Rattle.jc_shared.proofs.Asking.{whole_asks}
+use Rattle.jc_model.proofs.Asking.{whole_asks}
 use Rattle.jc_shared.proofs.Last.{open_last, open_stands, changed_last, added_last}
 
 -- no event changes a configuration

@@ -14,7 +14,7 @@ use Rattle.jc_shared.specs.declared.fault.CallFault.{CallFault}
 use Rattle.jc_shared.specs.declared.fault.CallFault.TheVariants.{NoSuchCache, NoSuchProcessor, Busy, Overtaken, OutOfMemory}
 use Rattle.jc_shared.specs.declared.turned.Turned.{Turned}
 use Rattle.jc_shared.specs.declared.turned.Turned.TheVariants.{Asked, Replied}
-use Rattle.jc_shared.specs.Asking.{AsksOf}
+use Rattle.jc_model.specs.Asking.{AsksOf}
 use Rattle.jc_shared.specs.Stated.{Stated, AreStated}
 
 -- why a call can't begin, by the configurations alone

@@ -1,5 +1,4 @@
 pub mod Stated
-pub mod Asking
 pub mod Calls
 pub mod Accounts
 pub mod Opening

@@ -10,7 +10,7 @@ use Rattle.jc_hooks.specs.Answers.{load_answer_of}
 use Rattle.jc_hooks.specs.declared.cache_hooks.CacheHooks.{CacheHooks}
 use Rattle.jc_hooks.specs.declared.loader.Loaded.{Loaded}
 use Rattle.jc_shared.specs.declared.hooks.SharedHooks.{SharedHooks}
-use Rattle.jc_shared.specs.Asking.{IsKeyOf, invoked_by}
+use Rattle.jc_model.specs.Asking.{IsKeyOf, invoked_by}
 
 -- the loader's answer by the key, and each processor's by value and argument
 pub record Stated : Type 0 where

@@ -3,7 +3,7 @@ ghost use Rattle.std.specs.Prelude.{◌≡◌, ◌<◌, ◌++◌, ◌∷◌, [],
 ghost use Rattle.jc_model.specs.declared.call.Answer.{Answer as Given};
 ghost use Rattle.jc_model.specs.declared.event.End.TheVariants.{Waiting};
 ghost use Rattle.jc_model.specs.Run.{is_answer_to};
-ghost use Rattle.jc_shared.specs.Asking.{AsksOf};
+ghost use Rattle.jc_model.specs.Asking.{AsksOf};
 ghost use Rattle.jc_shared.specs.Calls.{IsSameCall, Stays, EndsFaulty};
 ghost use Rattle.jc_shared.specs.Serving.{Serves, TellsOn, TellsOnce, told_behind};
 ghost use Rattle.jc_shared.specs.declared.turned.Turned.TheVariants.{Asked, Replied};

@@ -1,4 +1,4 @@
--- What a call asks of loader and processors.
+-- What a whole call asks of loader and processors.
 use Rattle.std.specs.Prelude.{◌≡◌, ℕ, List, [], ◌∷◌, map, Option, Some, None, ⊤}
 use Rattle.std.specs.List.{Contains}
 use Rattle.jc_model.specs.declared.call.Call.{Call}
