@@ -1,5 +1,5 @@
 //! A value with the copies that its storing takes.
-ghost use Rattle.std.specs.Prelude.{◌≡◌, ◌<◌, Some, IfOk, option_map};
+ghost use Rattle.std.specs.Prelude.{◌≡◌, ◌<◌, Some, None, IfOk, option_map};
 ghost use Rattle.jc_state.specs.Noted.{IsTold, StoredIsTold};
 
 use jc_model::OutOfMemory;
@@ -19,6 +19,7 @@ impl Stored {
     fn of(config: &CacheConfig, value: &Value) -> Result<Stored, OutOfMemory>
         ensures value { IfOk result (λ s. s.value ≡ value.now) }
         ensures told { IfOk result (λ s. IsTold config.now s) }
+        ensures spared { IfOk result (λ s. config.now.listeners ≡ 0 → s.told ≡ None) }
     {
         let stored = Thrice::of(value)?;
         if config.listeners > 0 {
