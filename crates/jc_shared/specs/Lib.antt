@@ -1,5 +1,6 @@
 pub mod Stated
 pub mod Asking
+pub mod Sessions
 pub mod Calls
 pub mod Accounts
 pub mod Opening
