@@ -27,7 +27,7 @@ pub state_is : (c : CacheConfig) (p : Progress) (turn : Option (Awaited × Wait)
 state_is c p None = refl
 state_is c p (Some w) = refl
 
-state_at : (caches : List Cache) (id : ℕ) → slice_get (states_of (map status_of caches)) id ≡ option_map (λ (k : Cache). k.progress.state) (slice_get caches id)
+pub state_at : (caches : List Cache) (id : ℕ) → slice_get (states_of (map status_of caches)) id ≡ option_map (λ (k : Cache). k.progress.state) (slice_get caches id)
 state_at caches id =
     slice_get-map (λ (k : Status). state_of k.standing) (map status_of caches) id
     ∙ (ap (option_map (λ (k : Status). state_of k.standing)) (slice_get-map status_of caches id) ∙ by (slice_get caches id))

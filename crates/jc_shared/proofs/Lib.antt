@@ -1,6 +1,7 @@
 pub mod Walking
 pub mod Asking
 pub mod Last
+pub mod Showing
 pub mod Tenures
 pub mod Comparing
 pub mod Carrying

@@ -12,6 +12,6 @@ invariant_of-self g c =
 pub returns-in-Ok-clause-ok : goal.returns-in-Ok-clause-ok
 returns-in-Ok-clause-ok g c =
     ok_then c.settle.result
-    (λ t h. resumed_goes_on g.N.Name.configs (map status_of c.args.self.now.recorded.caches) c.args.self.now.recorded.transcript c.resume.new.self.transcript c.args.draft.now c.settle.new.draft c.in-Some.place c.in-Some.ensures
-    c.args.answer c.in-Ok.pair.0 t _ h.0 h.1 (c.in-Ok.ensures.transcript c.args.draft.now.session) c.in-Ok.ensures.outcome)
+    (λ t h. resumed_goes_on g.N.Name.configs (map status_of c.args.self.now.recorded.caches) c.args.self.now.recorded.transcript c.resume.new.self.transcript c.args.draft.now c.settle.new.draft c.show_reply.new.pass c.in-Some.place c.in-Some.ensures
+    c.args.answer c.in-Ok.pair.0 t _ h.0 h.1 c.show_reply.ensures.sees (c.in-Ok.ensures.transcript c.args.draft.now.session) c.in-Ok.ensures.outcome)
     c.settle.ensures.ok
