@@ -16,18 +16,18 @@ use Rattle.jc_index.specs.Found.{found, first_seen, answer}
 use Rattle.jc_index.proofs.Found.{seen_some, seen_none, got}
 use Rattle.jc_shared.specs.Sessions.{Sight, Sees}
 
-met_shows : {A E P R : Type 0} (r : Result A E) (m : Bool) → OnOk r (P × (m ≡ true)) → OnErr r (R × (m ≡ false)) → m ≡ true → P
-met_shows (Ok x) m met refused is = met.0
-met_shows (Err e) m met refused is = absurd cc
-
 -- a pass that has met the table, or was refused
-pub met_sees : {A E R : Type 0} (configs : List CacheConfig) (caches : List Cache) (transcript : List Entry) (pass : Sight) (r : Result A E) → configs_of caches ≡ configs → Tells transcript (map status_of caches)
-    → OnOk r (ShowsStates (states_of (map status_of caches)) (last_image pass.images) × (pass.met ≡ true)) → OnErr r (R × (pass.met ≡ false)) → Sees configs transcript pass
-met_sees configs caches transcript pass r named tells met refused = record {
+pub met_shows : {A E P : Type 0} (R : Type 0) (r : Result A E) (m : Bool) → OnOk r (P × (m ≡ true)) → OnErr r (R × (m ≡ false)) → m ≡ true → P
+met_shows R (Ok x) m met refused is = met.0
+met_shows R (Err e) m met refused is = absurd cc
+
+pub sees : (configs : List CacheConfig) (caches : List Cache) (transcript : List Entry) (pass : Sight) → configs_of caches ≡ configs → Tells transcript (map status_of caches)
+    → (pass.met ≡ true → ShowsStates (states_of (map status_of caches)) (last_image pass.images)) → Sees configs transcript pass
+sees configs caches transcript pass named tells shows = record {
   statuses = map status_of caches;
   configs_are = map_map (λ (k : Status). k.config) status_of caches ∙ named;
   tells = tells;
-  shows = met_shows r pass.met met refused;
+  shows = shows;
 }
 
 -- whether a row is live, by when it expires
@@ -49,30 +49,31 @@ there (x ∷ xs) zero s at = ap Some at
 there (x ∷ xs) (suc i) s at = there xs i s at
 
 -- where the image tells whether a cache has a live row, it has one or not
-pub has_agrees : (caches : List Cache) (image : Image) (id : ℕ) (key : List ℕ) (now : ℕ) (b : Bool) → ShowsStates (states_of (map status_of caches)) image → found image id key now ≡ Some b → holds_in now key (slice_get caches id) ≡ b
-has_agrees caches image id key now b shows is = by (first_seen id key now image.slots) refl is
-  where
-    abbrev expires : Option Expiry
-    expires = expiry_at key (slice_get (states_of (map status_of caches)) id)
+module _ (caches : List Cache) (image : Image) (id : ℕ) (key : List ℕ) (now : ℕ) (b : Bool) (shows : ShowsStates (states_of (map status_of caches)) image) where
+  abbrev expires : Option Expiry
+  expires = expiry_at key (slice_get (states_of (map status_of caches)) id)
 
-    holds : holds_in now key (slice_get caches id) ≡ lives_by now expires
-    holds = holds_by now key (slice_get caches id) ∙ ap (λ o. lives_by now (expiry_at key o)) (sym (state_at caches id))
+  holds : holds_in now key (slice_get caches id) ≡ lives_by now expires
+  holds = holds_by now key (slice_get caches id) ∙ ap (λ o. lives_by now (expiry_at key o)) (sym (state_at caches id))
 
-    unseen : (e : Option Expiry) → expires ≡ e → first_seen id key now image.slots ≡ None → image.stash ≡ 0 → lives_by now e ≡ false
-    unseen None here none empty = refl
-    unseen (Some e) here none empty =
-        let placed = shows.whole empty id key e here in
-        absurd (seen_none id key now image.slots none placed.0 ((id, key), e) (there image.slots placed.0 ((id, key), e) placed.1) refl refl)
+  unseen : (e : Option Expiry) → expires ≡ e → first_seen id key now image.slots ≡ None → image.stash ≡ 0 → lives_by now e ≡ false
+  unseen None here none empty = refl
+  unseen (Some e) here none empty =
+      let placed = shows.whole empty id key e here in
+      absurd (seen_none id key now image.slots none placed.0 ((id, key), e) (there image.slots placed.0 ((id, key), e) placed.1) refl refl)
 
-    by_stash : (empty : Bool) → (image.stash == 0) ≡ empty → first_seen id key now image.slots ≡ None → (if empty then Some false else None) ≡ Some b → holds_in now key (slice_get caches id) ≡ b
-    by_stash true e none is = let no : false ≡ b = cc in holds ∙ (unseen expires refl none (eqb-true image.stash 0 e) ∙ no)
-    by_stash false e none is = absurd cc
+  by_stash : (empty : Bool) → (image.stash == 0) ≡ empty → first_seen id key now image.slots ≡ None → (if empty then Some false else None) ≡ Some b → holds_in now key (slice_get caches id) ≡ b
+  by_stash true e none is = let no : false ≡ b = cc in holds ∙ (unseen expires refl none (eqb-true image.stash 0 e) ∙ no)
+  by_stash false e none is = absurd cc
 
-    by : (x : Option Bool) → first_seen id key now image.slots ≡ x → answer x image.stash ≡ Some b → holds_in now key (slice_get caches id) ≡ b
-    by None none is = by_stash (image.stash == 0) refl none is
-    by (Some x) some is =
-        let same : x ≡ b = cc in
-        let s = seen_some id key now image.slots x some in
-        let placed = shows.placed s.place s.row (got image.slots s.place (Some s.row) s.at) in
-        let here : expires ≡ Some s.row.1 = (λ i. expiry_at (sym s.text i) (slice_get (states_of (map status_of caches)) (sym s.number i))) ∙ placed in
-        holds ∙ (ap (lives_by now) here ∙ (s.lives ∙ same))
+  by_seen : (x : Option Bool) → first_seen id key now image.slots ≡ x → answer x image.stash ≡ Some b → holds_in now key (slice_get caches id) ≡ b
+  by_seen None none is = by_stash (image.stash == 0) refl none is
+  by_seen (Some x) some is =
+      let same : x ≡ b = cc in
+      let s = seen_some id key now image.slots x some in
+      let placed = shows.placed s.place s.row (got image.slots s.place (Some s.row) s.at) in
+      let here : expires ≡ Some s.row.1 = (λ i. expiry_at (sym s.text i) (slice_get (states_of (map status_of caches)) (sym s.number i))) ∙ placed in
+      holds ∙ (ap (lives_by now) here ∙ (s.lives ∙ same))
+
+  pub has_agrees : found image id key now ≡ Some b → holds_in now key (slice_get caches id) ≡ b
+  has_agrees is = by_seen (first_seen id key now image.slots) refl is

@@ -45,10 +45,6 @@ same_configs old new event o after =
     sym (map_map (λ (k : Status). k.config) status_of new) ∙ ap (map (λ (k : Status). k.config)) after ∙ configs_after (map status_of old) event o
     ∙ map_map (λ (k : Status). k.config) status_of old
 
-pub ok_then : {A E : Type 0} {P Q : A → Type 0} (r : Result A E) → ((x : A) → P x → Q x) → IfOk r P → IfOk r Q
-ok_then (Ok x) f h = f x h
-ok_then (Err e) f h = h
-
 abbrev Asks : Call → Run → Type 0
 Asks call run = AtEach (λ q p. AsksOf call q) (λ p r. Unit {0}) run
 

@@ -9,6 +9,7 @@ ghost use Rattle.jc_index.specs.Found.{found};
 ghost use Rattle.jc_engine.specs.Recording.{blank};
 ghost use Rattle.jc_engine.specs.Caches.{configs_of, status_of};
 ghost use Rattle.jc_engine.specs.Results.{reply_in};
+ghost use Rattle.jc_engine.specs.Watching.{ShowsStates, states_of};
 ghost use Rattle.jc_shared.specs.Accounts.{Accounts, IsCloseFault};
 ghost use Rattle.jc_shared.specs.Admitting.{Admits};
 ghost use Rattle.jc_shared.specs.Calls.{Stands, GoesOn, call_refusal};
@@ -166,8 +167,9 @@ impl<N: Name> Locked<N> {
 
     /// The pass sees the table as it is now, where memory allows it.
     fn show(&mut self, pass: &mut TablePass<N>)
-        ensures same { self.new ≡ self.old }
+        ensures same { (self.new.recorded ≡ self.old.recorded) × (self.new.given ≡ self.old.given) × (self.new.closed ≡ self.old.closed) }
         ensures front { IsPrefix pass.old.images pass.new.images }
+        ensures shows { pass.new.met ≡ true → ShowsStates (states_of (map status_of self.old.recorded.caches)) (last_image pass.new.images) }
         ensures sees { Sees N.configs self.old.recorded.transcript pass.new }
     {
         let _ = self.recorded.meet(pass);
@@ -175,7 +177,7 @@ impl<N: Name> Locked<N> {
 
     /// At a reply the pass sees the table as it is now, where memory allows it.
     fn show_reply(&mut self, turned: &Turned, pass: &mut TablePass<N>)
-        ensures same { self.new ≡ self.old }
+        ensures same { (self.new.recorded ≡ self.old.recorded) × (self.new.given ≡ self.old.given) × (self.new.closed ≡ self.old.closed) }
         ensures front { IsPrefix pass.old.images pass.new.images }
         ensures sees { IsReplied turned.now → Sees N.configs self.old.recorded.transcript pass.new }
     {
@@ -278,7 +280,7 @@ impl<N: Name> Locked<N> {
         now: u64,
         pass: &mut TablePass<N>,
     ) -> bool
-        ensures same { self.new ≡ self.old }
+        ensures same { (self.new.recorded ≡ self.old.recorded) × (self.new.given ≡ self.old.given) × (self.new.closed ≡ self.old.closed) }
         ensures front { IsPrefix pass.old.images pass.new.images }
         ensures agrees { pass.new.met ≡ true → (b : Bool) → found (last_image pass.new.images) id key.now now ≡ Some b → result ≡ b }
     {
@@ -312,6 +314,7 @@ impl<N: Name> Locked<N> {
         ensures refused { IfErr result (λ fault. fault ≢ SessionRefusal.OutOfMemory → Admits self.old.closed self.old.given room (Err fault) self.new.given) }
         ensures kept { self.new.closed ≡ self.old.closed }
     {
+        let _legal = self.recorded.transcript();
         let pass = self.recorded.watch();
         let number = self.admit(room && pass.is_ok())?;
         match pass {

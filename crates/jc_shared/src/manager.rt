@@ -57,7 +57,7 @@ impl<N: Name, L: Loader, W: Writer, P: Processor, K: Listener> Manager<N, L, W, 
     ///
     /// Refused as `Closed`, `TooManySessions`, `OutOfMemory`, in this order.
     pub fn session<R: Wait>(&self, rt: &R) -> Result<Session<'_, N, L, W, P, K>, SessionRefusal>
-        ensures { IfOk result (λ s. s.calls ≡ []) }
+        ensures calls { IfOk result (λ s. s.calls ≡ []) }
         ensures sees { IfOk result (λ s. SeesSome N.configs s.pass × (s.pass.met ≡ true)) }
     {
         let own = Vec::with_capacity(self.alloc, FIRST_CALLS);

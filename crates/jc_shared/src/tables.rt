@@ -1,7 +1,8 @@
 //! The table that all caches of a manager share, and the index that shows it to lookups.
-ghost use Rattle.std.specs.Prelude.{◌≡◌, None, IfOk, replicate};
+ghost use Rattle.std.specs.Prelude.{◌≡◌, [], ◌∷◌, None, IfOk, replicate};
 ghost use Rattle.std.specs.FinMap as finite;
 ghost use Rattle.jc_cuckoo.specs.Cells.{rows_in};
+ghost use Rattle.jc_cuckoo.specs.Images.{image_of};
 
 use crate::name::{IndexOf, Name};
 use jc_cuckoo::cuckoo::{Cuckoo, TableRefusal};
@@ -43,8 +44,9 @@ pub fn table(alloc: Global, seed: u64) -> Result<Table, OutOfMemory>
 pub(crate) struct BlankTable {
     table: Table,
     words: Unnamed<SeededPlacer>,
-    pub(crate) ghost cells: { table.cells ≡ replicate 64 None },
-    pub(crate) ghost shown: { IsShown table words },
+    pub(crate) ghost empty: { rows_in table.cells ≡ finite.empty },
+    pub(crate) ghost placer: { words.placer ≡ table.placer },
+    pub(crate) ghost images: { words.images ≡ image_of table.buckets table.cells ∷ [] },
 }
 
 impl BlankTable {
