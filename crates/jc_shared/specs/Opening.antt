@@ -1,6 +1,9 @@
 -- With which configurations and callbacks a manager opens.
-use Rattle.std.specs.Prelude.{◌≡◌, ℕ, ◌<◌, Bool, List, map, length, slice_get, Option, Some, None, ⊤}
+use Rattle.std.specs.Prelude.{◌≡◌, ℕ, ◌<◌, Bool, List, [], ◌∷◌, map, length, replicate, slice_get, Option, Some, None, ⊤}
 use Rattle.atomic_table.specs.Seated.{TableId}
+use Rattle.jc_cuckoo.specs.declared.held.Held.{Held}
+use Rattle.jc_cuckoo.specs.Images.{image_of}
+use Rattle.jc_index.specs.Indexes.{Index}
 use Rattle.jc_hooks.specs.Suits.{Suits}
 use Rattle.jc_hooks.specs.declared.cache_hooks.CacheHooks.{CacheHooks}
 use Rattle.jc_model.specs.declared.config.CacheConfig.{CacheConfig}
@@ -17,6 +20,12 @@ pub record IsOpened {S T : Type 0} (configs : List CacheConfig) (recorded : Reco
   pub unused : map status_of recorded.caches ≡ map opened configs
   pub locks_counted : length locks ≡ length configs
   pub shared_counted : length shared ≡ length configs
+
+-- a table of 16 buckets without rows, and an index that shows it
+pub record IsBlank (placer buckets : ℕ) (cells : List (Option Held)) (words : Index ℕ) : Type 0 where
+  pub cells_are : cells ≡ replicate 64 None
+  pub placer_is : words.placer ≡ placer
+  pub images_are : words.images ≡ image_of buckets cells ∷ []
 
 -- what was handed in, as a manager keeps it
 pub record Handed (L P : Type 0) : Type 0 where

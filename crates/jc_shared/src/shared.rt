@@ -46,7 +46,7 @@ impl<L, W, P, K> Model for Shared<L, W, P, K> {
 
     ghost Value = { Handed L P };
 
-    ghost view = { λ s. record { configs = s.directory; shared = s.shared.items; index = s.table.words.name } };
+    ghost view = { λ s. record { configs = s.directory; shared = s.shared.items; index = s.table } };
 
     ghost invariant = { λ s. IsOpened s.directory s.recorded s.locks.items s.shared.items };
 }

@@ -1,8 +1,7 @@
 //! The table that all caches of a manager share, and the index that shows it to lookups.
-ghost use Rattle.std.specs.Prelude.{◌≡◌, [], ◌∷◌, None, IfOk, replicate};
+ghost use Rattle.std.specs.Prelude.{◌≡◌, None, IfOk, replicate};
 ghost use Rattle.std.specs.FinMap as finite;
 ghost use Rattle.jc_cuckoo.specs.Cells.{rows_in};
-ghost use Rattle.jc_cuckoo.specs.Images.{image_of};
 
 use crate::name::{IndexOf, Name};
 use jc_cuckoo::cuckoo::{Cuckoo, TableRefusal};
@@ -13,6 +12,7 @@ use jc_index::words::Words;
 use jc_model::OutOfMemory;
 use jc_place::seeded::SeededPlacer;
 use std::alloc::{AllocError, Global};
+use std::marker::Model;
 
 /// Buckets under a seeded hash, without images.
 pub type Table = Cuckoo<SeededPlacer, NoMirror>;
@@ -39,14 +39,22 @@ pub fn table(alloc: Global, seed: u64) -> Result<Table, OutOfMemory>
     }
 }
 
-/// A table without rows, and an index without a name that shows it.
+/// A table without rows, and an index that shows it. Contracts see the index's name.
 #[derive(Drop)]
 pub(crate) struct BlankTable {
     table: Table,
     words: Unnamed<SeededPlacer>,
-    pub(crate) ghost empty: { rows_in table.cells ≡ finite.empty },
-    pub(crate) ghost placer: { words.placer ≡ table.placer },
-    pub(crate) ghost images: { words.images ≡ image_of table.buckets table.cells ∷ [] },
+}
+
+impl Model for BlankTable {
+    ghost use Rattle.atomic_table.specs.Seated.{TableId};
+    ghost use Rattle.jc_shared.specs.Opening.{IsBlank};
+
+    ghost Value = { TableId };
+
+    ghost view = { λ b. b.words.name };
+
+    ghost invariant = { λ b. IsBlank b.table.placer b.table.buckets b.table.cells b.words };
 }
 
 impl BlankTable {
@@ -59,7 +67,7 @@ impl BlankTable {
 
     /// The table, whose index has a name now.
     pub(crate) fn named<N: Name>(self) -> ShownTable<N>
-        requires { self.words.name ≡ N.index }
+        requires { self ≡ N.index }
         ensures { rows_in result.cells ≡ finite.empty }
     {
         self.table.with_mirror(self.words.named::<IndexOf<N>>())

@@ -1,5 +1,6 @@
 use Rattle.std.proofs.Common.{◌≡◌, ◌++◌, ◌∷◌, [], ◌∙◌, ap, List}
 use Rattle.jc_model.specs.declared.event.Entry.{Entry}
+use Rattle.jc_stripes.proofs.Lists.{prefix_trans}
 use Rattle.jc_shared.specs.Calls.{IsSameCall}
 use Rattle.jc_shared.proofs.Carrying.{begun_same, same_call, added_ok, added_err}
 use Rattle.jc_shared.proofs.session.Session.call.Goals as goal
@@ -21,3 +22,6 @@ returns-clause-err g c =
     rw (← c.self.view_is)
     (added_err g.N.Name.configs g.N.Name.stated (record { number = c.self.inside.number; calls = c.self.inside.own.items; pass = c.self.inside.pass }) (record { number = c.self.inside.number; calls = c.push_reserved.new.self.items; pass = c.carry_on-replied.new.pass }) c.args.id c.args.now c.args.call
     c.in-Ok.draft e c.in-Ok.ensures same added c.carry_on-replied.result c.carry_on-replied.ensures.ends)
+
+pub returns-clause-front : goal.returns-clause-front
+returns-clause-front g c = rw (← c.self.view_is) (prefix_trans _ _ _ c.begin-begun.ensures.front c.carry_on-replied.ensures.front)
