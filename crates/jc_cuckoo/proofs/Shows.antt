@@ -1,18 +1,20 @@
 -- The image of a sound table shows what its cells hold.
-use Rattle.std.proofs.Common.{◌≡◌, ℕ, suc, ◌+◌, ◌-◌, ◌*◌, ◌<◌, List, [], ◌∷◌, length, map, take, drop, cond, is_some, Option, Some, None, refl, sym, ◌∙◌, subst, arith}
+use Rattle.std.proofs.Common.{◌≡◌, ℕ, suc, ◌+◌, ◌-◌, ◌*◌, ◌<◌, List, [], ◌∷◌, length, map, take, drop, cond, is_some, Option, Some, None, refl, sym, ap, ◌∙◌, subst, arith, inl, inr}
 use Rattle.std.specs.FinMap as rows
 use Rattle.std.specs.List.{count_by}
 use Rattle.std.specs.Option.{option_map}
-use Rattle.std.proofs.lemmas.List.{get_or-drop, length-drop}
+use Rattle.std.proofs.lemmas.Bool.{cases_lt}
+use Rattle.std.proofs.lemmas.List.{get_or-drop, get_or_past, length-drop}
 use Rattle.std.proofs.lemmas.List.Sums.{sum_by-cons, sum_by-take-drop}
+use Rattle.jc_model.specs.declared.config.Expiry.{Expiry}
 use Rattle.jc_rows.proofs.Laws.{len-empty, len-put}
 use Rattle.jc_place.specs.declared.place.Place.{Place}
 use Rattle.jc_cuckoo.specs.declared.held.Held.{Held}
 use Rattle.jc_cuckoo.specs.Cells.{place_of, row_of, cell, rows_in, IsSound}
-use Rattle.jc_rows.specs.Images.{Shown, Shows}
+use Rattle.jc_rows.specs.Images.{Shown, Shows, slot}
 use Rattle.jc_cuckoo.specs.Images.{shown, image_of}
-use Rattle.jc_cuckoo.proofs.Cells.{Once, once_below, get_none, get_some}
-use Rattle.jc_cuckoo.proofs.Told.{behind}
+use Rattle.jc_cuckoo.proofs.Cells.{Once, once_below, get_none, get_some, get_found}
+use Rattle.jc_cuckoo.proofs.Told.{behind, slot_is}
 
 abbrev one_if : {A : Type 0} → Option A → ℕ
 one_if o = cond (is_some o) 1 0
@@ -48,10 +50,26 @@ count_slots p n tags cs sound =
     let all = count_rows cs sound.once in
     omega arith
 
+cell_below : (cs : List (Option Held)) (i : ℕ) (h : Held) → cell cs i ≡ Some h → i < length cs
+cell_below cs i h is = elim (cases_lt i (length cs)) [
+  | inl below ↦ below
+  | inr past ↦ (let none : cell cs i ≡ None = get_or_past cs i None past in absurd cc)
+]
+
+-- where the stash is empty, each row stands in a slot
+all_shown : (p : ℕ → List ℕ → Place) (n : ℕ) (tags : List ℕ) (cs : List (Option Held)) → IsSound p n tags cs → length cs - 4 * n ≡ 0 → (place : ℕ × List ℕ) (row : ℕ × Expiry) → rows.get (rows_in cs) place ≡ Some row
+    → (i : ℕ) × (slot (image_of n cs) i ≡ Some (place, row.1))
+all_shown p n tags cs sound none place row is =
+    let f = get_found cs place row is in
+    let within = cell_below cs f.stands.at f.held f.stands.is in
+    let below : f.stands.at < 4 * n = omega arith in
+    (f.stands.at, slot_is n cs f.stands.at sound.wide below ∙ (ap (option_map shown) f.stands.is ∙ (λ i. Some (f.at i, (f.gives i).1))))
+
 pub shows : (p : ℕ → List ℕ → Place) (n : ℕ) (tags : List ℕ) (cs : List (Option Held)) → IsSound p n tags cs → Shows (rows_in cs) (image_of n cs)
 shows p n tags cs sound = record {
   placed = λ i s is. (
       let b = behind n cs i s sound.wide is in
       (b.held.row, subst (λ (x : Shown). rows.get (rows_in cs) x.0 ≡ Some (b.held.row, x.1)) b.shows (get_some cs i b.held sound.once b.is)));
   others = (let slots = count_shown (take (4 * n) cs) in let all = count_slots p n tags cs sound in omega arith);
+  whole = all_shown p n tags cs sound;
 }

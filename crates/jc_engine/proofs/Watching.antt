@@ -4,6 +4,7 @@ use Rattle.std.specs.Prelude.{option_map}
 use Rattle.std.specs.FinMap as table
 use Rattle.std.proofs.lemmas.Option.{slice_get-map}
 use Rattle.jc_model.specs.declared.config.CacheConfig.{CacheConfig}
+use Rattle.jc_model.specs.declared.config.Expiry.{Expiry}
 use Rattle.jc_model.specs.State.{State, row_of}
 use Rattle.jc_model.specs.Changes.{Progress}
 use Rattle.jc_model.specs.Run.{Awaited}
@@ -12,7 +13,7 @@ use Rattle.jc_model.specs.Solo.{state_of}
 use Rattle.jc_model.specs.Sound.{HasDistinctKeys}
 use Rattle.jc_model.specs.Suspended.{Wait, standing_by}
 use Rattle.jc_rows.specs.Rows.{RowMap}
-use Rattle.jc_rows.specs.Images.{Image, Shows}
+use Rattle.jc_rows.specs.Images.{Image, Shows, slot}
 use Rattle.jc_engine.specs.declared.cache.Managed.{Managed}
 use Rattle.jc_engine.specs.Managed.{cache_in}
 use Rattle.jc_engine.specs.Sound.{IsAt, IsSound}
@@ -26,7 +27,7 @@ pub state_is : (c : CacheConfig) (p : Progress) (turn : Option (Awaited × Wait)
 state_is c p None = refl
 state_is c p (Some w) = refl
 
-state_at : (caches : List Cache) (id : ℕ) → slice_get (states_of (map status_of caches)) id ≡ option_map (λ (k : Cache). k.progress.state) (slice_get caches id)
+pub state_at : (caches : List Cache) (id : ℕ) → slice_get (states_of (map status_of caches)) id ≡ option_map (λ (k : Cache). k.progress.state) (slice_get caches id)
 state_at caches id =
     slice_get-map (λ (k : Status). state_of k.standing) (map status_of caches) id
     ∙ (ap (option_map (λ (k : Status). state_of k.standing)) (slice_get-map status_of caches id) ∙ by (slice_get caches id))
@@ -58,8 +59,19 @@ module _ {G : Type 0} (m : RowMap) (caches : List (Managed G)) (names : List (Li
           let same : (cache_in cache).progress.state ≡ s = cc in
           subst (λ (t : State). HasDistinctKeys t.ring) same (sound_there m id (Some cache) (cache_in cache) is refl).0
 
+  placed_there : (image : Image) → Shows m image → image.stash ≡ 0 → (id : ℕ) (key : List ℕ) (e : Expiry) → expiry_at key (slice_get states id) ≡ Some e → (i : ℕ) × (slot image i ≡ Some ((id, key), e))
+  placed_there image shows none id key e at = by (table.get m (id, key)) refl (expiry id key ∙ at)
+    where
+      by : (o : Option (ℕ × Expiry)) → table.get m (id, key) ≡ o → option_map (λ row. row.1) o ≡ Some e → (i : ℕ) × (slot image i ≡ Some ((id, key), e))
+      by None here is = absurd cc
+      by (Some row) here is =
+          let there = shows.whole none (id, key) row here in
+          let same : row.1 ≡ e = cc in
+          (there.0, there.1 ∙ ap (λ (x : Expiry). Some ((id, key), x)) same)
+
   pub states_shown : (image : Image) → Shows m image → ShowsStates states image
   states_shown image shows = record {
     placed = λ i s at. (let row = shows.placed i s at in sym (expiry s.0.0 s.0.1) ∙ ap (option_map (λ (r : ℕ × _). r.1)) row.1);
     others = shows.others ∙ count m states expiry distinct;
+    whole = placed_there image shows;
   }

@@ -16,7 +16,9 @@ abbrev pub expiry_at : List ℕ → Option State → Option Expiry
 expiry_at key None = None
 expiry_at key (Some s) = option_map (λ x. x.expiry) (row_of key s.ring)
 
--- each row that an image places is one of its cache, with that expiry, and its count is the number of the others
+-- each row that an image places is one of its cache, with that expiry, its count is the number of the others, and where
+-- there are none it places all
 pub record ShowsStates (states : List State) (image : Image) : Type 0 where
   pub placed : (i : ℕ) (s : Shown) → slot image i ≡ Some s → expiry_at s.0.1 (slice_get states s.0.0) ≡ Some s.1
   pub others : count_by is_some image.slots + image.stash ≡ sum_by (λ s. length s.ring) states
+  pub whole : image.stash ≡ 0 → (id : ℕ) (key : List ℕ) (e : Expiry) → expiry_at key (slice_get states id) ≡ Some e → (i : ℕ) × (slot image i ≡ Some ((id, key), e))

@@ -108,7 +108,7 @@ pub spelt_in : (words : List ℕ) (b : ℕ) → words ≡ encoded (image_in word
 spelt_in words b coded inside = (spelt_at words (4 * b) coded (omega arith), spelt_at words (4 * b + 1) coded (omega arith), spelt_at words (4 * b + 2) coded (omega arith), spelt_at words (4 * b + 3) coded (omega arith))
 
 -- a key seen, and one not seen
-record Seen (id : ℕ) (key : List ℕ) (now : ℕ) (xs : List Slot) (b : Bool) : Type 0 where
+pub record Seen (id : ℕ) (key : List ℕ) (now : ℕ) (xs : List Slot) (b : Bool) : Type 0 where
   pub place : ℕ
   pub row : Shown
   pub at : slice_get xs place ≡ Some (Some row)
@@ -128,7 +128,7 @@ or_seen : (id : ℕ) (key : List ℕ) (now : ℕ) (h : Shown) (xs : List Slot) (
 or_seen id key now h xs b (Some x) e f more = let k = one_seen id key now h (h.0.0 == id) (bytes_eq h.0.1 key) b refl refl (e ∙ f) in record { place = 0; row = h; at = refl; number = k.0; text = k.1; lives = k.2 }
 or_seen id key now h xs b None e f more = let s = more f in record { place = suc s.place; row = s.row; at = s.at; number = s.number; text = s.text; lives = s.lives }
 
-seen_some : (id : ℕ) (key : List ℕ) (now : ℕ) (xs : List Slot) (b : Bool) → first_seen id key now xs ≡ Some b → Seen id key now xs b
+pub seen_some : (id : ℕ) (key : List ℕ) (now : ℕ) (xs : List Slot) (b : Bool) → first_seen id key now xs ≡ Some b → Seen id key now xs b
 seen_some id key now [] b is = absurd cc
 seen_some id key now (None ∷ xs) b is = let s = seen_some id key now xs b is in record { place = suc s.place; row = s.row; at = s.at; number = s.number; text = s.text; lives = s.lives }
 seen_some id key now (Some h ∷ xs) b is = or_seen id key now h xs b (seen id key now (Some h)) refl is (seen_some id key now xs b)
@@ -137,7 +137,7 @@ head_none : (x y : Option Bool) → or_else x y ≡ None → (x ≡ None) × (y 
 head_none (Some b) y e = absurd cc
 head_none None y e = (refl, e)
 
-seen_none : (id : ℕ) (key : List ℕ) (now : ℕ) (xs : List Slot) → first_seen id key now xs ≡ None → (k : ℕ) (h : Shown) → slice_get xs k ≡ Some (Some h) → h.0.0 ≡ id → h.0.1 ≡ key → ⊥
+pub seen_none : (id : ℕ) (key : List ℕ) (now : ℕ) (xs : List Slot) → first_seen id key now xs ≡ None → (k : ℕ) (h : Shown) → slice_get xs k ≡ Some (Some h) → h.0.0 ≡ id → h.0.1 ≡ key → ⊥
 seen_none id key now [] is k h at e f = absurd cc
 seen_none id key now (x ∷ xs) is zero h at e f = let here : x ≡ Some h = cc at in one_unseen id key now h (ap (seen id key now) (sym here) ∙ (head_none (seen id key now x) (first_seen id key now xs) is).0) e f
 seen_none id key now (x ∷ xs) is (suc k) h at e f = seen_none id key now xs (head_none (seen id key now x) (first_seen id key now xs) is).1 k h at e f
@@ -158,7 +158,7 @@ of_bucket words b k (suc (suc (suc zero))) h few is at = let e : k ≡ 4 * b + 3
 of_bucket words b k (suc (suc (suc (suc i)))) h few is at = absurd (omega arith)
 
 -- a slot that there is
-got : (xs : List Slot) (k : ℕ) (x : Slot) → slice_get xs k ≡ Some x → get_or xs k None ≡ x
+pub got : (xs : List Slot) (k : ℕ) (x : Slot) → slice_get xs k ≡ Some x → get_or xs k None ≡ x
 got [] k x e = absurd cc
 got (y ∷ xs) zero x e = cc
 got (y ∷ xs) (suc k) x e = got xs k x e

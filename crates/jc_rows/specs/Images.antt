@@ -21,7 +21,9 @@ last_image [] = record { buckets = 0; slots = []; stash = 0 }
 last_image (image ∷ []) = image
 last_image (image ∷ next ∷ images) = last_image (next ∷ images)
 
--- an image shows rows: it places some of them, each with its expiry, and its count is the number of the others
+-- an image shows rows: it places some of them, each with its expiry, its count is the number of the others, and where
+-- there are none it places all
 pub record Shows (rows : RowMap) (image : Image) : Type 0 where
   pub placed : (i : ℕ) (s : Shown) → slot image i ≡ Some s → (row : ℕ) × (get rows s.0 ≡ Some (row, s.1))
   pub others : count_by is_some image.slots + image.stash ≡ len rows
+  pub whole : image.stash ≡ 0 → (place : ℕ × List ℕ) (row : ℕ × Expiry) → get rows place ≡ Some row → (i : ℕ) × (slot image i ≡ Some (place, row.1))

@@ -23,7 +23,8 @@ use Rattle.jc_hooks.specs.Asking.{states_after}
 use Rattle.jc_shared.specs.declared.hooks.LockedHooks.{LockedHooks}
 use Rattle.jc_shared.specs.Serving.{told_behind, TellsOnce, Tells, TellsOn, Serves}
 use Rattle.jc_shared.specs.Stated.{Stated, AreStated, IsStatedBy}
-use Rattle.jc_shared.specs.Calls.{Own, Stands, called, IsSameCall, HasEnded, Stays, EndsFaulty, GoesOn, Adds, AddsWaiting, Fails, refusal_in, call_refusal}
+use Rattle.jc_shared.specs.Sessions.{Sitting, Sight}
+use Rattle.jc_shared.specs.Calls.{Stands, called, IsSameCall, HasEnded, Stays, EndsFaulty, GoesOn, Adds, AddsWaiting, Fails, refusal_in, call_refusal}
 
 -- a call that is not refused is of a known cache
 pub known_below : (configs : List CacheConfig) (id : ℕ) (call : Call) → call_refusal configs id call ≡ None → id < length configs
@@ -65,9 +66,9 @@ module _ {W K : Type 0} (state_after : K → List Notice → List ℕ) where
   served_on may old new (Process key n value argument) a told once s = tells_nothing old new told told (ap (λ (h : LockedHooks W K). h.listeners) s) refl
 
 -- a tenure tells nothing
-pub goes_untold : (configs : List CacheConfig) (d e : Entry) (turned : Turned) → GoesOn configs d turned e → e.told ≡ d.told
-goes_untold configs d e (Asked q) goes = ap (λ (x : Entry). x.told) goes.0
-goes_untold configs d e (Replied r) goes = ap (λ (x : Entry). x.told) goes.0
+pub goes_untold : (configs : List CacheConfig) (d e : Entry) (pass : Sight) (turned : Turned) → GoesOn configs d turned e pass → e.told ≡ d.told
+goes_untold configs d e pass (Asked q) goes = ap (λ (x : Entry). x.told) goes.0
+goes_untold configs d e pass (Replied r) goes = ap (λ (x : Entry). x.told) goes.0
 
 -- the answer that the draft was given
 pub noted_waits : (stated : List Stated) (d told d' : Entry) (notices : List Notice) (a : Answer) → told ≡ record d { told = notices } → d' ≡ record told { answers = told.answers ++ a ∷ [] } → d.end ≡ ends.Waiting → AreStated (slice_get stated d.id) d.call d.answers
@@ -79,53 +80,53 @@ noted_waits stated d told d' notices a kept noted waits answered is =
     )
 
 -- a tenure has brought it on
-pub goes_stays : (configs : List CacheConfig) (stated : List Stated) (d e : Entry) (turned : Turned) → GoesOn configs d turned e → (d.end ≡ ends.Waiting) × AreStated (slice_get stated d.id) d.call d.answers → Stays configs stated turned e
-goes_stays configs stated d e (Asked q) goes h = record {
+pub goes_stays : (configs : List CacheConfig) (stated : List Stated) (d e : Entry) (pass : Sight) (turned : Turned) → GoesOn configs d turned e pass → (d.end ≡ ends.Waiting) × AreStated (slice_get stated d.id) d.call d.answers → Stays configs stated turned e pass
+goes_stays configs stated d e pass (Asked q) goes h = record {
   waits = ap (λ (x : Entry). x.end) goes.0 ∙ h.0;
   asks = subst (λ (x : Entry). AsksOf x.call q) (sym goes.0) goes.1;
   answered = subst (λ (x : Entry). AreStated (slice_get stated x.id) x.call x.answers) (sym goes.0) h.1;
 }
-goes_stays configs stated d e (Replied r) goes h = record {
+goes_stays configs stated d e pass (Replied r) goes h = record {
   ended = ap (λ (x : Entry). x.end) goes.0;
   stands = goes.1;
   answered = subst (λ (x : Entry). AreStated (slice_get stated x.id) x.call x.answers) (sym goes.0) h.1;
 }
 
 -- the call has begun
-pub begun_stays : (configs : List CacheConfig) (stated : List Stated) (session id at : ℕ) (call : Call) (draft draft' : Entry) (turned : Turned) → draft ≡ blank session id at call → GoesOn configs draft turned draft' → Stays configs stated turned draft'
-begun_stays configs stated session id at call draft draft' turned is goes =
-    goes_stays configs stated draft draft' turned goes (ap (λ (e : Entry). e.end) is, no_answers (slice_get stated draft.id) draft.call draft.answers (ap (λ (e : Entry). e.answers) is))
+pub begun_stays : (configs : List CacheConfig) (stated : List Stated) (session id at : ℕ) (call : Call) (draft draft' : Entry) (pass : Sight) (turned : Turned) → draft ≡ blank session id at call → GoesOn configs draft turned draft' pass → Stays configs stated turned draft' pass
+begun_stays configs stated session id at call draft draft' pass turned is goes =
+    goes_stays configs stated draft draft' pass turned goes (ap (λ (e : Entry). e.end) is, no_answers (slice_get stated draft.id) draft.call draft.answers (ap (λ (e : Entry). e.answers) is))
 
 -- it is the call of its draft
-pub begun_same : (configs : List CacheConfig) (draft draft' : Entry) (turned : Turned) → GoesOn configs draft turned draft' → IsSameCall draft draft'
-begun_same configs draft draft' (Asked q) goes = subst (IsSameCall draft) (sym goes.0) refl
-begun_same configs draft draft' (Replied r) goes = subst (IsSameCall draft) (sym goes.0) refl
+pub begun_same : (configs : List CacheConfig) (draft draft' : Entry) (pass : Sight) (turned : Turned) → GoesOn configs draft turned draft' pass → IsSameCall draft draft'
+begun_same configs draft draft' pass (Asked q) goes = subst (IsSameCall draft) (sym goes.0) refl
+begun_same configs draft draft' pass (Replied r) goes = subst (IsSameCall draft) (sym goes.0) refl
 
 pub same_call : (d e f : Entry) → IsSameCall d e → IsSameCall e f → IsSameCall d f
 same_call d e f first second = second ∙ ap (λ (x : Entry). called x.session x.id x.at x.call f.answers f.told f.end) first
 
-module _ (configs : List CacheConfig) (stated : List Stated) (old new : Own) (id at : ℕ) (call : Call) (draft e : Entry) (is : draft ≡ blank old.number id at call) (same : IsSameCall draft e) (added : new.calls ≡ old.calls ++ e ∷ []) where
+module _ (configs : List CacheConfig) (stated : List Stated) (old new : Sitting) (id at : ℕ) (call : Call) (draft e : Entry) (is : draft ≡ blank old.number id at call) (same : IsSameCall draft e) (added : new.calls ≡ old.calls ++ e ∷ []) where
   entry_is : e ≡ called old.number id at call e.answers e.told e.end
   entry_is = same ∙ ap (λ (x : Entry). called x.session x.id x.at x.call e.answers e.told e.end) is
 
   ended_as : (n : End) → e.end ≡ n → e ≡ called old.number id at call e.answers e.told n
   ended_as n ended = entry_is ∙ ap (called old.number id at call e.answers e.told) ended
 
-  pub adds : (n : End) → HasEnded configs stated e n → Adds configs stated old new id at call n
+  pub adds : (n : End) → HasEnded configs stated e new.pass n → Adds configs stated old new id at call n
   adds n h =
       let whole : e ≡ called old.number id at call e.answers e.told n = ended_as n h.ended in
       record {
         answers = e.answers;
         told = e.told;
         added = added ∙ ap (λ (x : Entry). old.calls ++ x ∷ []) whole;
-        stands = subst (Stands configs) whole h.stands;
+        stands = subst (λ (d : Entry). Stands configs d new.pass) whole h.stands;
         answered = subst (λ (x : Entry). AreStated (slice_get stated x.id) x.call e.answers) entry_is h.answered;
       }
 
   adds_waiting : e.end ≡ ends.Waiting → AddsWaiting old new id at call
   adds_waiting ended = record { answers = e.answers; told = e.told; added = added ∙ ap (λ (x : Entry). old.calls ++ x ∷ []) (ended_as ends.Waiting ended) }
 
-  pub fails : (fault : CallFault) → EndsFaulty configs stated fault e → Fails configs stated old new id at call fault
+  pub fails : (fault : CallFault) → EndsFaulty configs stated fault e new.pass → Fails configs stated old new id at call fault
   fails faults.NoSuchCache h = absurd h
   fails faults.NoSuchProcessor h = absurd h
   fails faults.Busy h = absurd h
@@ -133,10 +134,10 @@ module _ (configs : List CacheConfig) (stated : List Stated) (old new : Own) (id
   fails faults.OutOfMemory h = inr (adds ends.GivenUp h)
 
   -- at a reply, and else
-  pub added_ok : (r : Result Reply CallFault) → MatchResult r (λ reply. Stays configs stated (Replied reply) e) (λ fault. EndsFaulty configs stated fault e) → IfOk r (λ reply. Adds configs stated old new id at call (ends.Replied reply))
+  pub added_ok : (r : Result Reply CallFault) → MatchResult r (λ reply. Stays configs stated (Replied reply) e new.pass) (λ fault. EndsFaulty configs stated fault e new.pass) → IfOk r (λ reply. Adds configs stated old new id at call (ends.Replied reply))
   added_ok (Ok reply) h = adds (ends.Replied reply) h
   added_ok (Err fault) h = tt
 
-  pub added_err : (r : Result Reply CallFault) → MatchResult r (λ reply. Stays configs stated (Replied reply) e) (λ fault. EndsFaulty configs stated fault e) → IfErr r (λ fault. Fails configs stated old new id at call fault)
+  pub added_err : (r : Result Reply CallFault) → MatchResult r (λ reply. Stays configs stated (Replied reply) e new.pass) (λ fault. EndsFaulty configs stated fault e new.pass) → IfErr r (λ fault. Fails configs stated old new id at call fault)
   added_err (Ok reply) h = tt
   added_err (Err fault) h = fails fault h

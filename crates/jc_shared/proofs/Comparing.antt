@@ -6,7 +6,7 @@ use Rattle.std.proofs.lemmas.List.Elements.{filter-append, All-head, All-tail, A
 use Rattle.std.proofs.lemmas.Bool.{false≢true}
 use Rattle.std.proofs.lemmas.Bool.Decides.{nat_tests}
 use Rattle.jc_model.specs.declared.event.Entry.{Entry}
-use Rattle.jc_shared.specs.Calls.{Own}
+use Rattle.jc_shared.specs.Sessions.{Own}
 use Rattle.jc_shared.specs.Accounts.{calls_of, own_of, IsLeastFrom, PartAt}
 
 take_none : (xs : List Entry) → take 0 xs ≡ []

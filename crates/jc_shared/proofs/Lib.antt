@@ -1,4 +1,5 @@
 pub mod Last
+pub mod Showing
 pub mod Tenures
 pub mod Comparing
 pub mod Carrying

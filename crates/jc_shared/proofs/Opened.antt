@@ -13,7 +13,12 @@ use Rattle.jc_engine.specs.declared.open.OpenRefusal.TheVariants.{TooManyCaches}
 use Rattle.jc_engine.specs.Caches.{Cache, status_of, configs_of}
 use Rattle.jc_engine.specs.Opening.{open_refusal}
 use Rattle.jc_engine.proofs.Places.{map_map}
+use Rattle.jc_place.specs.Place.{IsTableSize}
 use Rattle.jc_shared.specs.Opening.{AllSuit}
+
+-- the size of a new table
+pub sixteen : IsTableSize 16
+sixteen = record { exponent = 4; power = refl; least = omega arith; most = omega arith }
 
 -- an opened engine has the configurations
 pub configs_opened : (caches : List Cache) (configs : List CacheConfig) → map status_of caches ≡ map opened configs → configs_of caches ≡ configs

@@ -33,6 +33,7 @@ use Rattle.jc_model.specs.Asking.{AsksOf, AsksIn}
 use Rattle.jc_shared.specs.declared.fault.CallFault.TheVariants as faults
 use Rattle.jc_shared.specs.declared.turned.Turned.{Turned}
 use Rattle.jc_shared.specs.declared.turned.Turned.TheVariants.{Asked, Replied}
+use Rattle.jc_shared.specs.Sessions.{Sight, Sees}
 use Rattle.jc_shared.specs.Calls.{Stands, GoesOn, refusal_in, call_refusal}
 use Rattle.jc_shared.specs.Finding.{fault_of, IsOpenFor, StandsAt, Turns, IsReplied}
 use Rattle.jc_model.proofs.Asking.{whole_asks}
@@ -43,10 +44,6 @@ pub same_configs : (old new : List Cache) (event : Event) (o : Outcome) → map 
 same_configs old new event o after =
     sym (map_map (λ (k : Status). k.config) status_of new) ∙ ap (map (λ (k : Status). k.config)) after ∙ configs_after (map status_of old) event o
     ∙ map_map (λ (k : Status). k.config) status_of old
-
-pub ok_then : {A E : Type 0} {P Q : A → Type 0} (r : Result A E) → ((x : A) → P x → Q x) → IfOk r P → IfOk r Q
-ok_then (Ok x) f h = f x h
-ok_then (Err e) f h = h
 
 abbrev Asks : Call → Run → Type 0
 Asks call run = AtEach (λ q p. AsksOf call q) (λ p r. Unit {0}) run
@@ -137,44 +134,44 @@ begin_faults caches configs same id now call known cause m is =
 
 -- How a tenure leaves the draft.
 
-pub begun_goes_on : (configs : List CacheConfig) (t new : List Entry) (draft draft' : Entry) (call : Call) (step : Step) (turned : Turned) → draft ≡ blank draft.session draft.id draft.at call → Turns draft step turned draft'
-    → IsLegal configs new → new ≡ recorded draft.session (event.Begin draft.id draft.at call) (outcome.Step step) t → AsksIn call step → GoesOn configs draft turned draft'
-begun_goes_on configs t new draft draft' call (Need q) (Asked q') is turns legal written asks =
+pub begun_goes_on : (configs : List CacheConfig) (t new : List Entry) (draft draft' : Entry) (pass : Sight) (call : Call) (step : Step) (turned : Turned) → draft ≡ blank draft.session draft.id draft.at call → Turns draft step turned draft'
+    → IsLegal configs new → (IsReplied turned → Sees configs new pass) → new ≡ recorded draft.session (event.Begin draft.id draft.at call) (outcome.Step step) t → AsksIn call step → GoesOn configs draft turned draft' pass
+begun_goes_on configs t new draft draft' pass call (Need q) (Asked q') is turns legal sees written asks =
     (turns.1, subst (λ (c : Call). AsksOf c q') (sym (ap (λ (e : Entry). e.call) is)) (subst (AsksOf call) (sym turns.0) asks))
-begun_goes_on configs t new draft draft' call (Need q) (Replied r) is turns legal written asks = absurd turns
-begun_goes_on configs t new draft draft' call (Done r) (Asked q') is turns legal written asks = absurd turns
-begun_goes_on configs t new draft draft' call (Done r) (Replied r') is turns legal written asks =
+begun_goes_on configs t new draft draft' pass call (Need q) (Replied r) is turns legal sees written asks = absurd turns
+begun_goes_on configs t new draft draft' pass call (Done r) (Asked q') is turns legal sees written asks = absurd turns
+begun_goes_on configs t new draft draft' pass call (Done r) (Replied r') is turns legal sees written asks =
     let e : Entry = record (blank draft.session draft.id draft.at call) { end = ends.Replied r } in
     let same : draft' ≡ e = turns.1 ∙ ap (λ (d : Entry). record d { end = ends.Replied r }) is in (
       turns.1 ∙ ap (λ (reply : Reply). record draft { end = ends.Replied reply }) (sym turns.0),
-      subst (Stands configs) (sym same) (record { transcript = new; legal = legal; before = entries_of draft.id t; last = ap (entries_of draft.id) written ∙ added_last t e }),
+      subst (λ (d : Entry). Stands configs d pass) (sym same) (record { transcript = new; legal = legal; before = entries_of draft.id t; last = ap (entries_of draft.id) written ∙ added_last t e; sees = sees tt }),
     )
 
-module _ (configs : List CacheConfig) (statuses : List Status) (t new : List Entry) (draft draft' : Entry) (place : ℕ) (found : IsOpenFor statuses t draft place) where
+module _ (configs : List CacheConfig) (statuses : List Status) (t new : List Entry) (draft draft' : Entry) (pass : Sight) (place : ℕ) (found : IsOpenFor statuses t draft place) where
   -- the draft stands where the open call's entry was changed
-  stands_there : (f : Entry → Entry) → ((e : Entry) → (f e).id ≡ e.id) → new ≡ on_open draft.id f t → StandsAt configs new draft' place → draft'.id ≡ draft.id → (k : Status) → slice_get statuses draft.id ≡ Some k → Stands configs draft'
-  stands_there f keeps written stands same k at =
+  stands_there : (f : Entry → Entry) → ((e : Entry) → (f e).id ≡ e.id) → new ≡ on_open draft.id f t → StandsAt configs new draft' place → Sees configs new pass → draft'.id ≡ draft.id → (k : Status) → slice_get statuses draft.id ≡ Some k → Stands configs draft' pass
+  stands_there f keeps written stands sees same k at =
       let last = changed_last statuses t found.tells draft.id place found.opened k at f keeps draft' (ap (λ (es : List Entry). slice_get es place) (sym written) ∙ stands.there) in
-      record { transcript = new; legal = stands.legal; before = last.0; last = ap (λ (id : ℕ). entries_of id new) same ∙ ap (entries_of draft.id) written ∙ last.1 }
+      record { transcript = new; legal = stands.legal; before = last.0; last = ap (λ (id : ℕ). entries_of id new) same ∙ ap (entries_of draft.id) written ∙ last.1; sees = sees }
 
-  pub resumed_goes_on : (a : Answer) (step : Step) (turned : Turned) (m : Bool) → Turns draft step turned draft' → (IsReplied turned → StandsAt configs new draft' place)
-      → new ≡ recorded draft.session (event.Answer draft.id a) (outcome.Step step) t → outcome.Step step ≡ answer_to statuses (event.Answer draft.id a) m → GoesOn configs draft turned draft'
-  resumed_goes_on a (Need q) (Asked q') m turns stands written is =
+  pub resumed_goes_on : (a : Answer) (step : Step) (turned : Turned) (m : Bool) → Turns draft step turned draft' → (IsReplied turned → StandsAt configs new draft' place) → (IsReplied turned → Sees configs new pass)
+      → new ≡ recorded draft.session (event.Answer draft.id a) (outcome.Step step) t → outcome.Step step ≡ answer_to statuses (event.Answer draft.id a) m → GoesOn configs draft turned draft' pass
+  resumed_goes_on a (Need q) (Asked q') m turns stands sees written is =
       let asks : AsksOf found.opened.entry.call q = resumed_asks statuses t found.tells draft.id place found.opened a (Need q) m is in
       (turns.1, subst (λ (c : Call). AsksOf c q') found.own.call (subst (AsksOf found.opened.entry.call) (sym turns.0) asks))
-  resumed_goes_on a (Need q) (Replied r) m turns stands written is = absurd turns
-  resumed_goes_on a (Done r) (Asked q') m turns stands written is = absurd turns
-  resumed_goes_on a (Done r) (Replied r') m turns stands written is =
+  resumed_goes_on a (Need q) (Replied r) m turns stands sees written is = absurd turns
+  resumed_goes_on a (Done r) (Asked q') m turns stands sees written is = absurd turns
+  resumed_goes_on a (Done r) (Replied r') m turns stands sees written is =
       (turns.1 ∙ ap (λ (reply : Reply). record draft { end = ends.Replied reply }) (sym turns.0), at (slice_get statuses draft.id) refl is)
     where
-      at : (k : Option Status) → slice_get statuses draft.id ≡ k → outcome.Step (Done r) ≡ answer_of k (answers a) m → Stands configs draft'
+      at : (k : Option Status) → slice_get statuses draft.id ≡ k → outcome.Step (Done r) ≡ answer_of k (answers a) m → Stands configs draft' pass
       at None here is = absurd cc
-      at (Some k) here is = stands_there (λ d. with_outcome (outcome.Step (Done r)) (with_answer a d)) (λ d. refl) written (stands tt) (ap (λ (e : Entry). e.id) turns.1) k here
+      at (Some k) here is = stands_there (λ d. with_outcome (outcome.Step (Done r)) (with_answer a d)) (λ d. refl) written (stands tt) (sees tt) (ap (λ (e : Entry). e.id) turns.1) k here
 
   pub given_up_stands : (left : List Notice) → new ≡ recorded draft.session (event.GiveUp draft.id) (outcome.GivenUp left) t → outcome.GivenUp left ≡ answer_to statuses (event.GiveUp draft.id) false
-      → draft'.id ≡ draft.id → StandsAt configs new draft' place → Stands configs draft'
-  given_up_stands left written is same stands = at (slice_get statuses draft.id) refl is
+      → draft'.id ≡ draft.id → StandsAt configs new draft' place → Sees configs new pass → Stands configs draft' pass
+  given_up_stands left written is same stands sees = at (slice_get statuses draft.id) refl is
     where
-      at : (k : Option Status) → slice_get statuses draft.id ≡ k → outcome.GivenUp left ≡ answer_of k gives_up false → Stands configs draft'
+      at : (k : Option Status) → slice_get statuses draft.id ≡ k → outcome.GivenUp left ≡ answer_of k gives_up false → Stands configs draft' pass
       at None here is = absurd cc
-      at (Some k) here is = stands_there (with_outcome (outcome.GivenUp left)) (λ d. refl) written stands same k here
+      at (Some k) here is = stands_there (with_outcome (outcome.GivenUp left)) (λ d. refl) written stands sees same k here

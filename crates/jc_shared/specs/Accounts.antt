@@ -5,7 +5,7 @@ use Rattle.jc_model.specs.declared.event.End.TheVariants.{Waiting}
 use Rattle.jc_model.specs.declared.event.Entry.{Entry}
 use Rattle.jc_shared.specs.declared.fault.CloseFault.{CloseFault}
 use Rattle.jc_shared.specs.declared.fault.CloseFault.TheVariants.{Missing, StillOpen, Differs, OutOfMemory}
-use Rattle.jc_shared.specs.Calls.{Own}
+use Rattle.jc_shared.specs.Sessions.{Own}
 
 -- the entries of a session
 abbrev pub calls_of : ℕ → List Entry → List Entry

@@ -15,6 +15,7 @@ use Rattle.jc_shared.specs.declared.fault.CallFault.TheVariants.{NoSuchCache, No
 use Rattle.jc_shared.specs.declared.turned.Turned.{Turned}
 use Rattle.jc_shared.specs.declared.turned.Turned.TheVariants.{Asked, Replied}
 use Rattle.jc_model.specs.Asking.{AsksOf}
+use Rattle.jc_shared.specs.Sessions.{Sitting, Sight, Sees}
 use Rattle.jc_shared.specs.Stated.{Stated, AreStated}
 
 -- why a call can't begin, by the configurations alone
@@ -25,17 +26,13 @@ refusal_in (Some c) call = if has_processor c call then None else Some NoSuchPro
 abbrev pub call_refusal : List CacheConfig → ℕ → Call → Option CallFault
 call_refusal configs id call = refusal_in (slice_get configs id) call
 
--- the entry is the last of its cache in a legal transcript
-pub record Stands (configs : List CacheConfig) (e : Entry) : Type 0 where
+-- the entry is the last of its cache in a legal transcript, of which the pass has seen all
+pub record Stands (configs : List CacheConfig) (e : Entry) (pass : Sight) : Type 0 where
   pub transcript : List Entry
   pub legal : IsLegal configs transcript
   pub before : List Entry
   pub last : entries_of e.id transcript ≡ before ++ e ∷ []
-
--- what a session shows: its number, and the entries of its calls in their order
-pub record Own : Type 0 where
-  pub number : ℕ
-  pub calls : List Entry
+  pub sees : Sees configs transcript pass
 
 -- the entry of a call, by what it was told and how it ended
 abbrev pub called : ℕ → ℕ → ℕ → Call → List Answer → List Notice → End → Entry
@@ -47,9 +44,9 @@ abbrev pub IsSameCall : Entry → Entry → Type 0
 IsSameCall old new = new ≡ called old.session old.id old.at old.call new.answers new.told new.end
 
 -- a call has ended so, in a legal transcript, with answers that were stated
-pub record HasEnded (configs : List CacheConfig) (stated : List Stated) (e : Entry) (n : End) : Type 0 where
+pub record HasEnded (configs : List CacheConfig) (stated : List Stated) (e : Entry) (pass : Sight) (n : End) : Type 0 where
   pub ended : e.end ≡ n
-  pub stands : Stands configs e
+  pub stands : Stands configs e pass
   pub answered : AreStated (slice_get stated e.id) e.call e.answers
 
 -- a call waits for the answer to a request of its own, after answers that were stated
@@ -59,37 +56,37 @@ pub record IsWaiting (stated : List Stated) (e : Entry) (request : Request) : Ty
   pub answered : AreStated (slice_get stated e.id) e.call e.answers
 
 -- how a call stands
-abbrev pub Stays : List CacheConfig → List Stated → Turned → Entry → Type 0
-Stays configs stated (Asked request) e = IsWaiting stated e request
-Stays configs stated (Replied reply) e = HasEnded configs stated e (end.Replied reply)
+abbrev pub Stays : List CacheConfig → List Stated → Turned → Entry → Sight → Type 0
+Stays configs stated (Asked request) e pass = IsWaiting stated e request
+Stays configs stated (Replied reply) e pass = HasEnded configs stated e pass (end.Replied reply)
 
 -- how it ends without a reply; where it was overtaken its entry waits for ever
-abbrev pub EndsFaulty : List CacheConfig → List Stated → CallFault → Entry → Type 0
-EndsFaulty configs stated OutOfMemory e = HasEnded configs stated e end.GivenUp
-EndsFaulty configs stated Overtaken e = e.end ≡ end.Waiting
-EndsFaulty configs stated fault e = ⊥
+abbrev pub EndsFaulty : List CacheConfig → List Stated → CallFault → Entry → Sight → Type 0
+EndsFaulty configs stated OutOfMemory e pass = HasEnded configs stated e pass end.GivenUp
+EndsFaulty configs stated Overtaken e pass = e.end ≡ end.Waiting
+EndsFaulty configs stated fault e pass = ⊥
 
 -- a tenure of the lock has brought the call on
-abbrev pub GoesOn : List CacheConfig → Entry → Turned → Entry → Type 0
-GoesOn configs old (Asked request) new = (new ≡ old) × AsksOf old.call request
-GoesOn configs old (Replied reply) new = (new ≡ record old { end = end.Replied reply }) × Stands configs new
+abbrev pub GoesOn : List CacheConfig → Entry → Turned → Entry → Sight → Type 0
+GoesOn configs old (Asked request) new pass = (new ≡ old) × AsksOf old.call request
+GoesOn configs old (Replied reply) new pass = (new ≡ record old { end = end.Replied reply }) × Stands configs new pass
 
 -- the session's list has grown by this call
-pub record Adds (configs : List CacheConfig) (stated : List Stated) (old new : Own) (id at : ℕ) (call : Call) (n : End) : Type 0 where
+pub record Adds (configs : List CacheConfig) (stated : List Stated) (old new : Sitting) (id at : ℕ) (call : Call) (n : End) : Type 0 where
   pub answers : List Answer
   pub told : List Notice
   pub added : new.calls ≡ old.calls ++ called old.number id at call answers told n ∷ []
-  pub stands : Stands configs (called old.number id at call answers told n)
+  pub stands : Stands configs (called old.number id at call answers told n) new.pass
   pub answered : AreStated (slice_get stated id) call answers
 
 -- or by an entry that waits, with which no manager closes
-pub record AddsWaiting (old new : Own) (id at : ℕ) (call : Call) : Type 0 where
+pub record AddsWaiting (old new : Sitting) (id at : ℕ) (call : Call) : Type 0 where
   pub answers : List Answer
   pub told : List Notice
   pub added : new.calls ≡ old.calls ++ called old.number id at call answers told end.Waiting ∷ []
 
 -- why a call has no reply, and what it adds
-abbrev pub Fails : List CacheConfig → List Stated → Own → Own → ℕ → ℕ → Call → CallFault → Type 0
+abbrev pub Fails : List CacheConfig → List Stated → Sitting → Sitting → ℕ → ℕ → Call → CallFault → Type 0
 Fails configs stated old new id at call OutOfMemory = (new.calls ≡ old.calls) ⊎ Adds configs stated old new id at call end.GivenUp
 Fails configs stated old new id at call Overtaken = AddsWaiting old new id at call
 Fails configs stated old new id at call Busy = new.calls ≡ old.calls

@@ -1,4 +1,5 @@
 pub mod Stated
+pub mod Sessions
 pub mod Calls
 pub mod Accounts
 pub mod Opening

@@ -1,25 +1,37 @@
 -- With which configurations and callbacks a manager opens.
-use Rattle.std.specs.Prelude.{◌≡◌, ℕ, ◌<◌, Bool, List, length, slice_get, Option, Some, None, ⊤}
+use Rattle.std.specs.Prelude.{◌≡◌, ℕ, ◌<◌, Bool, List, [], ◌∷◌, map, length, replicate, slice_get, Option, Some, None, ⊤}
+use Rattle.atomic_table.specs.Seated.{TableId}
+use Rattle.jc_cuckoo.specs.declared.held.Held.{Held}
+use Rattle.jc_cuckoo.specs.Images.{image_of}
+use Rattle.jc_index.specs.Indexes.{Index}
 use Rattle.jc_hooks.specs.Suits.{Suits}
 use Rattle.jc_hooks.specs.declared.cache_hooks.CacheHooks.{CacheHooks}
 use Rattle.jc_model.specs.declared.config.CacheConfig.{CacheConfig}
-use Rattle.jc_engine.specs.Caches.{configs_of}
+use Rattle.jc_model.specs.Solo.{opened}
+use Rattle.jc_engine.specs.Caches.{status_of}
 use Rattle.jc_engine.specs.Recording.{Recording}
 use Rattle.jc_engine.specs.Opening.{open_refusal}
 use Rattle.jc_shared.specs.declared.fault.SharedRefusal.{SharedRefusal}
 use Rattle.jc_shared.specs.declared.fault.SharedRefusal.TheVariants.{Caches, HooksDiffer, OutOfMemory}
 use Rattle.jc_shared.specs.declared.hooks.SharedHooks.{SharedHooks}
 
--- the recorded engine has these configurations, and there are callbacks for each
+-- no call has been made of the recorded engine, which has these configurations, and there are callbacks for each
 pub record IsOpened {S T : Type 0} (configs : List CacheConfig) (recorded : Recording) (locks : List S) (shared : List T) : Type 0 where
-  pub configs_are : configs_of recorded.caches ≡ configs
+  pub unused : map status_of recorded.caches ≡ map opened configs
   pub locks_counted : length locks ≡ length configs
   pub shared_counted : length shared ≡ length configs
+
+-- a table of 16 buckets without rows, and an index that shows it
+pub record IsBlank (placer buckets : ℕ) (cells : List (Option Held)) (words : Index ℕ) : Type 0 where
+  pub cells_are : cells ≡ replicate 64 None
+  pub placer_is : words.placer ≡ placer
+  pub images_are : words.images ≡ image_of buckets cells ∷ []
 
 -- what was handed in, as a manager keeps it
 pub record Handed (L P : Type 0) : Type 0 where
   pub configs : List CacheConfig
   pub shared : List (SharedHooks L P)
+  pub index : TableId
 
 module _ {L W P K : Type 0} (wants : P → Bool) where
   abbrev pub SuitAt : Option CacheConfig → Option (CacheHooks L W P K) → Type 0

@@ -13,7 +13,7 @@ use jc_model::transcript::Transcript;
 /// What has a session's number, and the entries of its own calls.
 pub trait Logged {
     ghost use Rattle.std.specs.Prelude.{◌≡◌};
-    ghost use Rattle.jc_shared.specs.Calls.{Own};
+    ghost use Rattle.jc_shared.specs.Sessions.{Own};
 
     ghost log: { Self → Own };
 

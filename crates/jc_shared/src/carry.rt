@@ -1,5 +1,6 @@
 //! Carrying an open call on: each request is answered outside the engine's lock, each answer goes in under it.
 ghost use Rattle.std.specs.Prelude.{◌≡◌, ◌<◌, ◌++◌, ◌∷◌, [], List, false, IsTrue, IfOk, OnOk, OnErr, MatchResult, length, slice_get};
+ghost use mathlib.Core.List.{IsPrefix};
 ghost use Rattle.jc_model.specs.declared.call.Answer.{Answer as Given};
 ghost use Rattle.jc_model.specs.declared.event.End.TheVariants.{Waiting};
 ghost use Rattle.jc_model.specs.Run.{is_answer_to};
@@ -13,6 +14,7 @@ use crate::fault::CallFault;
 use crate::hooks::LockedHooks;
 use crate::manager::Manager;
 use crate::name::Name;
+use crate::tables::TablePass;
 use crate::turned::Turned;
 use jc_hooks::{
     Listener, Loader, Processor, Writer, ask_loader, ask_processor, ask_to_delete, ask_to_write,
@@ -107,29 +109,31 @@ impl<N: Name, L: Loader, W: Writer, P: Processor, K: Listener> Manager<N, L, W, 
         hooks: &mut LockedHooks<W, K>,
         draft: &mut Entry,
         request: Request,
+        pass: &mut TablePass<N>,
     ) -> Result<Turned, CallFault>
         requires known { draft.old.id < length N.configs }
-        requires asked { Stays N.configs N.stated (Asked request) draft.old }
+        requires asked { Stays N.configs N.stated (Asked request) draft.old pass.old }
         ensures same { IsSameCall draft.old draft.new }
-        ensures brought { MatchResult result (λ turned. Stays N.configs N.stated turned draft.new) (λ fault. EndsFaulty N.configs N.stated fault draft.new) }
+        ensures brought { MatchResult result (λ turned. Stays N.configs N.stated turned draft.new pass.new) (λ fault. EndsFaulty N.configs N.stated fault draft.new pass.new) }
+        ensures front { IsPrefix pass.old.images pass.new.images }
         ensures told { TellsOn K.state_after hooks.old hooks.new draft.old.told draft.new.told }
     {
         if tells_again(draft, &request) {
             return Err(CallFault::Overtaken);
         }
         let Ok(answer) = self.answer(hooks, draft, &request) else {
-            return Err(self.give_up(rt, hooks, draft));
+            return Err(self.give_up(rt, hooks, draft, pass));
         };
         keep_told(draft, request);
         if note_answer(draft, &answer).is_err() {
-            return Err(self.give_up(rt, hooks, draft));
+            return Err(self.give_up(rt, hooks, draft, pass));
         }
-        let resumed = self.locked.lock(rt).resume(draft, answer);
+        let resumed = self.locked.lock(rt).resume(draft, answer, pass);
         match resumed {
             Ok(turned) => Ok(turned),
             Err(CallFault::OutOfMemory) => {
                 take_back(draft);
-                Err(self.give_up(rt, hooks, draft))
+                Err(self.give_up(rt, hooks, draft, pass))
             }
             Err(_) => Err(CallFault::Overtaken),
         }
@@ -142,18 +146,20 @@ impl<N: Name, L: Loader, W: Writer, P: Processor, K: Listener> Manager<N, L, W, 
         hooks: &mut LockedHooks<W, K>,
         draft: &mut Entry,
         begun: Turned,
+        pass: &mut TablePass<N>,
     ) -> Result<Reply, CallFault>
         requires known { draft.old.id < length N.configs }
-        requires begun { Stays N.configs N.stated begun draft.old }
+        requires begun { Stays N.configs N.stated begun draft.old pass.old }
         ensures same { IsSameCall draft.old draft.new }
-        ensures ends { MatchResult result (λ reply. Stays N.configs N.stated (Replied reply) draft.new) (λ fault. EndsFaulty N.configs N.stated fault draft.new) }
+        ensures ends { MatchResult result (λ reply. Stays N.configs N.stated (Replied reply) draft.new pass.new) (λ fault. EndsFaulty N.configs N.stated fault draft.new pass.new) }
+        ensures front { IsPrefix pass.old.images pass.new.images }
         ensures told { TellsOn K.state_after hooks.old hooks.new draft.old.told draft.new.told }
     {
         let mut turned = begun;
         for _ in rt.forever() {
             match turned {
                 Turned::Replied(reply) => return Ok(reply),
-                Turned::Asked(request) => turned = self.advance(rt, hooks, draft, request)?,
+                Turned::Asked(request) => turned = self.advance(rt, hooks, draft, request, pass)?,
             }
         }
         unreachable!()
@@ -165,15 +171,17 @@ impl<N: Name, L: Loader, W: Writer, P: Processor, K: Listener> Manager<N, L, W, 
         rt: &R,
         hooks: &mut LockedHooks<W, K>,
         draft: &mut Entry,
+        pass: &mut TablePass<N>,
     ) -> CallFault
         requires waits { draft.old.end ≡ Waiting }
         requires answered { AreStated (slice_get N.stated draft.old.id) draft.old.call draft.old.answers }
         ensures same { IsSameCall draft.old draft.new }
-        ensures ends { EndsFaulty N.configs N.stated result draft.new }
+        ensures ends { EndsFaulty N.configs N.stated result draft.new pass.new }
+        ensures front { IsPrefix pass.old.images pass.new.images }
         ensures told { TellsOn K.state_after hooks.old hooks.new draft.old.told draft.new.told }
     {
         let untold = draft.told.items().is_empty();
-        let given_up = self.locked.lock(rt).give_up(draft);
+        let given_up = self.locked.lock(rt).give_up(draft, pass);
         if untold {
             tell_all(hooks.listeners.as_mut_slice(), draft.told.items());
         }

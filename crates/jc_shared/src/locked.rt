@@ -1,25 +1,31 @@
 //! What lies under the manager's lock: the recorded engine, and which sessions there are. Each tenure begins a call,
 //! brings it on or gives it up, and no callback runs in it.
-ghost use Rattle.std.specs.Prelude.{◌≡◌, ◌⊎◌, true, false, None, [], IsTrue, IfOk, IfErr, IfSome, OnOk, OnErr, Err, Some, map, slice_get};
+ghost use Rattle.std.specs.Prelude.{◌≡◌, ◌≢◌, ◌⊎◌, Bool, true, false, Ok, None, [], IsTrue, IfOk, IfErr, IfSome, OnOk, OnErr, Err, Some, map, slice_get};
+ghost use mathlib.Core.List.{IsPrefix};
 ghost use Rattle.jc_model.specs.declared.event.End.TheVariants.{Waiting, GivenUp};
 ghost use Rattle.jc_model.specs.Legal.{IsLegal};
+ghost use Rattle.jc_rows.specs.Images.{last_image};
+ghost use Rattle.jc_index.specs.Found.{found};
 ghost use Rattle.jc_engine.specs.Recording.{blank};
 ghost use Rattle.jc_engine.specs.Caches.{configs_of, status_of};
 ghost use Rattle.jc_engine.specs.Results.{reply_in};
+ghost use Rattle.jc_engine.specs.Watching.{ShowsStates, states_of};
 ghost use Rattle.jc_shared.specs.Accounts.{Accounts, IsCloseFault};
 ghost use Rattle.jc_shared.specs.Admitting.{Admits};
 ghost use Rattle.jc_shared.specs.Calls.{Stands, GoesOn, call_refusal};
+ghost use Rattle.jc_shared.specs.Sessions.{Sees, SeesSome};
 ghost use Rattle.jc_shared.specs.Finding.{fault_of, IsOfCall, IsOpenFor, StandsAt, Turns, IsReplied};
 
 use crate::auditing::{Logged, audit};
 use crate::fault::{CallFault, CloseFault, SessionRefusal};
 use crate::name::Name;
-use crate::tables::Table;
+use crate::tables::{ShownTable, TablePass};
 use crate::turned::Turned;
 use jc_engine::recorded::Recorded;
 use jc_model::call::{Answer, Call, Notice, Reply};
-use jc_model::event::{Cause, End, Entry, Step};
+use jc_model::event::{CacheId, Cause, End, Entry, Step};
 use jc_model::exact::Exact;
+use jc_model::key::Key;
 use jc_model::list::Sequence;
 use jc_model::transcript::Transcript;
 use jc_ring::link_ring::LinkRing;
@@ -31,7 +37,7 @@ const MOST_SESSIONS: u32 = 64;
 /// A recorded engine whose configurations are those that the name tells.
 #[derive(Drop)]
 pub(crate) struct Locked<N: Name> {
-    recorded: Recorded<Table, LinkRing>,
+    recorded: Recorded<ShownTable<N>, LinkRing>,
     /// How many numbers were given out to sessions.
     given: u32,
     closed: bool,
@@ -98,7 +104,7 @@ fn turned(step: Step, copy: Option<Reply>, draft: &mut Entry) -> Turned
 }
 
 impl<N: Name> Locked<N> {
-    pub(crate) fn new(recorded: Recorded<Table, LinkRing>) -> Locked<N>
+    pub(crate) fn new(recorded: Recorded<ShownTable<N>, LinkRing>) -> Locked<N>
         requires { configs_of recorded.caches ≡ N.configs }
         ensures { (result.given ≡ 0) × (result.closed ≡ false) }
     {
@@ -159,11 +165,39 @@ impl<N: Name> Locked<N> {
         }
     }
 
-    /// Begins the draft's call.
-    pub(crate) fn begin(&mut self, draft: &mut Entry, call: Call) -> Result<Turned, CallFault>
+    /// The pass sees the table as it is now, where memory allows it.
+    fn show(&mut self, pass: &mut TablePass<N>)
+        ensures same { (self.new.recorded ≡ self.old.recorded) × (self.new.given ≡ self.old.given) × (self.new.closed ≡ self.old.closed) }
+        ensures front { IsPrefix pass.old.images pass.new.images }
+        ensures shows { pass.new.met ≡ true → ShowsStates (states_of (map status_of self.old.recorded.caches)) (last_image pass.new.images) }
+        ensures sees { Sees N.configs self.old.recorded.transcript pass.new }
+    {
+        let _ = self.recorded.meet(pass);
+    }
+
+    /// At a reply the pass sees the table as it is now, where memory allows it.
+    fn show_reply(&mut self, turned: &Turned, pass: &mut TablePass<N>)
+        ensures same { (self.new.recorded ≡ self.old.recorded) × (self.new.given ≡ self.old.given) × (self.new.closed ≡ self.old.closed) }
+        ensures front { IsPrefix pass.old.images pass.new.images }
+        ensures sees { IsReplied turned.now → Sees N.configs self.old.recorded.transcript pass.new }
+    {
+        match turned {
+            Turned::Asked(_) => {}
+            Turned::Replied(_) => self.show(pass),
+        }
+    }
+
+    /// Begins the draft's call. At the reply the pass sees what it has changed.
+    pub(crate) fn begin(
+        &mut self,
+        draft: &mut Entry,
+        call: Call,
+        pass: &mut TablePass<N>,
+    ) -> Result<Turned, CallFault>
         requires blank { draft.old ≡ blank draft.old.session draft.old.id draft.old.at call }
         requires known { call_refusal N.configs draft.old.id call ≡ None }
-        ensures ok { IfOk result (λ turned. GoesOn N.configs draft.old turned draft.new) }
+        ensures ok { IfOk result (λ turned. GoesOn N.configs draft.old turned draft.new pass.new) }
+        ensures front { IsPrefix pass.old.images pass.new.images }
         ensures err { IfErr result (λ fault. (fault ≡ CallFault.Busy) ⊎ (fault ≡ CallFault.OutOfMemory)) }
         ensures same { OnErr result (draft.new ≡ draft.old) }
     {
@@ -171,17 +205,25 @@ impl<N: Name> Locked<N> {
             Ok(pair) => {
                 let (step, copy) = pair;
                 let _legal = self.recorded.transcript();
-                Ok(turned(step, copy, draft))
+                let turned = turned(step, copy, draft);
+                self.show_reply(&turned, pass);
+                Ok(turned)
             }
             Err((cause, _)) => Err(fault_of(cause)),
         }
     }
 
     /// Gives the draft's call its next answer, which the draft has already. At the reply the draft ends with it, where
-    /// the transcript has it just so.
-    pub(crate) fn resume(&mut self, draft: &mut Entry, answer: Answer) -> Result<Turned, CallFault>
+    /// the transcript has it just so, and the pass sees what the call has changed.
+    pub(crate) fn resume(
+        &mut self,
+        draft: &mut Entry,
+        answer: Answer,
+        pass: &mut TablePass<N>,
+    ) -> Result<Turned, CallFault>
         requires { draft.old.end ≡ Waiting }
-        ensures ok { IfOk result (λ turned. GoesOn N.configs draft.old turned draft.new) }
+        ensures ok { IfOk result (λ turned. GoesOn N.configs draft.old turned draft.new pass.new) }
+        ensures front { IsPrefix pass.old.images pass.new.images }
         ensures err { IfErr result (λ fault. (fault ≡ CallFault.Overtaken) ⊎ (fault ≡ CallFault.OutOfMemory)) }
         ensures same { OnErr result (draft.new ≡ draft.old) }
     {
@@ -191,17 +233,25 @@ impl<N: Name> Locked<N> {
         match self.recorded.resume(draft.id, answer) {
             Ok(pair) => {
                 let (step, copy) = pair;
-                self.settle(place, draft, step, copy)
+                let turned = self.settle(place, draft, step, copy)?;
+                self.show_reply(&turned, pass);
+                Ok(turned)
             }
             Err((Cause::OutOfMemory, _)) => Err(CallFault::OutOfMemory),
             Err(_) => Err(CallFault::Overtaken),
         }
     }
 
-    /// Ends the draft's call without a reply. The draft then has the notices that no one was told.
-    pub(crate) fn give_up(&mut self, draft: &mut Entry) -> Result<(), CallFault>
+    /// Ends the draft's call without a reply. The draft then has the notices that no one was told, and the pass sees
+    /// what the call has changed.
+    pub(crate) fn give_up(
+        &mut self,
+        draft: &mut Entry,
+        pass: &mut TablePass<N>,
+    ) -> Result<(), CallFault>
         requires { draft.old.end ≡ Waiting }
-        ensures ok { OnOk result ((draft.new ≡ record draft.old { told = draft.new.told; end = GivenUp }) × Stands N.configs draft.new) }
+        ensures ok { OnOk result ((draft.new ≡ record draft.old { told = draft.new.told; end = GivenUp }) × Stands N.configs draft.new pass.new) }
+        ensures front { IsPrefix pass.old.images pass.new.images }
         ensures err { IfErr result (λ fault. (fault ≡ CallFault.Overtaken) × (draft.new ≡ record draft.old { told = draft.new.told })) }
         ensures told { (draft.old.told ≡ []) ⊎ (draft.new.told ≡ draft.old.told) }
     {
@@ -214,11 +264,28 @@ impl<N: Name> Locked<N> {
         keep_left(draft, left);
         end_with(draft, End::GivenUp);
         if self.stands_at(place, draft) {
+            self.show(pass);
             Ok(())
         } else {
             end_with(draft, End::Waiting);
             Err(CallFault::Overtaken)
         }
+    }
+
+    /// Whether a cache has a live row of this key. The pass sees the table as it is now, where memory allows it.
+    pub(crate) fn has(
+        &mut self,
+        id: CacheId,
+        key: &Key,
+        now: u64,
+        pass: &mut TablePass<N>,
+    ) -> bool
+        ensures same { (self.new.recorded ≡ self.old.recorded) × (self.new.given ≡ self.old.given) × (self.new.closed ≡ self.old.closed) }
+        ensures front { IsPrefix pass.old.images pass.new.images }
+        ensures agrees { pass.new.met ≡ true → (b : Bool) → found (last_image pass.new.images) id key.now now ≡ Some b → result ≡ b }
+    {
+        self.show(pass);
+        self.recorded.has(id, key, now)
     }
 
     /// Gives a session its number, where there is room for its list. Numbers go upward from 0.
@@ -238,6 +305,22 @@ impl<N: Name> Locked<N> {
         let number = self.given;
         self.given += 1;
         Ok(number)
+    }
+
+    /// Gives a session its number and a pass, where there is room for its list.
+    pub(crate) fn enter(&mut self, room: bool) -> Result<(u32, TablePass<N>), SessionRefusal>
+        ensures sees { IfOk result (λ s. SeesSome N.configs s.1 × (s.1.met ≡ true)) }
+        ensures admits { IfOk result (λ s. Admits self.old.closed self.old.given room (Ok s.0) self.new.given) }
+        ensures refused { IfErr result (λ fault. fault ≢ SessionRefusal.OutOfMemory → Admits self.old.closed self.old.given room (Err fault) self.new.given) }
+        ensures kept { self.new.closed ≡ self.old.closed }
+    {
+        let _legal = self.recorded.transcript();
+        let pass = self.recorded.watch();
+        let number = self.admit(room && pass.is_ok())?;
+        match pass {
+            Ok(pass) => Ok((number, pass)),
+            Err(_) => Err(SessionRefusal::OutOfMemory),
+        }
     }
 
     /// Closes the manager, where the logs account for the transcript, and hands the transcript out.

@@ -1,9 +1,10 @@
 //! The manager that threads share.
-ghost use Rattle.std.specs.Prelude.{◌≡◌, ℕ, [], IfOk, IfErr, length, map, position};
+ghost use Rattle.std.specs.Prelude.{◌≡◌, ℕ, true, [], IfOk, IfErr, length, map, position};
 ghost use Rattle.std.specs.Str.{bytes_eq};
 ghost use Rattle.jc_engine.specs.Opening.{names_in};
 ghost use Rattle.jc_model.specs.Legal.{IsLegal};
 ghost use Rattle.jc_shared.specs.Accounts.{Accounts};
+ghost use Rattle.jc_shared.specs.Sessions.{SeesSome, log_of};
 ghost use Rattle.jc_shared.specs.Stated.{stated_by};
 
 use crate::directory::Directory;
@@ -51,16 +52,18 @@ impl<N: Name, L: Loader, W: Writer, P: Processor, K: Listener> Manager<N, L, W, 
         self.directory.names()
     }
 
-    /// A new session, which has made no call. Sessions have the numbers from 0 upward.
+    /// A new session, which has made no call, and whose pass has seen the table as it is. Sessions have the numbers from
+    /// 0 upward.
     ///
     /// Refused as `Closed`, `TooManySessions`, `OutOfMemory`, in this order.
     pub fn session<R: Wait>(&self, rt: &R) -> Result<Session<'_, N, L, W, P, K>, SessionRefusal>
-        ensures { IfOk result (λ s. s.calls ≡ []) }
+        ensures calls { IfOk result (λ s. s.calls ≡ []) }
+        ensures sees { IfOk result (λ s. SeesSome N.configs s.pass × (s.pass.met ≡ true)) }
     {
         let own = Vec::with_capacity(self.alloc, FIRST_CALLS);
-        let number = self.locked.lock(rt).admit(own.is_ok())?;
+        let (number, pass) = self.locked.lock(rt).enter(own.is_ok())?;
         match own {
-            Ok(own) => Ok(Session::new(self, number, own)),
+            Ok(own) => Ok(Session::new(self, number, own, pass)),
             Err(_) => Err(SessionRefusal::OutOfMemory),
         }
     }
@@ -76,7 +79,7 @@ impl<N: Name, L: Loader, W: Writer, P: Processor, K: Listener> Manager<N, L, W, 
         sessions: Vec<Session<'a, N, L, W, P, K>>,
     ) -> Result<Transcript, (CloseFault, Vec<Session<'a, N, L, W, P, K>>)>
         ensures legal { IfOk result (λ t. IsLegal N.configs t) }
-        ensures accounts { IfOk result (λ t. (given : ℕ) × Accounts given sessions.entry.items t) }
+        ensures accounts { IfOk result (λ t. (given : ℕ) × Accounts given (map log_of sessions.entry.items) t) }
         ensures back { IfErr result (λ e. e.1.items ≡ sessions.entry.items) }
     {
         let finished = self.locked.lock(rt).finish(sessions.as_slice());

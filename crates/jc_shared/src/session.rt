@@ -1,43 +1,59 @@
 //! One caller's way to the caches of a manager.
-ghost use Rattle.std.specs.Prelude.{◌≡◌, IfOk, IfErr, IfSome, Err};
+ghost use Rattle.std.specs.Prelude.{◌≡◌, ◌≢◌, ◌⊎◌, suc, Bool, true, false, Some, None, IfOk, IfErr, IfSome, Err};
+ghost use mathlib.Core.List.{IsPrefix};
 ghost use Rattle.jc_model.specs.declared.event.End.TheVariants.{Replied};
 ghost use Rattle.jc_engine.specs.Recording.{blank};
+ghost use Rattle.jc_place.specs.Seeded.{seeded_place};
+ghost use Rattle.jc_rows.specs.Images.{last_image};
+ghost use Rattle.jc_stripes.specs.Stripes.{SomeOdd, stripes_in};
+ghost use Rattle.jc_index.specs.Spelling.{buckets_of};
+ghost use Rattle.jc_index.specs.Found.{found};
+ghost use Rattle.jc_index.specs.Versions.{read_for};
+ghost use Rattle.jc_index.specs.declared.lookup.Lookup.TheVariants.{Sure, Unsure};
 ghost use Rattle.jc_shared.specs.Calls.{Adds, Fails, call_refusal};
+ghost use Rattle.jc_shared.specs.Sessions.{log_of};
 
 use crate::auditing::Logged;
 use crate::fault::CallFault;
 use crate::manager::Manager;
 use crate::name::Name;
+use crate::tables::TablePass;
 use jc_hooks::{Listener, Loader, Processor, Writer};
+use jc_index::lookup::Lookup;
 use jc_model::OutOfMemory;
 use jc_model::call::{Call, Reply};
 use jc_model::event::{CacheId, End, Entry};
+use jc_model::key::Key;
 use jc_model::list::Sequence;
 use jc_model::share::Share;
 use std::alloc::Global;
 use std::marker::Model;
 use std::sync::Wait;
 
-/// A session of a manager, with the entries of its own calls. Contracts see its number and these.
+/// A session of a manager, with the entries of its own calls, and a pass, in which it looks keys up. Contracts see its
+/// number, these, and what the pass has seen.
 #[derive(Drop)]
 pub struct Session<'a, N: Name, L: Loader, W: Writer, P: Processor, K: Listener> {
     manager: &'a Manager<N, L, W, P, K>,
     number: u32,
     own: Vec<Entry>,
+    pass: TablePass<N>,
 }
 
 impl<'a, N: Name, L: Loader, W: Writer, P: Processor, K: Listener> Model
     for Session<'a, N, L, W, P, K> {
-    ghost use Rattle.jc_shared.specs.Calls.{Own};
+    ghost use Rattle.jc_shared.specs.Sessions.{Sitting};
 
-    ghost Value = { Own };
+    ghost Value = { Sitting };
 
-    ghost view = { λ s. record { number = s.number; calls = s.own.items } };
+    ghost view = { λ s. record { number = s.number; calls = s.own.items; pass = s.pass } };
 }
 
 impl<'a, N: Name, L: Loader, W: Writer, P: Processor, K: Listener> Logged
     for Session<'a, N, L, W, P, K> {
-    ghost log = { λ s. s };
+    ghost use Rattle.jc_shared.specs.Sessions.{log_of};
+
+    ghost log = { log_of };
 
     fn log_number(&self) -> u32 {
         self.number
@@ -75,13 +91,15 @@ impl<'a, N: Name, L: Loader, W: Writer, P: Processor, K: Listener> Session<'a, N
         manager: &'a Manager<N, L, W, P, K>,
         number: u32,
         own: Vec<Entry>,
+        pass: TablePass<N>,
     ) -> Session<'a, N, L, W, P, K>
-        ensures { (result.number ≡ number) × (result.calls ≡ own.items) }
+        ensures { result ≡ record { number = number; calls = own.items; pass = pass } }
     {
         Session {
             manager,
             number,
             own,
+            pass,
         }
     }
 
@@ -109,6 +127,7 @@ impl<'a, N: Name, L: Loader, W: Writer, P: Processor, K: Listener> Session<'a, N
         ensures ok { IfOk result (λ reply. Adds N.configs N.stated self.old self.new id now call (Replied reply)) }
         ensures refused { IfSome (call_refusal N.configs id call) (λ fault. result ≡ Err fault) }
         ensures err { IfErr result (λ fault. Fails N.configs N.stated self.old self.new id now call fault) }
+        ensures front { IsPrefix self.old.pass.images self.new.pass.images }
     {
         let manager = self.manager;
         if let Some(fault) = manager.directory.refusal(id, &call) {
@@ -121,13 +140,43 @@ impl<'a, N: Name, L: Loader, W: Writer, P: Processor, K: Listener> Session<'a, N
             return Err(CallFault::OutOfMemory);
         };
         let mut hooks = manager.locks[id.number() as usize].lock(rt);
-        let begun = manager.locked.lock(rt).begin(&mut draft, call);
+        let begun = manager.locked.lock(rt).begin(&mut draft, call, &mut self.pass);
         let turned = match begun {
             Ok(turned) => turned,
             Err(fault) => return Err(fault),
         };
-        let replied = manager.carry_on(rt, &mut hooks, &mut draft, turned);
+        let replied = manager.carry_on(rt, &mut hooks, &mut draft, turned, &mut self.pass);
         self.own.push_reserved(draft);
         replied
+    }
+
+    /// Whether a cache has a live row of this key, without waiting: it takes no lock. It is sure only of the last image
+    /// that the session has seen, which is no older than its own last call. An unknown cache has no rows.
+    pub fn contains_key(&mut self, id: CacheId, key: &Key, now: u64) -> Lookup
+        ensures sure { (b : Bool) → result ≡ Sure b → found (last_image self.new.pass.images) id key.now now ≡ Some b }
+        ensures unsure { result ≡ Unsure → (self.old.pass.met ≡ false) ⊎ ((SomeOdd self.new.pass.begun ⊎ (self.new.pass.begun ≢ self.new.pass.checked)) ⊎ (found (last_image self.new.pass.images) id key.now now ≡ None)) }
+        ensures stripes { self.old.pass.met ≡ true → (stripes_in self.new.pass.begun ≡ read_for (buckets_of (seeded_place self.old.pass.placer) self.old.pass.buckets (id, key.now))) × (stripes_in self.new.pass.checked ≡ stripes_in self.new.pass.begun) }
+        ensures counted { self.old.pass.met ≡ true → self.new.pass.lookups ≡ suc self.old.pass.lookups }
+        ensures front { IsPrefix self.old.pass.images self.new.pass.images }
+        ensures met { self.new.pass.met ≡ self.old.pass.met }
+        ensures same { log_of self.new ≡ log_of self.old }
+    {
+        self.pass.lookup(id, key, now)
+    }
+
+    /// Whether a cache has a live row of this key: by a lookup where that is sure, else under the lock. It is no use of
+    /// the row, and the session keeps no entry of it.
+    pub fn contains<R: Wait>(&mut self, rt: &R, id: CacheId, key: &Key, now: u64) -> bool
+        ensures agrees { self.new.pass.met ≡ true → (b : Bool) → found (last_image self.new.pass.images) id key.now now ≡ Some b → result ≡ b }
+        ensures front { IsPrefix self.old.pass.images self.new.pass.images }
+        ensures same { log_of self.new ≡ log_of self.old }
+    {
+        match self.contains_key(id, key, now) {
+            Lookup::Sure(holds) => holds,
+            Lookup::Unsure => {
+                let manager = self.manager;
+                manager.locked.lock(rt).has(id, key, now, &mut self.pass)
+            }
+        }
     }
 }

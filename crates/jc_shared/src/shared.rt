@@ -1,9 +1,7 @@
 //! Opening a manager.
 ghost use Rattle.std.specs.Prelude.{◌≡◌, None, IfOk, IfErr, OnOk, length, map};
-ghost use Rattle.std.specs.FinMap as finite;
 ghost use Rattle.jc_model.specs.Solo.{opened};
-ghost use Rattle.jc_cuckoo.specs.Cells.{rows_in};
-ghost use Rattle.jc_engine.specs.Caches.{configs_of};
+ghost use Rattle.jc_engine.specs.Caches.{status_of};
 ghost use Rattle.jc_engine.specs.Fresh.{AreIds};
 ghost use Rattle.jc_engine.specs.Opening.{open_refusal, names_in};
 ghost use Rattle.jc_shared.specs.Opening.{CanOpen, IsRefusal};
@@ -15,7 +13,7 @@ use crate::hooks::{AllHooks, LockedHooks, SharedHooks, apart, first_unsuited};
 use crate::locked::Locked;
 use crate::manager::Manager;
 use crate::name::Name;
-use crate::tables::{Table, table};
+use crate::tables::BlankTable;
 use jc_engine::open::ids_by_name;
 use jc_engine::recorded::Recorded;
 use jc_hooks::{CacheHooks, Listener, Loader, Processor, Writer};
@@ -24,6 +22,7 @@ use jc_model::config::CacheConfig;
 use jc_model::key::Key;
 use jc_model::share::Share;
 use jc_ring::link_ring::LinkRing;
+use jc_rows::list_rows::ListRows;
 use std::alloc::{AllocError, Global};
 use std::collections::HashMap;
 use std::marker::Model;
@@ -37,7 +36,9 @@ pub struct Shared<L, W, P, K> {
     directory: Directory,
     shared: Vec<SharedHooks<L, P>>,
     locks: Vec<Mutex<LockedHooks<W, K>>>,
-    recorded: Recorded<Table, LinkRing>,
+    /// Over no table yet.
+    recorded: Recorded<ListRows, LinkRing>,
+    table: BlankTable,
 }
 
 impl<L, W, P, K> Model for Shared<L, W, P, K> {
@@ -45,7 +46,7 @@ impl<L, W, P, K> Model for Shared<L, W, P, K> {
 
     ghost Value = { Handed L P };
 
-    ghost view = { λ s. record { configs = s.directory; shared = s.shared.items } };
+    ghost view = { λ s. record { configs = s.directory; shared = s.shared.items; index = s.table } };
 
     ghost invariant = { λ s. IsOpened s.directory s.recorded s.locks.items s.shared.items };
 }
@@ -60,17 +61,15 @@ fn copies(alloc: Global, configs: &[CacheConfig]) -> Result<Vec<CacheConfig>, Ou
     Ok(copies)
 }
 
-/// The recorded engine over an empty table.
+/// The recorded engine over an empty list of rows.
 fn recorded(
     alloc: Global,
     configs: Vec<CacheConfig>,
-    seed: u64,
-) -> Result<Recorded<Table, LinkRing>, OutOfMemory>
+) -> Result<Recorded<ListRows, LinkRing>, OutOfMemory>
     requires { open_refusal configs.items ≡ None }
-    ensures { IfOk result (λ r. configs_of r.caches ≡ configs.items) }
+    ensures { IfOk result (λ r. map status_of r.caches ≡ map opened configs.items) }
 {
-    let rows = table(alloc, seed)?;
-    match Recorded::open(alloc, rows, configs) {
+    match Recorded::open(alloc, ListRows::new(alloc), configs) {
         Ok(recorded) => Ok(recorded),
         Err(_) => Err(AllocError),
     }
@@ -94,7 +93,8 @@ fn opened<L: Loader, W: Writer, P: Processor, K: Listener>(
         return Err(AllocError);
     };
     let second = copies(alloc, configs.as_slice())?;
-    let recorded = recorded(alloc, second, seed)?;
+    let recorded = recorded(alloc, second)?;
+    let table = BlankTable::new(alloc, seed)?;
     let directory = Directory::new(alloc, configs, ids)?;
     let AllHooks { shared, locks } = apart(alloc, hooks)?;
     Ok(Shared {
@@ -103,6 +103,7 @@ fn opened<L: Loader, W: Writer, P: Processor, K: Listener>(
         shared,
         locks,
         recorded,
+        table,
     })
 }
 
@@ -134,10 +135,12 @@ impl<L: Loader, W: Writer, P: Processor, K: Listener> Shared<L, W, P, K> {
         }
     }
 
-    /// The manager under a name, which tells these configurations and what these loaders and processors state.
+    /// The manager under a name, which tells these configurations, what these loaders and processors state, and the
+    /// index.
     pub fn named<N: Name>(self) -> Manager<N, L, W, P, K>
         requires configs { self.configs ≡ N.configs }
         requires stated { map (stated_by L.load_of P.verdict_of) self.shared ≡ N.stated }
+        requires index { self.index ≡ N.index }
     {
         let Shared {
             alloc,
@@ -145,13 +148,14 @@ impl<L: Loader, W: Writer, P: Processor, K: Listener> Shared<L, W, P, K> {
             shared,
             locks,
             recorded,
+            table,
         } = self;
         Manager {
             alloc,
             directory,
             shared,
             locks,
-            locked: Mutex::new(Locked::new(recorded)),
+            locked: Mutex::new(Locked::new(recorded.over(table.named::<N>()))),
         }
     }
 }

@@ -7,6 +7,7 @@ use jc_model::call::{Kind, Notice, ProcessorFault, Verdict};
 use jc_model::key::Key;
 use jc_model::value::Value;
 use std::alloc::{AllocError, Global};
+use std::sync::atomic::{AtomicU64, Ordering};
 
 /// Notes `l` and the key.
 #[derive(Drop)]
@@ -116,5 +117,76 @@ impl Loader for PoorLoader {
 
     fn load(&self, _alloc: Global, _key: &Key) -> Result<Loaded, OutOfMemory> {
         Err(AllocError)
+    }
+}
+
+/// Another callback, which finds no memory for one of its questions.
+#[derive(Drop)]
+pub struct OncePoor<T> {
+    inner: T,
+    /// The number of that question, from 0.
+    poor: u64,
+    asked: AtomicU64,
+}
+
+impl<T> OncePoor<T> {
+    pub fn new(inner: T, poor: u64) -> OncePoor<T> {
+        OncePoor {
+            inner,
+            poor,
+            asked: AtomicU64::new(0),
+        }
+    }
+
+    /// Counts a question, and refuses it where it is the one.
+    fn count(&self) -> Result<(), OutOfMemory> {
+        if self.asked.fetch_add(1, Ordering::SeqCst) == self.poor {
+            Err(AllocError)
+        } else {
+            Ok(())
+        }
+    }
+}
+
+impl<L: Loader> Loader for OncePoor<L> {
+    ghost load_of = { λ s. L.load_of s.inner };
+
+    fn load(&self, alloc: Global, key: &Key) -> Result<Loaded, OutOfMemory> {
+        self.count()?;
+        self.inner.load(alloc, key)
+    }
+}
+
+impl<W: Writer> Writer for OncePoor<W> {
+    ghost may = { λ s. W.may s.inner };
+
+    fn write(&mut self, alloc: Global, key: &Key, value: &Value) -> Result<bool, OutOfMemory> {
+        self.count()?;
+        self.inner.write(alloc, key, value)
+    }
+
+    fn delete(&mut self, alloc: Global, key: &Key) -> Result<bool, OutOfMemory> {
+        self.count()?;
+        self.inner.delete(alloc, key)
+    }
+}
+
+impl<P: Processor> Processor for OncePoor<P> {
+    ghost wants = { λ s. P.wants s.inner };
+
+    ghost verdict_of = { λ s. P.verdict_of s.inner };
+
+    fn wants_value(&self) -> bool {
+        self.inner.wants_value()
+    }
+
+    fn process(
+        &self,
+        alloc: Global,
+        value: Option<&Value>,
+        argument: &Value,
+    ) -> Result<Result<Verdict, ProcessorFault>, OutOfMemory> {
+        self.count()?;
+        self.inner.process(alloc, value, argument)
     }
 }

@@ -8,7 +8,7 @@ mod placers;
 mod refusing;
 mod trouble;
 
-pub use fakes::{NotedListener, NotedLoader, NotedProcessor, NotedWriter, PoorLoader};
+pub use fakes::{NotedListener, NotedLoader, NotedProcessor, NotedWriter, OncePoor, PoorLoader};
 pub use log::{Log, Text};
 pub use placers::{ConstantPlacer, TablePlacer};
 pub use refusing::{RefusingMirror, RefusingRows};
@@ -30,6 +30,10 @@ mod memory;
 mod places;
 #[cfg(test)]
 mod rings;
+#[cfg(test)]
+mod seeking;
+#[cfg(test)]
+mod sessions;
 #[cfg(test)]
 mod shapes;
 #[cfg(test)]

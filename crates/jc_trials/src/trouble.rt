@@ -11,6 +11,7 @@ use jc_model::keys::ListFault;
 use jc_model::list::Sequence;
 use jc_model::value::{Value, ValueFault};
 use jc_runner::{ProgramFault, RunFault};
+use jc_shared::{CloseFault, SessionRefusal, SharedRefusal};
 use std::alloc::{AllocFailed, Global};
 
 #[derive(Debug, Drop, PartialEq, Eq)]
@@ -24,6 +25,9 @@ pub enum Trouble {
     NoTable(TableRefusal),
     Program(ProgramFault),
     Running(RunFault),
+    NoManager(SharedRefusal),
+    NoSession(SessionRefusal),
+    NotClosed(CloseFault),
 }
 
 impl From<OutOfMemory> for Trouble {
@@ -83,6 +87,18 @@ impl From<ProgramFault> for Trouble {
 impl From<RunFault> for Trouble {
     fn from(fault: RunFault) -> Trouble {
         Trouble::Running(fault)
+    }
+}
+
+impl From<SharedRefusal> for Trouble {
+    fn from(refusal: SharedRefusal) -> Trouble {
+        Trouble::NoManager(refusal)
+    }
+}
+
+impl From<SessionRefusal> for Trouble {
+    fn from(refusal: SessionRefusal) -> Trouble {
+        Trouble::NoSession(refusal)
     }
 }
 

@@ -1,5 +1,5 @@
 use Rattle.std.proofs.Common.{◌≡◌, ◌<◌, ◌∷◌, map, ap, arith}
-use Rattle.jc_shared.specs.Calls.{Own}
+use Rattle.jc_shared.specs.Sessions.{Own}
 use Rattle.jc_shared.proofs.Comparing.{all_rest, all_with}
 use Rattle.jc_shared.proofs.auditing.are_below.Goals as goal
 

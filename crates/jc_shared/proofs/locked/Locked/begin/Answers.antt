@@ -15,8 +15,8 @@ pub returns-in-Ok-clause-ok : goal.returns-in-Ok-clause-ok
 returns-in-Ok-clause-ok g c =
     let named = same_configs c.args.self.now.recorded.caches c.begin.new.self.caches (Begin c.args.draft.now.id c.args.draft.now.at c.args.call) (of_recorded_begin c.begin.result) c.begin.ensures.statuses ∙ c.args.self.now.named in
     let legal : IsLegal g.N.Name.configs c.begin.new.self.transcript = subst (λ (cs : List CacheConfig). IsLegal cs c.begin.new.self.transcript) named c.transcript-legal.ensures.legal in
-    begun_goes_on g.N.Name.configs c.args.self.now.recorded.transcript c.begin.new.self.transcript c.args.draft.now c.turned.new.draft c.args.call c.in-Ok.pair.0 c.turned.result
-    c.requires.blank c.turned.ensures legal c.in-Ok.ensures.transcript (begun_asks (map status_of c.args.self.now.recorded.caches) c.args.draft.now.id c.args.draft.now.at c.args.call c.in-Ok.pair.0 _ c.in-Ok.ensures.outcome)
+    begun_goes_on g.N.Name.configs c.args.self.now.recorded.transcript c.begin.new.self.transcript c.args.draft.now c.turned-turned.new.draft c.show_reply.new.pass c.args.call c.in-Ok.pair.0 c.turned-turned.result
+    c.requires.blank c.turned-turned.ensures legal c.show_reply.ensures.sees c.in-Ok.ensures.transcript (begun_asks (map status_of c.args.self.now.recorded.caches) c.args.draft.now.id c.args.draft.now.at c.args.call c.in-Ok.pair.0 _ c.in-Ok.ensures.outcome)
 
 pub returns-clause-err : goal.returns-clause-err
 returns-clause-err g c =

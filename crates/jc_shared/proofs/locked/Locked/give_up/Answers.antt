@@ -20,6 +20,6 @@ returns-then-stands_at-clause-ok g c =
     let same : final ≡ record draft { told = final.told; end = ends.GivenUp } =
     c.end_with.ensures ∙ ap (λ (e : Entry). record e { end = ends.GivenUp }) c.keep_left.ensures.kept ∙ ap (λ (ns : List Notice). record draft { told = ns; end = ends.GivenUp }) (sym told) in (
       same,
-      given_up_stands g.N.Name.configs (map status_of c.args.self.now.recorded.caches) c.args.self.now.recorded.transcript c.give_up.new.self.transcript draft final c.in-Some.place c.in-Some.ensures
-          c.in-Ok.left (c.in-Ok.ensures.transcript draft.session) c.in-Ok.ensures.outcome (ap (λ (e : Entry). e.id) same) (c.stands_at.ensures c.if-stands_at.true),
+      given_up_stands g.N.Name.configs (map status_of c.args.self.now.recorded.caches) c.args.self.now.recorded.transcript c.give_up.new.self.transcript draft final c.show.new.pass c.in-Some.place c.in-Some.ensures
+          c.in-Ok.left (c.in-Ok.ensures.transcript draft.session) c.in-Ok.ensures.outcome (ap (λ (e : Entry). e.id) same) (c.stands_at.ensures c.if-stands_at.true) c.show.ensures.sees,
     )

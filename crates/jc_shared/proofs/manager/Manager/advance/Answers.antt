@@ -9,7 +9,7 @@ use Rattle.jc_shared.proofs.manager.Manager.advance.Goals as goal
 pub returns-in-Ok-resumed-clause-brought : goal.returns-in-Ok-resumed-clause-brought
 returns-in-Ok-resumed-clause-brought g c =
     let noted = on_ok c.note_answer.result c.note_answer.ensures.ok (sym c.is_err.ensures.value ∙ c.if-is_err.false) in
-    goes_stays g.N.Name.configs g.N.Name.stated c.note_answer.new.draft c.resume-resumed.new.draft c.in-Ok-resumed.turned c.in-Ok-resumed.ensures.ok
+    goes_stays g.N.Name.configs g.N.Name.stated c.note_answer.new.draft c.resume-resumed.new.draft c.resume-resumed.new.pass c.in-Ok-resumed.turned c.in-Ok-resumed.ensures.ok
     (noted_waits g.N.Name.stated c.args.draft.now c.keep_told.new.draft c.note_answer.new.draft (told_behind c.args.request c.args.draft.now.told) c.in-Ok.answer c.keep_told.ensures noted c.requires.asked.waits c.requires.asked.answered c.in-Ok.ensures.stated)
 
 pub returns-then-is_err-clause-told : goal.returns-then-is_err-clause-told

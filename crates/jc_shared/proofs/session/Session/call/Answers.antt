@@ -1,5 +1,6 @@
 use Rattle.std.proofs.Common.{◌≡◌, ◌++◌, ◌∷◌, [], ◌∙◌, ap, List}
 use Rattle.jc_model.specs.declared.event.Entry.{Entry}
+use Rattle.jc_stripes.proofs.Lists.{prefix_trans}
 use Rattle.jc_shared.specs.Calls.{IsSameCall}
 use Rattle.jc_shared.proofs.Carrying.{begun_same, same_call, added_ok, added_err}
 use Rattle.jc_shared.proofs.session.Session.call.Goals as goal
@@ -7,17 +8,20 @@ use Rattle.jc_shared.proofs.session.Session.call.Goals as goal
 pub returns-clause-ok : goal.returns-clause-ok
 returns-clause-ok g c =
     let e = c.carry_on-replied.new.draft in
-    let same : IsSameCall c.in-Ok.draft e = same_call c.in-Ok.draft c.begin-begun.new.draft e (begun_same g.N.Name.configs c.in-Ok.draft c.begin-begun.new.draft c.in-Ok-begun.turned c.in-Ok-begun.ensures.ok) c.carry_on-replied.ensures.same in
+    let same : IsSameCall c.in-Ok.draft e = same_call c.in-Ok.draft c.begin-begun.new.draft e (begun_same g.N.Name.configs c.in-Ok.draft c.begin-begun.new.draft c.begin-begun.new.pass c.in-Ok-begun.turned c.in-Ok-begun.ensures.ok) c.carry_on-replied.ensures.same in
     let added : c.push_reserved.new.self.items ≡ c.self.inside.own.items ++ e ∷ [] = c.push_reserved.ensures.items ∙ ap (λ (es : List Entry). es ++ e ∷ []) c.reserve.ensures.items in
     rw (← c.self.view_is)
-    (added_ok g.N.Name.configs g.N.Name.stated (record { number = c.self.inside.number; calls = c.self.inside.own.items }) (record { number = c.self.inside.number; calls = c.push_reserved.new.self.items }) c.args.id c.args.now c.args.call
+    (added_ok g.N.Name.configs g.N.Name.stated (record { number = c.self.inside.number; calls = c.self.inside.own.items; pass = c.self.inside.pass }) (record { number = c.self.inside.number; calls = c.push_reserved.new.self.items; pass = c.carry_on-replied.new.pass }) c.args.id c.args.now c.args.call
     c.in-Ok.draft e c.in-Ok.ensures same added c.carry_on-replied.result c.carry_on-replied.ensures.ends)
 
 pub returns-clause-err : goal.returns-clause-err
 returns-clause-err g c =
     let e = c.carry_on-replied.new.draft in
-    let same : IsSameCall c.in-Ok.draft e = same_call c.in-Ok.draft c.begin-begun.new.draft e (begun_same g.N.Name.configs c.in-Ok.draft c.begin-begun.new.draft c.in-Ok-begun.turned c.in-Ok-begun.ensures.ok) c.carry_on-replied.ensures.same in
+    let same : IsSameCall c.in-Ok.draft e = same_call c.in-Ok.draft c.begin-begun.new.draft e (begun_same g.N.Name.configs c.in-Ok.draft c.begin-begun.new.draft c.begin-begun.new.pass c.in-Ok-begun.turned c.in-Ok-begun.ensures.ok) c.carry_on-replied.ensures.same in
     let added : c.push_reserved.new.self.items ≡ c.self.inside.own.items ++ e ∷ [] = c.push_reserved.ensures.items ∙ ap (λ (es : List Entry). es ++ e ∷ []) c.reserve.ensures.items in
     rw (← c.self.view_is)
-    (added_err g.N.Name.configs g.N.Name.stated (record { number = c.self.inside.number; calls = c.self.inside.own.items }) (record { number = c.self.inside.number; calls = c.push_reserved.new.self.items }) c.args.id c.args.now c.args.call
+    (added_err g.N.Name.configs g.N.Name.stated (record { number = c.self.inside.number; calls = c.self.inside.own.items; pass = c.self.inside.pass }) (record { number = c.self.inside.number; calls = c.push_reserved.new.self.items; pass = c.carry_on-replied.new.pass }) c.args.id c.args.now c.args.call
     c.in-Ok.draft e c.in-Ok.ensures same added c.carry_on-replied.result c.carry_on-replied.ensures.ends)
+
+pub returns-clause-front : goal.returns-clause-front
+returns-clause-front g c = rw (← c.self.view_is) (prefix_trans _ _ _ c.begin-begun.ensures.front c.carry_on-replied.ensures.front)

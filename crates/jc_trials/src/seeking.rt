@@ -1,0 +1,291 @@
+//! Lookups in sessions of a shared manager: what they tell beside the calls of others.
+ghost use Rattle.std.specs.Prelude.{◌≡◌, map};
+ghost use Rattle.jc_shared.specs.Stated.{stated_by};
+
+use crate::trouble::{Trouble, no_hooks, plain_cache, value_of};
+use jc_hooks::program::{CheckWriter, EchoLoader, ProgramProcessor};
+use jc_hooks::{Listener, Loader, Processor, TallyListener, Writer};
+use jc_index::lookup::Lookup;
+use jc_model::call::{Call, Reply};
+use jc_model::config::Policy;
+use jc_model::event::CacheId;
+use jc_model::key::Key;
+use jc_place::place::{Placer, alternate};
+use jc_place::seeded::SeededPlacer;
+use jc_shared::{Manager, Name, Session, Shared};
+use std::alloc::Global;
+use std::marker::Brand;
+use std::sync::Wait;
+use std::thread::{Threads, join};
+
+/// The manager of the trials: rows of cache 0 live for 10 ms, those of cache 1 for ever.
+type Plain = Shared<EchoLoader, CheckWriter, ProgramProcessor, TallyListener>;
+
+/// The seed of its table.
+const SEED: u64 = 7;
+
+/// The key of a number.
+fn numbered(alloc: Global, number: u32) -> Result<Key, Trouble> {
+    let name = format!(in alloc; "k{number}")?;
+    Ok(Key::from_text(name.as_str())?)
+}
+
+fn plain(alloc: Global) -> Result<Plain, Trouble> {
+    let mut short = plain_cache(alloc, "a", 2000)?;
+    short.policy = Policy::Created(10);
+    let configs = Vec::from_array(alloc, [short, plain_cache(alloc, "b", 2000)?])?;
+    let hooks = Vec::from_array(alloc, [no_hooks(alloc), no_hooks(alloc)])?;
+    Ok(Shared::open(alloc, configs, hooks, SEED)?)
+}
+
+/// What a session does.
+enum Act {
+    /// Puts the keys from one number up to another, at 0.
+    Put(u32, u32, u32),
+    /// Looks a key of a cache up at a moment.
+    Look(u32, u32, u64, Lookup),
+    /// Asks whether a cache has a key.
+    Has(u32, u32, u64, bool),
+}
+
+/// By the number of the session.
+static ACTS: [(usize, Act); 24] = [
+    (0, Act::Look(0, 0, 5, Lookup::Sure(false))),
+    (0, Act::Put(0, 0, 1)),
+    (0, Act::Look(0, 0, 5, Lookup::Sure(true))),
+    (0, Act::Look(0, 0, 10, Lookup::Sure(false))),
+    (0, Act::Has(0, 0, 5, true)),
+    (0, Act::Has(0, 0, 10, false)),
+    // Without a meeting another session sees the put, and no other cache has the key.
+    (1, Act::Look(0, 0, 5, Lookup::Sure(true))),
+    (1, Act::Look(1, 0, 5, Lookup::Sure(false))),
+    (1, Act::Look(7, 0, 5, Lookup::Sure(false))),
+    (1, Act::Has(7, 0, 5, false)),
+    // The table doubles, and a session is unsure until it meets.
+    (0, Act::Put(1, 0, 100)),
+    (0, Act::Look(0, 0, 5, Lookup::Sure(true))),
+    (0, Act::Look(1, 5, 5, Lookup::Sure(true))),
+    (1, Act::Look(0, 0, 5, Lookup::Unsure)),
+    (1, Act::Look(1, 5, 5, Lookup::Unsure)),
+    (1, Act::Has(0, 0, 5, true)),
+    (1, Act::Look(0, 0, 5, Lookup::Sure(true))),
+    (1, Act::Look(1, 5, 5, Lookup::Sure(true))),
+    (0, Act::Put(1, 100, 300)),
+    (1, Act::Look(1, 5, 5, Lookup::Unsure)),
+    (1, Act::Put(0, 1, 2)),
+    (1, Act::Look(1, 5, 5, Lookup::Sure(true))),
+    (1, Act::Look(0, 1, 5, Lookup::Sure(true))),
+    (0, Act::Look(0, 1, 5, Lookup::Sure(true))),
+];
+
+/// Puts the keys of these numbers, with one value.
+fn put<N: Name, L: Loader, W: Writer, P: Processor, K: Listener, R: Wait>(
+    rt: &R,
+    alloc: Global,
+    session: &mut Session<'_, N, L, W, P, K>,
+    id: CacheId,
+    from: u32,
+    to: u32,
+) -> Result<(), Trouble> {
+    for number in from..to {
+        let call = Call::Put(numbered(alloc, number)?, value_of(alloc, "1")?);
+        if session.call(rt, id, 0, call) != Ok(Reply::Done) {
+            return Err(Trouble::Memory);
+        }
+    }
+    Ok(())
+}
+
+/// Whether a session's act comes to what it should.
+fn acts<N: Name, L: Loader, W: Writer, P: Processor, K: Listener, R: Wait>(
+    rt: &R,
+    alloc: Global,
+    session: &mut Session<'_, N, L, W, P, K>,
+    act: &Act,
+) -> Result<bool, Trouble> {
+    match act {
+        Act::Put(cache, from, to) => {
+            put(rt, alloc, session, CacheId::new(*cache), *from, *to)?;
+            Ok(true)
+        }
+        Act::Look(cache, number, at, told) => {
+            let key = numbered(alloc, *number)?;
+            Ok(session.contains_key(CacheId::new(*cache), &key, *at) == *told)
+        }
+        Act::Has(cache, number, at, told) => {
+            let key = numbered(alloc, *number)?;
+            Ok(session.contains(rt, CacheId::new(*cache), &key, *at) == *told)
+        }
+    }
+}
+
+/// The number of the first act that comes to something else, if there is one.
+fn first_other<N: Name, L: Loader, W: Writer, P: Processor, K: Listener, R: Wait>(
+    rt: &R,
+    alloc: Global,
+    shared: Shared<L, W, P, K>,
+) -> Result<Option<usize>, Trouble>
+    requires configs { shared.configs ≡ N.configs }
+    requires stated { map (stated_by L.load_of P.verdict_of) shared.shared ≡ N.stated }
+    requires index { shared.index ≡ N.index }
+{
+    let manager = shared.named::<N>();
+    let mut one = manager.session(rt)?;
+    let mut two = manager.session(rt)?;
+    for (number, (by, act)) in ACTS.iter().enumerate() {
+        let session = if *by == 0 { &mut one } else { &mut two };
+        if !acts(rt, alloc, session, act)? {
+            return Ok(Some(number));
+        }
+    }
+    Ok(None)
+}
+
+/// The same, under a name that this call picks.
+fn first_other_act<L: Loader, W: Writer, P: Processor, K: Listener, R: Wait>(
+    rt: &R,
+    alloc: Global,
+    shared: Shared<L, W, P, K>,
+) -> Result<Option<usize>, Trouble> {
+    first_other::<Brand, L, W, P, K, R>(rt, alloc, shared)
+}
+
+#[test]
+fn lookups_see_what_calls_have_changed(rt: HostRuntime) -> Result<(), Trouble> {
+    let shared = plain(rt.alloc())?;
+    assert_eq!(rt; first_other_act(&rt, rt.alloc(), shared)?, None);
+    Ok(())
+}
+
+/// A key's two buckets among 16, the lower one first.
+fn pair_of(id: CacheId, key: &Key) -> (u32, u32) {
+    let place = SeededPlacer::new(SEED).place(id, key);
+    let first = place.first % 16;
+    let second = alternate(first, place.tag, 16);
+    (first.min(second), first.max(second))
+}
+
+/// Ten keys of cache 1 with the same two buckets, found by trying.
+fn crowd(alloc: Global) -> Result<Vec<Key>, Trouble> {
+    let id = CacheId::new(1);
+    let pair = pair_of(id, &numbered(alloc, 0)?);
+    let mut keys = Vec::new(alloc);
+    for number in 0..20_000 {
+        let key = numbered(alloc, number)?;
+        if keys.len() < 10 && pair_of(id, &key) == pair {
+            keys.push(key)?;
+        }
+    }
+    Ok(keys)
+}
+
+/// Puts nine keys of two buckets. The result is how many of ten are found by a lookup, and how many are there.
+fn found_in_crowd<N: Name, L: Loader, W: Writer, P: Processor, K: Listener, R: Wait>(
+    rt: &R,
+    alloc: Global,
+    shared: Shared<L, W, P, K>,
+) -> Result<(usize, usize), Trouble>
+    requires configs { shared.configs ≡ N.configs }
+    requires stated { map (stated_by L.load_of P.verdict_of) shared.shared ≡ N.stated }
+    requires index { shared.index ≡ N.index }
+{
+    let id = CacheId::new(1);
+    let manager = shared.named::<N>();
+    let mut session = manager.session(rt)?;
+    let keys = crowd(alloc)?;
+    for key in keys.iter().take(9) {
+        let call = Call::Put(*key, value_of(alloc, "1")?);
+        if session.call(rt, id, 0, call) != Ok(Reply::Done) {
+            return Err(Trouble::Memory);
+        }
+    }
+    let (mut sure, mut there) = (0usize, 0usize);
+    for key in &keys {
+        if session.contains_key(id, key, 0) == Lookup::Sure(true) {
+            sure = sure.saturating_add(1);
+        }
+        if session.contains(rt, id, key, 0) {
+            there = there.saturating_add(1);
+        }
+    }
+    Ok((sure, there))
+}
+
+/// The same, under a name that this call picks.
+fn found_of_ten<L: Loader, W: Writer, P: Processor, K: Listener, R: Wait>(
+    rt: &R,
+    alloc: Global,
+    shared: Shared<L, W, P, K>,
+) -> Result<(usize, usize), Trouble> {
+    found_in_crowd::<Brand, L, W, P, K, R>(rt, alloc, shared)
+}
+
+#[test]
+fn contains_is_exact_where_a_lookup_is_unsure(rt: HostRuntime) -> Result<(), Trouble> {
+    let shared = plain(rt.alloc())?;
+    assert_eq!(rt; found_of_ten(&rt, rt.alloc(), shared)?, (8, 9));
+    Ok(())
+}
+
+/// How often a session is told that a key is not there, of 1,000 times.
+fn denials<N: Name, L: Loader, W: Writer, P: Processor, K: Listener>(
+    session: &mut Session<'_, N, L, W, P, K>,
+    key: &Key,
+) -> u32 {
+    let mut denials = 0u32;
+    for _ in 0..1000 {
+        if session.contains_key(CacheId::new(1), key, 0) == Lookup::Sure(false) {
+            denials = denials.saturating_add(1);
+        }
+    }
+    denials
+}
+
+/// One thread puts 1,000 keys while another looks a settled one up. The result is whether all were put, whether the
+/// settled one was seen before, and how often it was denied.
+fn raced<
+    N: Name + Send + Sync,
+    L: Loader,
+    W: Writer,
+    P: Processor,
+    K: Listener,
+    R: Threads + Wait + Sync,
+>(
+    rt: &R,
+    alloc: Global,
+    shared: Shared<L, W, P, K>,
+) -> Result<(bool, Lookup, u32), Trouble>
+    requires configs { shared.configs ≡ N.configs }
+    requires stated { map (stated_by L.load_of P.verdict_of) shared.shared ≡ N.stated }
+    requires index { shared.index ≡ N.index }
+{
+    let manager = shared.named::<N>();
+    let mut one = manager.session(rt)?;
+    let mut two = manager.session(rt)?;
+    put(rt, alloc, &mut one, CacheId::new(1), 0, 1)?;
+    let key = numbered(alloc, 0)?;
+    let before = two.contains_key(CacheId::new(1), &key, 0);
+    let (put_all, denied) = join(
+        rt,
+        || put(rt, alloc, &mut one, CacheId::new(1), 1, 1001).is_ok(),
+        || denials(&mut two, &key),
+    );
+    Ok((put_all, before, denied))
+}
+
+/// The same, under a name that this call picks.
+fn race<L: Loader, W: Writer, P: Processor, K: Listener, R: Threads + Wait + Sync>(
+    rt: &R,
+    alloc: Global,
+    shared: Shared<L, W, P, K>,
+) -> Result<(bool, Lookup, u32), Trouble> {
+    raced::<Brand, L, W, P, K, R>(rt, alloc, shared)
+}
+
+#[test]
+fn a_settled_key_is_never_denied(rt: HostRuntime) -> Result<(), Trouble> {
+    let shared = plain(rt.alloc())?;
+    let seen = race(&rt, rt.alloc(), shared)?;
+    assert_eq!(rt; seen, (true, Lookup::Sure(true), 0));
+    Ok(())
+}
