@@ -17,7 +17,8 @@ use jc_model::transcript::Transcript;
 use jc_ring::list_ring::ListRing;
 use jc_rows::list_rows::ListRows;
 use jc_shared::{
-    CallFault, CloseFault, Manager, Name, Session, SessionLog, SessionRefusal, Shared, SharedRefusal, audit,
+    CallFault, CloseFault, Manager, Name, Session, SessionLog, SessionRefusal, Shared,
+    SharedRefusal, audit,
 };
 use std::alloc::Global;
 use std::marker::Brand;
@@ -56,7 +57,12 @@ fn hooks_but(alloc: Global, left_out: u32) -> Result<Hooks, Trouble> {
 /// The capacity of two caches, the callback that each lacks (4: none), how many have callbacks, and why they do not open.
 static OPENINGS: [(u32, (u32, u32), usize, Option<SharedRefusal>); 9] = [
     (4, (4, 4), 2, None),
-    (0, (0, 4), 2, Some(SharedRefusal::Caches(OpenRefusal::BadCapacity { cache: 0 }))),
+    (
+        0,
+        (0, 4),
+        2,
+        Some(SharedRefusal::Caches(OpenRefusal::BadCapacity { cache: 0 })),
+    ),
     (4, (0, 1), 2, Some(SharedRefusal::HooksDiffer { cache: 0 })),
     (4, (4, 0), 2, Some(SharedRefusal::HooksDiffer { cache: 1 })),
     (4, (4, 1), 2, Some(SharedRefusal::HooksDiffer { cache: 1 })),
@@ -234,9 +240,36 @@ static AUDITS: [(bool, &[u32], (u32, usize), u32, Option<CloseFault>); 11] = [
     (false, &[0, 1, 2], (9, 9), 2, Some(CloseFault::Missing)),
     (true, &[0], (9, 9), 2, Some(CloseFault::Missing)),
     (true, &[0, 1], (1, 0), 2, Some(CloseFault::StillOpen)),
-    (false, &[0, 1], (1, 1), 2, Some(CloseFault::Differs { session: 1, place: 1 })),
-    (false, &[0, 1], (0, 2), 2, Some(CloseFault::Differs { session: 0, place: 2 })),
-    (false, &[0], (9, 9), 1, Some(CloseFault::Differs { session: 1, place: 0 })),
+    (
+        false,
+        &[0, 1],
+        (1, 1),
+        2,
+        Some(CloseFault::Differs {
+            session: 1,
+            place: 1,
+        }),
+    ),
+    (
+        false,
+        &[0, 1],
+        (0, 2),
+        2,
+        Some(CloseFault::Differs {
+            session: 0,
+            place: 2,
+        }),
+    ),
+    (
+        false,
+        &[0],
+        (9, 9),
+        1,
+        Some(CloseFault::Differs {
+            session: 1,
+            place: 0,
+        }),
+    ),
 ];
 
 #[test]

@@ -254,11 +254,7 @@ fn raced<
     P: Processor,
     K: Listener,
     R: Threads + Wait + Sync,
->(
-    rt: &R,
-    alloc: Global,
-    shared: Shared<L, W, P, K>,
-) -> Result<(bool, Lookup, u32), Trouble>
+>(rt: &R, alloc: Global, shared: Shared<L, W, P, K>) -> Result<(bool, Lookup, u32), Trouble>
     requires configs { shared.configs ≡ N.configs }
     requires stated { map (stated_by L.load_of P.verdict_of) shared.shared ≡ N.stated }
     requires index { shared.index ≡ N.index }
