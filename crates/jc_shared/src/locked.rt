@@ -273,13 +273,7 @@ impl<N: Name> Locked<N> {
     }
 
     /// Whether a cache has a live row of this key. The pass sees the table as it is now, where memory allows it.
-    pub(crate) fn has(
-        &mut self,
-        id: CacheId,
-        key: &Key,
-        now: u64,
-        pass: &mut TablePass<N>,
-    ) -> bool
+    pub(crate) fn has(&mut self, id: CacheId, key: &Key, now: u64, pass: &mut TablePass<N>) -> bool
         ensures same { (self.new.recorded ≡ self.old.recorded) × (self.new.given ≡ self.old.given) × (self.new.closed ≡ self.old.closed) }
         ensures front { IsPrefix pass.old.images pass.new.images }
         ensures agrees { pass.new.met ≡ true → (b : Bool) → found (last_image pass.new.images) id key.now now ≡ Some b → result ≡ b }

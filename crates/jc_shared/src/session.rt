@@ -140,7 +140,10 @@ impl<'a, N: Name, L: Loader, W: Writer, P: Processor, K: Listener> Session<'a, N
             return Err(CallFault::OutOfMemory);
         };
         let mut hooks = manager.locks[id.number() as usize].lock(rt);
-        let begun = manager.locked.lock(rt).begin(&mut draft, call, &mut self.pass);
+        let begun = manager
+            .locked
+            .lock(rt)
+            .begin(&mut draft, call, &mut self.pass);
         let turned = match begun {
             Ok(turned) => turned,
             Err(fault) => return Err(fault),

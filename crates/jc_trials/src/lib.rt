@@ -11,11 +11,13 @@ mod trouble;
 pub use fakes::{NotedListener, NotedLoader, NotedProcessor, NotedWriter, OncePoor, PoorLoader};
 pub use log::{Log, Text};
 pub use placers::{ConstantPlacer, TablePlacer};
-pub use refusing::{RefusingMirror, RefusingRows};
+pub use refusing::{CountingMirror, RefusingMirror, RefusingRows};
 pub use trouble::{Trouble, key, no_hooks, plain_cache, value_of};
 
 #[cfg(test)]
 mod callbacks;
+#[cfg(test)]
+mod closing;
 #[cfg(test)]
 mod closures;
 #[cfg(test)]
@@ -28,6 +30,8 @@ mod manager;
 mod memory;
 #[cfg(test)]
 mod places;
+#[cfg(test)]
+mod quiet;
 #[cfg(test)]
 mod rings;
 #[cfg(test)]

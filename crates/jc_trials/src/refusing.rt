@@ -1,4 +1,4 @@
-//! A mirror and a table that find no memory when a trial says so.
+//! Mirrors and a table that find no memory when a trial says so, or count what they are told.
 ghost use Rattle.std.specs.Prelude.{min};
 
 use jc_cuckoo::held::Held;
@@ -9,6 +9,8 @@ use jc_model::event::CacheId;
 use jc_model::key::Key;
 use jc_rows::rows::Rows;
 use std::alloc::AllocError;
+use std::sync::Arc;
+use std::sync::atomic::{AtomicU64, Ordering};
 
 /// It takes no larger table so many times, as if memory were refused.
 #[derive(Clone, Copy, Debug, Drop)]
@@ -31,6 +33,29 @@ impl Mirror for RefusingMirror {
         }
         self.refusals -= 1;
         Err(AllocError)
+    }
+}
+
+/// It counts the images that it is told.
+#[derive(Drop)]
+pub struct CountingMirror {
+    pub told: Arc<AtomicU64>,
+}
+
+impl Mirror for CountingMirror {
+    ghost use Rattle.std.specs.Prelude.{None};
+
+    ghost images = { λ mirror. None };
+
+    ghost placing = { λ mirror id key. record { first = 0; tag = 1 } };
+
+    fn commit(&mut self, _writes: &[(u32, Option<Held>)], _stash: u32) {
+        self.told.fetch_add(1, Ordering::SeqCst);
+    }
+
+    fn grow(&mut self, _slots: &[Option<Held>], _stash: u32) -> Result<(), OutOfMemory> {
+        self.told.fetch_add(1, Ordering::SeqCst);
+        Ok(())
     }
 }
 

@@ -12,7 +12,7 @@ use jc_model::event::CacheId;
 use jc_model::key::Key;
 use jc_place::place::{Placer, alternate};
 use jc_place::seeded::SeededPlacer;
-use jc_shared::{Manager, Name, Session, Shared};
+use jc_shared::{Name, Session, Shared};
 use std::alloc::Global;
 use std::marker::Brand;
 use std::sync::Wait;
@@ -133,8 +133,12 @@ fn first_other<N: Name, L: Loader, W: Writer, P: Processor, K: Listener, R: Wait
     let mut one = manager.session(rt)?;
     let mut two = manager.session(rt)?;
     for (number, (by, act)) in ACTS.iter().enumerate() {
-        let session = if *by == 0 { &mut one } else { &mut two };
-        if !acts(rt, alloc, session, act)? {
+        let done = if *by == 0 {
+            acts(rt, alloc, &mut one, act)?
+        } else {
+            acts(rt, alloc, &mut two, act)?
+        };
+        if !done {
             return Ok(Some(number));
         }
     }
@@ -250,11 +254,7 @@ fn raced<
     P: Processor,
     K: Listener,
     R: Threads + Wait + Sync,
->(
-    rt: &R,
-    alloc: Global,
-    shared: Shared<L, W, P, K>,
-) -> Result<(bool, Lookup, u32), Trouble>
+>(rt: &R, alloc: Global, shared: Shared<L, W, P, K>) -> Result<(bool, Lookup, u32), Trouble>
     requires configs { shared.configs ≡ N.configs }
     requires stated { map (stated_by L.load_of P.verdict_of) shared.shared ≡ N.stated }
     requires index { shared.index ≡ N.index }

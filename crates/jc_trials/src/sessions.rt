@@ -10,7 +10,7 @@ use jc_hooks::program::{CheckWriter, EchoLoader, ProgramProcessor};
 use jc_hooks::{CacheHooks, Listener, Loader, Processor, Writer};
 use jc_model::OutOfMemory;
 use jc_script::{Line, read_script, report};
-use jc_shared::{Name, Session, Shared};
+use jc_shared::{Manager, Name, Session, Shared};
 use std::alloc::Global;
 use std::marker::Brand;
 use std::sync::Wait;
@@ -171,7 +171,58 @@ fn poor_hooks(
     Ok(hooks)
 }
 
-/// Makes the calls of a script, each by its session, and closes the manager. The result is the report.
+/// So many sessions of a manager.
+pub(crate) fn seated<'a, N: Name, L: Loader, W: Writer, P: Processor, K: Listener, R: Wait>(
+    rt: &R,
+    alloc: Global,
+    manager: &'a Manager<N, L, W, P, K>,
+    count: u32,
+) -> Result<Vec<Session<'a, N, L, W, P, K>>, Trouble> {
+    let mut sessions = Vec::new(alloc);
+    for _ in 0..count {
+        sessions.push(manager.session(rt)?)?;
+    }
+    Ok(sessions)
+}
+
+/// Makes the calls of a script, each by its session.
+fn make<N: Name, L: Loader, W: Writer, P: Processor, K: Listener, R: Wait>(
+    rt: &R,
+    sessions: &mut [Session<'_, N, L, W, P, K>],
+    lines: Vec<Line>,
+    log: &Log,
+) {
+    for line in lines {
+        let Line {
+            session,
+            id,
+            at,
+            call,
+        } = line;
+        if let Some(session) = sessions.get_mut(session as usize) {
+            let _ = session.call(rt, id, at, call);
+        }
+        log.note(Text::of(b"."));
+    }
+}
+
+/// Makes the calls of a script and closes the manager. The result is the report.
+fn closed<'a, N: Name, L: Loader, W: Writer, P: Processor, K: Listener, R: Wait>(
+    rt: &R,
+    alloc: Global,
+    manager: &'a Manager<N, L, W, P, K>,
+    lines: Vec<Line>,
+    log: &Log,
+) -> Result<String, Trouble> {
+    let mut sessions = seated(rt, alloc, manager, SESSIONS)?;
+    make(rt, sessions.as_mut_slice(), lines, log);
+    match manager.close(rt, sessions) {
+        Ok(transcript) => Ok(report(alloc, manager.names(), &transcript)?),
+        Err((fault, _)) => Err(Trouble::NotClosed(fault)),
+    }
+}
+
+/// The same, under this name.
 fn played<N: Name, L: Loader, W: Writer, P: Processor, K: Listener, R: Wait>(
     rt: &R,
     alloc: Global,
@@ -184,26 +235,7 @@ fn played<N: Name, L: Loader, W: Writer, P: Processor, K: Listener, R: Wait>(
     requires index { shared.index ≡ N.index }
 {
     let manager = shared.named::<N>();
-    let mut sessions: Vec<Session<'_, N, L, W, P, K>> = Vec::new(alloc);
-    for _ in 0..SESSIONS {
-        sessions.push(manager.session(rt)?)?;
-    }
-    for line in lines {
-        let Line {
-            session,
-            id,
-            at,
-            call,
-        } = line;
-        if let Some(session) = sessions.as_mut_slice().get_mut(session as usize) {
-            let _ = session.call(rt, id, at, call);
-        }
-        log.note(Text::of(b"."));
-    }
-    match manager.close(rt, sessions) {
-        Ok(transcript) => Ok(report(alloc, manager.names(), &transcript)?),
-        Err((fault, _)) => Err(Trouble::NotClosed(fault)),
-    }
+    closed(rt, alloc, &manager, lines, log)
 }
 
 /// The same, under a name that this call picks.
