@@ -1,0 +1,124 @@
+-- What all workers have made together, as a transcript tells it that their sessions account for.
+use Rattle.std.proofs.Common.{◌≡◌, ◌⊎◌, inl, inr, ℕ, zero, suc, Bool, true, false, cond, ◌%◌, ◌<◌, List, [], ◌∷◌, ◌++◌, length, map, Some, Result, Ok, Err, IfOk, refl, sym, ◌∙◌, ap, subst, arith}
+use Rattle.std.specs.Prelude.{slice_get, ◌==◌, Vec, if◌then◌else◌}
+use Rattle.std.specs.List.{All, flat_map}
+use Rattle.std.specs.declared.alloc.Global.{Global}
+use Rattle.std.proofs.lemmas.List.Elements.{All-nil, All-head, All-tail, All-weaker}
+use Rattle.std.proofs.lemmas.Bool.Decides.{nat_tests}
+use Rattle.std.proofs.lemmas.Nat.{mod_below}
+use Rattle.std.proofs.lemmas.Option.{slice_get_within}
+use Rattle.jc_model.specs.declared.event.Entry.{Entry}
+use Rattle.jc_script.specs.declared.line.Line.{Line}
+use Rattle.jc_shared.specs.Accounts.{own_of, Accounts}
+use Rattle.jc_shared.specs.Sessions.{Sitting, log_of}
+use Rattle.jc_shared.specs.Stated.{Stated}
+use Rattle.jc_threads.specs.declared.fault.WorkFault.{WorkFault}
+use Rattle.jc_threads.specs.Dealing.{Share, AreDealt, IsAtWork, HasWorked, HaveWorked, IsDone, handed, all_handed, dealt_to}
+use Rattle.jc_threads.specs.Lines.{line_of, lines_by, IsAnswered, HasMade, AreMade, Among}
+use Rattle.jc_threads.proofs.Lists.{all_at, all_from, all_by_class, all_flat, some_at, twice_kept}
+
+-- Sessions that have made all lines.
+
+among_or_none : (number : ℕ) (logs : List Sitting) (lines : List Line) → All (λ l. Among l.session logs) lines → Among number logs ⊎ (lines_by number lines ≡ [])
+among_or_none number logs [] there = inr refl
+among_or_none number logs (l ∷ lines) there = go (l.session == number) refl (among_or_none number logs lines (All-tail (λ (x : Line). Among x.session logs) l lines there))
+  where
+    go : (b : Bool) → (l.session == number) ≡ b → Among number logs ⊎ (lines_by number lines ≡ []) → Among number logs ⊎ (cond b (l ∷ lines_by number lines) (lines_by number lines) ≡ [])
+    go true is rest =
+        let own : l.session ≡ number = grind (arith, nat_tests, is) in
+        inl (subst (λ (n : ℕ). Among n logs) own (All-head (λ (x : Line). Among x.session logs) l lines there))
+    go false is (inl found) = inl found
+    go false is (inr none) = inr none
+
+among_later : (number : ℕ) (o : Sitting) (logs : List Sitting) (N : Type 0) → (o.number == number) ≡ false → Among number (o ∷ logs) ⊎ N → Among number logs ⊎ N
+among_later number o logs N is (inl (inl own)) = absurd (grind (arith, nat_tests, own, is))
+among_later number o logs N is (inl (inr found)) = inl found
+among_later number o logs N is (inr none) = inr none
+
+own_made : (stated : List Stated) (all : List Line) (number : ℕ) (logs : List Sitting) → All (HasMade stated all) logs → Among number logs ⊎ (lines_by number all ≡ []) → map line_of (own_of number (map log_of logs)) ≡ lines_by number all
+own_made stated all number [] made (inl found) = absurd found
+own_made stated all number [] made (inr none) = sym none
+own_made stated all number (o ∷ logs) made among = go (o.number == number) refl (own_made stated all number logs (All-tail (HasMade stated all) o logs made))
+  where
+    go : (b : Bool) → (o.number == number) ≡ b → (Among number logs ⊎ (lines_by number all ≡ []) → map line_of (own_of number (map log_of logs)) ≡ lines_by number all) → map line_of (if b then o.calls else own_of number (map log_of logs)) ≡ lines_by number all
+    go true is rest =
+        let own : o.number ≡ number = grind (arith, nat_tests, is) in
+        subst (λ (n : ℕ). map line_of o.calls ≡ lines_by n all) own (All-head (HasMade stated all) o logs made).calls
+    go false is rest = rest (among_later number o logs (lines_by number all ≡ []) is among)
+
+own_answered : (P : Entry → Type 0) (number : ℕ) (logs : List Sitting) → All (λ (o : Sitting). All P o.calls) logs → All P (own_of number (map log_of logs))
+own_answered P number [] h = All-nil P
+own_answered P number (o ∷ logs) h = go (o.number == number) (own_answered P number logs (All-tail (λ (p : Sitting). All P p.calls) o logs h))
+  where
+    go : (b : Bool) → All P (own_of number (map log_of logs)) → All P (if b then o.calls else own_of number (map log_of logs))
+    go true rest = All-head (λ (p : Sitting). All P p.calls) o logs h
+    go false rest = rest
+
+-- A transcript that they account for.
+pub are_made : (stated : List Stated) (given : ℕ) (all : List Line) (logs : List Sitting) (transcript : List Entry) → Accounts given (map log_of logs) transcript → All (HasMade stated all) logs → All (λ l. Among l.session logs) all → AreMade stated all transcript
+are_made stated given all logs transcript accounts made there = record {
+  each = λ session. ap (map line_of) (accounts.agree session) ∙ own_made stated all session logs made (among_or_none session logs all there);
+  answered = all_by_class (λ (e : Entry). e.session) (IsAnswered stated) transcript (λ e.
+      subst (All (IsAnswered stated)) (sym (accounts.agree e.session)) (own_answered (IsAnswered stated) e.session logs (All-weaker (HasMade stated all) (λ (o : Sitting). All (IsAnswered stated) o.calls) (λ o its. its.answered) logs made)));
+}
+
+-- Workers that have done their shares.
+
+among_left : (number : ℕ) (xs ys : List Sitting) → Among number xs → Among number (xs ++ ys)
+among_left number [] ys found = absurd found
+among_left number (x ∷ xs) ys (inl own) = inl own
+among_left number (x ∷ xs) ys (inr found) = inr (among_left number xs ys found)
+
+among_right : (number : ℕ) (xs ys : List Sitting) → Among number ys → Among number (xs ++ ys)
+among_right number [] ys found = found
+among_right number (x ∷ xs) ys found = inr (among_right number xs ys found)
+
+among_flat : {X : Type 0} (number : ℕ) (f : X → List Sitting) (xs : List X) (k : ℕ) (x : X) → slice_get xs k ≡ Some x → Among number (f x) → Among number (flat_map f xs)
+among_flat number f [] k x at found = absurd cc
+among_flat number f (y ∷ xs) zero x at found = let same : y ≡ x = cc in among_left number (f y) (flat_map f xs) (subst (λ z. Among number (f z)) (sym same) found)
+among_flat number f (y ∷ xs) (suc k) x at found = among_right number (f y) (flat_map f xs) (among_flat number f xs k x at found)
+
+-- the same share, result and number of workers
+pub worked_as : (stated : List Stated) (n workers : ℕ) (job share : Share) (r result : Result (Vec Sitting Global) WorkFault) → n ≡ workers → job ≡ share → r ≡ result
+    → IfOk r (λ v. HasWorked stated n job v.items) → IfOk result (λ v. HasWorked stated workers share v.items)
+worked_as stated n workers job share r result is is' is'' has =
+    subst (λ (x : Result (Vec Sitting Global) WorkFault). IfOk x (λ v. HasWorked stated workers share v.items)) is''
+    (subst (λ (s : Share). IfOk r (λ v. HasWorked stated workers s v.items)) is' (subst (λ (m : ℕ). IfOk r (λ v. HasWorked stated m job v.items)) is has))
+
+-- a worker's lines are all lines of its sessions
+shared_lines : (workers worker number : ℕ) (all : List Line) → number % workers ≡ worker → lines_by number (dealt_to workers worker all) ≡ lines_by number all
+shared_lines workers worker number all own = twice_kept (λ (l : Line). l.session == number) (λ (l : Line). (l.session % workers) == worker) all (λ l is.
+    let same : l.session ≡ number = grind (arith, nat_tests, is) in
+    let at : l.session % workers ≡ worker = ap (λ (n : ℕ). n % workers) same ∙ own in
+    grind (arith, nat_tests, at))
+
+module _ (stated : List Stated) (all : List Line) (crew : List Share) (results : List (Result (Vec Sitting Global) WorkFault)) (dealt : AreDealt all crew) (worked : HaveWorked stated crew results) (done : All IsDone results) where
+  -- what a worker has done, whose sessions these are
+  by_result : (worker : ℕ) (share : Share) (result : Result (Vec Sitting Global) WorkFault) → slice_get crew worker ≡ Some share → IfOk result (λ sessions. HasWorked stated (length crew) share sessions.items) → IsDone result → IsAtWork stated (length crew) worker (dealt_to (length crew) worker all) (handed result)
+  by_result worker share (Ok sessions) at has is =
+      subst (λ (ls : List Line). IsAtWork stated (length crew) worker ls sessions.items) (dealt worker share at).lines (has worker (dealt worker share at).seated)
+  by_result worker share (Err fault) at has is = absurd is
+
+  at_work : (worker : ℕ) (result : Result (Vec Sitting Global) WorkFault) → slice_get results worker ≡ Some result → IsAtWork stated (length crew) worker (dealt_to (length crew) worker all) (handed result)
+  at_work worker result at =
+      let there : (share : Share) × (slice_get crew worker ≡ Some share) = some_at crew worker (omega (arith, worked.counted, slice_get_within results worker result at)) in
+      by_result worker there.0 result there.1 (worked.each worker there.0 result there.1 at) (all_at IsDone results worker result done at)
+
+  made_by : (worker : ℕ) (result : Result (Vec Sitting Global) WorkFault) → slice_get results worker ≡ Some result → All (HasMade stated all) (handed result)
+  made_by worker result at =
+      let its : IsAtWork stated (length crew) worker (dealt_to (length crew) worker all) (handed result) = at_work worker result at in
+      all_from (HasMade stated all) (handed result) (λ k o there.
+      let made : HasMade stated (dealt_to (length crew) worker all) o = all_at (HasMade stated (dealt_to (length crew) worker all)) (handed result) k o its.made there in
+      record { calls = made.calls ∙ shared_lines (length crew) worker o.number all (its.seated k o there).0; answered = made.answered })
+
+  pub all_made : All (HasMade stated all) (all_handed results)
+  all_made = all_flat (HasMade stated all) handed results made_by
+
+  there_by : 0 < length crew → (l : Line) → All (λ (x : Line). Among x.session (all_handed results)) (dealt_to (length crew) (l.session % length crew) all)
+  there_by some l =
+      let found : (result : Result (Vec Sitting Global) WorkFault) × (slice_get results (l.session % length crew) ≡ Some result) = some_at results (l.session % length crew) (omega (arith, worked.counted, mod_below l.session (length crew) some)) in
+      All-weaker (λ (x : Line). Among x.session (handed found.0)) (λ (x : Line). Among x.session (all_handed results)) (λ x there. among_flat x.session handed results (l.session % length crew) found.0 found.1 there)
+      (dealt_to (length crew) (l.session % length crew) all) (at_work (l.session % length crew) found.0 found.1).there
+
+  pub all_there : 0 < length crew → All (λ l. Among l.session (all_handed results)) all
+  all_there some = all_by_class (λ (l : Line). l.session % length crew) (λ (x : Line). Among x.session (all_handed results)) all (there_by some)

@@ -1,0 +1,4 @@
+pub mod Lists
+pub mod Making
+pub mod Dealt
+pub mod Gathered

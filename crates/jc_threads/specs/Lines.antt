@@ -1,0 +1,42 @@
+-- Which lines sessions have made.
+use Rattle.std.specs.Prelude.{◌≡◌, ◌⊎◌, ℕ, ◌==◌, List, [], ◌∷◌, map, slice_get, ⊤}
+use Rattle.std.specs.List.{filter, All}
+use Rattle.jc_model.specs.declared.event.End.{End}
+use Rattle.jc_model.specs.declared.event.End.TheVariants.{Replied}
+use Rattle.jc_model.specs.declared.event.Entry.{Entry}
+use Rattle.jc_script.specs.declared.line.Line.{Line}
+use Rattle.jc_shared.specs.Accounts.{calls_of}
+use Rattle.jc_shared.specs.Sessions.{Sitting}
+use Rattle.jc_shared.specs.Stated.{Stated, AreStated}
+
+-- the line whose call an entry is
+abbrev pub line_of : Entry → Line
+line_of e = record { session = e.session; id = e.id; at = e.at; call = e.call }
+
+-- the lines of a session
+abbrev pub lines_by : ℕ → List Line → List Line
+lines_by session lines = filter (λ l. l.session == session) lines
+
+abbrev pub IsReply : End → Type 0
+IsReply (Replied reply) = ⊤
+IsReply _ = ⊥
+
+-- a call has its reply, under answers that loader and processors stated
+pub record IsAnswered (stated : List Stated) (e : Entry) : Type 0 where
+  pub replied : IsReply e.end
+  pub answered : AreStated (slice_get stated e.id) e.call e.answers
+
+-- a session's calls are its lines, each once and in order, and each has its reply
+pub record HasMade (stated : List Stated) (lines : List Line) (own : Sitting) : Type 0 where
+  pub calls : map line_of own.calls ≡ lines_by own.number lines
+  pub answered : All (IsAnswered stated) own.calls
+
+-- the same of every session, as a transcript tells it, which has no other calls
+pub record AreMade (stated : List Stated) (lines : List Line) (transcript : List Entry) : Type 0 where
+  pub each : (session : ℕ) → map line_of (calls_of session transcript) ≡ lines_by session lines
+  pub answered : All (IsAnswered stated) transcript
+
+-- one of these is a session with this number
+abbrev pub Among : ℕ → List Sitting → Type 0
+Among number [] = ⊥
+Among number (o ∷ logs) = (o.number ≡ number) ⊎ Among number logs

@@ -1,0 +1,12 @@
+//! The lines of a script, made by sessions on worker threads.
+#![tactic(auto)]
+
+mod dealing;
+mod fault;
+mod gate;
+mod together;
+mod worker;
+
+pub use fault::WorkFault;
+pub use gate::{Gate, OpenGate};
+pub use together::transcribed;

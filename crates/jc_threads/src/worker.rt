@@ -1,0 +1,147 @@
+//! One worker: it makes the lines of its sessions, in the script's order.
+ghost use Rattle.std.specs.Prelude.{◌≡◌, ℕ, ◌<◌, [], ◌++◌, ◌∷◌, List, length, IsOk, IfOk, OnOk};
+ghost use Rattle.jc_script.specs.declared.line.Line.{Line as ScriptLine};
+ghost use Rattle.jc_threads.specs.Dealing.{AreSeated, IsReady, IsAtWork, HasWorked};
+ghost use Rattle.jc_threads.specs.Lines.{HasMade};
+
+use crate::fault::{WorkFault, of_call};
+use crate::gate::Gate;
+use jc_hooks::{Listener, Loader, Processor, Writer};
+use jc_model::call::Reply;
+use jc_script::Line;
+use jc_shared::{CallFault, Logged, Name, Session};
+use std::alloc::Global;
+use std::marker::Model;
+use std::sync::Wait;
+
+/// A worker's sessions, session s being at place s / workers, and their lines.
+#[derive(Drop)]
+pub(crate) struct Worker<'a, N: Name, L: Loader, W: Writer, P: Processor, K: Listener> {
+    pub(crate) sessions: Vec<Session<'a, N, L, W, P, K>>,
+    pub(crate) lines: Vec<Line>,
+}
+
+impl<'a, N: Name, L: Loader, W: Writer, P: Processor, K: Listener> Model
+    for Worker<'a, N, L, W, P, K> {
+    ghost use Rattle.jc_threads.specs.Dealing.{Share};
+
+    ghost Value = { Share };
+
+    ghost view = { λ w. record { sessions = w.sessions.items; lines = w.lines.items } };
+}
+
+impl<'a, N: Name, L: Loader, W: Writer, P: Processor, K: Listener> Worker<'a, N, L, W, P, K> {
+    /// Takes a session, where this is the next place.
+    pub(crate) fn seat(
+        &mut self,
+        session: Session<'a, N, L, W, P, K>,
+        place: usize,
+    ) -> Result<(), WorkFault>
+        ensures next { OnOk result (length self.old.sessions ≡ place) }
+        ensures seated { OnOk result (self.new ≡ record self.old { sessions = self.old.sessions ++ session.entry ∷ [] }) }
+    {
+        if self.sessions.len() != place {
+            return Err(WorkFault::Close);
+        }
+        self.sessions.push(session)?;
+        Ok(())
+    }
+
+    /// Takes a line.
+    pub(crate) fn hand(&mut self, line: Line) -> Result<(), WorkFault>
+        ensures { OnOk result (self.new ≡ record self.old { lines = self.old.lines ++ line ∷ [] }) }
+    {
+        self.lines.push(line)?;
+        Ok(())
+    }
+}
+
+fn outcome(replied: Result<Reply, CallFault>) -> Result<(), WorkFault>
+    ensures { OnOk result (IsOk replied) }
+{
+    match replied {
+        Ok(_) => Ok(()),
+        Err(fault) => Err(of_call(fault)),
+    }
+}
+
+/// Makes the call of a line by its session.
+fn make_call<'a, N: Name, L: Loader, W: Writer, P: Processor, K: Listener, G: Gate, R: Wait>(
+    rt: &R,
+    gate: &G,
+    session: &mut Session<'a, N, L, W, P, K>,
+    line: Line,
+) -> Result<(), WorkFault>
+    ensures number { session.new.number ≡ session.old.number }
+    ensures own { OnOk result (session.old.number ≡ line.session) }
+    ensures made { OnOk result ((done : List ScriptLine) → HasMade N.stated done session.old → HasMade N.stated (done ++ line ∷ []) session.new) }
+{
+    if session.number() != line.session {
+        return Err(WorkFault::Close);
+    }
+    let Line {
+        session: number,
+        id,
+        at,
+        call,
+    } = line;
+    let place = session.log_calls().len();
+    gate.before(number, place);
+    let replied = session.call(rt, id, at, call);
+    gate.after(number, place);
+    outcome(replied)
+}
+
+/// Makes the call of a line by that of the worker's sessions whose line it is.
+fn make_line<'a, N: Name, L: Loader, W: Writer, P: Processor, K: Listener, G: Gate, R: Wait>(
+    rt: &R,
+    gate: &G,
+    workers: usize,
+    sessions: &mut [Session<'a, N, L, W, P, K>],
+    line: Line,
+) -> Result<(), WorkFault>
+    requires { 0 < workers }
+    ensures { OnOk result ((worker : ℕ) (done : List ScriptLine) → IsAtWork N.stated workers worker done sessions.old → IsAtWork N.stated workers worker (done ++ line ∷ []) sessions.new) }
+{
+    let place = line.session as usize / workers;
+    if place >= sessions.len() {
+        return Err(WorkFault::Close);
+    }
+    make_call(rt, gate, &mut sessions[place], line)
+}
+
+/// Makes all lines.
+fn make_all<'a, N: Name, L: Loader, W: Writer, P: Processor, K: Listener, G: Gate, R: Wait>(
+    rt: &R,
+    gate: &G,
+    workers: usize,
+    sessions: &mut [Session<'a, N, L, W, P, K>],
+    lines: Vec<Line>,
+) -> Result<(), WorkFault>
+    requires { 0 < workers }
+    ensures { OnOk result ((worker : ℕ) → IsAtWork N.stated workers worker [] sessions.old → IsAtWork N.stated workers worker lines.items sessions.new) }
+{
+    for line in lines {
+        make_line(rt, gate, workers, sessions, line)?;
+    }
+    Ok(())
+}
+
+/// Makes a worker's lines, and hands its sessions back.
+pub(crate) fn work<'a, N: Name, L: Loader, W: Writer, P: Processor, K: Listener, G: Gate, R: Wait>(
+    rt: &R,
+    gate: &G,
+    workers: usize,
+    worker: Worker<'a, N, L, W, P, K>,
+) -> Result<Vec<Session<'a, N, L, W, P, K>>, WorkFault>
+    requires workers { 0 < workers }
+    requires ready { IsReady workers worker }
+    ensures { IfOk result (λ v. HasWorked N.stated workers worker.entry v.items) }
+{
+    let Worker {
+        mut sessions,
+        lines,
+    } = worker;
+    make_all(rt, gate, workers, sessions.as_mut_slice(), lines)?;
+    Ok(sessions)
+}
