@@ -28,10 +28,12 @@ pub(crate) fn filled(
     Ok(words)
 }
 
-/// Versions at rest, and the words of an image with empty slots.
-pub(crate) fn blank(alloc: Global, buckets: u32) -> Result<Vec<u64>, OutOfMemory>
+/// Versions that are this number, and the words of an image with empty slots.
+pub(crate) fn blank(alloc: Global, buckets: u32, start: u64) -> Result<Vec<u64>, OutOfMemory>
     requires { buckets ≤ 65536 }
-    ensures { IfOk result (λ v. v.items ≡ replicate (66 + 24 * buckets) 0) }
+    ensures { IfOk result (λ v. v.items ≡ replicate 65 start ++ replicate (1 + 24 * buckets) 0) }
 {
-    Ok(vec![in alloc; 0; VERSIONS + 1 + 24 * buckets as usize]?)
+    let mut words = vec![in alloc; start; VERSIONS]?;
+    words.resize(VERSIONS + 1 + 24 * buckets as usize, 0)?;
+    Ok(words)
 }
