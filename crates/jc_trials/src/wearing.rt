@@ -91,7 +91,8 @@ fn first_other<N: Naming>(
 
 #[test]
 fn a_version_that_is_worn_out_leaves_its_stripe_unsure(rt: HostRuntime) -> Result<(), Trouble> {
-    let words = Unnamed::starting_at(rt.alloc(), placer(), 128, START)?;
-    assert_eq!(rt; first_other::<Brand>(rt.alloc(), placer(), words)?, None);
+    let placer = placer();
+    let words = Unnamed::starting_at(rt.alloc(), placer, 128, START)?;
+    assert_eq!(rt; first_other::<Brand>(rt.alloc(), placer, words)?, None);
     Ok(())
 }
