@@ -12,18 +12,13 @@ use Rattle.jc_index.specs.Indexes.{empty_image}
 use Rattle.jc_index.specs.Spelling.{IsCoded, IsSpelt, IsLawful, slot_words, slots_words, slots_in, encoded, image_in}
 use Rattle.jc_index.proofs.Coding.{long_slots, AllCoded, coded_back}
 
-zeros_more : (k m n : ℕ) → n ≡ k + m → replicate {A = ℕ} n 0 ≡ replicate k 0 ++ replicate m 0
-zeros_more zero m n e = let f : n ≡ m = omega (arith, e) in ap (λ (i : ℕ). replicate i 0) f
-zeros_more (suc k) m zero e = absurd (omega (arith, e))
-zeros_more (suc k) m (suc n) e = ap (λ (l : List ℕ). 0 ∷ l) (zeros_more k m n (omega (arith, e)))
+drop_alike : (k start : ℕ) (xs : List ℕ) → drop k (replicate k start ++ xs) ≡ xs
+drop_alike zero start xs = refl
+drop_alike (suc k) start xs = drop_alike k start xs
 
-drop_zeros : (k : ℕ) (xs : List ℕ) → drop k (replicate k 0 ++ xs) ≡ xs
-drop_zeros zero xs = refl
-drop_zeros (suc k) xs = drop_zeros k xs
-
--- versions at rest, and then these words
-pub split_versions : (items content : List ℕ) → items ≡ replicate 65 0 ++ content → (items ≡ replicate 65 0 ++ drop 65 items) × (drop 65 items ≡ content)
-split_versions items content is = let d : drop 65 items ≡ content = ap (drop 65) is ∙ drop_zeros 65 content in (is ∙ ap (λ (l : List ℕ). replicate 65 0 ++ l) (sym d), d)
+-- versions that are all alike, and then these words
+pub split_versions : (start : ℕ) (items content : List ℕ) → items ≡ replicate 65 start ++ content → (items ≡ replicate 65 start ++ drop 65 items) × (drop 65 items ≡ content)
+split_versions start items content is = let d : drop 65 items ≡ content = ap (drop 65) is ∙ drop_alike 65 start content in (is ∙ ap (λ (l : List ℕ). replicate 65 start ++ l) (sym d), d)
 
 no_slots : (m n : ℕ) → n ≡ 6 * m → slots_in (replicate n 0) ≡ replicate m None
 no_slots zero n e = let f : n ≡ 0 = omega (arith, e) in ap (λ (i : ℕ). slots_in (replicate i 0)) f
@@ -54,12 +49,9 @@ long_all : {A : Type 0} (n : ℕ) (x : A) → length (replicate n x) ≡ n
 long_all zero x = refl
 long_all (suc n) x = ap suc (long_all n x)
 
-module _ (buckets : ℕ) (items : List ℕ) (is : items ≡ replicate (66 + 24 * buckets) 0) where
+module _ (buckets : ℕ) where
   abbrev pub blank : List ℕ
   blank = 0 ∷ replicate (24 * buckets) 0
-
-  pub blank_items : items ≡ replicate 65 0 ++ blank
-  blank_items = is ∙ zeros_more 65 (suc (24 * buckets)) (66 + 24 * buckets) (omega arith)
 
   pub blank_image : image_in blank ≡ empty_image buckets
   blank_image =

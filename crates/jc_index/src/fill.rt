@@ -1,5 +1,5 @@
 //! The words of a new table.
-ghost use Rattle.std.specs.Prelude.{◌≡◌, ◌+◌, ◌*◌, ◌<◌, ◌≤◌, ◌++◌, ◌^◌, IfOk, All, length, option_map, replicate};
+ghost use Rattle.std.specs.Prelude.{◌≡◌, ◌*◌, ◌≤◌, ◌∷◌, ◌++◌, ◌^◌, IfOk, All, length, option_map, replicate};
 ghost use Rattle.jc_cuckoo.specs.Images.{grown, shown};
 ghost use Rattle.jc_index.specs.Spelling.{IsCoded, encoded};
 
@@ -28,10 +28,12 @@ pub(crate) fn filled(
     Ok(words)
 }
 
-/// Versions at rest, and the words of an image with empty slots.
-pub(crate) fn blank(alloc: Global, buckets: u32) -> Result<Vec<u64>, OutOfMemory>
+/// Versions that are this number, and the words of an image with empty slots.
+pub(crate) fn blank(alloc: Global, buckets: u32, start: u64) -> Result<Vec<u64>, OutOfMemory>
     requires { buckets ≤ 65536 }
-    ensures { IfOk result (λ v. v.items ≡ replicate (66 + 24 * buckets) 0) }
+    ensures { IfOk result (λ v. v.items ≡ replicate 65 start ++ 0 ∷ replicate (24 * buckets) 0) }
 {
-    Ok(vec![in alloc; 0; VERSIONS + 1 + 24 * buckets as usize]?)
+    let mut words = vec![in alloc; start; VERSIONS]?;
+    words.resize(VERSIONS + 1 + 24 * buckets as usize, 0)?;
+    Ok(words)
 }

@@ -1,5 +1,5 @@
 //! The name of an index, and words that have none yet.
-ghost use Rattle.std.specs.Prelude.{◌≡◌, ◌*◌, [], ◌∷◌, None, IfOk, replicate};
+ghost use Rattle.std.specs.Prelude.{◌≡◌, ◌*◌, ◌%◌, [], ◌∷◌, None, IfOk, replicate};
 ghost use Rattle.jc_place.specs.Place.{IsTableSize};
 ghost use Rattle.jc_cuckoo.specs.Images.{image_of};
 
@@ -50,9 +50,25 @@ impl<P: Placer + Drop> Unnamed<P> {
         requires { IsTableSize buckets }
         ensures { IfOk result (λ w. (w.images ≡ image_of buckets (replicate (4 * buckets) None) ∷ []) × (w.placer ≡ placer) × (w.buckets ≡ buckets)) }
     {
-        let words = blank(alloc.clone()?, buckets)?;
+        Unnamed::starting_at(alloc, placer, buckets, 0)
+    }
+
+    /// The same, but all versions of the first table begin at this even number; those of tables that follow begin at 0. It
+    /// is there for tests: near 2^64 a few commits exhaust a version, and from 0 no test could.
+    pub fn starting_at(
+        alloc: Global,
+        placer: P,
+        buckets: u32,
+        start: u64,
+    ) -> Result<Unnamed<P>, OutOfMemory>
+        requires size { IsTableSize buckets }
+        requires even { start % 2 ≡ 0 }
+        ensures words { IfOk result (λ w. (w.images ≡ image_of buckets (replicate (4 * buckets) None) ∷ []) × (w.placer ≡ placer) × (w.buckets ≡ buckets)) }
+        ensures versions { IfOk result (λ w. w.versions ≡ replicate 65 start) }
+    {
+        let words = blank(alloc.clone()?, buckets, start)?;
         let law = Placed { placer, buckets };
-        let lineage = Lineage::new(alloc, &law, &words)?;
+        let lineage = Lineage::starting_at(alloc, &law, &words, start)?;
         Ok(Unnamed {
             lineage,
             placer,

@@ -129,7 +129,7 @@ abbrev pub front_before : {L : Type 0} → Origin L → Front
 front_before o = elim o.before [ None ↦ [] | Some p ↦ p.value.me.0.front ]
 
 abbrev pub opening_view : {L : Type 0} → Origin L → View L
-opening_view o = record { law = Some o.law.value; role = desk (replicate many 0) (drop many o.words.value.items); front = front_before o ++ drop many o.words.value.items ∷ []; told = []; lookups = 0 }
+opening_view o = record { law = Some o.law.value; role = desk (replicate many o.start) (drop many o.words.value.items); front = front_before o ++ drop many o.words.value.items ∷ []; told = []; lookups = 0 }
 
 -- a reader's seat that knows the front of v
 abbrev pub shared : {L : Type 0} → View L → View L

@@ -55,13 +55,14 @@ pub struct View<L> {
 
 pub type StripesSeat<L> = Seat<(), View<L>>;
 
-/// What a table follows: the writer's seat at the table before it; and the words that it begins with, the versions
-/// among them.
+/// What a table follows: the writer's seat at the table before it; the words that it begins with, the versions among
+/// them; and the number at which all versions begin.
 #[derive(Drop)]
 pub struct Origin<L> {
     pub law: Snapshot<L>,
     pub before: Option<Snapshot<StripesSeat<L>>>,
     pub words: Snapshot<Vec<u64>>,
+    pub start: u64,
 }
 
 pub struct Versions;

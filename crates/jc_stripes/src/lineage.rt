@@ -1,5 +1,5 @@
 //! Tables of words that follow one another. Readers move on to the newest.
-ghost use Rattle.std.specs.Prelude.{◌≡◌, ◌+◌, ◌^◌, ◌<◌, [], ◌∷◌, ◌++◌, drop, replicate, length, map, Some, IfOk, IfErr, All, slice_get, ℕ, List};
+ghost use Rattle.std.specs.Prelude.{◌≡◌, ◌+◌, ◌%◌, ◌^◌, ◌<◌, [], ◌∷◌, ◌++◌, drop, replicate, length, map, Some, IfOk, IfErr, All, slice_get, ℕ, List};
 ghost use mathlib.Core.List.{IsPrefix};
 ghost use Rattle.jc_stripes.specs.Stripes.{many, last_of, desk_of, set_all, Covered, Changes, IsCommitted, shared};
 ghost use Rattle.jc_stripes.specs.Lineages.{tables, outgrown, IsEarlier};
@@ -39,8 +39,25 @@ impl<L: Law + Drop> Lineage<L> {
         requires lawful { L.admits law.now (drop many words.now.items) }
         ensures { IfOk result (λ l. (l.writer.seat.me.0.law ≡ Some law.now) × (l.writer.seat.me.0.front ≡ drop many words.now.items ∷ [])) }
     {
+        Lineage::starting_at(alloc, law, words, 0)
+    }
+
+    /// The same, but all versions of the table begin at this number. Those of the tables that follow begin at 0.
+    pub fn starting_at(
+        alloc: Global,
+        law: &L,
+        words: &Vec<u64>,
+        start: u64,
+    ) -> Result<Lineage<L>, AllocError>
+        requires even { start % 2 ≡ 0 }
+        requires versions { words.now.items ≡ replicate many start ++ drop many words.now.items }
+        requires sized { length words.now.items < 2 ^ 63 }
+        requires lawful { L.admits law.now (drop many words.now.items) }
+        ensures lineage { IfOk result (λ l. (l.writer.seat.me.0.law ≡ Some law.now) × (l.writer.seat.me.0.front ≡ drop many words.now.items ∷ [])) }
+        ensures versions { IfOk result (λ l. (desk_of l.writer.seat.me.0).versions ≡ replicate many start) }
+    {
         let mut keeper = Keeper::new(alloc.clone()?)?;
-        let writer = Writer::new(alloc.clone()?, law, words)?;
+        let writer = Writer::starting_at(alloc.clone()?, law, words, start)?;
         keeper.add(&writer.seat);
         Ok(Lineage {
             keeper,

@@ -4,10 +4,11 @@ ghost use Rattle.jc_stripes.specs.Stripes.{IsWriter, IsOpened, IsShut, Changes, 
 
 use crate::board::{Board, Law, Seal, Set, StripesSeat, Turn, VERSIONS};
 
-pub(crate) fn zeros() -> [u64; VERSIONS]
-    ensures { result ≡ replicate many 0 }
+/// All versions are this number.
+pub(crate) fn versions_at(start: u64) -> [u64; VERSIONS]
+    ensures { result ≡ replicate many start }
 {
-    [0; VERSIONS]
+    [start; VERSIONS]
 }
 
 /// Sets a word.

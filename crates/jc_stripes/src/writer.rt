@@ -6,7 +6,7 @@ ghost use Rattle.jc_stripes.specs.Stripes.{IsWriter, IsCommitted, Changes, Cover
 
 use crate::board::{Board, COMMON, Hear, Law, Origin, Recall, Share, StripesSeat, VERSIONS};
 use crate::reader::Reader;
-use crate::stroke::{fill, open_all, open_one, seal, shut_all, zeros};
+use crate::stroke::{fill, open_all, open_one, seal, shut_all, versions_at};
 use std::alloc::{AllocError, Global};
 use std::snapshot::Snapshot;
 use std::sync::Arc;
@@ -29,15 +29,17 @@ impl<L: Law> Writer<L> {
     fn over(alloc: Global, origin: Origin<L>, words: &Vec<u64>) -> Result<Writer<L>, AllocError>
         requires words { origin.words.value ≡ words.now }
         requires lawful { L.admits origin.law.value (drop many words.now.items) }
-        requires versions { words.now.items ≡ replicate many 0 ++ drop many words.now.items }
+        requires even { origin.start % 2 ≡ 0 }
+        requires versions { words.now.items ≡ replicate many origin.start ++ drop many words.now.items }
         requires sized { length words.now.items < 2 ^ 63 }
         ensures { IfOk result (λ w. w.seat.me.0 ≡ opening_view origin) }
     {
+        let versions = versions_at(origin.start);
         let (table, seat) = Board::<L>::of_words(alloc.clone()?, words.as_slice(), &origin)?;
         Ok(Writer {
             board: Arc::new(alloc, table)?,
             seat,
-            versions: zeros(),
+            versions,
         })
     }
 
@@ -48,10 +50,28 @@ impl<L: Law> Writer<L> {
         requires lawful { L.admits law.now (drop many words.now.items) }
         ensures { IfOk result (λ w. (w.seat.me.0.law ≡ Some law.now) × (w.seat.me.0.front ≡ drop many words.now.items ∷ [])) }
     {
+        Writer::starting_at(alloc, law, words, 0)
+    }
+
+    /// The same, but all versions begin at this number.
+    pub fn starting_at(
+        alloc: Global,
+        law: &L,
+        words: &Vec<u64>,
+        start: u64,
+    ) -> Result<Writer<L>, AllocError>
+        requires even { start % 2 ≡ 0 }
+        requires versions { words.now.items ≡ replicate many start ++ drop many words.now.items }
+        requires sized { length words.now.items < 2 ^ 63 }
+        requires lawful { L.admits law.now (drop many words.now.items) }
+        ensures writer { IfOk result (λ w. (w.seat.me.0.law ≡ Some law.now) × (w.seat.me.0.front ≡ drop many words.now.items ∷ [])) }
+        ensures versions { IfOk result (λ w. (desk_of w.seat.me.0).versions ≡ replicate many start) }
+    {
         let origin = Origin {
             law: Snapshot::of(law),
             before: None,
             words: Snapshot::of(words),
+            start,
         };
         Writer::over(alloc, origin, words)
     }
@@ -67,6 +87,7 @@ impl<L: Law> Writer<L> {
             law: Snapshot::of(law),
             before: Some(Snapshot::of(&self.seat)),
             words: Snapshot::of(words),
+            start: 0,
         };
         Writer::over(alloc, origin, words)
     }

@@ -44,3 +44,5 @@ mod shapes;
 mod streams;
 #[cfg(test)]
 mod tables;
+#[cfg(test)]
+mod wearing;

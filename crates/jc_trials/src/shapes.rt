@@ -24,7 +24,7 @@ pub const NAMES: [&str; 40] = [
 ];
 
 /// Puts a row of a cache where it has none of this key.
-fn put_new<R: Rows>(rows: &mut R, id: CacheId, key: Key, row: u32) -> Result<(), Trouble> {
+pub fn put_new<R: Rows>(rows: &mut R, id: CacheId, key: Key, row: u32) -> Result<(), Trouble> {
     if rows.find(id, &key).is_none() {
         let Some(all) = rows.len().checked_add(1) else {
             return Err(Trouble::Memory);
