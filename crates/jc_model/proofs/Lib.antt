@@ -9,13 +9,17 @@ pub mod KeyMade
 pub mod Waits
 pub mod Soundness
 pub mod Alone
+pub mod Lives
 pub mod EachCache
+pub mod Reached
 pub mod Leads
 pub mod TwoRuns
 pub mod Resume
 pub mod OneCache
+pub mod Histories
 pub mod Recording
 pub mod Legal
+pub mod Bare
 pub mod Worked
 pub mod Places
 pub mod Suspended

@@ -1,7 +1,0 @@
-pub mod Walking
-pub mod Asking
-pub mod Last
-pub mod Tenures
-pub mod Comparing
-pub mod Carrying
-pub mod Opened
