@@ -1,8 +1,9 @@
 -- Names, expiry policies and kinds of callbacks, as a configuration spells them.
-use Rattle.std.specs.Prelude.{ℕ, ◌==◌, ◌&&◌, ◌||◌, Bool, true, false, nat_le, if◌then◌else◌, List, length, Option, Some, None, codes}
+use Rattle.std.specs.Prelude.{ℕ, ◌==◌, ◌&&◌, ◌||◌, Bool, true, false, nat_le, if◌then◌else◌, List, [], length, Option, Some, None, codes}
 use Rattle.std.specs.List.{list_all}
 use Rattle.std.specs.Str.{bytes_eq}
-use Rattle.jc_model.specs.Limits.{key_bytes}
+use Rattle.jc_model.specs.Limits.{key_bytes, most_rows}
+use Rattle.jc_model.specs.declared.config.CacheConfig.{CacheConfig}
 use Rattle.jc_model.specs.declared.config.Policy.{Policy}
 use Rattle.jc_model.specs.declared.config.Policy.TheVariants as policies
 use Rattle.jc_config.specs.declared.members.ExpiryKind.{ExpiryKind}
@@ -20,6 +21,19 @@ is_name_byte b = (nat_le 97 b && nat_le b 122) || (nat_le 65 b && nat_le b 90) |
 
 abbrev pub is_name : List ℕ → Bool
 is_name text = nat_le 1 (length text) && nat_le (length text) key_bytes && list_all is_name_byte text
+
+-- the name that a text is, if it is one
+abbrev pub name_in : List ℕ → Option (List ℕ)
+name_in text = if is_name text then Some text else None
+
+-- a cache's rows, if it may have so many
+abbrev pub capacity_in : ℕ → Option ℕ
+capacity_in rows = if nat_le 1 rows && nat_le rows most_rows then Some rows else None
+
+-- a cache without callbacks
+abbrev pub plain_cache : List ℕ → ℕ → Policy → CacheConfig
+plain_cache name capacity policy =
+    record { name = name; capacity = capacity; policy = policy; loader = false; writer = false; processors = []; listeners = 0 }
 
 abbrev pub expiry_of : List ℕ → Option ExpiryKind
 expiry_of text =

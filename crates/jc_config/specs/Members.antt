@@ -7,7 +7,7 @@ use Rattle.jc_model.specs.declared.config.Policy.{Policy}
 use Rattle.jc_model.specs.declared.config.Policy.TheVariants as policies
 use Rattle.jc_model.specs.Limits.{most_processors}
 use Rattle.jc_config.specs.Faults.{◌>>=◌, name_of}
-use Rattle.jc_config.specs.Kinds.{is_name, expiry_of, processor_of}
+use Rattle.jc_config.specs.Kinds.{name_in, expiry_of, processor_of}
 use Rattle.jc_config.specs.declared.fault.Member.{Member}
 use Rattle.jc_config.specs.declared.fault.Member.TheVariants as members
 use Rattle.jc_config.specs.declared.fault.ConfigFault.{ConfigFault}
@@ -29,7 +29,7 @@ abbrev pub number : ℕ → ℕ → Data → Option ℕ
 number low high d = option_and_then (λ n. if nat_le low n && nat_le n high then Some n else None) (whole d)
 
 abbrev pub name_text : Data → Option (List ℕ)
-name_text d = option_and_then (λ text. if is_name text then Some text else None) (as_str d)
+name_text d = option_and_then name_in (as_str d)
 
 -- a text that names a kind
 abbrev pub text_kind : {A : Type 0} → (List ℕ → Option A) → Data → Option A

@@ -1,11 +1,14 @@
 //! The kinds of callbacks that a configuration names.
 
 ghost use Rattle.std.specs.Prelude.{◌≡◌};
-ghost use Rattle.jc_config.specs.Kinds.{wants_value_of};
+ghost use Rattle.jc_config.specs.Kinds.{capacity_in, plain_cache, wants_value_of};
 
 use crate::settings::Settings;
-use jc_model::config::CacheConfig;
+use jc_model::config::{CacheConfig, Policy};
+use jc_model::key::Key;
+use jc_model::limits::MOST_ROWS;
 use jc_model::list::Sequence;
+use std::alloc::Global;
 
 /// The loader of a cache.
 #[derive(Clone, Copy, Debug, PartialEq, Eq)]
@@ -60,4 +63,30 @@ pub struct CacheSettings {
 pub struct Configuration {
     pub settings: Settings,
     pub hooks: Sequence<HookKinds>,
+}
+
+/// A cache's rows, if it may have so many: 1 to 65,536.
+pub fn capacity_in(rows: u64) -> Option<u32>
+    ensures { result ≡ capacity_in rows }
+{
+    if rows >= 1 && rows <= MOST_ROWS as u64 {
+        Some(rows as u32)
+    } else {
+        None
+    }
+}
+
+/// A cache without callbacks.
+pub fn plain_cache(alloc: Global, name: Key, capacity: u32, policy: Policy) -> CacheConfig
+    ensures { result ≡ plain_cache name capacity policy }
+{
+    CacheConfig {
+        name,
+        capacity,
+        policy,
+        loader: false,
+        writer: false,
+        processors: Sequence::new(Vec::new(alloc)),
+        listeners: 0,
+    }
 }

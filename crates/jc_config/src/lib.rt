@@ -13,6 +13,11 @@ mod settings;
 mod totals;
 
 pub use fault::{ConfigFault, Member};
-pub use kinds::{CacheSettings, Configuration, HookKinds, LoaderKind, ProcessorKind, WriterKind};
+pub use kinds::{
+    CacheSettings, Configuration, HookKinds, LoaderKind, ProcessorKind, WriterKind, capacity_in,
+    plain_cache,
+};
+pub use members::ExpiryKind;
+pub use name::name_in;
 pub use read::read_config;
 pub use settings::Settings;

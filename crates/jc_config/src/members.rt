@@ -10,7 +10,7 @@ ghost use Rattle.jc_config.specs.Members.{number, whole, name_text, text_kind, o
 
 use crate::fault::{ConfigFault, Member};
 use crate::kinds::{LoaderKind, ProcessorKind, WriterKind};
-use crate::name::is_name;
+use crate::name::name_in;
 use jc_model::config::Policy;
 use jc_model::key::Key;
 use jc_model::limits::{MOST_LISTENERS, MOST_ROWS};
@@ -27,7 +27,8 @@ pub enum ExpiryKind {
 }
 
 impl ExpiryKind {
-    fn of(text: &str) -> Option<ExpiryKind>
+    /// The policy of that name, if there is one.
+    pub fn of(text: &str) -> Option<ExpiryKind>
         ensures { result ≡ expiry_of text.now }
     {
         match text {
@@ -40,7 +41,8 @@ impl ExpiryKind {
         }
     }
 
-    fn with_duration(self, duration: u64) -> Policy
+    /// The policy with this duration, in milliseconds; an eternal one has none.
+    pub fn with_duration(self, duration: u64) -> Policy
         ensures { result ≡ with_duration self duration }
     {
         match self {
@@ -95,12 +97,13 @@ pub fn name(table: &Value, cache: usize) -> Result<Key, ConfigFault>
     ensures { Gives (λ x. x) result (needed name_text cache Member.Name (view table.now)) }
 {
     let member = Member::Name;
-    match table.get(member.name()).and_then(Value::as_str) {
-        Some(text) if is_name(text) => match Key::from_text(text) {
-            Ok(name) => Ok(name),
-            Err(_) => Err(ConfigFault::Bad { cache, member }),
-        },
-        _ => Err(ConfigFault::Bad { cache, member }),
+    match table
+        .get(member.name())
+        .and_then(Value::as_str)
+        .and_then(name_in)
+    {
+        Some(name) => Ok(name),
+        None => Err(ConfigFault::Bad { cache, member }),
     }
 }
 

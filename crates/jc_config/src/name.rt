@@ -1,9 +1,10 @@
 //! Names of caches.
 
 ghost use Rattle.std.specs.Prelude.{◌≡◌};
-ghost use Rattle.jc_config.specs.Kinds.{is_name_byte, is_name};
+ghost use Rattle.jc_config.specs.Kinds.{is_name_byte, is_name, name_in};
 ghost use Rattle.std.specs.List.{list_all};
 
+use jc_model::key::Key;
 use jc_model::limits::KEY_BYTES;
 
 fn is_name_byte(byte: u8) -> bool
@@ -13,7 +14,7 @@ fn is_name_byte(byte: u8) -> bool
 }
 
 /// Whether a text is 1 to 31 of the ASCII letters, digits, `-` and `_`.
-pub fn is_name(text: &str) -> bool
+fn is_name(text: &str) -> bool
     ensures { result ≡ is_name text.now }
 {
     let bytes = text.as_bytes();
@@ -24,4 +25,15 @@ fn has_name_bytes(bytes: &[u8]) -> bool
     ensures { result ≡ list_all is_name_byte bytes.now }
 {
     bytes.iter().all(|byte| is_name_byte(*byte))
+}
+
+/// The name that a text is, if it is one: 1 to 31 of the ASCII letters, digits, `-` and `_`.
+pub fn name_in(text: &str) -> Option<Key>
+    ensures { result ≡ name_in text.now }
+{
+    if is_name(text) {
+        Key::from_text(text).ok()
+    } else {
+        None
+    }
 }

@@ -37,13 +37,10 @@ fn configured(alloc: Global, caches: Vec<CacheSettings>) -> Result<Configuration
     ensures { IfOk result (λ r. r ≡ record { settings = map (λ c. c.config) caches.items; hooks = map (λ c. c.hooks) caches.items }) }
 {
     let (configs, hooks) = split(alloc, caches)?;
-    match Settings::new(Sequence::new(configs)) {
-        Some(settings) => Ok(Configuration {
-            settings,
-            hooks: Sequence::new(hooks),
-        }),
-        None => unreachable!(),
-    }
+    Ok(Configuration {
+        settings: Settings::within(Sequence::new(configs)),
+        hooks: Sequence::new(hooks),
+    })
 }
 
 /// Reads a TOML document with an array of tables `cache`, which may be missing.

@@ -1,5 +1,5 @@
 -- The table has as many rows as the caches have together.
-use Rattle.std.proofs.Common.{◌≡◌, ℕ, suc, ◌+◌, ◌-◌, ◌<◌, Bool, true, false, cond, List, [], ◌∷◌, length, slice_get, Option, Some, None, inl, inr, IsSome, refl, sym, ap, subst, ◌∙◌, arith}
+use Rattle.std.proofs.Common.{◌≡◌, ℕ, suc, ◌+◌, ◌-◌, ◌<◌, Bool, true, false, cond, List, [], ◌∷◌, length, Option, Some, None, inl, inr, IsSome, refl, sym, ap, subst, ◌∙◌, arith}
 use Rattle.std.specs.Prelude.{Decides, option_map, sum_by}
 use Rattle.std.specs.FinMap as table
 use Rattle.std.specs.Str.{bytes_eq}
@@ -8,6 +8,7 @@ use Rattle.std.proofs.lemmas.List.Sums.{sum_by-cons}
 use Rattle.std.proofs.lemmas.Slice.Eq.{bytes_eq-Decides}
 use Rattle.jc_model.specs.declared.config.Expiry.{Expiry}
 use Rattle.jc_model.specs.State.{Item, State, row_of}
+use Rattle.jc_model.specs.Places.{at_place, all_there}
 use Rattle.jc_model.specs.Sound.{Lacks, HasDistinctKeys}
 use Rattle.jc_rows.specs.Rows.{RowMap}
 use Rattle.jc_rows.proofs.Laws.{same_rows, get-empty, len-empty, get-removed_same, get-removed_other, get-removed_absent, len-removed}
@@ -87,10 +88,10 @@ present_by None None e is = absurd (is refl)
 present_by None (Some x) e is = absurd cc
 
 -- from an id on, the table has the rows of these states and no others
-record HasRows (m : RowMap) (base : ℕ) (states : List State) : Type 0 where
-  own : (i : ℕ) (key : List ℕ) → option_map (λ row. row.1) (table.get m (base + i, key)) ≡ expiry_at key (slice_get states i)
+record HasRows (m : RowMap) (base : ℕ) (states : List (Option State)) : Type 0 where
+  own : (i : ℕ) (key : List ℕ) → option_map (λ row. row.1) (table.get m (base + i, key)) ≡ expiry_at key (at_place states i)
   before : (id : ℕ) (key : List ℕ) → id < base → table.get m (id, key) ≡ None
-  distinct : (i : ℕ) (s : State) → slice_get states i ≡ Some s → HasDistinctKeys s.ring
+  distinct : (i : ℕ) (s : State) → at_place states i ≡ Some s → HasDistinctKeys s.ring
 
 no_rows : (m : RowMap) (base : ℕ) → HasRows m base [] → m ≡ table.empty
 no_rows m base has = same_rows m table.empty (λ x. at x.0 x.1 ∙ sym (get-empty x))
@@ -102,7 +103,7 @@ no_rows m base has = same_rows m table.empty (λ x. at x.0 x.1 ∙ sym (get-empt
           subst (λ (j : ℕ). table.get m (j, key) ≡ None) same (absent_by (table.get m (base + (id - base), key)) (has.own (id - base) key)))
     ]
 
-module _ (m : RowMap) (base : ℕ) (s : State) (states : List State) (has : HasRows m base (s ∷ states)) where
+module _ (m : RowMap) (base : ℕ) (s : State) (states : List (Option State)) (has : HasRows m base (Some s ∷ states)) where
   here : (key : List ℕ) → option_map (λ row. row.1) (table.get m (base, key)) ≡ option_map (λ x. x.expiry) (row_of key s.ring)
   here key = subst (λ (j : ℕ). option_map (λ row. row.1) (table.get m (j, key)) ≡ option_map (λ x. x.expiry) (row_of key s.ring)) (omega arith) (has.own 0 key)
 
@@ -113,7 +114,7 @@ module _ (m : RowMap) (base : ℕ) (s : State) (states : List State) (has : HasR
   rest_rows = record {
     own = λ i key. (let next : base + suc i ≡ suc base + i = omega arith in
         ap (option_map (λ row. row.1)) (elsewhere m base (suc base + i) key s.ring (λ same. omega (arith, same)))
-        ∙ subst (λ (j : ℕ). option_map (λ row. row.1) (table.get m (j, key)) ≡ expiry_at key (slice_get states i)) next (has.own (suc i) key));
+        ∙ subst (λ (j : ℕ). option_map (λ row. row.1) (table.get m (j, key)) ≡ expiry_at key (at_place states i)) next (has.own (suc i) key));
     before = λ id key below. elim (cases_lt id base) [
       | inl less ↦ elsewhere m base id key s.ring (λ same. omega (arith, same, less)) ∙ has.before id key less
       | inr not_less ↦ (let same : base ≡ id = omega (arith, below, not_less) in
@@ -123,14 +124,28 @@ module _ (m : RowMap) (base : ℕ) (s : State) (states : List State) (has : HasR
     distinct = λ i t at. has.distinct (suc i) t at;
   }
 
-count_from : (m : RowMap) (base : ℕ) (states : List State) → HasRows m base states → table.len m ≡ sum_by (λ s. length s.ring) states
+-- where no cache is, there are no rows
+past_none : (m : RowMap) (base : ℕ) (states : List (Option State)) → HasRows m base (None ∷ states) → HasRows m (suc base) states
+past_none m base states has = record {
+  own = λ i key. (let next : base + suc i ≡ suc base + i = omega arith in
+      subst (λ (j : ℕ). option_map (λ row. row.1) (table.get m (j, key)) ≡ expiry_at key (at_place states i)) next (has.own (suc i) key));
+  before = λ id key below. elim (cases_lt id base) [
+    | inl less ↦ has.before id key less
+    | inr not_less ↦ (let same : base + 0 ≡ id = omega (arith, below, not_less) in
+        subst (λ (j : ℕ). table.get m (j, key) ≡ None) same (absent_by (table.get m (base + 0, key)) (has.own 0 key)))
+  ];
+  distinct = λ i t at. has.distinct (suc i) t at;
+}
+
+count_from : (m : RowMap) (base : ℕ) (states : List (Option State)) → HasRows m base states → table.len m ≡ sum_by (λ s. length s.ring) (all_there states)
 count_from m base [] has = ap table.len (no_rows m base has) ∙ len-empty
-count_from m base (s ∷ states) has =
+count_from m base (None ∷ states) has = count_from m (suc base) states (past_none m base states has)
+count_from m base (Some s ∷ states) has =
     let first = first_rows m base s states has in
     let rest = count_from (cleared m base s.ring) (suc base) states (rest_rows m base s states has) in
-    let all = sum_by-cons (λ (t : State). length t.ring) s states in
+    let all = sum_by-cons (λ (t : State). length t.ring) s (all_there states) in
     omega arith
 
-pub count : (m : RowMap) (states : List State) → ((id : ℕ) (key : List ℕ) → option_map (λ row. row.1) (table.get m (id, key)) ≡ expiry_at key (slice_get states id)) → ((id : ℕ) (s : State) → slice_get states id ≡ Some s → HasDistinctKeys s.ring)
-    → table.len m ≡ sum_by (λ s. length s.ring) states
-count m states same distinct = count_from m 0 states (record { own = λ i key. subst (λ (j : ℕ). option_map (λ row. row.1) (table.get m (j, key)) ≡ expiry_at key (slice_get states i)) (omega arith) (same i key); before = λ id key below. absurd (omega (arith, below)); distinct = distinct })
+pub count : (m : RowMap) (states : List (Option State)) → ((id : ℕ) (key : List ℕ) → option_map (λ row. row.1) (table.get m (id, key)) ≡ expiry_at key (at_place states id)) → ((id : ℕ) (s : State) → at_place states id ≡ Some s → HasDistinctKeys s.ring)
+    → table.len m ≡ sum_by (λ s. length s.ring) (all_there states)
+count m states same distinct = count_from m 0 states (record { own = λ i key. subst (λ (j : ℕ). option_map (λ row. row.1) (table.get m (j, key)) ≡ expiry_at key (at_place states i)) (omega arith) (same i key); before = λ id key below. absurd (omega (arith, below)); distinct = distinct })

@@ -10,14 +10,13 @@ use Rattle.jc_model.specs.declared.event.End.{End}
 use Rattle.jc_model.specs.declared.event.End.TheVariants.{Waiting}
 use Rattle.jc_model.specs.declared.event.Entry.{Entry}
 use Rattle.jc_model.specs.Run.{Awaited, told_by}
-use Rattle.jc_model.specs.Runs.{Status}
-use Rattle.jc_model.specs.Solo.{fresh}
+use Rattle.jc_model.specs.Runs.{Status, Lives, live_at, fresh}
 use Rattle.jc_model.specs.Suspended.{Wait}
-use Rattle.jc_model.specs.Legal.{on_open, Tells, with_outcome}
-use Rattle.jc_model.proofs.EachCache.{at_other}
+use Rattle.jc_model.specs.Places.{there, at_place}
+use Rattle.jc_model.specs.Legal.{History, on_open, Tells, with_outcome}
+use Rattle.jc_model.proofs.Lives.{at_other}
 use Rattle.jc_model.proofs.Legal.{set_open}
 use Rattle.jc_engine.specs.Caches.{Cache}
-use Rattle.jc_engine.specs.Advances.{ChangesOne}
 use Rattle.jc_engine.specs.Recording.{HasEntry}
 use Rattle.jc_engine.proofs.Places.{same_set}
 
@@ -45,21 +44,6 @@ pub length_set : {A : Type 0} (xs : List A) (i : ℕ) (y : A) → length (slice_
 length_set [] i y = refl
 length_set (x ∷ xs) zero y = refl
 length_set (x ∷ xs) (suc i) y = ap suc (length_set xs i y)
-
-pub same_front : {A : Type 0} (xs ys : List A) (x y : A) → xs ++ x ∷ [] ≡ ys ++ y ∷ [] → xs ≡ ys
-same_front [] [] x y same = refl
-same_front [] (b ∷ []) x y same = absurd cc
-same_front [] (b ∷ c ∷ ys) x y same = absurd cc
-same_front (a ∷ []) [] x y same = absurd cc
-same_front (a ∷ c ∷ xs) [] x y same = absurd cc
-same_front (a ∷ xs) (b ∷ ys) x y same =
-    let heads : a ≡ b = cc in
-    let fronts : xs ≡ ys = same_front xs ys x y cc in
-    cc
-
-pub not_empty : {A : Type 0} (xs : List A) (x : A) → xs ++ x ∷ [] ≡ [] → ⊥
-not_empty [] x same = cc
-not_empty (a ∷ xs) x same = cc
 
 pub some_at : {A : Type 0} (xs : List A) (i : ℕ) → i < length xs → (x : A) × (slice_get xs i ≡ Some x)
 some_at [] i below = absurd (omega arith)
@@ -94,6 +78,9 @@ set_elsewhere id transcript place e f at own = record {
       at_other transcript place other f apart ∙ found;
 }
 
+pub same_elsewhere : (id : ℕ) (transcript : List Entry) → StayElsewhere id transcript transcript
+same_elsewhere id transcript = record { stays = λ place e differ at. at }
+
 has_elsewhere : (id other : ℕ) (transcript transcript' : List Entry) → StayElsewhere id transcript transcript' → (other ≡ id → ⊥) → (place : Option ℕ) (turn : Option (Awaited × Wait)) → HasEntry transcript other place turn → HasEntry transcript' other place turn
 has_elsewhere id other transcript transcript' stay differ place None has = tt
 has_elsewhere id other transcript transcript' stay differ None (Some w) has = has
@@ -105,28 +92,30 @@ has_elsewhere id other transcript transcript' stay differ (Some place) (Some w) 
   untold = has.untold;
 }
 
-abbrev pub AllOpened : List Cache → List Entry → List ℕ → Type 0
-AllOpened caches transcript places = (id : ℕ) (k : Cache) → slice_get caches id ≡ Some k → HasEntry transcript id (slice_get places id) k.turn
+abbrev pub AllOpened : List (Option Cache) → List Entry → (ℕ → Option ℕ) → Type 0
+AllOpened caches transcript places = (id : ℕ) (k : Cache) → at_place caches id ≡ Some k → HasEntry transcript id (places id) k.turn
 
-module _ (id : ℕ) (caches caches' : List Cache) (transcript transcript' : List Entry) (places places' : List ℕ) where
-  pub opened_after : AllOpened caches transcript places → ChangesOne caches id caches' → StayElsewhere id transcript transcript'
-      → ((other : ℕ) → (other ≡ id → ⊥) → slice_get places' other ≡ slice_get places other)
-      → ((k : Cache) → slice_get caches' id ≡ Some k → HasEntry transcript' id (slice_get places' id) k.turn)
+-- at all ids but one the caches, the entries and the places are as before
+module _ (id : ℕ) (caches caches' : List (Option Cache)) (transcript transcript' : List Entry) (places places' : ℕ → Option ℕ) where
+  pub opened_after : AllOpened caches transcript places
+      → ((other : ℕ) → (other ≡ id → ⊥) → at_place caches' other ≡ at_place caches other)
+      → StayElsewhere id transcript transcript'
+      → ((other : ℕ) → (other ≡ id → ⊥) → places' other ≡ places other)
+      → ((k : Cache) → at_place caches' id ≡ Some k → HasEntry transcript' id (places' id) k.turn)
       → AllOpened caches' transcript' places'
   opened_after opened one stay same here = λ other k at. by other k (eqb other id) refl at
     where
-      by : (other : ℕ) (k : Cache) (b : Bool) → eqb other id ≡ b → slice_get caches' other ≡ Some k → HasEntry transcript' other (slice_get places' other) k.turn
+      by : (other : ℕ) (k : Cache) (b : Bool) → eqb other id ≡ b → at_place caches' other ≡ Some k → HasEntry transcript' other (places' other) k.turn
       by other k true h at =
           let is : id ≡ other = grind (arith, nat_tests) in
-          subst (λ (i : ℕ). slice_get caches' i ≡ Some k → HasEntry transcript' i (slice_get places' i) k.turn) is (here k) at
+          subst (λ (i : ℕ). at_place caches' i ≡ Some k → HasEntry transcript' i (places' i) k.turn) is (here k) at
       by other k false h at =
           let differ : other ≡ id → ⊥ = λ e. grind (arith, nat_tests) in
-          let differ' : id ≡ other → ⊥ = λ e. grind (arith, nat_tests) in
-          let before : slice_get caches other ≡ Some k = sym (at_other caches id other one.cache differ') ∙ (ap (λ (ks : List Cache). slice_get ks other) (sym one.is) ∙ at) in
-          has_elsewhere id other transcript transcript' stay differ (slice_get places' other) k.turn
+          let before : at_place caches other ≡ Some k = sym (one other differ) ∙ at in
+          has_elsewhere id other transcript transcript' stay differ (places' other) k.turn
           (subst (λ (p : Option ℕ). HasEntry transcript other p k.turn) (sym (same other differ)) (opened other k before))
 
 -- a write at the place of the open call's entry is one to the entry that waits
-pub written_open : (statuses : List Status) (transcript : List Entry) (id place : ℕ) (k : Status) (e : Entry) (f : Entry → Entry) → Tells transcript statuses → slice_get statuses id ≡ Some k → slice_get transcript place ≡ Some e → e.id ≡ id → e.end ≡ Waiting → slice_set transcript place (f e) ≡ on_open id f transcript
-written_open statuses transcript id place k e f tells at there own waits =
-    set_open k.config id f transcript place e (record { standing = fresh; legal = (tells.each id k at).0 }) there (grind (arith, nat_tests)) waits
+pub written_open : (lives : Lives) (h : History) (id place : ℕ) (k : Status) (e : Entry) (f : Entry → Entry) → Tells h lives → live_at lives id ≡ Some k → slice_get h.entries place ≡ Some e → e.id ≡ id → e.end ≡ Waiting → slice_set h.entries place (f e) ≡ on_open id f h.entries
+written_open lives h id place k e f tells at there own waits =
+    set_open k.config id f h.entries place e (record { standing = fresh; legal = tells.legal.each id k.config (tells.each id k at).0 }) there (grind (arith, nat_tests)) waits

@@ -1,11 +1,10 @@
 pub mod Tables
+pub mod Numbered
 pub mod Places
 pub mod Steps
 pub mod Hearing
-pub mod Entries
 pub mod Moving
 pub mod GivingUp
-pub mod Recordings
 pub mod Names
 pub mod Openings
 pub mod Untold
@@ -13,3 +12,8 @@ pub mod Calls
 pub mod Counted
 pub mod Watching
 pub mod Vacant
+pub mod Coming
+pub mod Listed
+pub mod Leaving
+pub mod Entries
+pub mod Recordings

@@ -1,28 +1,21 @@
--- A manager that has just been opened.
-use Rattle.std.proofs.Common.{◌≡◌, ℕ, ◌≤◌, ◌<◌, ◌+◌, length-append, zero, suc, Bool, true, false, List, [], ◌∷◌, ◌++◌, map, length, Option, Some, None, Result, Ok, Err, refl, sym, ap, ap₂, subst, ◌∙◌, arith}
-use Rattle.std.specs.Prelude.{slice_get, option_map, IfSome, position, sum, ltb, ◌||◌, if◌then◌else◌}
-use Rattle.std.specs.FinMap as table
-use Rattle.std.specs.HashMap.{HashMap, get}
+-- A manager that is being opened.
+use Rattle.std.proofs.Common.{◌≡◌, ℕ, ◌≤◌, ◌<◌, ◌+◌, length-append, append_assoc, zero, suc, Bool, true, false, List, [], ◌∷◌, ◌++◌, map, length, Option, Some, None, refl, sym, ap, subst, ◌∙◌, arith}
+use Rattle.std.specs.Prelude.{slice_get, option_map, IfSome, sum, ltb, ◌||◌, if◌then◌else◌}
 use Rattle.std.specs.Str.{bytes_eq}
 use Rattle.std.proofs.lemmas.Bool.Decides.{nat_tests}
-use Rattle.std.proofs.lemmas.Option.{slice_get-map}
+use Rattle.std.proofs.lemmas.List.{append-nil, map-append}
+use Rattle.std.proofs.lemmas.List.Sums.{sum_by-cons, sum_by-append}
 use Rattle.jc_model.specs.declared.config.CacheConfig.{CacheConfig}
-use Rattle.jc_model.specs.declared.config.Expiry.{Expiry}
-use Rattle.jc_model.specs.Legal.{Tells}
-use Rattle.jc_model.proofs.Legal.{nothing_told}
-use Rattle.jc_rows.specs.Rows.{RowMap}
-use Rattle.jc_rows.proofs.Laws.{get-empty}
-use Rattle.jc_engine.specs.declared.cache.Managed.{Managed}
+use Rattle.jc_model.specs.Limits.{most_caches, most_rows, most_rows_together, most_ids}
+use Rattle.jc_model.specs.Places.{none_before, named_from, all_there}
+use Rattle.jc_model.specs.Runs.{opened_from}
+use Rattle.jc_roster.specs.Members.{Member, members_of, rows_of}
 use Rattle.jc_engine.specs.declared.open.OpenRefusal.{OpenRefusal}
-use Rattle.jc_engine.specs.Caches.{Cache, status_of, fresh_cache}
-use Rattle.jc_engine.specs.Managed.{cache_in, IsManaged}
-use Rattle.jc_model.specs.Limits.{most_caches, most_rows, most_rows_together}
-use Rattle.jc_engine.specs.declared.open.OpenRefusal.TheVariants.{TooManyCaches}
-use Rattle.jc_engine.specs.Opening.{or_else, names_in, limit_refusal, refusal_at, refusal_from, capacities, open_refusal}
-use Rattle.jc_engine.specs.Fresh.{AreIds, fresh_fields, fresh_from}
-use Rattle.jc_engine.specs.Sound.{IsAt, IsSound}
-use Rattle.jc_engine.specs.Recording.{HasEntry, IsRecorded}
-use Rattle.jc_engine.proofs.Places.{map_map}
+use Rattle.jc_engine.specs.declared.open.OpenRefusal.TheVariants.{TooManyCaches, TotalCapacity, IdsSpent}
+use Rattle.jc_engine.specs.Caches.{Cache, status_of, lives_of, fresh_cache, fresh_from}
+use Rattle.jc_engine.specs.Fresh.{MayCome}
+use Rattle.jc_engine.specs.Opening.{or_else, is_taken, names_in, limit_refusal, refusal_at, refusal_from, capacities, open_refusal, open_refusal_from}
+use Rattle.jc_engine.proofs.Places.{map_map, length_map}
 
 -- Caches that are not refused may have rows.
 
@@ -88,79 +81,99 @@ pub none_refused : (o : Option OpenRefusal) (P : OpenRefusal → Type 0) → o �
 none_refused None P none = tt
 none_refused (Some r) P none = absurd cc
 
--- The fields at first.
+-- Ids from the first on.
 
-from_map : {G B : Type 0} (f : Managed G → B) (h : CacheConfig → B) → ((i : ℕ) (c : CacheConfig) → f (fresh_fields i c) ≡ h c) → (place : ℕ) (configs : List CacheConfig) → map f (fresh_from place configs) ≡ map h configs
-from_map f h same place [] = refl
-from_map f h same place (c ∷ cs) = ap₂ (λ x xs. x ∷ xs) (same place c) (from_map f h same (place + 1) cs)
+pub spent : (first : ℕ) (configs : List CacheConfig) → most_ids < first + length configs → open_refusal configs ≡ None → open_refusal_from first configs ≡ Some IdsSpent
+spent first configs past none = let h : ltb most_ids (first + length configs) ≡ true = grind (arith, nat_tests) in rw (none, h) refl
 
-from_at_place : {G : Type 0} (place : ℕ) (configs : List CacheConfig) (id : ℕ) → slice_get (fresh_from {G = G} place configs) id ≡ option_map (fresh_fields (place + id)) (slice_get configs id)
-from_at_place place [] id = refl
-from_at_place place (c ∷ cs) zero = let same : place ≡ place + 0 = omega arith in ap (λ (i : ℕ). Some (fresh_fields i c)) same
-from_at_place place (c ∷ cs) (suc id) = let same : (place + 1) + id ≡ place + suc id = omega arith in from_at_place (place + 1) cs id ∙ ap (λ (i : ℕ). option_map (fresh_fields i) (slice_get cs id)) same
+pub unspent : (first : ℕ) (configs : List CacheConfig) → first + length configs ≤ most_ids → open_refusal configs ≡ None → open_refusal_from first configs ≡ None
+unspent first configs few none = let h : ltb most_ids (first + length configs) ≡ false = grind (arith, nat_tests) in rw (none, h) refl
 
-from_at : {G : Type 0} (place : ℕ) (configs : List CacheConfig) (id : ℕ) → slice_get (fresh_from {G = G} 0 configs) id ≡ option_map (fresh_fields id) (slice_get configs id)
-from_at place configs id = from_at_place 0 configs id ∙ (let same : 0 + id ≡ id = omega arith in ap (λ (i : ℕ). option_map (fresh_fields i) (slice_get configs id)) same)
+pub refused_from : (first : ℕ) (configs : List CacheConfig) (refusal : OpenRefusal) → open_refusal configs ≡ Some refusal → open_refusal_from first configs ≡ Some refusal
+refused_from first configs refusal is = ap (λ (o : Option OpenRefusal). or_else o (if ltb most_ids (first + length configs) then Some IdsSpent else None)) is
 
-pub from_push : {G : Type 0} (place : ℕ) (configs : List CacheConfig) (c : CacheConfig) → fresh_from {G = G} place configs ++ fresh_fields (place + length configs) c ∷ [] ≡ fresh_from place (configs ++ c ∷ [])
-from_push place [] c = let same : place + 0 ≡ place = omega arith in ap (λ (i : ℕ). fresh_fields i c ∷ []) same
-from_push place (d ∷ ds) c = let same : place + length (d ∷ ds) ≡ (place + 1) + length ds = omega arith in ap (λ l. fresh_fields place d ∷ l) (ap (λ (i : ℕ). fresh_from (place + 1) ds ++ fresh_fields i c ∷ []) same ∙ from_push (place + 1) ds c)
-
-pub from_length : (G : Type 0) (place : ℕ) (configs : List CacheConfig) → length (fresh_from {G = G} place configs) ≡ length configs
-from_length G place [] = refl
-from_length G place (c ∷ cs) = ap suc (from_length G (place + 1) cs)
-
-fresh_at : {G : Type 0} (m : RowMap) → ((x : ℕ × List ℕ) → table.get m x ≡ None) → (id : ℕ) (c : CacheConfig) → IsManaged {G = G} m id (fresh_fields id c)
-fresh_at m none id c = record {
-  kept = record {
-    tied = record {
-      distinct = tt;
-      placed = tt;
-      found = λ k r e h. absurd (let no : ◌≡◌ {A = Option (ℕ × Expiry)} (Some (r, e)) None = sym h ∙ none (id, k) in cc);
-    };
-    id_is = refl;
-    within = omega arith;
-  };
-  waits = tt;
-}
-
-pub opened_sound : {G S : Type 0} (m : RowMap) (configs : List CacheConfig) (caches : List (Managed G)) (names : List (List ℕ)) (ids : HashMap (List ℕ) ℕ S)
-    → m ≡ table.empty → refusal_from [] 0 configs ≡ None → caches ≡ fresh_from 0 configs → names ≡ names_in configs → AreIds (Some ids) (names_in configs) → IsSound m caches names (get bytes_eq ids)
-opened_sound {G} {S} m configs caches names ids empty allowed fresh named are = record {
-  each = λ id. subst (λ (ks : List (Managed G)). IsAt m id (slice_get ks id)) (sym fresh) (subst (IsAt m id) (sym (from_at 0 configs id)) (by id (slice_get configs id)));
-  named = named ∙ (sym (from_map (λ (k : Managed G). k.state.config.name) (λ c. c.name) (λ i c. refl) 0 configs) ∙ ap (map (λ (k : Managed G). k.state.config.name)) (sym fresh));
-  found = λ name. are name ∙ ap (λ (ns : List (List ℕ)). position (λ n. bytes_eq n name) ns) (sym named);
-}
+-- from 0 on there are enough
+pub none_spent : (configs : List CacheConfig) → open_refusal_from 0 configs ≡ open_refusal configs
+none_spent configs = by (open_refusal configs) refl
   where
-    none : (x : ℕ × List ℕ) → table.get m x ≡ None
-    none x = ap (λ (n : RowMap). table.get n x) empty ∙ get-empty x
+    by : (o : Option OpenRefusal) → open_refusal configs ≡ o → or_else o (if ltb most_ids (0 + length configs) then Some IdsSpent else None) ≡ o
+    by None is =
+        let few : ltb most_caches (length configs) ≡ false = not_refused (ltb most_caches (length configs)) TooManyCaches _ is in
+        let at_most : length configs ≤ most_caches = grind (arith, nat_tests) in
+        let h : ltb most_ids (0 + length configs) ≡ false = grind (arith, nat_tests) in
+        rw h refl
+    by (Some refusal) is = refl
 
-    by : (id : ℕ) (o : Option CacheConfig) → IsAt {G = G} m id (option_map (fresh_fields id) o)
-    by id None = λ key. none (id, key)
-    by id (Some c) = fresh_at m none id c
+-- One cache more behind these.
 
-pub opened_fresh : {G : Type 0} (configs : List CacheConfig) (caches : List (Managed G)) → caches ≡ fresh_from 0 configs → map cache_in caches ≡ map fresh_cache configs
-opened_fresh {G} configs caches fresh = ap (map cache_in) fresh ∙ from_map cache_in fresh_cache (λ i c. refl) 0 configs
+before_more : {A : Type 0} (n : ℕ) (xs ys : List (Option A)) → none_before n xs ++ ys ≡ none_before n (xs ++ ys)
+before_more zero xs ys = refl
+before_more (suc n) xs ys = ap (λ l. None ∷ l) (before_more n xs ys)
 
--- With the transcript of no calls.
+pub fresh_more : (first : ℕ) (configs : List CacheConfig) (c : CacheConfig) → fresh_from first configs ++ Some (fresh_cache c) ∷ [] ≡ fresh_from first (configs ++ c ∷ [])
+fresh_more first configs c =
+    before_more first (map (λ d. Some (fresh_cache d)) configs) (Some (fresh_cache c) ∷ [])
+    ∙ ap (none_before first) (sym (map-append (λ d. Some (fresh_cache d)) configs (c ∷ [])))
 
-pub never_refused : {A B : Type 0} (o : Option OpenRefusal) (x : A) (y : B) → IfSome o (λ r. ◌≡◌ {A = Result A OpenRefusal} (Ok x) (Err r)) → IfSome o (λ r. ◌≡◌ {A = Result B OpenRefusal} (Ok y) (Err r))
-never_refused None x y h = tt
-never_refused (Some r) x y h = absurd cc
+pub fresh_length : (first : ℕ) (configs : List CacheConfig) → length (fresh_from first configs) ≡ first + length configs
+fresh_length zero configs = length_map (λ c. Some (fresh_cache c)) configs ∙ omega arith
+fresh_length (suc first) configs = let rest = fresh_length first configs in omega (arith, rest)
 
-length_map : {A B : Type 0} (f : A → B) (xs : List A) → length (map f xs) ≡ length xs
-length_map f [] = refl
-length_map f (x ∷ xs) = ap suc (length_map f xs)
+pub fresh_lives : (first : ℕ) (configs : List CacheConfig) → lives_of (fresh_from first configs) ≡ opened_from first configs
+fresh_lives zero configs = map_map (option_map status_of) (λ c. Some (fresh_cache c)) configs
+fresh_lives (suc first) configs = ap (λ l. None ∷ l) (fresh_lives first configs)
 
-fresh_turn : (o : Option CacheConfig) (k : Cache) → option_map fresh_cache o ≡ Some k → k.turn ≡ None
-fresh_turn None k at = absurd cc
-fresh_turn (Some c) k at = let same : fresh_cache c ≡ k = cc in ap (λ (x : Cache). x.turn) (sym same)
+rows_fresh : (first : ℕ) (configs : List CacheConfig) → rows_of (members_of (lives_of (fresh_from first configs))) ≡ sum (capacities configs)
+rows_fresh zero configs = ap sum (there configs)
+  where
+    there : (configs : List CacheConfig) → map (λ (m : Member). m.capacity) (all_there (members_of (lives_of (map (λ c. Some (fresh_cache c)) configs)))) ≡ capacities configs
+    there [] = refl
+    there (c ∷ cs) = ap (λ l. c.capacity ∷ l) (there cs)
+rows_fresh (suc first) configs = rows_fresh first configs
 
-pub first_recorded : (configs : List CacheConfig) (caches : List Cache) (places : List ℕ) → caches ≡ map fresh_cache configs → length places ≡ length configs → IsRecorded caches [] places
-first_recorded configs caches places fresh counted = record {
-  told = subst (Tells []) (sym (ap (map status_of) fresh ∙ map_map status_of fresh_cache configs)) (nothing_told configs);
-  counted = counted ∙ (sym (length_map fresh_cache configs) ∙ ap length (sym fresh));
-  opened = λ id k at.
-      let none : k.turn ≡ None = fresh_turn (slice_get configs id) k (sym (slice_get-map fresh_cache configs id) ∙ (ap (λ (ks : List Cache). slice_get ks id) (sym fresh) ∙ at)) in
-      subst (HasEntry [] id (slice_get places id)) (sym none) tt;
-}
+untaken : (b : Bool) (r : OpenRefusal) → (if b then Some r else None) ≡ None → b ≡ false
+untaken true r h = absurd cc
+untaken false r h = refl
+
+-- the first of these behind the names is not among them
+new_name : (names : List (List ℕ)) (place : ℕ) (before after : List CacheConfig) (c : CacheConfig) → refusal_from names place (before ++ c ∷ after) ≡ None → is_taken c.name (names ++ names_in before) ≡ false
+new_name names place [] after c h =
+    subst (λ (ns : List (List ℕ)). is_taken c.name ns ≡ false) (sym (append-nil names))
+    (untaken (is_taken c.name names) _ (none_second (limit_refusal place c) _ (none_first (refusal_at names place c) (refusal_from (names ++ c.name ∷ []) (place + 1) after) h)))
+new_name names place (d ∷ before) after c h =
+    subst (λ (ns : List (List ℕ)). is_taken c.name ns ≡ false) (append_assoc names (d.name ∷ []) (names_in before))
+    (new_name (names ++ d.name ∷ []) (place + 1) before after c (none_second (refusal_at names place d) (refusal_from (names ++ d.name ∷ []) (place + 1) (before ++ c ∷ after)) h))
+
+unnamed : (first i : ℕ) (name : List ℕ) (configs : List CacheConfig) → is_taken name (names_in configs) ≡ false → named_from (λ (k : Cache). k.config.name) name i (fresh_from first configs) ≡ None
+unnamed zero i name [] free = refl
+unnamed zero i name (c ∷ cs) free = by (bytes_eq c.name name) refl free (unnamed zero (i + 1) name cs)
+  where
+    by : (b : Bool) → bytes_eq c.name name ≡ b → (b || is_taken name (names_in cs)) ≡ false → (is_taken name (names_in cs) ≡ false → named_from (λ (k : Cache). k.config.name) name (i + 1) (fresh_from 0 cs) ≡ None)
+        → (if b then Some i else named_from (λ (k : Cache). k.config.name) name (i + 1) (fresh_from 0 cs)) ≡ None
+    by true is free rest = absurd cc
+    by false is free rest = rest free
+unnamed (suc first) i name configs free = unnamed first (i + 1) name configs free
+
+within_total : (configs before after : List CacheConfig) (c : CacheConfig) → open_refusal configs ≡ None → before ++ c ∷ after ≡ configs → sum (capacities before) + c.capacity ≤ most_rows_together
+within_total configs before after c h all =
+    let small : ltb most_rows_together (sum (capacities configs)) ≡ false =
+    untaken (ltb most_rows_together (sum (capacities configs))) TotalCapacity (none_second (refusal_from [] 0 configs) _ (next_none (ltb most_caches (length configs)) TooManyCaches _ h)) in
+    let at_most : sum (capacities configs) ≤ most_rows_together = grind (arith, nat_tests) in
+    let split : sum (capacities (before ++ c ∷ after)) ≡ sum (capacities before) + (c.capacity + sum (capacities after)) =
+    ap sum (map-append (λ (d : CacheConfig). d.capacity) before (c ∷ after)) ∙ (sum_by-append (λ n. n) (capacities before) (c.capacity ∷ capacities after) ∙ ap (λ n. sum (capacities before) + n) (sum_by-cons (λ n. n) c.capacity (capacities after))) in
+    omega (arith, at_most, split, ap (λ (cs : List CacheConfig). sum (capacities cs)) all)
+
+-- each of the configurations that are not refused may come behind those before it
+pub may_come : (first : ℕ) (configs before after : List CacheConfig) (c : CacheConfig) → open_refusal_from first configs ≡ None → before ++ c ∷ after ≡ configs → MayCome (fresh_from first before) c
+may_come first configs before after c h all =
+    let none : open_refusal configs ≡ None = none_first (open_refusal configs) _ h in
+    let few : ltb most_ids (first + length configs) ≡ false = untaken (ltb most_ids (first + length configs)) IdsSpent (none_second (open_refusal configs) _ h) in
+    let at_most : first + length configs ≤ most_ids = grind (arith, nat_tests) in
+    let longer : length (before ++ c ∷ after) ≡ length before + length (c ∷ after) = length-append before (c ∷ after) in
+    let count : length (fresh_from first before) ≡ first + length before = fresh_length first before in
+    record {
+      ids = omega (arith, at_most, longer, count, ap length all);
+      rows = next_some configs before after c none all;
+      name = unnamed first 0 c.name before (new_name [] 0 before after c (ap (refusal_from [] 0) all ∙ each_allowed configs none));
+      total = let rows = rows_fresh first before in let within = within_total configs before after c none all in omega (arith, rows, within);
+    }

@@ -7,7 +7,7 @@ use Rattle.jc_model.specs.State.{Item, row_of}
 use Rattle.jc_model.specs.Sound.{IsSound}
 use Rattle.jc_rows.specs.Rows.{RowMap}
 use Rattle.jc_state.specs.Shelf.{Cell}
-use Rattle.jc_state.specs.Tied.{SameElsewhere}
+use Rattle.jc_state.specs.Tied.{Tied, SameElsewhere}
 use Rattle.jc_state.specs.Kept.{Kept, IsTied, items_of}
 use Rattle.jc_state.proofs.Ties.{Tied-same}
 use Rattle.jc_state.proofs.Found.{is_row, placed_there, row_of-absent}
@@ -56,3 +56,14 @@ sound_there m id (Some cache) k is at =
     let here : IsSound cache.state.config (record { ring = items_of cache.state.cells; counts = cache.state.counts }) = (tied_keys m cache.state.id cache.state.cells is.kept.tied, subst (λ n. n ≤ cache.state.config.capacity) (sym (items_within cache.state.cells)) is.kept.within) in
     let same : cache_in cache ≡ k = cc in
     subst (λ (j : Cache). IsSound j.config j.progress.state) same here
+
+-- a cache without rows has none in the table
+none_found : (m : RowMap) (id : ℕ) → Tied m id [] → (key : List ℕ) → table.get m (id, key) ≡ None
+none_found m id tied key = by (table.get m (id, key)) refl
+  where
+    by : (found : Option (ℕ × Expiry)) → table.get m (id, key) ≡ found → found ≡ None
+    by None at = refl
+    by (Some (r, e)) at = absurd (let no = tied.found key r e at in cc)
+
+pub none_left : (m : RowMap) (k k' : Kept) → IsTied m k' → k' ≡ record k { cells = [] } → (key : List ℕ) → table.get m (k.id, key) ≡ None
+none_left m k k' tied is = none_found m k.id (subst (IsTied m) is tied)

@@ -1,11 +1,9 @@
 -- A manager of which no call has changed a cache is sound over any empty table.
-use Rattle.std.proofs.Common.{◌≡◌, ℕ, List, [], ◌∷◌, map, slice_get, Option, Some, None, refl, sym, ap, subst, ◌∙◌}
-use Rattle.std.specs.Prelude.{option_map}
+use Rattle.std.proofs.Common.{◌≡◌, ℕ, zero, suc, List, [], ◌∷◌, map, length, Option, Some, None, refl, sym, ap, subst, ◌∙◌}
 use Rattle.std.specs.FinMap as table
-use Rattle.std.proofs.lemmas.Option.{slice_get-map}
 use Rattle.jc_model.specs.declared.config.CacheConfig.{CacheConfig}
-use Rattle.jc_model.specs.Runs.{Status}
-use Rattle.jc_model.specs.Solo.{opened, state_of}
+use Rattle.jc_model.specs.Runs.{Status, Lives, live_at, opened, opened_from}
+use Rattle.jc_model.specs.Solo.{state_of}
 use Rattle.jc_rows.specs.Rows.{RowMap}
 use Rattle.jc_rows.proofs.Laws.{get-empty}
 use Rattle.jc_state.specs.Kept.{items_of}
@@ -13,8 +11,10 @@ use Rattle.jc_state.specs.Shelf.{Cell}
 use Rattle.jc_state.specs.Tied.{Tied}
 use Rattle.jc_engine.specs.declared.cache.Managed.{Managed}
 use Rattle.jc_engine.specs.Managed.{IsManaged, cache_in}
-use Rattle.jc_engine.specs.Caches.{Cache, status_of}
-use Rattle.jc_engine.specs.Sound.{IsAt, IsSound}
+use Rattle.jc_roster.specs.Members.{Member}
+use Rattle.jc_engine.specs.Caches.{Cache, status_of, lives_of}
+use Rattle.jc_engine.specs.Sound.{IsAt, IsSound, caches_in}
+use Rattle.jc_engine.proofs.Places.{live_here}
 use Rattle.jc_engine.proofs.Watching.{state_is}
 
 no_cells : (cs : List Cell) → items_of cs ≡ [] → cs ≡ []
@@ -37,16 +37,23 @@ vacant m id cache c is fresh =
       waits = is.waits;
     }
 
-module _ {G : Type 0} (m : RowMap) (caches : List (Managed G)) (names : List (List ℕ)) (ids : List ℕ → Option ℕ) (sound : IsSound m caches names ids) where
-  pub sound_over : (n : RowMap) (configs : List CacheConfig) → n ≡ table.empty → map status_of (map cache_in caches) ≡ map opened configs → IsSound n caches names ids
-  sound_over n configs empty fresh = subst (λ (z : RowMap). IsSound z caches names ids) (sym empty) record { each = λ id. by id (slice_get caches id) (slice_get configs id) (sound.each id) (at id); named = sound.named; found = sound.found }
-    where
-      at : (id : ℕ) → option_map status_of (option_map cache_in (slice_get caches id)) ≡ option_map opened (slice_get configs id)
-      at id =
-          sym (slice_get-map status_of (map cache_in caches) id ∙ ap (option_map status_of) (slice_get-map cache_in caches id))
-          ∙ (ap (λ (ks : List Status). slice_get ks id) fresh ∙ slice_get-map opened configs id)
+-- where caches are as they are opened, each is
+new_there : (configs : List CacheConfig) (id : ℕ) (k : Status) → live_at (map (λ c. Some (opened c)) configs) id ≡ Some k → k ≡ opened k.config
+new_there [] id k at = absurd cc
+new_there (c ∷ configs) zero k at = let same : opened c ≡ k = cc in subst (λ (j : Status). j ≡ opened j.config) same refl
+new_there (c ∷ configs) (suc id) k at = new_there configs id k at
 
-      by : (id : ℕ) (found : Option (Managed G)) (config : Option CacheConfig) → IsAt m id found → option_map status_of (option_map cache_in found) ≡ option_map opened config → IsAt table.empty id found
-      by id None config is e = λ key. get-empty (id, key)
-      by id (Some cache) None is e = absurd cc
-      by id (Some cache) (Some c) is e = let same : status_of (cache_in cache) ≡ opened c = cc in vacant m id cache c is same
+opened_there : (first : ℕ) (configs : List CacheConfig) (id : ℕ) (k : Status) → live_at (opened_from first configs) id ≡ Some k → k ≡ opened k.config
+opened_there zero configs id k at = new_there configs id k at
+opened_there (suc first) configs zero k at = absurd cc
+opened_there (suc first) configs (suc id) k at = opened_there first configs id k at
+
+module _ {G : Type 0} (m : RowMap) (f : ℕ → Option (Managed G)) (members : List (Option Member)) (seen : List (Option Cache)) (view_is : caches_in f (length members) ≡ seen) (sound : IsSound m f members) where
+  pub sound_over : (n : RowMap) (first : ℕ) (configs : List CacheConfig) → n ≡ table.empty → lives_of seen ≡ opened_from first configs → IsSound n f members
+  sound_over n first configs empty fresh = subst (λ (z : RowMap). IsSound z f members) (sym empty) record { each = λ id. by id (f id) refl (sound.each id); beyond = sound.beyond; listed = sound.listed }
+    where
+      by : (id : ℕ) (found : Option (Managed G)) → f id ≡ found → IsAt m id found → IsAt table.empty id found
+      by id None at is = λ key. get-empty (id, key)
+      by id (Some cache) at is =
+          vacant m id cache cache.state.config is
+          (opened_there first configs id (status_of (cache_in cache)) (ap (λ (ks : Lives). live_at ks id) (sym fresh) ∙ live_here m f members seen view_is sound id cache at))

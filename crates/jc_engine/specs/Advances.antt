@@ -37,7 +37,7 @@ abbrev pub is_open_in : Option Cache → Bool
 is_open_in None = false
 is_open_in (Some k) = is_some k.turn
 
--- no cache but one has changed
-pub record ChangesOne (old : List Cache) (id : ℕ) (new : List Cache) : Type 0 where
+-- no cache but one has changed, which is live as it was
+pub record ChangesOne (old : List (Option Cache)) (id : ℕ) (new : List (Option Cache)) : Type 0 where
   pub cache : Cache
-  pub is : new ≡ slice_set old id cache
+  pub is : new ≡ slice_set old id (Some cache)

@@ -1,5 +1,5 @@
--- The caches of a manager, as its callers see them.
-use Rattle.std.specs.Prelude.{◌≡◌, ℕ, Bool, false, List, map, option_map, slice_get}
+-- The caches of a manager, as its callers see them: by id, where a cache is live or none is.
+use Rattle.std.specs.Prelude.{◌≡◌, ℕ, Bool, false, List, map, option_map}
 use Rattle.std.specs.Prelude.{Option, Some, None}
 use Rattle.jc_model.specs.declared.config.CacheConfig.{CacheConfig}
 use Rattle.jc_model.specs.declared.config.Expiry.{Expiry}
@@ -8,8 +8,9 @@ use Rattle.jc_model.specs.Changes.{Progress, begun}
 use Rattle.jc_model.specs.Run.{Awaited}
 use Rattle.jc_model.specs.Whole.{holds}
 use Rattle.jc_model.specs.Sound.{IsSound}
-use Rattle.jc_model.specs.Runs.{Status}
+use Rattle.jc_model.specs.Runs.{Status, Lives}
 use Rattle.jc_model.specs.Suspended.{Wait, standing_by}
+use Rattle.jc_model.specs.Places.{at_place, all_there, none_before, named_from}
 
 -- a cache: its rows and counters with the notices of its open call, and how that call goes on, if there is one
 pub record Cache : Type 0 where
@@ -25,15 +26,25 @@ status_of k = record { config = k.config; standing = standing_by k.config k.prog
 abbrev pub fresh_cache : CacheConfig → Cache
 fresh_cache c = record { config = c; progress = begun first_state; turn = None }
 
-abbrev pub configs_of : List Cache → List CacheConfig
-configs_of caches = map (λ k. k.config) caches
+-- how all live ones stand
+abbrev pub lives_of : List (Option Cache) → Lives
+lives_of caches = map (option_map status_of) caches
 
-abbrev pub names_of : List Cache → List (List ℕ)
-names_of caches = map (λ k. k.config.name) caches
+-- a manager as it is opened, with ids from the first
+abbrev pub fresh_from : ℕ → List CacheConfig → List (Option Cache)
+fresh_from first configs = none_before first (map (λ c. Some (fresh_cache c)) configs)
+
+-- the names of the live ones, in order of id
+abbrev pub names_of : List (Option Cache) → List (List ℕ)
+names_of caches = map (λ k. k.config.name) (all_there caches)
+
+-- the id of the live one with this name
+abbrev pub id_of : List ℕ → List (Option Cache) → Option ℕ
+id_of name caches = named_from (λ k. k.config.name) name 0 caches
 
 -- in each cache no two rows have one key, and there are no more rows than it may have
-abbrev pub AreSound : List Cache → Type 0
-AreSound caches = (id : ℕ) (k : Cache) → slice_get caches id ≡ Some k → IsSound k.config k.progress.state
+abbrev pub AreSound : List (Option Cache) → Type 0
+AreSound caches = (id : ℕ) (k : Cache) → at_place caches id ≡ Some k → IsSound k.config k.progress.state
 
 -- when a cache's row of this key expires
 abbrev pub expiry_in : List ℕ → Option Cache → Option Expiry

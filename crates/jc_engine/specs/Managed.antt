@@ -98,8 +98,7 @@ pub record Moves (k : Cache) (said : Said) (advance : Advance) (k' : Cache) : Ty
 
 abbrev pub is_step : Outcome → Bool
 is_step (outcome.Step s) = true
-is_step (outcome.Refused cause) = false
-is_step (outcome.GivenUp notices) = false
+is_step _ = false
 
 -- the notices that are left of an open call: none while they are being told
 abbrev pub LeavesNotices : Cache → Option Noted → Type 0

@@ -4,9 +4,9 @@ use Rattle.std.specs.Prelude.{Option, Some, None}
 use Rattle.std.specs.List.{list_any}
 use Rattle.std.specs.Str.{bytes_eq}
 use Rattle.jc_model.specs.declared.config.CacheConfig.{CacheConfig}
-use Rattle.jc_model.specs.Limits.{most_caches, most_rows, most_rows_together, most_listeners, most_processors}
+use Rattle.jc_model.specs.Limits.{most_caches, most_rows, most_rows_together, most_listeners, most_processors, most_ids}
 use Rattle.jc_engine.specs.declared.open.OpenRefusal.{OpenRefusal}
-use Rattle.jc_engine.specs.declared.open.OpenRefusal.TheVariants.{TooManyCaches, BadCapacity, TooManyListeners, TooManyProcessors, DuplicateName, TotalCapacity}
+use Rattle.jc_engine.specs.declared.open.OpenRefusal.TheVariants.{TooManyCaches, BadCapacity, TooManyListeners, TooManyProcessors, DuplicateName, TotalCapacity, IdsSpent}
 
 -- the first of two refusals
 abbrev pub or_else : Option OpenRefusal → Option OpenRefusal → Option OpenRefusal
@@ -43,3 +43,7 @@ abbrev pub open_refusal : List CacheConfig → Option OpenRefusal
 open_refusal configs =
     if ltb most_caches (length configs) then Some TooManyCaches
     else or_else (refusal_from [] 0 configs) (if ltb most_rows_together (sum (capacities configs)) then Some TotalCapacity else None)
+
+-- the same, where the first cache has this id
+abbrev pub open_refusal_from : ℕ → List CacheConfig → Option OpenRefusal
+open_refusal_from first configs = or_else (open_refusal configs) (if ltb most_ids (first + length configs) then Some IdsSpent else None)

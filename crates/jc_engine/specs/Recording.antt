@@ -1,23 +1,25 @@
 -- A manager with the transcript of its calls.
-use Rattle.std.specs.Prelude.{◌≡◌, ℕ, false, List, [], map, length, slice_get}
+use Rattle.std.specs.Prelude.{◌≡◌, ℕ, false, List, [], ◌∷◌, ◌++◌, slice_get}
 use Rattle.std.specs.Prelude.{Option, Some, None}
 use Rattle.jc_model.specs.declared.call.Call.{Call}
 use Rattle.jc_model.specs.declared.call.Notice.{Notice}
 use Rattle.jc_model.specs.declared.event.End.TheVariants.{Waiting}
+use Rattle.jc_model.specs.declared.config.CacheConfig.{CacheConfig}
 use Rattle.jc_model.specs.declared.event.Entry.{Entry}
 use Rattle.jc_model.specs.Run.{Awaited, told_by}
-use Rattle.jc_model.specs.Legal.{Tells}
+use Rattle.jc_model.specs.Places.{at_place}
+use Rattle.jc_model.specs.Legal.{History, Tells}
 use Rattle.jc_model.specs.Suspended.{Wait}
 use Rattle.jc_state.specs.Noted.{Noted}
 use Rattle.jc_engine.specs.declared.cache.Advance.{Advance}
 use Rattle.jc_engine.specs.declared.cache.Advance.TheVariants.{Replied, Asked, Told}
-use Rattle.jc_engine.specs.Caches.{Cache, status_of}
+use Rattle.jc_engine.specs.Caches.{Cache, lives_of}
 use Rattle.jc_engine.specs.Managed.{is_telling}
 
--- the caches, and the entries of all calls that have begun
+-- the caches by id, and the transcript
 pub record Recording : Type 0 where
-  pub caches : List Cache
-  pub transcript : List Entry
+  pub caches : List (Option Cache)
+  pub transcript : History
 
 -- the entry of a cache's open call stands at this place
 pub record HasOpen (transcript : List Entry) (id place : ℕ) : Type 0 where
@@ -40,10 +42,16 @@ HasEntry transcript id None (Some w) = ⊥
 HasEntry transcript id (Some place) (Some w) = IsOpenAt transcript id place w
 
 -- what is true of a recorded manager: by cache, where its open call's entry stands
-pub record IsRecorded (caches : List Cache) (transcript : List Entry) (places : List ℕ) : Type 0 where
-  pub told : Tells transcript (map status_of caches)
-  pub counted : length places ≡ length caches
-  pub opened : (id : ℕ) (k : Cache) → slice_get caches id ≡ Some k → HasEntry transcript id (slice_get places id) k.turn
+pub record IsRecorded (caches : List (Option Cache)) (transcript : History) (places : ℕ → Option ℕ) : Type 0 where
+  pub told : Tells transcript (lives_of caches)
+  pub opened : (id : ℕ) (k : Cache) → at_place caches id ≡ Some k → HasEntry transcript.entries id (places id) k.turn
+
+abbrev pub with_entries : List Entry → History → History
+with_entries entries h = record { lives = h.lives; entries = entries }
+
+-- a life more
+abbrev pub with_life : ℕ → CacheConfig → History → History
+with_life id c h = record { lives = h.lives ++ record { id = id; config = c } ∷ []; entries = h.entries }
 
 -- an entry to which this may be written
 abbrev pub CanTell : Advance → Entry → Type 0

@@ -1,19 +1,33 @@
 -- What is true of a manager's fields.
-use Rattle.std.specs.Prelude.{◌≡◌, ℕ, List, map, position, slice_get}
+use Rattle.std.specs.Prelude.{◌≡◌, ℕ, zero, suc, ◌≤◌, List, [], ◌∷◌, ◌++◌, map, option_map, length}
 use Rattle.std.specs.Prelude.{Option, Some, None}
 use Rattle.std.specs.FinMap as table
-use Rattle.std.specs.Str.{bytes_eq}
 use Rattle.jc_rows.specs.Rows.{RowMap}
+use Rattle.jc_roster.specs.Members.{Member, members_of}
 use Rattle.jc_engine.specs.declared.cache.Managed.{Managed}
-use Rattle.jc_engine.specs.Managed.{IsManaged}
+use Rattle.jc_engine.specs.Caches.{Cache, lives_of}
+use Rattle.jc_engine.specs.Managed.{IsManaged, cache_in}
 
 -- the rows at an id are those of its cache, if there is one
 abbrev pub IsAt : {G : Type 0} → RowMap → ℕ → Option (Managed G) → Type 0
 IsAt m id None = (key : List ℕ) → table.get m (id, key) ≡ None
 IsAt m id (Some cache) = IsManaged m id cache
 
--- the table has the rows of all caches and no others; the names are theirs, and each leads to its id
-pub record IsSound {G : Type 0} (m : RowMap) (caches : List (Managed G)) (names : List (List ℕ)) (ids : List ℕ → Option ℕ) : Type 0 where
-  pub each : (id : ℕ) → IsAt m id (slice_get caches id)
-  pub named : names ≡ map (λ cache. cache.state.config.name) caches
-  pub found : (name : List ℕ) → ids name ≡ position (λ n. bytes_eq n name) names
+-- all numbers below n, each with what it has
+abbrev pub places_of : {A : Type 0} → (ℕ → Option A) → ℕ → List (Option A)
+places_of f zero = []
+places_of f (suc n) = places_of f n ++ f n ∷ []
+
+-- nothing from n on
+abbrev pub NoneFrom : {A : Type 0} → ℕ → (ℕ → Option A) → Type 0
+NoneFrom n f = (k : ℕ) → n ≤ k → f k ≡ None
+
+-- the caches at all ids that have been given
+abbrev pub caches_in : {G : Type 0} → (ℕ → Option (Managed G)) → ℕ → List (Option Cache)
+caches_in caches next = map (option_map cache_in) (places_of caches next)
+
+-- The table has the rows of all caches and no others; the members are the caches, and no id from the next on has one.
+pub record IsSound {G : Type 0} (m : RowMap) (caches : ℕ → Option (Managed G)) (members : List (Option Member)) : Type 0 where
+  pub each : (id : ℕ) → IsAt m id (caches id)
+  pub beyond : NoneFrom (length members) caches
+  pub listed : members ≡ members_of (lives_of (caches_in caches (length members)))

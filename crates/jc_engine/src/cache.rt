@@ -1,20 +1,22 @@
 //! One cache under the manager: its configuration, its rows and counters, and its open call.
-ghost use Rattle.std.specs.Prelude.{◌≡◌, ℕ, ◌<◌, true, List, Some, None, IsOk, IfOk, IfErr, OnErr, MatchOption, length};
+ghost use Rattle.std.specs.Prelude.{◌≡◌, ℕ, ◌<◌, true, List, Some, None, IsOk, IfOk, IfErr, OnErr, MatchOption, is_some, length};
 ghost use Rattle.jc_model.specs.declared.config.CacheConfig.{CacheConfig};
-ghost use Rattle.jc_model.specs.declared.event.Outcome.TheVariants.{Refused, GivenUp};
+ghost use Rattle.jc_model.specs.declared.event.Outcome.TheVariants.{Refused, Destroyed};
 ghost use Rattle.jc_model.specs.Run.{Run, fits, for_tell};
 ghost use Rattle.jc_model.specs.Whole.{is_free};
-ghost use Rattle.jc_model.specs.Runs.{begins, answers, gives_up, has_processor, reply_of, moved};
+ghost use Rattle.jc_model.specs.Runs.{begins, answers, reply_of, destroyed_by};
 ghost use Rattle.jc_state.specs.Kept.{Kept};
 ghost use Rattle.jc_state.specs.Tied.{SameElsewhere};
 ghost use Rattle.jc_bulk.specs.Moved.{ComesTo};
 ghost use Rattle.jc_engine.specs.Caches.{status_of};
-ghost use Rattle.jc_engine.specs.Managed.{cache_in, step_of, is_step, IsManaged, Moves, Settled, Abandons};
+ghost use Rattle.jc_engine.specs.Sound.{IsAt};
+ghost use Rattle.jc_engine.specs.Managed.{cache_in, turn_in, step_of, is_step, IsManaged, Moves, Settled, Abandons};
 
 use jc_bulk::call::{Moved, answer_call, start_call};
 use jc_bulk::waits::Suspended;
 use jc_model::OutOfMemory;
 use jc_model::call::{Answer, Call, Reply, Request};
+use jc_model::config::CacheConfig;
 use jc_model::event::{Cause, Step};
 use jc_model::thrice::Thrice;
 use jc_ring::ring::Ring;
@@ -79,6 +81,13 @@ fn settle(moved: Moved) -> (Turn, Advance)
 }
 
 impl<G: Ring> Managed<G> {
+    /// Whether a call is open.
+    pub(crate) fn is_open(&self) -> bool
+        ensures { result ≡ is_some (turn_in self.now.turn) }
+    {
+        !matches!(self.turn, Turn::Idle)
+    }
+
     /// Why a call can't begin now, where memory suffices.
     pub(crate) fn begin_refusal(&self, call: &Call) -> Option<Cause>
         ensures { (now : ℕ) → let reply = reply_of self.now.state.config (status_of (cache_in self.now)).standing (begins now call.now) in MatchOption result (is_step reply ≡ true) (λ cause. reply ≡ Refused cause) }
@@ -165,6 +174,32 @@ impl<G: Ring> Managed<G> {
                 }
             }
         }
+    }
+
+    /// Why it can't be destroyed now.
+    pub(crate) fn destroy_refusal(&self) -> Option<Cause>
+        ensures { let reply = destroyed_by (status_of (cache_in self.now)).standing in MatchOption result (reply ≡ Destroyed) (λ cause. reply ≡ Refused cause) }
+    {
+        match self.turn {
+            Turn::Idle => None,
+            _ => Some(Cause::Busy),
+        }
+    }
+
+    /// Takes all its rows out of the table.
+    pub(crate) fn leave<R: Rows>(&mut self, rows: &mut R)
+        requires { IsManaged (R.contents rows.old) self.old.state.id self.old }
+        ensures gone { IsAt {G = G} (R.contents rows.new) self.old.state.id None }
+        ensures elsewhere { SameElsewhere self.old.state.id (R.contents rows.old) (R.contents rows.new) }
+    {
+        self.state.clear(rows);
+    }
+
+    /// Its configuration alone; the rest is let go.
+    pub(crate) fn into_config(self) -> CacheConfig
+        ensures { result ≡ self.state.config }
+    {
+        self.state.into_config()
     }
 
     /// Ends the open call without a reply, and hands out the notices that no one was told, if any may be left.

@@ -1,12 +1,12 @@
 //! The manager: many caches over one table of rows, each with at most one open call.
-ghost use Rattle.std.specs.Prelude.{◌≡◌, ℕ, List, true, false, IfErr, OnErr, map, option_map, position, slice_get};
+ghost use Rattle.std.specs.Prelude.{◌≡◌, ℕ, List, true, false, IfErr, OnErr, option_map};
 ghost use Rattle.std.specs.FinMap as table;
-ghost use Rattle.std.specs.Str.{bytes_eq};
 ghost use Rattle.jc_model.specs.declared.event.Event.TheVariants.{Begin, Answer as Answered, GiveUp};
-ghost use Rattle.jc_model.specs.Runs.{answer_to, statuses_after, for_memory};
+ghost use Rattle.jc_model.specs.Runs.{answer_to, lives_after, for_memory};
 ghost use Rattle.jc_model.specs.Run.{fits, for_tell};
 ghost use Rattle.jc_model.specs.Whole.{is_free};
-ghost use Rattle.jc_engine.specs.Caches.{AreSound, status_of, names_of, expiry_in, holds_in};
+ghost use Rattle.jc_model.specs.Places.{at_place};
+ghost use Rattle.jc_engine.specs.Caches.{AreSound, lives_of, names_of, id_of, expiry_in, holds_in};
 ghost use Rattle.jc_engine.specs.Results.{of_begin, of_resume, of_give_up};
 
 use crate::cache::Managed;
@@ -15,69 +15,71 @@ use jc_model::event::{CacheId, Cause, Step};
 use jc_model::key::Key;
 use jc_model::list::Sequence;
 use jc_ring::ring::Ring;
+use jc_roster::roster::Roster;
 use jc_rows::rows::Rows;
 use std::alloc::Global;
 use std::collections::HashMap;
 use std::marker::Model;
 
-/// Many caches over one table of rows. Contracts see the list of the caches; a cache's id is its place there.
+/// Many caches over one table of rows. A cache's id is a place, and contracts see at each place that has been given
+/// the live cache there, or that none is. Memory is kept for live caches alone.
 #[derive(Drop)]
 pub struct Engine<R: Rows, G: Ring> {
     pub(crate) alloc: Global,
     pub(crate) rows: R,
-    pub(crate) caches: Vec<Managed<G>>,
-    pub(crate) names: Vec<Key>,
-    pub(crate) ids: HashMap<Key, u32>,
+    /// The live ones.
+    pub(crate) caches: HashMap<u32, Managed<G>>,
+    /// Their names and capacities, and which id is next.
+    pub(crate) roster: Roster,
 }
 
 impl<R: Rows, G: Ring> Model for Engine<R, G> {
-    ghost use Rattle.std.specs.Prelude.{List, map};
+    ghost use Rattle.std.specs.Prelude.{List, Option, nat_eq, length};
     ghost use Rattle.std.specs.HashMap.{get};
-    ghost use Rattle.std.specs.Str.{bytes_eq};
     ghost use Rattle.jc_engine.specs.Caches.{Cache};
 
-    ghost Value = { List Cache };
+    ghost Value = { List (Option Cache) };
 
-    ghost use Rattle.jc_engine.specs.Managed.{cache_in};
-    ghost use Rattle.jc_engine.specs.Sound.{IsSound};
+    ghost use Rattle.jc_engine.specs.Sound.{caches_in, IsSound};
 
-    ghost view = { λ e. map cache_in e.caches.items };
+    ghost view = { λ e. caches_in (get nat_eq e.caches) (length e.roster) };
 
-    ghost invariant = { λ e. IsSound (R.contents e.rows) e.caches.items e.names.items (get bytes_eq e.ids) };
+    ghost invariant = { λ e. IsSound (R.contents e.rows) (get nat_eq e.caches) e.roster };
 }
 
 impl<R: Rows, G: Ring> Engine<R, G> {
-    /// The id of the cache with this name.
+    /// The id of the live cache with this name.
     pub fn cache(&self, name: &Key) -> Option<CacheId>
-        ensures { result ≡ position (λ n. bytes_eq n name.now) (names_of self.now) }
+        ensures { result ≡ id_of name.now self.now }
     {
-        match self.ids.get(name) {
-            Some(number) => Some(CacheId::new(*number)),
+        match self.roster.find(name) {
+            Some(number) => Some(CacheId::new(number)),
             None => None,
         }
     }
 
-    /// The names of the caches, by their ids.
+    /// The names of the live caches, in order of id.
     pub fn names(&self) -> &[Key]
         ensures { result.now ≡ names_of self.now }
     {
-        self.names.as_slice()
+        self.roster.names()
     }
 
-    /// The table: exactly the rows of all caches, with their expiries. At each moment, also while a call is open, the
+    /// The table: exactly the rows of all live caches, with their expiries. At each moment, also while a call is open, the
     /// keys of a cache are distinct, and its rows are no more than its capacity.
     pub fn rows(&self) -> &R
         ensures sound { AreSound self.now }
-        ensures table { (id : ℕ) (key : List ℕ) → option_map (λ row. row.1) (table.get (R.contents result.now) (id, key)) ≡ expiry_in key (slice_get self.now id) }
+        ensures table { (id : ℕ) (key : List ℕ) → option_map (λ row. row.1) (table.get (R.contents result.now) (id, key)) ≡ expiry_in key (at_place self.now id) }
     {
         &self.rows
     }
 
-    /// Whether a cache has a live row of this key. An unknown cache has none. This is no use of the row.
+    /// Whether a cache has a live row of this key. An id without a live cache has none. This is no use of the row.
     pub fn has(&self, id: CacheId, key: &Key, now: u64) -> bool
-        ensures { result ≡ holds_in now key.now (slice_get self.now id) }
+        ensures { result ≡ holds_in now key.now (at_place self.now id) }
     {
-        match self.caches.get(id.number() as usize) {
+        let number = id.number();
+        match self.caches.get(&number) {
             Some(cache) => cache.state.holds(&self.rows, key, now),
             None => false,
         }
@@ -88,9 +90,9 @@ impl<R: Rows, G: Ring> Engine<R, G> {
     /// Refused as `NoSuchCache`, `Busy` (a call on this cache is open), `NoSuchProcessor`, `OutOfMemory`, in this order.
     /// `Contains`, `Clear`, `Stats` and `ClearStats` take no memory.
     pub fn begin(&mut self, id: CacheId, now: u64, call: Call) -> Result<Step, (Cause, Call)>
-        ensures outcome { of_begin result ≡ answer_to (map status_of self.old) (Begin id now call) (for_memory (of_begin result)) }
-        ensures statuses { map status_of self.new ≡ statuses_after (map status_of self.old) (Begin id now call) (of_begin result) }
-        ensures free { is_free call ≡ true → of_begin result ≡ answer_to (map status_of self.old) (Begin id now call) false }
+        ensures outcome { of_begin result ≡ answer_to (lives_of self.old) (Begin id now call) (for_memory (of_begin result)) }
+        ensures lives { lives_of self.new ≡ lives_after (lives_of self.old) (Begin id now call) (of_begin result) }
+        ensures free { is_free call ≡ true → of_begin result ≡ answer_to (lives_of self.old) (Begin id now call) false }
         ensures back { IfErr result (λ e. e.1 ≡ call) }
         ensures refused { OnErr result (self.new ≡ self.old) }
     {
@@ -108,9 +110,9 @@ impl<R: Rows, G: Ring> Engine<R, G> {
     /// Refused as `NoSuchCache`, `NoTurn` (no call is open), `WrongAnswer` (not of the awaited kind), `OutOfMemory`, in this order.
     /// `Told` takes no memory.
     pub fn resume(&mut self, id: CacheId, answer: Answer) -> Result<Step, (Cause, Answer)>
-        ensures outcome { of_resume result ≡ answer_to (map status_of self.old) (Answered id answer) (for_memory (of_resume result)) }
-        ensures statuses { map status_of self.new ≡ statuses_after (map status_of self.old) (Answered id answer) (of_resume result) }
-        ensures told { fits for_tell answer ≡ true → of_resume result ≡ answer_to (map status_of self.old) (Answered id answer) false }
+        ensures outcome { of_resume result ≡ answer_to (lives_of self.old) (Answered id answer) (for_memory (of_resume result)) }
+        ensures lives { lives_of self.new ≡ lives_after (lives_of self.old) (Answered id answer) (of_resume result) }
+        ensures told { fits for_tell answer ≡ true → of_resume result ≡ answer_to (lives_of self.old) (Answered id answer) false }
         ensures back { IfErr result (λ e. e.1 ≡ answer) }
         ensures refused { OnErr result (self.new ≡ self.old) }
     {
@@ -126,8 +128,8 @@ impl<R: Rows, G: Ring> Engine<R, G> {
     /// Ends the open call without a reply. What its finished steps have changed stands, and the notices that no
     /// one was told are handed out. Refused as `NoSuchCache`, `NoTurn`; takes no memory.
     pub fn give_up(&mut self, id: CacheId) -> Result<Sequence<Notice>, Cause>
-        ensures outcome { of_give_up result ≡ answer_to (map status_of self.old) (GiveUp id) false }
-        ensures statuses { map status_of self.new ≡ statuses_after (map status_of self.old) (GiveUp id) (of_give_up result) }
+        ensures outcome { of_give_up result ≡ answer_to (lives_of self.old) (GiveUp id) false }
+        ensures lives { lives_of self.new ≡ lives_after (lives_of self.old) (GiveUp id) (of_give_up result) }
         ensures refused { OnErr result (self.new ≡ self.old) }
     {
         match self.abandon(id)? {

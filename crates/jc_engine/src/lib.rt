@@ -3,6 +3,7 @@
 
 mod cache;
 pub mod engine;
+mod lives;
 mod moves;
 pub mod open;
 mod over;

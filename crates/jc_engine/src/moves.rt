@@ -1,16 +1,17 @@
 //! The manager's calls in two parts: whether they are refused, and the move of one cache. Both the plain manager
 //! and the recorded one are made of these.
-ghost use Rattle.std.specs.Prelude.{◌≡◌, ℕ, true, false, IsOk, IfOk, IfErr, OnOk, OnErr, MatchOption, map, slice_get};
+ghost use Rattle.std.specs.Prelude.{◌≡◌, ℕ, true, false, IsOk, IfOk, IfErr, OnOk, OnErr, MatchOption};
 ghost use Rattle.jc_model.specs.declared.event.Event.TheVariants.{Begin, Answer as Answered, GiveUp};
 ghost use Rattle.jc_model.specs.declared.event.Outcome.TheVariants.{Refused};
-ghost use Rattle.jc_model.specs.Runs.{answer_to, statuses_after, for_memory};
+ghost use Rattle.jc_model.specs.Runs.{answer_to, lives_after, for_memory};
 ghost use Rattle.jc_model.specs.Run.{fits, for_tell};
 ghost use Rattle.jc_model.specs.Whole.{is_free};
-ghost use Rattle.jc_engine.specs.Caches.{status_of};
+ghost use Rattle.jc_model.specs.Places.{at_place};
+ghost use Rattle.jc_engine.specs.Caches.{lives_of};
 ghost use Rattle.jc_engine.specs.Managed.{is_step};
 ghost use Rattle.jc_engine.specs.Advances.{outcome_of, of_abandon, FitsAt, LeavesAt, ClosedAt, ChangesOne, is_open_in};
 
-use crate::cache::{Advance, Turn};
+use crate::cache::Advance;
 use crate::engine::Engine;
 use jc_model::OutOfMemory;
 use jc_model::call::{Answer, Call};
@@ -22,19 +23,21 @@ use jc_state::notices::Notices;
 impl<R: Rows, G: Ring> Engine<R, G> {
     /// Whether a call is open.
     pub(crate) fn is_open(&self, id: CacheId) -> bool
-        ensures { result ≡ is_open_in (slice_get self.now id) }
+        ensures { result ≡ is_open_in (at_place self.now id) }
     {
-        match self.caches.get(id.number() as usize) {
-            Some(cache) => !matches!(cache.turn, Turn::Idle),
+        let number = id.number();
+        match self.caches.get(&number) {
+            Some(cache) => cache.is_open(),
             None => false,
         }
     }
 
     /// Why a call can't begin now, where memory suffices.
     pub(crate) fn begin_refusal(&self, id: CacheId, call: &Call) -> Option<Cause>
-        ensures { (now : ℕ) → let reply = answer_to (map status_of self.now) (Begin id now call.now) false in MatchOption result (is_step reply ≡ true) (λ cause. reply ≡ Refused cause) }
+        ensures { (now : ℕ) → let reply = answer_to (lives_of self.now) (Begin id now call.now) false in MatchOption result (is_step reply ≡ true) (λ cause. reply ≡ Refused cause) }
     {
-        match self.caches.get(id.number() as usize) {
+        let number = id.number();
+        match self.caches.get(&number) {
             Some(cache) => cache.begin_refusal(call),
             None => Some(Cause::NoSuchCache),
         }
@@ -42,9 +45,10 @@ impl<R: Rows, G: Ring> Engine<R, G> {
 
     /// Why an answer is refused now, where memory suffices.
     pub(crate) fn resume_refusal(&self, id: CacheId, answer: &Answer) -> Option<Cause>
-        ensures { let reply = answer_to (map status_of self.now) (Answered id answer.now) false in MatchOption result (is_step reply ≡ true) (λ cause. reply ≡ Refused cause) }
+        ensures { let reply = answer_to (lives_of self.now) (Answered id answer.now) false in MatchOption result (is_step reply ≡ true) (λ cause. reply ≡ Refused cause) }
     {
-        match self.caches.get(id.number() as usize) {
+        let number = id.number();
+        match self.caches.get(&number) {
             Some(cache) => cache.resume_refusal(answer),
             None => Some(Cause::NoSuchCache),
         }
@@ -57,46 +61,52 @@ impl<R: Rows, G: Ring> Engine<R, G> {
         now: u64,
         call: &Call,
     ) -> Result<Advance, OutOfMemory>
-        requires { is_step (answer_to (map status_of self.old) (Begin id now call.now) false) ≡ true }
-        ensures outcome { outcome_of result ≡ answer_to (map status_of self.old) (Begin id now call.now) (for_memory (outcome_of result)) }
-        ensures statuses { map status_of self.new ≡ statuses_after (map status_of self.old) (Begin id now call.now) (outcome_of result) }
+        requires { is_step (answer_to (lives_of self.old) (Begin id now call.now) false) ≡ true }
+        ensures outcome { outcome_of result ≡ answer_to (lives_of self.old) (Begin id now call.now) (for_memory (outcome_of result)) }
+        ensures lives { lives_of self.new ≡ lives_after (lives_of self.old) (Begin id now call.now) (outcome_of result) }
         ensures one { ChangesOne self.old id self.new }
-        ensures fits { IfOk result (λ advance. FitsAt advance (slice_get self.new id)) }
+        ensures fits { IfOk result (λ advance. FitsAt advance (at_place self.new id)) }
         ensures free { is_free call.now ≡ true → IsOk result }
         ensures refused { OnErr result (self.new ≡ self.old) }
     {
-        let cache = &mut self.caches[id.number() as usize];
-        cache.start(self.alloc, &mut self.rows, now, call)
+        let number = id.number();
+        match self.caches.get_mut(&number) {
+            Some(cache) => cache.start(self.alloc, &mut self.rows, now, call),
+            None => unreachable!(),
+        }
     }
 
     /// Goes on with the open call. Only memory can refuse it, before any change.
     pub(crate) fn go_on(&mut self, id: CacheId, answer: Answer) -> Result<Advance, Answer>
-        requires { is_step (answer_to (map status_of self.old) (Answered id answer) false) ≡ true }
-        ensures outcome { outcome_of result ≡ answer_to (map status_of self.old) (Answered id answer) (for_memory (outcome_of result)) }
-        ensures statuses { map status_of self.new ≡ statuses_after (map status_of self.old) (Answered id answer) (outcome_of result) }
+        requires { is_step (answer_to (lives_of self.old) (Answered id answer) false) ≡ true }
+        ensures outcome { outcome_of result ≡ answer_to (lives_of self.old) (Answered id answer) (for_memory (outcome_of result)) }
+        ensures lives { lives_of self.new ≡ lives_after (lives_of self.old) (Answered id answer) (outcome_of result) }
         ensures one { ChangesOne self.old id self.new }
-        ensures fits { IfOk result (λ advance. FitsAt advance (slice_get self.new id)) }
+        ensures fits { IfOk result (λ advance. FitsAt advance (at_place self.new id)) }
         ensures back { IfErr result (λ back. back ≡ answer) }
         ensures told { fits for_tell answer ≡ true → IsOk result }
         ensures refused { OnErr result (self.new ≡ self.old) }
     {
-        let cache = &mut self.caches[id.number() as usize];
-        cache.go_on(&mut self.rows, answer)
+        let number = id.number();
+        match self.caches.get_mut(&number) {
+            Some(cache) => cache.go_on(&mut self.rows, answer),
+            None => unreachable!(),
+        }
     }
 
     /// Ends the open call without a reply, and hands out the notices that no one was told, if any may be left.
     pub(crate) fn abandon(&mut self, id: CacheId) -> Result<Option<Notices>, Cause>
-        ensures outcome { of_abandon result ≡ answer_to (map status_of self.old) (GiveUp id) false }
-        ensures statuses { map status_of self.new ≡ statuses_after (map status_of self.old) (GiveUp id) (of_abandon result) }
+        ensures outcome { of_abandon result ≡ answer_to (lives_of self.old) (GiveUp id) false }
+        ensures lives { lives_of self.new ≡ lives_after (lives_of self.old) (GiveUp id) (of_abandon result) }
         ensures one { OnOk result (ChangesOne self.old id self.new) }
-        ensures closed { OnOk result (ClosedAt (slice_get self.new id)) }
-        ensures left { IfOk result (λ left. LeavesAt (slice_get self.old id) left) }
+        ensures closed { OnOk result (ClosedAt (at_place self.new id)) }
+        ensures left { IfOk result (λ left. LeavesAt (at_place self.old id) left) }
         ensures refused { OnErr result (self.new ≡ self.old) }
     {
-        if id.number() as usize >= self.caches.len() {
+        let number = id.number();
+        let Some(cache) = self.caches.get_mut(&number) else {
             return Err(Cause::NoSuchCache);
-        }
-        let cache = &mut self.caches[id.number() as usize];
+        };
         cache.abandon()
     }
 }

@@ -1,25 +1,23 @@
 //! Opening a manager: which configurations it takes, and the caches as they are at first.
-ghost use Rattle.std.specs.Prelude.{◌≡◌, ◌<◌, ◌≤◌, ℕ, false, List, [], ◌∷◌, ◌++◌, IfSome, IfOk, IfErr, ◌⊎◌, map, sum, length};
+ghost use Rattle.std.specs.Prelude.{◌≡◌, ◌<◌, ◌≤◌, ℕ, false, List, [], ◌∷◌, ◌++◌, IfSome, IfOk, IfErr, OnOk, ◌⊎◌, sum, length};
 ghost use Rattle.std.specs.FinMap as table;
 ghost use Rattle.std.specs.List.{list_any};
 ghost use Rattle.std.specs.Str.{bytes_eq};
 ghost use Rattle.jc_model.specs.Limits.{most_caches};
-ghost use Rattle.jc_engine.specs.Caches.{fresh_cache};
-ghost use Rattle.jc_engine.specs.Opening.{open_refusal, limit_refusal, refusal_from, is_taken, capacities, names_in};
-ghost use Rattle.jc_engine.specs.Fresh.{AreIds, fresh_fields, fresh_from};
+ghost use Rattle.jc_engine.specs.Caches.{fresh_from};
+ghost use Rattle.jc_engine.specs.Opening.{open_refusal, open_refusal_from, limit_refusal, refusal_from, is_taken, capacities, names_in};
+ghost use Rattle.jc_engine.specs.Fresh.{AreIds};
 
-use crate::cache::{Managed, Turn};
 use crate::engine::Engine;
 use jc_model::OutOfMemory;
 use jc_model::config::CacheConfig;
-use jc_model::event::CacheId;
 use jc_model::key::Key;
 use jc_model::limits::{
-    MOST_CACHES, MOST_LISTENERS, MOST_PROCESSORS, MOST_ROWS, MOST_ROWS_TOGETHER,
+    MOST_CACHES, MOST_IDS, MOST_LISTENERS, MOST_PROCESSORS, MOST_ROWS, MOST_ROWS_TOGETHER,
 };
 use jc_ring::ring::Ring;
+use jc_roster::roster::Roster;
 use jc_rows::rows::Rows;
-use jc_state::state::CacheState;
 use std::alloc::Global;
 use std::collections::HashMap;
 
@@ -38,6 +36,8 @@ pub enum OpenRefusal {
     DuplicateName { cache: u32 },
     /// More than 262,144 rows together.
     TotalCapacity,
+    /// The greatest id is 4,294,967,294.
+    IdsSpent,
     OutOfMemory,
 }
 
@@ -66,22 +66,58 @@ impl<R: Rows, G: Ring> Engine<R, G> {
         requires { R.contents rows ≡ table.empty }
         ensures refused { IfSome (open_refusal configs.items) (λ refusal. result ≡ Err refusal) }
         ensures memory { IfErr result (λ refusal. (open_refusal configs.items ≡ Some refusal) ⊎ (refusal ≡ OpenRefusal.OutOfMemory)) }
-        ensures opened { IfOk result (λ engine. engine ≡ map fresh_cache configs.items) }
+        ensures opened { IfOk result (λ engine. engine ≡ fresh_from 0 configs.items) }
     {
-        let ids = ids_by_name(alloc, &configs)?;
-        let Some(ids) = ids else {
-            return Err(OpenRefusal::OutOfMemory);
-        };
-        let names = all_names(alloc, &configs)?;
-        let caches = fresh_caches(alloc, configs)?;
-        Ok(Engine {
+        Engine::open_from(alloc, rows, configs, 0)
+    }
+
+    /// The same, where the first cache gets this id and each further one the next. Behind `TotalCapacity` it is
+    /// refused as `IdsSpent` where an id would be 4,294,967,295 or more.
+    pub fn open_from(
+        alloc: Global,
+        rows: R,
+        configs: Vec<CacheConfig>,
+        first: u32,
+    ) -> Result<Engine<R, G>, OpenRefusal>
+        requires { R.contents rows ≡ table.empty }
+        ensures refused { IfSome (open_refusal_from first configs.items) (λ refusal. result ≡ Err refusal) }
+        ensures memory { IfErr result (λ refusal. (open_refusal_from first configs.items ≡ Some refusal) ⊎ (refusal ≡ OpenRefusal.OutOfMemory)) }
+        ensures opened { IfOk result (λ engine. engine ≡ fresh_from first configs.items) }
+    {
+        check(alloc, &configs, first)?;
+        let mut engine = Engine::vacant(alloc, rows, first);
+        for config in configs {
+            let Ok(_) = engine.admit(config) else {
+                return Err(OpenRefusal::OutOfMemory);
+            };
+        }
+        Ok(engine)
+    }
+
+    /// A manager without caches, the first of which will get this id.
+    fn vacant(alloc: Global, rows: R, first: u32) -> Engine<R, G>
+        requires { R.contents rows ≡ table.empty }
+        ensures { result ≡ fresh_from first [] }
+    {
+        Engine {
             alloc,
             rows,
-            caches,
-            names,
-            ids,
-        })
+            caches: HashMap::new(alloc),
+            roster: Roster::new(alloc, first),
+        }
     }
+}
+
+/// Why a manager does not open with these caches, with ids from the first, want of memory aside.
+pub(crate) fn check(alloc: Global, configs: &[CacheConfig], first: u32) -> Result<(), OpenRefusal>
+    ensures ok { OnOk result (open_refusal_from first configs.now ≡ None) }
+    ensures refused { IfErr result (λ refusal. open_refusal_from first configs.now ≡ Some refusal) }
+{
+    let _ids = ids_by_name(alloc, configs)?;
+    if u64::from(first) + configs.len() as u64 > u64::from(MOST_IDS) {
+        return Err(OpenRefusal::IdsSpent);
+    }
+    Ok(())
 }
 
 /// Why a manager does not open with these caches, want of memory aside.
@@ -218,37 +254,4 @@ pub fn all_names(alloc: Global, configs: &[CacheConfig]) -> Result<Vec<Key>, Out
     ensures { IfOk result (λ names. names.items ≡ names_in configs.now) }
 {
     configs.iter().map(|config| config.name).collect(alloc)
-}
-
-/// One cache as it is at first, with its place as its id.
-fn fresh<G: Ring>(
-    alloc: Global,
-    place: usize,
-    config: CacheConfig,
-) -> Result<Managed<G>, OutOfMemory>
-    requires few { place < most_caches }
-    requires rows { 1 ≤ config.capacity }
-    ensures { IfOk result (λ cache. cache ≡ fresh_fields place config) }
-{
-    let state = CacheState::empty(alloc, CacheId::new(place as u32), config)?;
-    Ok(Managed {
-        state,
-        turn: Turn::Idle,
-    })
-}
-
-/// The caches as they are at first.
-fn fresh_caches<G: Ring>(
-    alloc: Global,
-    configs: Vec<CacheConfig>,
-) -> Result<Vec<Managed<G>>, OutOfMemory>
-    requires { open_refusal configs.items ≡ None }
-    ensures { IfOk result (λ caches. caches.items ≡ fresh_from 0 configs.items) }
-{
-    let mut caches = Vec::with_capacity(alloc, configs.len())?;
-    for config in configs {
-        let cache = fresh(alloc, caches.len(), config)?;
-        caches.push(cache)?;
-    }
-    Ok(caches)
 }

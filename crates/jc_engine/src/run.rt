@@ -1,9 +1,9 @@
 //! Many events one after the other, and what each cache sees of them.
-ghost use Rattle.std.specs.Prelude.{◌≡◌, ℕ, Some, true, false, IfOk, IfErr, OnErr, map, slice_get};
+ghost use Rattle.std.specs.Prelude.{◌≡◌, ℕ, Some, true, false, IfOk, IfErr, OnErr};
 ghost use Rattle.jc_model.specs.declared.config.CacheConfig.{CacheConfig};
-ghost use Rattle.jc_model.specs.Runs.{answer_to, statuses_after, for_memory, IsRun, statuses_in_end};
-ghost use Rattle.jc_model.specs.Solo.{calls, seen, solo, opened};
-ghost use Rattle.jc_engine.specs.Caches.{status_of};
+ghost use Rattle.jc_model.specs.Runs.{answer_to, lives_after, for_memory, IsRun, lives_in_end, opened};
+ghost use Rattle.jc_model.specs.Solo.{begun, calls, seen, solo};
+ghost use Rattle.jc_engine.specs.Caches.{lives_of};
 ghost use Rattle.jc_engine.specs.Free.{takes_none, FreeAreHeard};
 
 use crate::engine::Engine;
@@ -12,16 +12,17 @@ use jc_ring::ring::Ring;
 use jc_rows::rows::Rows;
 
 impl<R: Rows, G: Ring> Engine<R, G> {
-    /// The events one after the other, each with its outcome. What is seen of a cache that was opened and not yet
-    /// used is what its own calls alone give, each in one stroke, however other caches use the table.
+    /// The events one after the other, each with its outcome. What is seen of a cache that was not yet used at first,
+    /// or that one of the events creates, is what its own calls alone give for its configuration, each in one stroke,
+    /// up to its destroying if there is one, however other caches come, go and use the table.
     ///
     /// An event that takes no memory is not refused for want of it. The run is
     /// refused only for want of room for the outcomes, before the first event; the events are then handed back.
     pub fn run(&mut self, events: Vec<Event>) -> Result<Vec<Outcome>, Vec<Event>>
-        ensures outcomes { IfOk result (λ outcomes. IsRun (map status_of self.old) events.items outcomes.items) }
-        ensures statuses { IfOk result (λ outcomes. map status_of self.new ≡ statuses_in_end (map status_of self.old) events.items outcomes.items) }
-        ensures alone { IfOk result (λ outcomes. (id : ℕ) (c : CacheConfig) → slice_get (map status_of self.old) id ≡ Some (opened c)
-            → seen id events.items outcomes.items (map status_of self.new) ≡ Some (solo c (calls id events.items outcomes.items))) }
+        ensures outcomes { IfOk result (λ outcomes. IsRun (lives_of self.old) events.items outcomes.items) }
+        ensures lives { IfOk result (λ outcomes. lives_of self.new ≡ lives_in_end (lives_of self.old) events.items outcomes.items) }
+        ensures alone { IfOk result (λ outcomes. (id : ℕ) (c : CacheConfig) → begun id (lives_of self.old) events.items outcomes.items ≡ Some (opened c)
+            → seen id (lives_of self.old) events.items outcomes.items (lives_of self.new) ≡ Some (solo c (calls id events.items outcomes.items))) }
         ensures free { IfOk result (λ outcomes. FreeAreHeard events.items outcomes.items) }
         ensures back { IfErr result (λ back. back.items ≡ events.items) }
         ensures refused { OnErr result (self.new ≡ self.old) }
@@ -40,8 +41,8 @@ impl<R: Rows, G: Ring> Engine<R, G> {
 
     /// One event.
     fn take(&mut self, event: Event) -> Outcome
-        ensures outcome { result ≡ answer_to (map status_of self.old) event (for_memory result) }
-        ensures statuses { map status_of self.new ≡ statuses_after (map status_of self.old) event result }
+        ensures outcome { result ≡ answer_to (lives_of self.old) event (for_memory result) }
+        ensures lives { lives_of self.new ≡ lives_after (lives_of self.old) event result }
         ensures free { takes_none event ≡ true → for_memory result ≡ false }
     {
         match event {
@@ -55,6 +56,14 @@ impl<R: Rows, G: Ring> Engine<R, G> {
             },
             Event::GiveUp(id) => match self.give_up(id) {
                 Ok(notices) => Outcome::GivenUp(notices),
+                Err(cause) => Outcome::Refused(cause),
+            },
+            Event::Create(config) => match self.create(config) {
+                Ok(id) => Outcome::Created(id),
+                Err((refusal, _)) => Outcome::CreateRefused(refusal),
+            },
+            Event::Destroy(id) => match self.destroy(id) {
+                Ok(()) => Outcome::Destroyed,
                 Err(cause) => Outcome::Refused(cause),
             },
         }

@@ -1,4 +1,5 @@
-//! Events on a manager, one a line: a call begins, what it asks is answered, or it is given up.
+//! Events on a manager, one a line: a call begins, what it asks is answered, or it is given up; a cache is created or
+//! destroyed.
 
 use crate::texts::{asked_text, notices_text};
 use jc_config::{Settings, read_config};
@@ -14,7 +15,7 @@ use jc_ring::list_ring::ListRing;
 use jc_ring::ring::Ring;
 use jc_rows::list_rows::ListRows;
 use jc_rows::rows::Rows;
-use jc_script::{read_script, reply_text, report};
+use jc_script::{Line, read_script, reply_text, report};
 use jc_trials::ConstantPlacer;
 use std::alloc::{AllocError, Global};
 use std::{fs, io};
@@ -71,23 +72,47 @@ fn refused_text(alloc: Global, cause: Cause) -> Result<String, AllocError> {
     format!(in alloc; "refused: {cause:?}")
 }
 
-/// What becomes of the call of a line.
+/// What becomes of what a line asks for.
+fn done<R: Rows, G: Ring>(
+    alloc: Global,
+    manager: &mut Recorded<R, G>,
+    line: Line,
+) -> Result<String, AllocError> {
+    match line {
+        Line::Call {
+            session,
+            id,
+            at,
+            call,
+        } => match manager.begin(session, id, at, call) {
+            Ok((step, _)) => step_text(alloc, &step),
+            Err((cause, _)) => refused_text(alloc, cause),
+        },
+        Line::Create { config, .. } => match manager.create(config) {
+            Ok(id) => format!(in alloc; "created {}", id.number()),
+            Err((refusal, _)) => format!(in alloc; "refused: {refusal:?}"),
+        },
+        Line::Destroy { id, .. } => match manager.destroy(id) {
+            Ok(()) => format!(in alloc; "destroyed"),
+            Err(cause) => refused_text(alloc, cause),
+        },
+    }
+}
+
+/// What becomes of a line of a script.
 fn begun<R: Rows, G: Ring>(
     alloc: Global,
     manager: &mut Recorded<R, G>,
     settings: &Settings,
-    call: &str,
+    text: &str,
 ) -> Result<String, AllocError> {
-    let mut lines = match read_script(alloc, call.as_bytes(), settings) {
+    let mut lines = match read_script(alloc, text.as_bytes(), settings) {
         Ok(lines) => lines,
         Err(fault) => return format!(in alloc; "{fault:?}"),
     };
     match lines.pop() {
-        Some(line) => match manager.begin(line.session, line.id, line.at, line.call) {
-            Ok((step, _)) => step_text(alloc, &step),
-            Err((cause, _)) => refused_text(alloc, cause),
-        },
-        None => format!(in alloc; "no call"),
+        Some(line) => done(alloc, manager, line),
+        None => format!(in alloc; "no line"),
     }
 }
 
@@ -145,7 +170,7 @@ fn played<R: Rows, G: Ring>(
         text.push_str(outcome(alloc, manager, settings, event)?.as_str())?;
         text.push_str("\n")?;
     }
-    text.push_str(report(alloc, manager.names(), manager.transcript())?.as_str())?;
+    text.push_str(report(alloc, manager.transcript(), &[])?.as_str())?;
     Ok(text)
 }
 

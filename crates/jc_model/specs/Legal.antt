@@ -1,5 +1,6 @@
--- The transcript of the calls of all caches: when it is legal, and how events write it.
-use Rattle.std.specs.Prelude.{◌≡◌, ℕ, ◌<◌, Bool, true, false, if◌then◌else◌, ◌==◌, ◌&&◌, IsTrue, List, [], ◌∷◌, ◌++◌, map, length, slice_get, Some, ⊤}
+-- The transcript of all lives and their calls: when it is legal, and how events write it.
+use Rattle.std.specs.Prelude.{◌≡◌, ℕ, ◌+◌, ◌≤◌, ◌<◌, Bool, true, false, if◌then◌else◌, ◌==◌, ◌&&◌, IsTrue, List, [], ◌∷◌, ◌++◌, map, length, ⊤}
+use Rattle.std.specs.Prelude.{Option, Some, None}
 use Rattle.std.specs.List.{filter, All}
 use Rattle.jc_model.specs.declared.call.Answer.{Answer}
 use Rattle.jc_model.specs.declared.call.Notice.{Notice}
@@ -12,10 +13,11 @@ use Rattle.jc_model.specs.declared.event.Outcome.TheVariants as outcome
 use Rattle.jc_model.specs.declared.event.End.{End}
 use Rattle.jc_model.specs.declared.event.End.TheVariants.{Waiting, Replied, GivenUp}
 use Rattle.jc_model.specs.declared.event.Entry.{Entry}
+use Rattle.jc_model.specs.declared.event.Life.{Life}
 use Rattle.jc_model.specs.State.{State}
 use Rattle.jc_model.specs.Run.{Run, ended, waiting, resume, answered, awaits, told_by}
-use Rattle.jc_model.specs.Runs.{Standing, idle, busy, Status, left, has_processor, is_refused}
-use Rattle.jc_model.specs.Solo.{Played, run_of, after_call, standing_from, fresh}
+use Rattle.jc_model.specs.Runs.{Standing, idle, busy, Status, fresh, Lives, live_at, left, has_processor, is_refused}
+use Rattle.jc_model.specs.Solo.{Played, run_of, after_call, standing_from}
 
 abbrev pub was_given_up : End → Bool
 was_given_up GivenUp = true
@@ -63,19 +65,47 @@ IsLegalFrom c (busy w p resumed) (e ∷ es) = ⊥
 abbrev pub entries_of : ℕ → List Entry → List Entry
 entries_of id transcript = filter (λ e. e.id == id) transcript
 
--- the transcript of caches with these configurations
-pub record IsLegal (configs : List CacheConfig) (transcript : List Entry) : Type 0 where
-  pub known : All (λ e. e.id < length configs) transcript
-  pub each : (id : ℕ) (c : CacheConfig) → slice_get configs id ≡ Some c → IsLegalFrom c fresh (entries_of id transcript)
+-- the lives that a manager has had, and the calls that have begun
+pub record History : Type 0 where
+  pub lives : List Life
+  pub entries : List Entry
 
--- the entries of a cache are legal, and it stands where they leave it
-abbrev pub IsTold : Status → List Entry → Type 0
-IsTold k es = IsLegalFrom k.config fresh es × (k.standing ≡ standing_from k.config fresh (map played es))
+-- in order of id, from the least on
+abbrev pub InOrder : ℕ → List Life → Type 0
+InOrder least [] = ⊤
+InOrder least (life ∷ lives) = (least ≤ life.id) × InOrder (life.id + 1) lives
 
--- the transcript tells how these caches have come to stand as they do
-pub record Tells (transcript : List Entry) (statuses : List Status) : Type 0 where
-  pub known : All (λ e. e.id < length statuses) transcript
-  pub each : (id : ℕ) (k : Status) → slice_get statuses id ≡ Some k → IsTold k (entries_of id transcript)
+abbrev pub config_of : ℕ → List Life → Option CacheConfig
+config_of id [] = None
+config_of id (life ∷ lives) = if life.id == id then Some life.config else config_of id lives
+
+abbrev pub is_there : Option CacheConfig → Bool
+is_there None = false
+is_there (Some c) = true
+
+-- each life's entries are those of a cache alone, and there are no others
+pub record IsLegal (h : History) : Type 0 where
+  pub ordered : InOrder 0 h.lives
+  pub known : All (λ e. is_there (config_of e.id h.lives) ≡ true) h.entries
+  pub each : (id : ℕ) (c : CacheConfig) → config_of id h.lives ≡ Some c → IsLegalFrom c fresh (entries_of id h.entries)
+
+-- a live cache stands where its entries leave it
+abbrev pub IsTold : History → ℕ → Status → Type 0
+IsTold h id k = (config_of id h.lives ≡ Some k.config) × (k.standing ≡ standing_from k.config fresh (map played (entries_of id h.entries)))
+
+-- the transcript tells how the live caches have come to stand as they do
+pub record Tells (h : History) (lives : Lives) : Type 0 where
+  pub legal : IsLegal h
+  pub given : All (λ life. life.id < length lives) h.lives
+  pub each : (id : ℕ) (k : Status) → live_at lives id ≡ Some k → IsTold h id k
+
+-- a manager's first lives, with ids from the first
+abbrev pub numbered : ℕ → List CacheConfig → List Life
+numbered first [] = []
+numbered first (c ∷ configs) = record { id = first; config = c } ∷ numbered (first + 1) configs
+
+abbrev pub at_first : ℕ → List CacheConfig → History
+at_first first configs = record { lives = numbered first configs; entries = [] }
 
 -- How events write it.
 
@@ -83,13 +113,13 @@ abbrev pub told_after : List Notice → Outcome → List Notice
 told_after told (outcome.Step (step.Done reply)) = told
 told_after told (outcome.Step (step.Need request)) = told ++ told_by request
 told_after told (outcome.GivenUp notices) = told ++ notices
-told_after told (outcome.Refused cause) = told
+told_after told _ = told
 
 abbrev pub end_by : Outcome → End
 end_by (outcome.Step (step.Done reply)) = Replied reply
 end_by (outcome.Step (step.Need request)) = Waiting
 end_by (outcome.GivenUp notices) = GivenUp
-end_by (outcome.Refused cause) = Waiting
+end_by _ = Waiting
 
 -- an entry, and what its call has just been answered
 abbrev pub with_outcome : Outcome → Entry → Entry
@@ -106,17 +136,25 @@ abbrev pub on_open : ℕ → (Entry → Entry) → List Entry → List Entry
 on_open id f transcript = map (λ e. if is_open id e then f e else e) transcript
 
 abbrev pub accepted_in : ℕ → Event → Outcome → List Entry → List Entry
-accepted_in session (event.Begin id now call) o transcript =
-    transcript ++ with_outcome o (record { session = session; id = id; at = now; call = call; answers = []; told = []; end = Waiting }) ∷ []
-accepted_in session (event.Answer id a) o transcript = on_open id (λ e. with_outcome o (with_answer a e)) transcript
-accepted_in session (event.GiveUp id) o transcript = on_open id (with_outcome o) transcript
+accepted_in session (event.Begin id now call) o entries =
+    entries ++ with_outcome o (record { session = session; id = id; at = now; call = call; answers = []; told = []; end = Waiting }) ∷ []
+accepted_in session (event.Answer id a) o entries = on_open id (λ e. with_outcome o (with_answer a e)) entries
+accepted_in session (event.GiveUp id) o entries = on_open id (with_outcome o) entries
+accepted_in session (event.Create config) o entries = entries
+accepted_in session (event.Destroy id) o entries = entries
+
+-- a life more, where one was created
+abbrev pub lives_with : Event → Outcome → List Life → List Life
+lives_with (event.Create config) (outcome.Created id) lives = lives ++ record { id = id; config = config } ∷ []
+lives_with _ _ lives = lives
 
 -- the transcript after an event of this session
-abbrev pub recorded : ℕ → Event → Outcome → List Entry → List Entry
-recorded session event o transcript = if is_refused o then transcript else accepted_in session event o transcript
+abbrev pub recorded : ℕ → Event → Outcome → History → History
+recorded session event o h =
+    if is_refused o then h else record { lives = lives_with event o h.lives; entries = accepted_in session event o h.entries }
 
 -- and after all events of a run, each with its session
-abbrev pub written : List Entry → List (ℕ × Event) → List Outcome → List Entry
-written transcript [] _ = transcript
-written transcript (event ∷ events) [] = transcript
-written transcript (event ∷ events) (o ∷ outcomes) = written (recorded event.0 event.1 o transcript) events outcomes
+abbrev pub written : History → List (ℕ × Event) → List Outcome → History
+written h [] _ = h
+written h (event ∷ events) [] = h
+written h (event ∷ events) (o ∷ outcomes) = written (recorded event.0 event.1 o h) events outcomes

@@ -28,6 +28,10 @@ most_listeners = 8
 abbrev pub most_processors : ℕ
 most_processors = 16
 
+-- caches are numbered below this
+abbrev pub most_ids : ℕ
+most_ids = 4294967295
+
 -- sessions are numbered below this
 abbrev pub sessions : ℕ
 sessions = 64

@@ -5,17 +5,29 @@ ghost use Rattle.jc_model.specs.declared.call.Call.TheVariants.{ReplaceIf, Remov
 use crate::OutOfMemory;
 use crate::call::{Action, Answer, By, Call, Kind, Notice, ProcessorFault, Reply, Verdict};
 use crate::config::CacheConfig;
-use crate::event::{CacheId, End, Entry};
+use crate::event::{CacheId, End, Entry, Life};
 use crate::key::Key;
 use crate::keys::{Keys, Pairs};
 use crate::list::Sequence;
 use crate::transcript::Transcript;
 use crate::value::Value;
+use std::alloc::Global;
 
 pub trait Share: Sized {
     /// An equal second value.
     fn share(&self) -> Result<Self, OutOfMemory>
         ensures { IfOk result (λ s. s ≡ self.now) };
+}
+
+/// Equal second values.
+pub fn share_all<T: Share + Drop>(alloc: Global, items: &[T]) -> Result<Vec<T>, OutOfMemory>
+    ensures { IfOk result (λ copy. copy.items ≡ items.now) }
+{
+    let mut copy = Vec::new(alloc);
+    for x in items {
+        copy.push(x.share()?)?;
+    }
+    Ok(copy)
 }
 
 impl Share for bool {
@@ -70,10 +82,7 @@ impl<A: Share + Drop, B: Share> Share for (A, B) {
 
 impl<T: Share + Drop> Share for Sequence<T> {
     fn share(&self) -> Result<Sequence<T>, OutOfMemory> {
-        let mut items = self.empty();
-        for x in self.items() {
-            items.push(x.share()?)?;
-        }
+        let items = share_all(*self.empty().allocator(), self.items())?;
         Ok(Sequence::new(items))
     }
 }
@@ -307,6 +316,16 @@ impl Share for CacheConfig {
             writer: self.writer,
             processors,
             listeners: self.listeners,
+        })
+    }
+}
+
+impl Share for Life {
+    fn share(&self) -> Result<Life, OutOfMemory> {
+        let config = self.config.share()?;
+        Ok(Life {
+            id: self.id,
+            config,
         })
     }
 }

@@ -1,59 +1,87 @@
-//! The transcript: the calls that have begun, in the order of their beginning.
+//! The transcript: the lives of all caches in order of id, and the calls that have begun, in the order of their
+//! beginning.
 ghost use Rattle.std.specs.Prelude.{◌≡◌, ◌<◌, ◌++◌, ◌∷◌, [], length, Some, slice_get, slice_set, List, IfOk, IfErr, OnOk, OnErr, MatchOption};
-ghost use Rattle.jc_model.specs.Legal.{with_answer};
+ghost use Rattle.jc_model.specs.Legal.{History, with_answer};
 ghost use Rattle.jc_model.specs.declared.call.Answer.{Answer};
 ghost use Rattle.jc_model.specs.declared.event.Entry.{Entry};
+ghost use Rattle.jc_model.specs.declared.event.Life.{Life};
 
 use crate::OutOfMemory;
 use crate::call::{Answer, Notice};
-use crate::event::{End, Entry};
+use crate::event::{End, Entry, Life};
 use crate::list::Sequence;
-use crate::share::Share;
+use crate::share::share_all;
 use std::alloc::Global;
 use std::marker::Model;
 
-/// The calls of all caches; contracts see the list of their entries.
+/// The lives and the calls of all caches; contracts see their lists.
 #[derive(Drop)]
 pub struct Transcript {
+    lives: Vec<Life>,
     entries: Vec<Entry>,
 }
 
 impl Model for Transcript {
-    ghost use Rattle.std.specs.Prelude.{List};
-    ghost use Rattle.jc_model.specs.declared.event.Entry.{Entry};
+    ghost use Rattle.jc_model.specs.Legal.{History};
 
-    ghost Value = { List Entry };
+    ghost Value = { History };
 
-    ghost view = { λ t. t.entries.items };
+    ghost view = { λ t. record { lives = t.lives.items; entries = t.entries.items } };
 }
 
 impl Transcript {
-    /// No calls.
+    /// No lives and no calls.
     pub fn new(alloc: Global) -> Transcript
-        ensures { result ≡ [] }
+        ensures lives { result.lives ≡ [] }
+        ensures entries { result.entries ≡ [] }
     {
         Transcript {
+            lives: Vec::new(alloc),
             entries: Vec::new(alloc),
         }
     }
 
+    /// The lives, in order of id.
+    pub fn lives(&self) -> &[Life]
+        ensures { result.now ≡ self.now.lives }
+    {
+        self.lives.as_slice()
+    }
+
     /// The entries, the first call's first.
     pub fn entries(&self) -> &[Entry]
-        ensures { result.now ≡ self.now }
+        ensures { result.now ≡ self.now.entries }
     {
         self.entries.as_slice()
     }
 
     /// The call that has begun last.
     pub fn last(&self) -> Option<&Entry>
-        ensures { MatchOption result (self.now ≡ []) (λ e. (before : List Entry) × (self.now ≡ before ++ e.now ∷ [])) }
+        ensures { MatchOption result (self.now.entries ≡ []) (λ e. (before : List Entry) × (self.now.entries ≡ before ++ e.now ∷ [])) }
     {
         self.entries.last()
     }
 
+    /// Adds a life.
+    pub fn push_life(&mut self, life: Life) -> Result<(), OutOfMemory>
+        ensures ok { OnOk result (self.new ≡ record self.old { lives = self.old.lives ++ life ∷ [] }) }
+        ensures err { OnErr result (self.new ≡ self.old) }
+    {
+        self.lives.push(life)?;
+        Ok(())
+    }
+
+    /// Takes the last life back.
+    pub fn pop_life(&mut self) -> Option<Life>
+        ensures lives { MatchOption result (self.old.lives ≡ [] × self.new.lives ≡ []) (λ life. self.old.lives ≡ self.new.lives ++ life ∷ []) }
+        ensures entries { self.new.entries ≡ self.old.entries }
+    {
+        self.lives.pop()
+    }
+
     /// Adds a call. Where memory is refused, its entry is handed back.
     pub fn push(&mut self, entry: Entry) -> Result<(), Entry>
-        ensures ok { OnOk result (self.new ≡ self.old ++ entry ∷ []) }
+        ensures ok { OnOk result (self.new ≡ record self.old { entries = self.old.entries ++ entry ∷ [] }) }
         ensures err { OnErr result (self.new ≡ self.old) }
         ensures back { IfErr result (λ back. back ≡ entry) }
     {
@@ -66,15 +94,16 @@ impl Transcript {
 
     /// Takes the last call back.
     pub fn pop(&mut self) -> Option<Entry>
-        ensures { MatchOption result (self.old ≡ [] × self.new ≡ []) (λ e. self.old ≡ self.new ++ e ∷ []) }
+        ensures entries { MatchOption result (self.old.entries ≡ [] × self.new.entries ≡ []) (λ e. self.old.entries ≡ self.new.entries ++ e ∷ []) }
+        ensures lives { self.new.lives ≡ self.old.lives }
     {
         self.entries.pop()
     }
 
     /// Adds an answer to the call at a place.
     pub fn push_answer(&mut self, place: usize, answer: Answer) -> Result<(), OutOfMemory>
-        requires { place < length self.old }
-        ensures ok { OnOk result ((e : Entry) → slice_get self.old place ≡ Some e → self.new ≡ slice_set self.old place (with_answer answer e)) }
+        requires { place < length self.old.entries }
+        ensures ok { OnOk result ((e : Entry) → slice_get self.old.entries place ≡ Some e → self.new ≡ record self.old { entries = slice_set self.old.entries place (with_answer answer e) }) }
         ensures err { OnErr result (self.new ≡ self.old) }
     {
         let entry = &mut self.entries[place];
@@ -83,8 +112,8 @@ impl Transcript {
 
     /// Takes the last answer to the call at a place back.
     pub fn pop_answer(&mut self, place: usize)
-        requires { place < length self.old }
-        ensures { (e : Entry) (a : Answer) → slice_get self.old place ≡ Some (with_answer a e) → self.new ≡ slice_set self.old place e }
+        requires { place < length self.old.entries }
+        ensures { (e : Entry) (a : Answer) → slice_get self.old.entries place ≡ Some (with_answer a e) → self.new ≡ record self.old { entries = slice_set self.old.entries place e } }
     {
         let entry = &mut self.entries[place];
         entry.answers.pop();
@@ -92,8 +121,8 @@ impl Transcript {
 
     /// Sets what was told of the call at a place.
     pub fn set_told(&mut self, place: usize, told: Sequence<Notice>)
-        requires { place < length self.old }
-        ensures { (e : Entry) → slice_get self.old place ≡ Some e → self.new ≡ slice_set self.old place (record e { told = told }) }
+        requires { place < length self.old.entries }
+        ensures { (e : Entry) → slice_get self.old.entries place ≡ Some e → self.new ≡ record self.old { entries = slice_set self.old.entries place (record e { told = told }) } }
     {
         let entry = &mut self.entries[place];
         entry.told = told;
@@ -101,8 +130,8 @@ impl Transcript {
 
     /// Sets how the call at a place ended.
     pub fn set_end(&mut self, place: usize, end: End)
-        requires { place < length self.old }
-        ensures { (e : Entry) → slice_get self.old place ≡ Some e → self.new ≡ slice_set self.old place (record e { end = end }) }
+        requires { place < length self.old.entries }
+        ensures { (e : Entry) → slice_get self.old.entries place ≡ Some e → self.new ≡ record self.old { entries = slice_set self.old.entries place (record e { end = end }) } }
     {
         let entry = &mut self.entries[place];
         entry.end = end;
@@ -112,10 +141,8 @@ impl Transcript {
     pub fn share(&self) -> Result<Transcript, OutOfMemory>
         ensures { IfOk result (λ t. t ≡ self.now) }
     {
-        let mut entries = Vec::new(*self.entries.allocator());
-        for x in self.entries() {
-            entries.push(x.share()?)?;
-        }
-        Ok(Transcript { entries })
+        let lives = share_all(*self.lives.allocator(), self.lives())?;
+        let entries = share_all(*self.entries.allocator(), self.entries())?;
+        Ok(Transcript { lives, entries })
     }
 }

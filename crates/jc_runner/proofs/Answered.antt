@@ -15,8 +15,8 @@ use Rattle.jc_model.specs.Run.{Run, ended, waiting, resume, answered, awaits, is
 use Rattle.jc_model.specs.Runs.{shown}
 use Rattle.jc_model.specs.Legal.{Fits, told_now, told_in, told_after, end_by, with_outcome, with_answer}
 use Rattle.jc_model.proofs.Resume.{answered-append, told-answer}
-use Rattle.jc_script.specs.declared.line.Line.{Line}
 use Rattle.jc_runner.specs.Alone.{exchanged, end_of, entry_by}
+use Rattle.jc_runner.specs.declared.calls.LineCall.{LineCall}
 
 pub record Waits (run : Run) (q : Request) : Type 0 where
   pub meanwhile : Progress
@@ -50,7 +50,7 @@ told-shown : (told : List Notice) (run : Run) → told_after told (shown run) �
 told-shown told (ended p r) = sym (append-nil told)
 told-shown told (waiting q p resumed) = refl
 
-pub entry-push : (l : Line) (run : Run) (answers : List Answer) (a : Answer)
+pub entry-push : (l : LineCall) (run : Run) (answers : List Answer) (a : Answer)
     → with_outcome (shown (resume (answered run answers) a)) (with_answer a (entry_by l run answers)) ≡ entry_by l run (answers ++ a ∷ [])
 entry-push l run answers a =
     let next : Run = resume (answered run answers) a in
@@ -59,7 +59,7 @@ entry-push l run answers a =
     ∙ ap (λ (end : End). made (told_in run (answers ++ a ∷ []) false) end) (end-shown next ∙ ap end_of (sym (answered-append run answers a)))
 
 -- at first there are none
-pub entry-first : (l : Line) (run : Run) → with_outcome (shown run) (record { session = l.session; id = l.id; at = l.at; call = l.call; answers = []; told = []; end = Waiting }) ≡ entry_by l run []
+pub entry-first : (l : LineCall) (run : Run) → with_outcome (shown run) (record { session = l.session; id = l.id; at = l.at; call = l.call; answers = []; told = []; end = Waiting }) ≡ entry_by l run []
 entry-first l (ended p r) = refl
 entry-first l (waiting q p resumed) = refl
 

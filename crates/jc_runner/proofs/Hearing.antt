@@ -1,18 +1,18 @@
 -- What callbacks have answered, one after the other.
-use Rattle.std.proofs.Common.{◌≡◌, ℕ, List, [], ◌∷◌, ◌++◌, Option, Some, None, Result, slice_get, refl, sym, ap, ◌∙◌, subst, append_assoc, append-nil}
+use Rattle.std.proofs.Common.{◌≡◌, ℕ, List, [], ◌∷◌, ◌++◌, Option, Some, None, Result, refl, sym, ap, ◌∙◌, subst, append_assoc, append-nil}
 use Rattle.std.proofs.lemmas.List.Elements.{filter-append}
 use Rattle.std.proofs.lemmas.Grind.{flat_map-append}
 use Rattle.jc_model.specs.declared.call.Answer.{Answer}
 use Rattle.jc_model.specs.declared.call.Notice.{Notice}
 use Rattle.jc_model.specs.declared.call.ProcessorFault.{ProcessorFault}
 use Rattle.jc_model.specs.declared.call.Request.{Request}
-use Rattle.jc_model.specs.declared.call.Request.TheVariants.{Load, Write, Delete, Process, Tell}
 use Rattle.jc_model.specs.declared.call.Verdict.{Verdict}
 use Rattle.jc_model.specs.Run.{told_by}
 use Rattle.jc_hooks.specs.declared.cache_hooks.CacheHooks.{CacheHooks}
 use Rattle.jc_hooks.specs.declared.loader.Loaded.{Loaded}
-use Rattle.jc_hooks.specs.Asking.{load_by, verdict_by, MayGiveBy, states_after}
-use Rattle.jc_runner.specs.Answering.{is_write, written_in, notices_in, IsStated, AllStated, Served, Heard}
+use Rattle.jc_hooks.specs.Asking.{MayGiveBy, states_after}
+use Rattle.jc_runner.specs.Answering.{is_write, written_in, notices_in, AllStated, Served, ServedAt, Heard, HeardAt}
+use Rattle.jc_runner.specs.Hooks.{HasNone}
 
 written-append : (xs ys : List (Request × Answer)) → written_in (xs ++ ys) ≡ written_in xs ++ written_in ys
 written-append xs ys = filter-append (λ x. is_write x.0) xs ys
@@ -24,30 +24,22 @@ module _ {L W P K : Type 0} (load_of : L → List ℕ → Loaded) (may : W → L
   abbrev HeardHere : CacheHooks L W P K → CacheHooks L W P K → List (Request × Answer) → Type 0
   HeardHere = Heard load_of may verdict_of state_after
 
-  pub heard_nothing : (h : CacheHooks L W P K) → HeardHere h h []
+  abbrev AllStatedHere : Option L → List P → List (Request × Answer) → Type 0
+  AllStatedHere = AllStated load_of may verdict_of state_after
+
+  heard_nothing : (h : CacheHooks L W P K) → HeardHere h h []
   heard_nothing h = record { loader = refl; processors = refl; stated = tt; writes = λ rest m. m; tells = λ rest. refl }
 
-  -- loader and processors stay, and so does what they state
-  stated_before : (h h' : CacheHooks L W P K) (q : Request) (a : Answer) → h'.loader ≡ h.loader → h'.processors.items ≡ h.processors.items → IsStated load_of may verdict_of state_after h' q a → IsStated load_of may verdict_of state_after h q a
-  stated_before h h' (Load key) a l p s = s ∙ ap (λ (o : Option L). load_by load_of o key) l
-  stated_before h h' (Write key value) a l p s = s
-  stated_before h h' (Delete key) a l p s = s
-  stated_before h h' (Process key n value argument) a l p s = s ∙ ap (λ (ps : List P). verdict_by verdict_of (slice_get ps n) value argument) p
-  stated_before h h' (Tell notices) a l p s = s
+  all_append : (loader : Option L) (processors : List P) (xs ys : List (Request × Answer)) → AllStatedHere loader processors xs → AllStatedHere loader processors ys → AllStatedHere loader processors (xs ++ ys)
+  all_append loader processors [] ys s t = t
+  all_append loader processors (x ∷ xs) ys s t = (s.0, all_append loader processors xs ys s.1 t)
 
-  all_before : (h h' : CacheHooks L W P K) (given : List (Request × Answer)) → h'.loader ≡ h.loader → h'.processors.items ≡ h.processors.items → AllStated load_of may verdict_of state_after h' given → AllStated load_of may verdict_of state_after h given
-  all_before h h' [] l p s = tt
-  all_before h h' (x ∷ given) l p s = (stated_before h h' x.0 x.1 l p s.0, all_before h h' given l p s.1)
-
-  all_append : (h : CacheHooks L W P K) (xs ys : List (Request × Answer)) → AllStated load_of may verdict_of state_after h xs → AllStated load_of may verdict_of state_after h ys → AllStated load_of may verdict_of state_after h (xs ++ ys)
-  all_append h [] ys s t = t
-  all_append h (x ∷ xs) ys s t = (s.0, all_append h xs ys s.1 t)
-
-  pub heard_more : (h h1 h2 : CacheHooks L W P K) (xs ys : List (Request × Answer)) → HeardHere h h1 xs → HeardHere h1 h2 ys → HeardHere h h2 (xs ++ ys)
+  heard_more : (h h1 h2 : CacheHooks L W P K) (xs ys : List (Request × Answer)) → HeardHere h h1 xs → HeardHere h1 h2 ys → HeardHere h h2 (xs ++ ys)
   heard_more h h1 h2 xs ys x y = record {
     loader = y.loader ∙ x.loader;
     processors = y.processors ∙ x.processors;
-    stated = all_append h xs ys x.stated (all_before h h1 ys x.loader x.processors y.stated);
+    stated = all_append h.loader h.processors.items xs ys x.stated
+        (subst (λ (ps : List P). AllStatedHere h.loader ps ys) x.processors (subst (λ (o : Option L). AllStatedHere o h1.processors.items ys) x.loader y.stated));
     writes = λ rest m.
         let both : MayGiveBy may h.writer (written_in xs ++ (written_in ys ++ rest)) = x.writes (written_in ys ++ rest) (y.writes rest m) in
         let joined : written_in xs ++ (written_in ys ++ rest) ≡ written_in (xs ++ ys) ++ rest = sym (append_assoc (written_in xs) (written_in ys) rest) ∙ ap (λ (ws : List (Request × Answer)). ws ++ rest) (sym (written-append xs ys)) in
@@ -62,9 +54,35 @@ module _ {L W P K : Type 0} (load_of : L → List ℕ → Loaded) (may : W → L
   may_give_none (Some w) = tt
 
   -- in the end
-  pub has_served : (h h' : CacheHooks L W P K) (given : List (Request × Answer)) → HeardHere h h' given → Served load_of may verdict_of state_after h h' given
+  has_served : (h h' : CacheHooks L W P K) (given : List (Request × Answer)) → HeardHere h h' given → Served load_of may verdict_of state_after h h' given
   has_served h h' given x = record {
     stated = x.stated;
     writes = subst (MayGiveBy may h.writer) (append-nil (written_in given)) (x.writes [] (may_give_none h'.writer));
     tells = x.tells;
   }
+
+  -- of the callbacks of a cache that has them or has none
+
+  abbrev HeardThere : Option (CacheHooks L W P K) → Option (CacheHooks L W P K) → List (Request × Answer) → Type 0
+  HeardThere = HeardAt load_of may verdict_of state_after
+
+  pub nothing_heard : (o : Option (CacheHooks L W P K)) → HeardThere o o []
+  nothing_heard None = tt
+  nothing_heard (Some h) = heard_nothing h
+
+  pub more_heard : (o o1 o2 : Option (CacheHooks L W P K)) (xs ys : List (Request × Answer)) → HeardThere o o1 xs → HeardThere o1 o2 ys → HeardThere o o2 (xs ++ ys)
+  more_heard None None None xs ys x y = all_append None [] xs ys x y
+  more_heard None None (Some h2) xs ys x y = absurd y
+  more_heard None (Some h1) o2 xs ys x y = absurd x
+  more_heard (Some h) None o2 xs ys x y = absurd x
+  more_heard (Some h) (Some h1) None xs ys x y = absurd y
+  more_heard (Some h) (Some h1) (Some h2) xs ys x y = heard_more h h1 h2 xs ys x y
+
+  pub served_there : (o o' : Option (CacheHooks L W P K)) (given : List (Request × Answer)) → HeardThere o o' given → ServedAt load_of may verdict_of state_after o o' given
+  served_there None None given x = x
+  served_there None (Some h') given x = absurd x
+  served_there (Some h) None given x = absurd x
+  served_there (Some h) (Some h') given x = has_served h h' given x
+
+  pub none_heard : (h h' : CacheHooks L W P K) (given : List (Request × Answer)) → HasNone h → HeardHere h h' given → HeardThere None None given
+  none_heard h h' given none x = subst (λ (ps : List P). AllStatedHere None ps given) none.processors (subst (λ (o : Option L). AllStatedHere o h.processors.items given) none.loader x.stated)

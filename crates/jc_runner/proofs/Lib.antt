@@ -8,6 +8,9 @@ pub mod Hearing
 pub mod Reached
 pub mod Bounds
 pub mod Suiting
+pub mod Placed
 pub mod Steps
+pub mod Lives
+pub mod Lines
 pub mod Told
 pub mod Configured

@@ -1,9 +1,9 @@
--- One line more.
-use Rattle.std.proofs.Common.{◌≡◌, ◌≢◌, ℕ, ◌<◌, ◌==◌, Bool, true, false, if◌then◌else◌, List, [], ◌∷◌, ◌++◌, length, map, Option, Some, None, Result, refl, sym, ap, ◌∙◌, subst, append_assoc, append-nil, arith}
+-- A line that makes a call.
+use Rattle.std.proofs.Common.{◌≡◌, ◌≢◌, ℕ, zero, suc, ◌<◌, ◌≤◌, ◌==◌, Bool, true, false, if◌then◌else◌, List, [], ◌∷◌, ◌++◌, length, map, Option, Some, Result, refl, sym, ap, ◌∙◌, subst, append_assoc, append-nil, arith}
 use Rattle.std.specs.Prelude.{slice_get, slice_set, ◌&&◌}
 use Rattle.std.proofs.lemmas.Bool.Decides.{nat_tests}
 use Rattle.std.proofs.lemmas.Bool.{false≢true}
-use Rattle.std.proofs.lemmas.Option.{same_Some, slice_get-map, slice_get_within}
+use Rattle.std.proofs.lemmas.Option.{same_Some}
 use Rattle.std.proofs.lemmas.List.{map_push}
 use Rattle.std.proofs.lemmas.List.Elements.{filter-append}
 use Rattle.std.specs.Option.{option_map}
@@ -14,43 +14,38 @@ use Rattle.jc_model.specs.declared.call.Reply.{Reply}
 use Rattle.jc_model.specs.declared.call.Request.{Request}
 use Rattle.jc_model.specs.declared.call.Verdict.{Verdict}
 use Rattle.jc_model.specs.declared.config.CacheConfig.{CacheConfig}
-use Rattle.jc_model.specs.declared.event.Cause.TheVariants.{NoSuchProcessor}
 use Rattle.jc_model.specs.declared.event.Entry.{Entry}
-use Rattle.jc_model.specs.declared.event.Outcome.TheVariants.{Step as Stepped, Refused}
-use Rattle.jc_model.specs.declared.event.Step.{Step}
 use Rattle.jc_model.specs.declared.event.Step.TheVariants.{Done}
 use Rattle.jc_model.specs.Changes.{Progress}
 use Rattle.jc_model.specs.State.{State}
 use Rattle.jc_model.specs.Run.{Run, ended, answered}
-use Rattle.jc_model.specs.Runs.{Status, Standing, idle, begins, shown, standing_of, has_processor, refuse_last, answer_of}
-use Rattle.jc_model.specs.Solo.{Played, state_of, run_of, left_by, after_call, standing_from, fresh}
-use Rattle.jc_model.specs.Legal.{is_waiting, is_open, entries_of, was_given_up, played}
-use Rattle.jc_model.proofs.EachCache.{at_same, at_other, reply_kept}
-use Rattle.jc_model.proofs.Legal as legal
-use Rattle.jc_engine.specs.Caches.{Cache, configs_of, status_of}
+use Rattle.jc_model.specs.Runs.{Status, Standing, idle, fresh, opened, Lives, live_at, standing_of}
+use Rattle.jc_model.specs.Solo.{Played, state_of, run_of, left_by, after_call, standing_from}
+use Rattle.jc_model.specs.Legal.{is_waiting, is_open, entries_of, config_of, was_given_up, played, IsTold}
+use Rattle.jc_model.proofs.Lives.{same_length, live_within, live_same, live_other}
 use Rattle.jc_engine.specs.Recording.{Recording}
-use Rattle.jc_engine.proofs.Entries.{length_set}
-use Rattle.jc_engine.proofs.Places.{map_set, same_set}
 use Rattle.jc_hooks.specs.declared.cache_hooks.CacheHooks.{CacheHooks}
 use Rattle.jc_hooks.specs.declared.loader.Loaded.{Loaded}
 use Rattle.jc_script.specs.declared.line.Line.{Line}
-use Rattle.jc_script.specs.Named.{Names}
-use Rattle.jc_runner.specs.Alone.{lines_of, line_of, IsReply, AllReplied, exchanged, exchanges, end_of, run_alone, entry_by}
-use Rattle.jc_runner.specs.Answering.{Heard, HeardAt}
-use Rattle.jc_runner.specs.Halfway.{statuses_of, NoneOpen, IsReady, ReachedFrom, Reached, RepliesAt, Goes, Halfway, CanRun}
+use Rattle.jc_script.specs.declared.line.Line.TheVariants as line
+use Rattle.jc_script.specs.Live.{after_line}
+use Rattle.jc_script.specs.Managing.{begun_by}
+use Rattle.jc_runner.specs.Alone.{calls_on, line_of, IsReply, AllReplied, exchanged, exchanges, end_of, run_alone, entry_by}
+use Rattle.jc_runner.specs.Answering.{HeardAt}
+use Rattle.jc_runner.specs.declared.calls.LineCall.{LineCall}
+use Rattle.jc_runner.specs.Halfway.{lives_now, as_read, NoneOpen, IsIdle, IsAtRest, ReachedFrom, Reached, RepliesAt, Goes, Comes}
 use Rattle.jc_runner.proofs.Answered.{Ends, ends_with}
-use Rattle.jc_runner.proofs.Hearing.{heard_more}
-use Rattle.jc_runner.proofs.Reached.{step_shown, shows_step}
+use Rattle.jc_runner.proofs.Hearing.{more_heard}
 
--- Entries and lines of one cache.
+-- Entries and calls of one life.
 
-id_is_id : (n : ℕ) → (n == n) ≡ true
+pub id_is_id : (n : ℕ) → (n == n) ≡ true
 id_is_id n = grind (arith, nat_tests)
 
-is_same : (m n : ℕ) → (m == n) ≡ true → m ≡ n
+pub is_same : (m n : ℕ) → (m == n) ≡ true → m ≡ n
 is_same m n e = grind (arith, nat_tests)
 
-is_other : (m n : ℕ) → (m == n) ≡ false → m ≢ n
+pub is_other : (m n : ℕ) → (m == n) ≡ false → m ≢ n
 is_other m n e same = false≢true (sym e ∙ (ap (λ k. m == k) (sym same) ∙ id_is_id m))
 
 entry_of_same : (id : ℕ) (transcript : List Entry) (e : Entry) → (e.id == id) ≡ true → entries_of id (transcript ++ e ∷ []) ≡ entries_of id transcript ++ e ∷ []
@@ -59,11 +54,14 @@ entry_of_same id transcript e h = filter-append (λ d. d.id == id) transcript (e
 entry_of_other : (id : ℕ) (transcript : List Entry) (e : Entry) → (e.id == id) ≡ false → entries_of id (transcript ++ e ∷ []) ≡ entries_of id transcript
 entry_of_other id transcript e h = filter-append (λ d. d.id == id) transcript (e ∷ []) ∙ ap (λ es. entries_of id transcript ++ es) (rw h refl) ∙ append-nil (entries_of id transcript)
 
-line_of_same : (id : ℕ) (l : Line) (rest : List Line) → (l.id == id) ≡ true → lines_of id (l ∷ rest) ≡ l ∷ lines_of id rest
-line_of_same id l rest h = rw h refl
+abbrev pub as_line : LineCall → Line
+as_line l = line.Call l.session l.id l.at l.call
 
-line_of_other : (id : ℕ) (l : Line) (rest : List Line) → (l.id == id) ≡ false → lines_of id (l ∷ rest) ≡ lines_of id rest
-line_of_other id l rest h = rw h refl
+call_of_same : (id : ℕ) (l : LineCall) (rest : List Line) → (l.id == id) ≡ true → calls_on id (as_line l ∷ rest) ≡ l ∷ calls_on id rest
+call_of_same id l rest h = rw h refl
+
+call_of_other : (id : ℕ) (l : LineCall) (rest : List Line) → (l.id == id) ≡ false → calls_on id (as_line l ∷ rest) ≡ calls_on id rest
+call_of_other id l rest h = rw h refl
 
 -- A call that replied is closed.
 
@@ -76,10 +74,10 @@ none_open_more transcript e closed over id f =
     let g : Entry → Entry = λ d. if is_open id d then f d else d in
     map_push g transcript e ∙ ap (λ (es : List Entry). es ++ g e ∷ []) (closed id f) ∙ ap (λ (d : Entry). transcript ++ d ∷ []) (kept_closed (e.id == id) (is_waiting e.end) (f e) e over)
 
-over : (l : Line) (run : Run) (given : List Answer) (reply : Reply) → Ends (answered run given) reply → is_waiting (entry_by l run given).end ≡ false
+over : (l : LineCall) (run : Run) (given : List Answer) (reply : Reply) → Ends (answered run given) reply → is_waiting (entry_by l run given).end ≡ false
 over l run given reply e = ap (λ (now : Run). is_waiting (end_of now)) e.is
 
--- One entry more of a cache.
+-- One entry more of a life.
 
 standing_push : (c : CacheConfig) (standing : Standing) (ps : List Played) (p : Played) → standing_from c standing (ps ++ p ∷ []) ≡ after_call c (state_of (standing_from c standing ps)) p
 standing_push c standing [] p = refl
@@ -99,46 +97,36 @@ replied_push (d ∷ es) e all last = (all.0, replied_push es e all.1 last)
 left_ended : (run : Run) (p : Progress) (reply : Reply) → run ≡ ended p reply → left_by run (was_given_up (end_of run)) ≡ idle p.state
 left_ended run p reply e = ap (λ (x : Run). left_by x (was_given_up (end_of x))) e
 
--- No call changes a configuration.
+-- The caches as a reader follows them.
 
-pub configs_by : (caches : List Cache) → legal.configs_of (map status_of caches) ≡ configs_of caches
-configs_by [] = refl
-configs_by (k ∷ ks) = ap (λ (cs : List CacheConfig). k.config ∷ cs) (configs_by ks)
+-- no call changes a configuration
+read_same : (lives : Lives) (i : ℕ) (k k' : Status) → live_at lives i ≡ Some k → k'.config ≡ k.config → as_read (slice_set lives i (Some k')) ≡ as_read lives
+read_same [] i k k' at same = refl
+read_same (x ∷ lives) zero k k' at same =
+    ap (λ (c : CacheConfig). Some (opened c) ∷ as_read lives) same ∙ ap (λ (o : Option Status). option_map (λ k. opened k.config) o ∷ as_read lives) (sym at)
+read_same (x ∷ lives) (suc i) k k' at same = ap (λ (ks : Lives). option_map (λ k. opened k.config) x ∷ ks) (read_same lives i k k' at same)
 
-same_configs : (statuses : List Status) (i : ℕ) (k k' : Status) → slice_get statuses i ≡ Some k → k'.config ≡ k.config → legal.configs_of (slice_set statuses i k') ≡ legal.configs_of statuses
-same_configs statuses i k k' at same =
-    map_set (λ (k : Status). k.config) statuses i k' ∙ ap (slice_set (legal.configs_of statuses) i) same ∙ same_set (legal.configs_of statuses) i k.config (slice_get-map (λ (k : Status). k.config) statuses i ∙ ap (option_map (λ (k : Status). k.config)) at)
+-- what a line leaves is what the reader thinks, and no call is open
+pub record Follows (old new : Recording) (l : Line) : Type 0 where
+  pub read : as_read (lives_now new) ≡ after_line (as_read (lives_now old)) l
+  pub begun : new.transcript.lives ≡ old.transcript.lives ++ begun_by (as_read (lives_now old)) l
+  pub rest : IsAtRest new
 
 module _ {L W P K : Type 0} (load_of : L → List ℕ → Loaded) (may : W → List (Request × Answer) → Type 0) (verdict_of : P → Option (List ℕ) → List ℕ → Result Verdict ProcessorFault) (state_after : K → List Notice → List ℕ) where
-  -- a line's call starts where its cache stands
-  reached_at : (c : CacheConfig) (s : State) (old new : Recording) (h h' : CacheHooks L W P K) (l : Line) (step : Step) → Reached load_of may verdict_of state_after old new h h' l step
-      → slice_get (statuses_of old) l.id ≡ Some (record { config = c; standing = idle s }) → ReachedFrom load_of may verdict_of state_after c s old new h h' l step
-  reached_at c s old new h h' l step r there =
-      let same : record { config = r.config; standing = idle r.state } ≡ record { config = c; standing = idle s } = same_Some (record { config = r.config; standing = idle r.state }) (record { config = c; standing = idle s }) (sym r.there ∙ there) in
-      let same_state : r.state ≡ s = ap (λ (k : Status). state_of k.standing) same in
-      let same_config : r.config ≡ c = ap (λ (k : Status). k.config) same in
-      subst (λ (d : CacheConfig). ReachedFrom load_of may verdict_of state_after d s old new h h' l step) same_config
-      (subst (λ (t : State). ReachedFrom load_of may verdict_of state_after r.config t old new h h' l step) same_state r.reached)
-
-  abbrev GoesHere : CacheConfig → ℕ → List Line → List Line → Option (CacheHooks L W P K) → Option (CacheHooks L W P K) → List Status → List Entry → Type 0
+  abbrev GoesHere : CacheConfig → ℕ → List Line → List Line → Option (CacheHooks L W P K) → Option (CacheHooks L W P K) → List Entry → Type 0
   GoesHere = Goes load_of may verdict_of state_after
 
-  heard_at_more : (handed : Option (CacheHooks L W P K)) (h h' : CacheHooks L W P K) (xs ys : List (Request × Answer)) → HeardAt load_of may verdict_of state_after handed (Some h) xs → Heard load_of may verdict_of state_after h h' ys
-      → HeardAt load_of may verdict_of state_after handed (Some h') (xs ++ ys)
-  heard_at_more None h h' xs ys x y = absurd x
-  heard_at_more (Some old) h h' xs ys x y = heard_more load_of may verdict_of state_after old h h' xs ys x y
-
-  -- the line's own cache
-  module _ (c : CacheConfig) (all rest : List Line) (l : Line) (old new : Recording) (handed : Option (CacheHooks L W P K)) (h h' : CacheHooks L W P K) (reply : Reply)
-      (g : GoesHere c l.id all (l ∷ rest) handed (Some h) (statuses_of old) old.transcript) (r : ReachedFrom load_of may verdict_of state_after c g.state old new h h' l (Done reply)) where
+  -- the life of a call
+  module _ (c : CacheConfig) (s : State) (all rest : List Line) (l : LineCall) (old new : Recording) (handed h h' : Option (CacheHooks L W P K)) (reply : Reply) (left : standing_from c fresh (map played (entries_of l.id old.transcript.entries)) ≡ idle s)
+      (g : GoesHere c l.id all (as_line l ∷ rest) handed h old.transcript.entries) (r : ReachedFrom load_of may verdict_of state_after c s old new h h' l (Done reply)) where
     abbrev run : Run
-    run = run_alone c g.state l
+    run = run_alone c s l
 
     abbrev added_entry : Entry
     added_entry = entry_by l run r.answers
 
     abbrev before : List Entry
-    before = entries_of l.id old.transcript
+    before = entries_of l.id old.transcript.entries
 
     ends : Ends (answered run r.answers) reply
     ends = ends_with (answered run r.answers) reply r.shows
@@ -146,119 +134,110 @@ module _ {L W P K : Type 0} (load_of : L → List ℕ → Loaded) (may : W → L
     own : (l.id == l.id) ≡ true
     own = id_is_id l.id
 
-    added : entries_of l.id new.transcript ≡ before ++ added_entry ∷ []
-    added = ap (entries_of l.id) r.transcript ∙ entry_of_same l.id old.transcript added_entry own
+    added : entries_of l.id new.transcript.entries ≡ before ++ added_entry ∷ []
+    added = ap (entries_of l.id) r.entries ∙ entry_of_same l.id old.transcript.entries added_entry own
 
-    pub goes_same : GoesHere c l.id all rest handed (Some h') (statuses_of new) new.transcript
+    goes_same : GoesHere c l.id all rest handed h' new.transcript.entries
     goes_same = record {
-      state = ends.finally.state;
-      stands = ap (λ (ks : List Status). slice_get ks l.id) r.statuses ∙ at_same (statuses_of old) l.id (record { config = c; standing = idle g.state }) (record { config = c; standing = standing_of (answered run r.answers) }) g.stands
-          ∙ ap (λ (now : Run). Some (record { config = c; standing = standing_of now })) ends.is;
-      left = ap (λ (es : List Entry). standing_from c fresh (map played es)) added ∙ ap (standing_from c fresh) (map_push played before added_entry)
-          ∙ standing_push c fresh (map played before) (played added_entry) ∙ ap (λ (standing : Standing). after_call c (state_of standing) (played added_entry)) g.left
-          ∙ left_ended (answered run r.answers) ends.finally reply ends.is;
-      calls = ap (λ (es : List Entry). map line_of es ++ lines_of l.id rest) added ∙ ap (λ (ls : List Line). ls ++ lines_of l.id rest) (map_push line_of before added_entry)
-          ∙ append_assoc (map line_of before) (l ∷ []) (lines_of l.id rest) ∙ ap (λ (ls : List Line). map line_of before ++ ls) (sym (line_of_same l.id l rest own)) ∙ g.calls;
+      left = record {
+        state = ends.finally.state;
+        is = ap (λ (es : List Entry). standing_from c fresh (map played es)) added ∙ ap (standing_from c fresh) (map_push played before added_entry)
+            ∙ standing_push c fresh (map played before) (played added_entry) ∙ ap (λ (standing : Standing). after_call c (state_of standing) (played added_entry)) left
+            ∙ left_ended (answered run r.answers) ends.finally reply ends.is;
+      };
+      calls = ap (λ (es : List Entry). map line_of es ++ calls_on l.id rest) added ∙ ap (λ (ls : List LineCall). ls ++ calls_on l.id rest) (map_push line_of before added_entry)
+          ∙ append_assoc (map line_of before) (l ∷ []) (calls_on l.id rest) ∙ ap (λ (ls : List LineCall). map line_of before ++ ls) (sym (call_of_same l.id l rest own)) ∙ g.calls;
       replied = subst AllReplied (sym added) (replied_push before added_entry g.replied (subst (λ (now : Run). IsReply (end_of now)) (sym ends.is) tt));
       heard =
-          let exchanged_here : exchanges c fresh (entries_of l.id new.transcript) ≡ exchanges c fresh before ++ exchanged run r.answers =
+          let exchanged_here : exchanges c fresh (entries_of l.id new.transcript.entries) ≡ exchanges c fresh before ++ exchanged run r.answers =
           ap (exchanges c fresh) added ∙ exchanges_push c fresh before added_entry
-          ∙ ap (λ (standing : Standing). exchanges c fresh before ++ exchanged (run_of c (state_of standing) (played added_entry)) r.answers) g.left in
-          subst (HeardAt load_of may verdict_of state_after handed (Some h')) (sym exchanged_here) (heard_at_more handed h h' (exchanges c fresh before) (exchanged run r.answers) g.heard r.heard);
+          ∙ ap (λ (standing : Standing). exchanges c fresh before ++ exchanged (run_of c (state_of standing) (played added_entry)) r.answers) left in
+          subst (HeardAt load_of may verdict_of state_after handed h') (sym exchanged_here) (more_heard load_of may verdict_of state_after handed h h' (exchanges c fresh before) (exchanged run r.answers) g.heard r.heard);
     }
 
-  -- another cache
-  goes_other : (c : CacheConfig) (id : ℕ) (all rest : List Line) (l : Line) (e : Entry) (handed hooks hooks' : Option (CacheHooks L W P K)) (statuses statuses' : List Status) (transcript transcript' : List Entry) → (l.id == id) ≡ false
-      → (e.id == id) ≡ false → hooks' ≡ hooks → slice_get statuses' id ≡ slice_get statuses id → transcript' ≡ transcript ++ e ∷ [] → GoesHere c id all (l ∷ rest) handed hooks statuses transcript → GoesHere c id all rest handed hooks' statuses' transcript'
-  goes_other c id all rest l e handed hooks hooks' statuses statuses' transcript transcript' apart apart' same stays more g =
-      let entries_same : entries_of id transcript' ≡ entries_of id transcript = ap (entries_of id) more ∙ entry_of_other id transcript e apart' in
-      record {
-        state = g.state;
-        stands = stays ∙ g.stands;
-        left = ap (λ (es : List Entry). standing_from c fresh (map played es)) entries_same ∙ g.left;
-        calls = ap (λ (es : List Entry). map line_of es ++ lines_of id rest) entries_same ∙ ap (λ (ls : List Line). map line_of (entries_of id transcript) ++ ls) (sym (line_of_other id l rest apart)) ∙ g.calls;
-        replied = subst AllReplied (sym entries_same) g.replied;
-        heard = subst (λ (es : List Entry). HeardAt load_of may verdict_of state_after handed hooks' (exchanges c fresh es)) (sym entries_same)
-            (subst (λ (o : Option (CacheHooks L W P K)). HeardAt load_of may verdict_of state_after handed o (exchanges c fresh (entries_of id transcript))) (sym same) g.heard);
-      }
+  -- a line that is none of a life's calls
+  pub goes_past : (c : CacheConfig) (id : ℕ) (all rest rest' : List Line) (handed h h' : Option (CacheHooks L W P K)) (entries entries' : List Entry) → calls_on id rest' ≡ calls_on id rest → entries_of id entries' ≡ entries_of id entries → h' ≡ h
+      → GoesHere c id all rest handed h entries → GoesHere c id all rest' handed h' entries'
+  goes_past c id all rest rest' handed h h' entries entries' passed same_entries same g = record {
+    left = subst (λ (es : List Entry). IsIdle (standing_from c fresh (map played es))) (sym same_entries) g.left;
+    calls = ap (λ (es : List Entry). map line_of es ++ calls_on id rest') same_entries ∙ ap (λ (ls : List LineCall). map line_of (entries_of id entries) ++ ls) passed ∙ g.calls;
+    replied = subst AllReplied (sym same_entries) g.replied;
+    heard = subst (λ (es : List Entry). HeardAt load_of may verdict_of state_after handed h' (exchanges c fresh es)) (sym same_entries)
+        (subst (λ (o : Option (CacheHooks L W P K)). HeardAt load_of may verdict_of state_after handed o (exchanges c fresh (entries_of id entries))) (sym same) g.heard);
+  }
 
-  module _ (caches : List CacheConfig) (handed : List (CacheHooks L W P K)) (all rest : List Line) (l : Line) (old new : Recording) (hooks hooks' : List (CacheHooks L W P K))
-      (half : Halfway load_of may verdict_of state_after caches handed all (l ∷ rest) old hooks) (r : RepliesAt load_of may verdict_of state_after old new hooks hooks' l) where
-    abbrev done : Reached load_of may verdict_of state_after old new r.before r.after l (Done r.replies.reply)
+  -- A line that makes a call.
+
+  module _ (old new : Recording) (hooks hooks' : List (CacheHooks L W P K)) (l : LineCall) (at_rest : IsAtRest old) (r : RepliesAt load_of may verdict_of state_after old new hooks hooks' l) where
+    abbrev done : Reached load_of may verdict_of state_after old new (slice_get hooks l.id) (slice_get hooks' l.id) l (Done r.replies.reply)
     done = r.replies.done
+
+    abbrev answered_run : Run
+    answered_run = answered (run_alone done.config done.state l) done.reached.answers
 
     abbrev entry : Entry
     entry = entry_by l (run_alone done.config done.state l) done.reached.answers
 
-    goes : (id : ℕ) (c : CacheConfig) → GoesHere c id all (l ∷ rest) (slice_get handed id) (slice_get hooks id) (statuses_of old) old.transcript → GoesHere c id all rest (slice_get handed id) (slice_get hooks' id) (statuses_of new) new.transcript
-    goes id c g = by (l.id == id) refl
-      where
-        here : (c : CacheConfig) → GoesHere c l.id all (l ∷ rest) (slice_get handed l.id) (slice_get hooks l.id) (statuses_of old) old.transcript → GoesHere c l.id all rest (slice_get handed l.id) (slice_get hooks' l.id) (statuses_of new) new.transcript
-        here c g =
-            let there : GoesHere c l.id all (l ∷ rest) (slice_get handed l.id) (Some r.before) (statuses_of old) old.transcript =
-            subst (λ (o : Option (CacheHooks L W P K)). GoesHere c l.id all (l ∷ rest) (slice_get handed l.id) o (statuses_of old) old.transcript) r.there g in
-            let after : slice_get hooks' l.id ≡ Some r.after = ap (λ (hs : List (CacheHooks L W P K)). slice_get hs l.id) r.others ∙ at_same hooks l.id r.before r.after r.there in
-            subst (λ (o : Option (CacheHooks L W P K)). GoesHere c l.id all rest (slice_get handed l.id) o (statuses_of new) new.transcript) (sym after)
-            (goes_same c all rest l old new (slice_get handed l.id) r.before r.after r.replies.reply there (reached_at c there.state old new r.before r.after l (Done r.replies.reply) done there.stands))
+    abbrev stood : Status
+    stood = record { config = done.config; standing = idle done.state }
 
-        by : (b : Bool) → (l.id == id) ≡ b → GoesHere c id all rest (slice_get handed id) (slice_get hooks' id) (statuses_of new) new.transcript
-        by true is =
-            let P : ℕ → Type 0 = λ i. GoesHere c i all (l ∷ rest) (slice_get handed i) (slice_get hooks i) (statuses_of old) old.transcript → GoesHere c i all rest (slice_get handed i) (slice_get hooks' i) (statuses_of new) new.transcript in
-            subst P (is_same l.id id is) (here c) g
-        by false is =
-            goes_other c id all rest l entry (slice_get handed id) (slice_get hooks id) (slice_get hooks' id) (statuses_of old) (statuses_of new) old.transcript new.transcript is is
-            (ap (λ (hs : List (CacheHooks L W P K)). slice_get hs id) r.others ∙ at_other hooks l.id id r.after (is_other l.id id is))
-            (ap (λ (ks : List Status). slice_get ks id) done.reached.statuses ∙ at_other (statuses_of old) l.id id _ (is_other l.id id is))
-            done.reached.transcript g
+    abbrev stands : Status
+    stands = record { config = done.config; standing = standing_of answered_run }
 
-    pub one_line_more : Halfway load_of may verdict_of state_after caches handed all rest new hooks'
-    one_line_more = record {
-      configs = sym (configs_by new.caches) ∙ ap legal.configs_of done.reached.statuses
-          ∙ same_configs (statuses_of old) l.id (record { config = done.config; standing = idle done.state }) (record { config = done.config; standing = standing_of (answered (run_alone done.config done.state l) done.reached.answers) }) done.there refl
-          ∙ configs_by old.caches ∙ half.configs;
-      closed = subst NoneOpen (sym done.reached.transcript)
-          (none_open_more old.transcript entry half.closed (over l (run_alone done.config done.state l) done.reached.answers r.replies.reply (ends_with (answered (run_alone done.config done.state l) done.reached.answers) r.replies.reply done.reached.shows)));
-      each = λ id c at. goes id c (half.each id c at);
+    ended_so : Ends answered_run r.replies.reply
+    ended_so = ends_with answered_run r.replies.reply done.reached.shows
+
+    rests : (id : ℕ) (k : Status) (b : Bool) → (l.id == id) ≡ b → live_at (lives_now new) id ≡ Some k → IsIdle k.standing
+    rests id k true is at =
+        let here : live_at (lives_now new) l.id ≡ Some k = subst (λ (i : ℕ). live_at (lives_now new) i ≡ Some k) (sym (is_same l.id id is)) at in
+        let there : live_at (lives_now new) l.id ≡ Some stands = ap (λ (ks : Lives). live_at ks l.id) done.reached.lives ∙ live_same (lives_now old) l.id stood (Some stands) done.there in
+        let same : stands ≡ k = same_Some stands k (sym there ∙ here) in
+        record { state = ended_so.finally.state; is = ap (λ (x : Status). x.standing) (sym same) ∙ ap standing_of ended_so.is }
+    rests id k false is at =
+        at_rest.resting id k (sym (ap (λ (ks : Lives). live_at ks id) done.reached.lives ∙ live_other (lives_now old) l.id id (Some stands) (is_other l.id id is)) ∙ at)
+
+    pub call_follows : Follows old new (as_line l)
+    call_follows = record {
+      read = ap as_read done.reached.lives ∙ read_same (lives_now old) l.id stood stands done.there refl;
+      begun = done.reached.begun ∙ sym (append-nil old.transcript.lives);
+      rest = record {
+        told = done.reached.told;
+        counted = ap length done.reached.begun ∙ at_rest.counted ∙ sym (ap length done.reached.lives ∙ same_length (lives_now old) l.id (Some stands));
+        closed = subst NoneOpen (sym done.reached.entries) (none_open_more old.transcript.entries entry at_rest.closed (over l (run_alone done.config done.state l) done.reached.answers r.replies.reply ended_so));
+        resting = λ id k at. rests id k (l.id == id) refl at;
+      };
     }
 
-  -- the next line's call can begin
-  module _ (r : Recording) (hooks : List (CacheHooks L W P K)) (l : Line) (rest : List Line) (can : CanRun load_of may verdict_of state_after r hooks (l ∷ rest)) where
-    abbrev named : Names can.caches l
-    named = can.named.0
+    module _ (handed : List (CacheHooks L W P K)) (all rest : List Line) where
+      told_here : IsTold old.transcript l.id stood
+      told_here = at_rest.told.each l.id stood done.there
 
-    begins_so : (run : Run) (b : Bool) → b ≡ true → refuse_last false (if b then shown run else Refused NoSuchProcessor) ≡ Stepped (step_shown run)
-    begins_so run b has = rw has (reply_kept (shown run) ∙ shows_step run)
+      goes_here : (c : CacheConfig) → config_of l.id old.transcript.lives ≡ Some c → GoesHere c l.id all (as_line l ∷ rest) (slice_get handed l.id) (slice_get hooks l.id) old.transcript.entries
+          → GoesHere c l.id all rest (slice_get handed l.id) (slice_get hooks' l.id) new.transcript.entries
+      goes_here c is =
+          let same : done.config ≡ c = same_Some done.config c (sym told_here.0 ∙ is) in
+          subst (λ (d : CacheConfig). GoesHere d l.id all (as_line l ∷ rest) (slice_get handed l.id) (slice_get hooks l.id) old.transcript.entries → GoesHere d l.id all rest (slice_get handed l.id) (slice_get hooks' l.id) new.transcript.entries) same
+          (λ g. goes_same done.config done.state all rest l old new (slice_get handed l.id) (slice_get hooks l.id) (slice_get hooks' l.id) r.replies.reply (sym told_here.1) g done.reached)
 
-    pub next_ready : IsReady r l
-    next_ready =
-        let c : CacheConfig = named.config in
-        let g : GoesHere c l.id can.all (l ∷ rest) (slice_get can.handed l.id) (slice_get hooks l.id) (statuses_of r) r.transcript = can.halfway.each l.id c named.there in
-        record {
-          config = c;
-          state = g.state;
-          there = g.stands;
-          moves = record {
-            step = step_shown (run_alone c g.state l);
-            outcome = ap (λ (found : Option Status). answer_of found (begins l.at l.call) false) g.stands ∙ begins_so (run_alone c g.state l) (has_processor c l.call) named.processor;
-          };
-          closed = can.halfway.closed;
-        }
+      goes_by : (id : ℕ) (c : CacheConfig) (b : Bool) → (l.id == id) ≡ b → config_of id old.transcript.lives ≡ Some c → GoesHere c id all (as_line l ∷ rest) (slice_get handed id) (slice_get hooks id) old.transcript.entries
+          → GoesHere c id all rest (slice_get handed id) (slice_get hooks' id) new.transcript.entries
+      goes_by id c true is config g =
+          let Step : ℕ → Type 0 = λ i. config_of i old.transcript.lives ≡ Some c → GoesHere c i all (as_line l ∷ rest) (slice_get handed i) (slice_get hooks i) old.transcript.entries → GoesHere c i all rest (slice_get handed i) (slice_get hooks' i) new.transcript.entries in
+          subst Step (is_same l.id id is) (goes_here c) config g
+      goes_by id c false is config g =
+          goes_past c id all (as_line l ∷ rest) rest (slice_get handed id) (slice_get hooks id) (slice_get hooks' id) old.transcript.entries new.transcript.entries (sym (call_of_other id l rest is))
+          (ap (entries_of id) done.reached.entries ∙ entry_of_other id old.transcript.entries entry is) (r.others id (is_other l.id id is)) g
 
-    pub next_there : l.id < length hooks
-    next_there =
-        let below : l.id < length can.caches = slice_get_within can.caches l.id named.config named.there in
-        omega (arith, below, can.counted)
+      pub call_goes : (id : ℕ) (c : CacheConfig) → (config_of id old.transcript.lives ≡ Some c → GoesHere c id all (as_line l ∷ rest) (slice_get handed id) (slice_get hooks id) old.transcript.entries) → config_of id new.transcript.lives ≡ Some c
+          → GoesHere c id all rest (slice_get handed id) (slice_get hooks' id) new.transcript.entries
+      call_goes id c goes config =
+          let config' : config_of id old.transcript.lives ≡ Some c = sym (ap (config_of id) done.reached.begun) ∙ config in
+          goes_by id c (l.id == id) refl config' (goes config')
 
-    pub can_go_on : (new : Recording) (hooks' : List (CacheHooks L W P K)) → RepliesAt load_of may verdict_of state_after r new hooks hooks' l → CanRun load_of may verdict_of state_after new hooks' rest
-    can_go_on new hooks' replied = record {
-      caches = can.caches;
-      handed = can.handed;
-      all = can.all;
-      halfway = one_line_more can.caches can.handed can.all rest l r new hooks hooks' can.halfway replied;
-      named = can.named.1;
-      counted = ap length replied.others ∙ length_set hooks l.id replied.after ∙ can.counted;
-    }
-
-pub none_left : (lines : List Line) → length lines ≡ 0 → lines ≡ []
-none_left [] e = refl
-none_left (l ∷ ls) e = absurd (omega (arith, e))
+      pub call_comes : (id : ℕ) → (length (lives_now old) ≤ id → Comes id all (as_line l ∷ rest) (slice_get handed id) (slice_get hooks id)) → length (lives_now new) ≤ id → Comes id all rest (slice_get handed id) (slice_get hooks' id)
+      call_comes id comes beyond =
+          let as_many : length (lives_now new) ≡ length (lives_now old) = ap length done.reached.lives ∙ same_length (lives_now old) l.id (Some stands) in
+          let given : l.id < length (lives_now old) = live_within (lives_now old) l.id stood done.there in
+          let apart : (l.id == id) ≡ false = grind (arith, nat_tests) in
+          let before : Comes id all (as_line l ∷ rest) (slice_get handed id) (slice_get hooks id) = comes (omega (arith, beyond, as_many)) in
+          record { calls = sym (call_of_other id l rest apart) ∙ before.calls; same = r.others id (is_other l.id id apart) ∙ before.same }

@@ -1,6 +1,6 @@
--- Each cache alone: the calls of its lines in their order, as its solo run takes them under the answers of its callbacks.
-use Rattle.std.specs.Prelude.{◌≡◌, ℕ, ◌+◌, ◌==◌, false, List, [], ◌∷◌, ◌++◌, map, ⊤}
-use Rattle.std.specs.List.{filter, flat_map}
+-- Each life of a cache alone: the calls of its lines in their order, as its solo run takes them under the answers of its callbacks.
+use Rattle.std.specs.Prelude.{◌≡◌, ℕ, ◌==◌, false, if◌then◌else◌, List, [], ◌∷◌, ◌++◌, map, ⊤}
+use Rattle.std.specs.List.{flat_map}
 use Rattle.jc_model.specs.declared.call.Answer.{Answer}
 use Rattle.jc_model.specs.declared.call.Request.{Request}
 use Rattle.jc_model.specs.declared.config.CacheConfig.{CacheConfig}
@@ -9,18 +9,29 @@ use Rattle.jc_model.specs.declared.event.End.TheVariants.{Replied, Waiting}
 use Rattle.jc_model.specs.declared.event.Entry.{Entry}
 use Rattle.jc_model.specs.State.{State}
 use Rattle.jc_model.specs.Run.{Run, ended, waiting, answered}
-use Rattle.jc_model.specs.Runs.{Standing}
-use Rattle.jc_model.specs.Solo.{run_of, after_call, state_of, fresh}
+use Rattle.jc_model.specs.declared.event.Life.{Life}
+use Rattle.jc_model.specs.Runs.{Standing, fresh}
+use Rattle.jc_model.specs.Solo.{run_of, after_call, state_of}
 use Rattle.jc_model.specs.Whole.{whole}
 use Rattle.jc_model.specs.Legal.{IsLegalFrom, played, told_in}
 use Rattle.jc_script.specs.declared.line.Line.{Line}
-use Rattle.jc_script.specs.Report.{header, entry_text}
+use Rattle.jc_script.specs.declared.line.Line.TheVariants as line
+use Rattle.jc_script.specs.Managing.{lives_of, managed_of}
+use Rattle.jc_script.specs.Report.{header, entry_text, managed_text}
+use Rattle.jc_runner.specs.declared.calls.LineCall.{LineCall}
 
-abbrev pub lines_of : ℕ → List Line → List Line
-lines_of id lines = filter (λ l. l.id == id) lines
+-- the call that a line makes on the cache with this id
+abbrev pub call_on : ℕ → Line → List LineCall
+call_on id (line.Call session i at call) = if i == id then record { session = session; id = i; at = at; call = call } ∷ [] else []
+call_on id (line.Create session c) = []
+call_on id (line.Destroy session i) = []
 
--- the line whose call an entry is
-abbrev pub line_of : Entry → Line
+-- those of all lines; an id is given once, so that they are all of one life
+abbrev pub calls_on : ℕ → List Line → List LineCall
+calls_on id lines = flat_map (call_on id) lines
+
+-- the line's call that an entry is
+abbrev pub line_of : Entry → LineCall
 line_of e = record { session = e.session; id = e.id; at = e.at; call = e.call }
 
 abbrev pub IsReply : End → Type 0
@@ -31,8 +42,8 @@ abbrev pub AllReplied : List Entry → Type 0
 AllReplied [] = ⊤
 AllReplied (e ∷ es) = IsReply e.end × AllReplied es
 
--- a cache's entries are those of its solo run on these lines, each once and in order, and every call replies
-pub record IsAlone (c : CacheConfig) (own : List Line) (entries : List Entry) : Type 0 where
+-- the entries are those of a solo run of these calls, each once and in order, and every call replies
+pub record IsAlone (c : CacheConfig) (own : List LineCall) (entries : List Entry) : Type 0 where
   pub calls : map line_of entries ≡ own
   pub legal : IsLegalFrom c fresh entries
   pub replied : AllReplied entries
@@ -43,15 +54,19 @@ exchanged (ended p r) answers = []
 exchanged (waiting q p resumed) [] = []
 exchanged (waiting q p resumed) (a ∷ rest) = (q, a) ∷ exchanged (resumed a) rest
 
--- those of all calls of a cache
+-- those of all calls of a life
 abbrev pub exchanges : CacheConfig → Standing → List Entry → List (Request × Answer)
 exchanges c standing [] = []
 exchanges c standing (e ∷ es) = exchanged (run_of c (state_of standing) (played e)) e.answers ++ exchanges c (after_call c (state_of standing) (played e)) es
 
--- the report of the caches from number id on, by the entries of each
-abbrev pub alone_from : (ℕ → List Entry) → ℕ → List CacheConfig → List ℕ
-alone_from entries id [] = []
-alone_from entries id (c ∷ caches) = header c.name ++ flat_map entry_text (entries id) ++ alone_from entries (id + 1) caches
+-- the report of these lives, by the entries of each
+abbrev pub alone_from : (ℕ → List Entry) → List Life → List ℕ
+alone_from entries [] = []
+alone_from entries (life ∷ lives) = header life.config.name ++ flat_map entry_text (entries life.id) ++ alone_from entries lives
+
+-- the whole report of a script on these caches: all lives, then the manager's lines
+abbrev pub alone : (ℕ → List Entry) → List CacheConfig → List Line → List ℕ
+alone entries caches lines = alone_from entries (lives_of caches lines) ++ managed_text (managed_of caches lines)
 
 -- A call in its midst.
 
@@ -59,10 +74,10 @@ abbrev pub end_of : Run → End
 end_of (ended p r) = Replied r
 end_of (waiting q p resumed) = Waiting
 
-abbrev pub run_alone : CacheConfig → State → Line → Run
+abbrev pub run_alone : CacheConfig → State → LineCall → Run
 run_alone c s l = whole c l.at l.call s
 
 -- the entry of a line's call, as far as it was answered
-abbrev pub entry_by : Line → Run → List Answer → Entry
+abbrev pub entry_by : LineCall → Run → List Answer → Entry
 entry_by l run answers =
     record { session = l.session; id = l.id; at = l.at; call = l.call; answers = answers; told = told_in run answers false; end = end_of (answered run answers) }

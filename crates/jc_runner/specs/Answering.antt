@@ -28,34 +28,44 @@ notices_in given = flat_map (λ x. told_by x.0) given
 
 module _ {L W P K : Type 0} (load_of : L → List ℕ → Loaded) (may : W → List (Request × Answer) → Type 0) (verdict_of : P → Option (List ℕ) → List ℕ → Result Verdict ProcessorFault) (state_after : K → List Notice → List ℕ) where
   -- the answers of loader and processors are their functions of the request
-  abbrev pub IsStated : CacheHooks L W P K → Request → Answer → Type 0
-  IsStated h (Load key) a = a ≡ load_by load_of h.loader key
-  IsStated h (Write key value) a = IsTrue (fits for_write a)
-  IsStated h (Delete key) a = IsTrue (fits for_write a)
-  IsStated h (Process key n value argument) a = a ≡ verdict_by verdict_of (slice_get h.processors.items n) value argument
-  IsStated h (Tell notices) a = a ≡ Told
+  abbrev pub IsStated : Option L → List P → Request → Answer → Type 0
+  IsStated loader processors (Load key) a = a ≡ load_by load_of loader key
+  IsStated loader processors (Write key value) a = IsTrue (fits for_write a)
+  IsStated loader processors (Delete key) a = IsTrue (fits for_write a)
+  IsStated loader processors (Process key n value argument) a = a ≡ verdict_by verdict_of (slice_get processors n) value argument
+  IsStated loader processors (Tell notices) a = a ≡ Told
 
-  abbrev pub AllStated : CacheHooks L W P K → List (Request × Answer) → Type 0
-  AllStated h [] = ⊤
-  AllStated h (x ∷ given) = IsStated h x.0 x.1 × AllStated h given
+  abbrev pub AllStated : Option L → List P → List (Request × Answer) → Type 0
+  AllStated loader processors [] = ⊤
+  AllStated loader processors (x ∷ given) = IsStated loader processors x.0 x.1 × AllStated loader processors given
+
+  -- no callbacks have answered these requests
+  abbrev pub Unheard : List (Request × Answer) → Type 0
+  Unheard given = AllStated None [] given
 
   -- the callbacks have answered these requests so, and stand as they stated before
   pub record Served (old new : CacheHooks L W P K) (given : List (Request × Answer)) : Type 0 where
-    pub stated : AllStated old given
+    pub stated : AllStated old.loader old.processors.items given
     pub writes : MayGiveBy may old.writer (written_in given)
     pub tells : (rest : List Notice) → states_after state_after new.listeners.items rest ≡ states_after state_after old.listeners.items (notices_in given ++ rest)
+
+  -- of the callbacks of a cache that has them or has none
+  abbrev pub ServedAt : Option (CacheHooks L W P K) → Option (CacheHooks L W P K) → List (Request × Answer) → Type 0
+  ServedAt None None given = Unheard given
+  ServedAt None (Some new) given = ⊥
+  ServedAt (Some old) None given = ⊥
+  ServedAt (Some old) (Some new) given = Served old new given
 
   -- the same in the midst of a run: what they may answer and state from now on, they stated behind this
   pub record Heard (old new : CacheHooks L W P K) (given : List (Request × Answer)) : Type 0 where
     pub loader : new.loader ≡ old.loader
     pub processors : new.processors.items ≡ old.processors.items
-    pub stated : AllStated old given
+    pub stated : AllStated old.loader old.processors.items given
     pub writes : (rest : List (Request × Answer)) → MayGiveBy may new.writer rest → MayGiveBy may old.writer (written_in given ++ rest)
     pub tells : (rest : List Notice) → states_after state_after new.listeners.items rest ≡ states_after state_after old.listeners.items (notices_in given ++ rest)
 
-  -- of the callbacks at one place
   abbrev pub HeardAt : Option (CacheHooks L W P K) → Option (CacheHooks L W P K) → List (Request × Answer) → Type 0
-  HeardAt None None given = ⊤
+  HeardAt None None given = Unheard given
   HeardAt None (Some new) given = ⊥
   HeardAt (Some old) None given = ⊥
   HeardAt (Some old) (Some new) given = Heard old new given

@@ -1,5 +1,6 @@
 -- A run in its midst: what was recorded, and what the lines that are left will add to it.
-use Rattle.std.specs.Prelude.{◌≡◌, ℕ, false, List, [], ◌∷◌, ◌++◌, length, map, slice_get, slice_set, Option, Some, Result}
+use Rattle.std.specs.Prelude.{◌≡◌, ◌≢◌, ℕ, ◌≤◌, false, List, [], ◌∷◌, ◌++◌, length, map, slice_get, slice_set, Option, Some, Result}
+use Rattle.std.specs.Option.{option_map}
 use Rattle.jc_model.specs.declared.call.Answer.{Answer}
 use Rattle.jc_model.specs.declared.call.Notice.{Notice}
 use Rattle.jc_model.specs.declared.call.ProcessorFault.{ProcessorFault}
@@ -9,101 +10,120 @@ use Rattle.jc_model.specs.declared.call.Verdict.{Verdict}
 use Rattle.jc_model.specs.declared.config.CacheConfig.{CacheConfig}
 use Rattle.jc_model.specs.declared.event.Entry.{Entry}
 use Rattle.jc_model.specs.declared.event.Event.{Event}
-use Rattle.jc_model.specs.declared.event.Event.TheVariants.{Begin}
-use Rattle.jc_model.specs.declared.event.Outcome.TheVariants.{Step as Stepped}
+use Rattle.jc_model.specs.declared.event.Event.TheVariants.{Begin, Create, Destroy}
+use Rattle.jc_model.specs.declared.event.Outcome.{Outcome}
+use Rattle.jc_model.specs.declared.event.Outcome.TheVariants.{Step as Stepped, Destroyed}
 use Rattle.jc_model.specs.declared.event.Step.{Step}
 use Rattle.jc_model.specs.declared.event.Step.TheVariants.{Done}
 use Rattle.jc_model.specs.State.{State}
 use Rattle.jc_model.specs.Run.{answered}
-use Rattle.jc_model.specs.Runs.{Status, idle, shown, standing_of, answer_to, statuses_after}
-use Rattle.jc_model.specs.Solo.{standing_from, fresh}
-use Rattle.jc_model.specs.Legal.{Fits, played, entries_of, on_open, recorded}
-use Rattle.jc_engine.specs.Caches.{configs_of, status_of}
+use Rattle.jc_model.specs.Runs.{Status, Standing, idle, fresh, opened, Lives, live_at, shown, standing_of, answer_to, lives_after}
+use Rattle.jc_model.specs.Solo.{standing_from}
+use Rattle.jc_model.specs.Legal.{Fits, played, entries_of, config_of, on_open, recorded, Tells}
+use Rattle.jc_engine.specs.Caches.{lives_of}
 use Rattle.jc_engine.specs.Recording.{Recording}
 use Rattle.jc_hooks.specs.declared.cache_hooks.CacheHooks.{CacheHooks}
 use Rattle.jc_hooks.specs.declared.loader.Loaded.{Loaded}
 use Rattle.jc_script.specs.declared.line.Line.{Line}
-use Rattle.jc_script.specs.Named.{AllName}
-use Rattle.jc_runner.specs.Alone.{lines_of, line_of, AllReplied, exchanged, exchanges, run_alone, entry_by}
-use Rattle.jc_runner.specs.Answering.{Heard, HeardAt}
+use Rattle.jc_script.specs.declared.line.Line.TheVariants as line
+use Rattle.jc_script.specs.declared.managed.Managed.{Managed}
+use Rattle.jc_script.specs.Managing.{begun_from, managed_from, managed_of, lives_of as lives_of_all}
+use Rattle.jc_runner.specs.Alone.{calls_on, line_of, AllReplied, exchanged, exchanges, run_alone, entry_by}
+use Rattle.jc_runner.specs.Answering.{HeardAt}
+use Rattle.jc_runner.specs.declared.calls.LineCall.{LineCall}
 
-abbrev pub statuses_of : Recording → List Status
-statuses_of r = map status_of r.caches
+abbrev pub lives_now : Recording → Lives
+lives_now r = lives_of r.caches
 
-abbrev pub event_of : Line → Event
+-- the caches as a script's reader follows them, each as it is opened
+abbrev pub as_read : Lives → Lives
+as_read lives = map (option_map (λ k. opened k.config)) lives
+
+abbrev pub event_of : LineCall → Event
 event_of l = Begin l.id l.at l.call
 
--- this event is answered by this step, where memory suffices
+-- this event is answered by a step, where memory suffices
 pub record CanMove (r : Recording) (event : Event) : Type 0 where
   pub step : Step
-  pub outcome : answer_to (statuses_of r) event false ≡ Stepped step
+  pub outcome : answer_to (lives_now r) event false ≡ Stepped step
 
--- it was answered so, and recorded
-pub record Moves (old new : Recording) (session : ℕ) (event : Event) (step : Step) : Type 0 where
-  pub outcome : Stepped step ≡ answer_to (statuses_of old) event false
-  pub statuses : statuses_of new ≡ statuses_after (statuses_of old) event (Stepped step)
-  pub transcript : new.transcript ≡ recorded session event (Stepped step) old.transcript
+-- an event had this outcome, and was recorded
+pub record Moves (old new : Recording) (session : ℕ) (event : Event) (outcome : Outcome) : Type 0 where
+  pub answers : outcome ≡ answer_to (lives_now old) event false
+  pub lives : lives_now new ≡ lives_after (lives_now old) event outcome
+  pub transcript : new.transcript ≡ recorded session event outcome old.transcript
 
 -- no entry waits
 abbrev pub NoneOpen : List Entry → Type 0
-NoneOpen transcript = (id : ℕ) (f : Entry → Entry) → on_open id f transcript ≡ transcript
+NoneOpen entries = (id : ℕ) (f : Entry → Entry) → on_open id f entries ≡ entries
+
+pub record IsIdle (standing : Standing) : Type 0 where
+  pub state : State
+  pub is : standing ≡ idle state
+
+-- Between two lines no call is open. Every id has had a life.
+pub record IsAtRest (r : Recording) : Type 0 where
+  pub told : Tells r.transcript (lives_now r)
+  pub counted : length r.transcript.lives ≡ length (lives_now r)
+  pub closed : NoneOpen r.transcript.entries
+  pub resting : (id : ℕ) (k : Status) → live_at (lives_now r) id ≡ Some k → IsIdle k.standing
 
 -- a line's call can begin
-pub record IsReady (r : Recording) (l : Line) : Type 0 where
+pub record IsReady (r : Recording) (l : LineCall) : Type 0 where
   pub config : CacheConfig
   pub state : State
-  pub there : slice_get (statuses_of r) l.id ≡ Some (record { config = config; standing = idle state })
+  pub there : live_at (lives_now r) l.id ≡ Some (record { config = config; standing = idle state })
   pub moves : CanMove r (event_of l)
-  pub closed : NoneOpen r.transcript
+  pub rest : IsAtRest r
+
+-- an id that is still to come has not been called
+pub record Comes {L W P K : Type 0} (id : ℕ) (all rest : List Line) (handed hooks : Option (CacheHooks L W P K)) : Type 0 where
+  pub calls : calls_on id rest ≡ calls_on id all
+  pub same : hooks ≡ handed
 
 module _ {L W P K : Type 0} (load_of : L → List ℕ → Loaded) (may : W → List (Request × Answer) → Type 0) (verdict_of : P → Option (List ℕ) → List ℕ → Result Verdict ProcessorFault) (state_after : K → List Notice → List ℕ) where
   -- a line's call has come to this step, its requests so far being answered by the callbacks of its cache
-  pub record ReachedFrom (c : CacheConfig) (s : State) (old new : Recording) (h h' : CacheHooks L W P K) (l : Line) (step : Step) : Type 0 where
+  pub record ReachedFrom (c : CacheConfig) (s : State) (old new : Recording) (h h' : Option (CacheHooks L W P K)) (l : LineCall) (step : Step) : Type 0 where
     pub answers : List Answer
     pub fit : Fits (run_alone c s l) answers
     pub shows : shown (answered (run_alone c s l) answers) ≡ Stepped step
-    pub statuses : statuses_of new ≡ slice_set (statuses_of old) l.id (record { config = c; standing = standing_of (answered (run_alone c s l) answers) })
-    pub transcript : new.transcript ≡ old.transcript ++ entry_by l (run_alone c s l) answers ∷ []
-    pub heard : Heard load_of may verdict_of state_after h h' (exchanged (run_alone c s l) answers)
+    pub lives : lives_now new ≡ slice_set (lives_now old) l.id (Some (record { config = c; standing = standing_of (answered (run_alone c s l) answers) }))
+    pub begun : new.transcript.lives ≡ old.transcript.lives
+    pub entries : new.transcript.entries ≡ old.transcript.entries ++ entry_by l (run_alone c s l) answers ∷ []
+    pub told : Tells new.transcript (lives_now new)
+    pub heard : HeardAt load_of may verdict_of state_after h h' (exchanged (run_alone c s l) answers)
 
-  pub record Reached (old new : Recording) (h h' : CacheHooks L W P K) (l : Line) (step : Step) : Type 0 where
+  pub record Reached (old new : Recording) (h h' : Option (CacheHooks L W P K)) (l : LineCall) (step : Step) : Type 0 where
     pub config : CacheConfig
     pub state : State
-    pub there : slice_get (statuses_of old) l.id ≡ Some (record { config = config; standing = idle state })
+    pub there : live_at (lives_now old) l.id ≡ Some (record { config = config; standing = idle state })
     pub reached : ReachedFrom config state old new h h' l step
 
   -- it has replied
-  pub record Replies (old new : Recording) (h h' : CacheHooks L W P K) (l : Line) : Type 0 where
+  pub record Replies (old new : Recording) (h h' : Option (CacheHooks L W P K)) (l : LineCall) : Type 0 where
     pub reply : Reply
     pub done : Reached old new h h' l (Done reply)
 
   -- and the callbacks of all other caches are as they were
-  pub record RepliesAt (old new : Recording) (hooks hooks' : List (CacheHooks L W P K)) (l : Line) : Type 0 where
-    pub before : CacheHooks L W P K
-    pub after : CacheHooks L W P K
-    pub there : slice_get hooks l.id ≡ Some before
-    pub others : hooks' ≡ slice_set hooks l.id after
-    pub replies : Replies old new before after l
+  pub record RepliesAt (old new : Recording) (hooks hooks' : List (CacheHooks L W P K)) (l : LineCall) : Type 0 where
+    pub replies : Replies old new (slice_get hooks l.id) (slice_get hooks' l.id) l
+    pub others : (id : ℕ) → l.id ≢ id → slice_get hooks' id ≡ slice_get hooks id
 
-  -- no call of the cache is open; what was recorded of it, with the lines that are left, are all of its lines
-  pub record Goes (c : CacheConfig) (id : ℕ) (all rest : List Line) (handed hooks : Option (CacheHooks L W P K)) (statuses : List Status) (transcript : List Entry) : Type 0 where
-    pub state : State
-    pub stands : slice_get statuses id ≡ Some (record { config = c; standing = idle state })
-    pub left : standing_from c fresh (map played (entries_of id transcript)) ≡ idle state
-    pub calls : map line_of (entries_of id transcript) ++ lines_of id rest ≡ lines_of id all
-    pub replied : AllReplied (entries_of id transcript)
-    pub heard : HeardAt load_of may verdict_of state_after handed hooks (exchanges c fresh (entries_of id transcript))
+  -- a line was run
+  abbrev pub RunsLine : Recording → Recording → List (CacheHooks L W P K) → List (CacheHooks L W P K) → Line → Type 0
+  RunsLine old new hooks hooks' (line.Call session id at call) = RepliesAt old new hooks hooks' (record { session = session; id = id; at = at; call = call })
+  RunsLine old new hooks hooks' (line.Create session c) = Moves old new session (Create c) (answer_to (lives_now old) (Create c) false) × (hooks' ≡ hooks)
+  RunsLine old new hooks hooks' (line.Destroy session id) = Moves old new session (Destroy id) Destroyed × (hooks' ≡ hooks)
 
-  pub record Halfway (caches : List CacheConfig) (handed : List (CacheHooks L W P K)) (all rest : List Line) (r : Recording) (hooks : List (CacheHooks L W P K)) : Type 0 where
-    pub configs : configs_of r.caches ≡ caches
-    pub closed : NoneOpen r.transcript
-    pub each : (id : ℕ) (c : CacheConfig) → slice_get caches id ≡ Some c → Goes c id all rest (slice_get handed id) (slice_get hooks id) (statuses_of r) r.transcript
+  -- what was recorded of a life, with the lines that are left, are all of its calls
+  pub record Goes (c : CacheConfig) (id : ℕ) (all rest : List Line) (handed hooks : Option (CacheHooks L W P K)) (entries : List Entry) : Type 0 where
+    pub left : IsIdle (standing_from c fresh (map played (entries_of id entries)))
+    pub calls : map line_of (entries_of id entries) ++ calls_on id rest ≡ calls_on id all
+    pub replied : AllReplied (entries_of id entries)
+    pub heard : HeardAt load_of may verdict_of state_after handed hooks (exchanges c fresh (entries_of id entries))
 
-  -- what is left to run: each line names a cache and a processor that are there
-  pub record CanRun (r : Recording) (hooks : List (CacheHooks L W P K)) (lines : List Line) : Type 0 where
-    pub caches : List CacheConfig
-    pub handed : List (CacheHooks L W P K)
-    pub all : List Line
-    pub halfway : Halfway caches handed all lines r hooks
-    pub named : AllName caches lines
-    pub counted : length hooks ≡ length caches
+  pub record Halfway (caches : List CacheConfig) (handed : List (CacheHooks L W P K)) (all rest : List Line) (r : Recording) (hooks : List (CacheHooks L W P K)) (managed : List Managed) : Type 0 where
+    pub lives : r.transcript.lives ++ begun_from (as_read (lives_now r)) rest ≡ lives_of_all caches all
+    pub answers : managed ++ managed_from (as_read (lives_now r)) rest ≡ managed_of caches all
+    pub each : (id : ℕ) (c : CacheConfig) → config_of id r.transcript.lives ≡ Some c → Goes c id all rest (slice_get handed id) (slice_get hooks id) r.transcript.entries
+    pub others : (id : ℕ) → length (lives_now r) ≤ id → Comes id all rest (slice_get handed id) (slice_get hooks id)

@@ -1,9 +1,16 @@
 -- Callbacks that are those which the configurations name.
-use Rattle.std.specs.Prelude.{◌⊎◌, Bool, IsSome, List, [], ◌∷◌, ⊤}
+use Rattle.std.specs.Prelude.{◌≡◌, ◌⊎◌, Bool, None, IsSome, List, [], ◌∷◌, ⊤}
 use Rattle.jc_hooks.specs.Suits.{Suits}
 use Rattle.jc_hooks.specs.declared.cache_hooks.CacheHooks.{CacheHooks}
 use Rattle.jc_model.specs.declared.config.CacheConfig.{CacheConfig}
 use Rattle.jc_engine.specs.Opening.{open_refusal}
+
+-- a cache that has none
+pub record HasNone {L W P K : Type 0} (h : CacheHooks L W P K) : Type 0 where
+  pub loader : h.loader ≡ None
+  pub writer : h.writer ≡ None
+  pub processors : h.processors.items ≡ []
+  pub listeners : h.listeners.items ≡ []
 
 module _ {L W P K : Type 0} (wants : P → Bool) where
   abbrev pub AllSuit : List CacheConfig → List (CacheHooks L W P K) → Type 0

@@ -7,25 +7,28 @@ use Rattle.jc_model.specs.declared.call.Request.{Request}
 use Rattle.jc_model.specs.declared.call.Verdict.{Verdict}
 use Rattle.jc_model.specs.declared.config.CacheConfig.{CacheConfig}
 use Rattle.jc_model.specs.declared.event.Entry.{Entry}
-use Rattle.jc_model.specs.Solo.{fresh}
+use Rattle.jc_model.specs.Legal.{config_of}
+use Rattle.jc_model.specs.Runs.{fresh}
 use Rattle.jc_hooks.specs.declared.cache_hooks.CacheHooks.{CacheHooks}
 use Rattle.jc_hooks.specs.declared.loader.Loaded.{Loaded}
 use Rattle.jc_script.specs.declared.line.Line.{Line}
+use Rattle.jc_script.specs.Managing.{lives_of}
 use Rattle.jc_script.specs.Script.{lines}
-use Rattle.jc_runner.specs.Alone.{lines_of, IsAlone, exchanges, alone_from}
-use Rattle.jc_runner.specs.Answering.{Served}
+use Rattle.jc_runner.specs.Alone.{calls_on, IsAlone, exchanges, alone}
+use Rattle.jc_runner.specs.Answering.{ServedAt}
+use Rattle.jc_runner.specs.declared.calls.LineCall.{LineCall}
 
 module _ {L W P K : Type 0} (load_of : L → List ℕ → Loaded) (may : W → List (Request × Answer) → Type 0) (verdict_of : P → Option (List ℕ) → List ℕ → Result Verdict ProcessorFault) (state_after : K → List Notice → List ℕ) where
-  -- the entries of a cache alone, its callbacks having answered their requests
-  pub record AnswersBy (c : CacheConfig) (own : List Line) (entries : List Entry) (old new : CacheHooks L W P K) : Type 0 where
+  -- the entries of a life alone, its callbacks having answered their requests
+  pub record AnswersBy (c : CacheConfig) (own : List LineCall) (entries : List Entry) (old new : Option (CacheHooks L W P K)) : Type 0 where
     pub alone : IsAlone c own entries
-    pub served : Served load_of may verdict_of state_after old new (exchanges c fresh entries)
+    pub served : ServedAt load_of may verdict_of state_after old new (exchanges c fresh entries)
 
-  -- a text that is the report of each cache alone, under the answers of its callbacks
+  -- a text that is the report of each life alone, under the answers of its callbacks, and of the manager's lines
   pub record Reports (caches : List CacheConfig) (all : List Line) (old new : List (CacheHooks L W P K)) (text : List ℕ) : Type 0 where
     pub entries : ℕ → List Entry
-    pub told : text ≡ alone_from entries 0 caches
-    pub each : (id : ℕ) (c : CacheConfig) (h h' : CacheHooks L W P K) → slice_get caches id ≡ Some c → slice_get old id ≡ Some h → slice_get new id ≡ Some h' → AnswersBy c (lines_of id all) (entries id) h h'
+    pub told : text ≡ alone entries caches all
+    pub each : (id : ℕ) (c : CacheConfig) → config_of id (lives_of caches all) ≡ Some c → AnswersBy c (calls_on id all) (entries id) (slice_get old id) (slice_get new id)
 
   -- the report of the lines of these bytes, of which this is true
   pub record ReportsOf (caches : List CacheConfig) (bytes : List ℕ) (old new : List (CacheHooks L W P K)) (IsSo : List ℕ → Type 0) : Type 0 where

@@ -1,30 +1,36 @@
-//! The calls of a script, one after the other.
-ghost use Rattle.std.specs.Prelude.{◌≡◌, ℕ, ◌<◌, [], IfOk, IfErr, OnOk, List, length};
-ghost use Rattle.jc_model.specs.declared.config.CacheConfig.{CacheConfig};
+//! A call of a script, with the callbacks that answer its requests.
+ghost use Rattle.std.specs.Prelude.{◌≡◌, ℕ, Some, IfOk, IfErr, OnOk};
 ghost use Rattle.jc_model.specs.declared.event.Event.TheVariants.{Answer as Answered};
-ghost use Rattle.jc_hooks.specs.declared.cache_hooks.CacheHooks.{CacheHooks as Callbacks};
-ghost use Rattle.jc_script.specs.declared.line.Line.{Line as ScriptLine};
-ghost use Rattle.jc_runner.specs.Halfway.{event_of, CanMove, Moves, IsReady, Replies, RepliesAt, Halfway, CanRun};
+ghost use Rattle.jc_model.specs.declared.event.Outcome.TheVariants.{Step as Stepped};
+ghost use Rattle.jc_runner.specs.Halfway.{event_of, CanMove, Moves, IsReady, Replies, RepliesAt};
 ghost use Rattle.jc_runner.specs.declared.fault.RunFault.TheVariants as faults;
 
 use crate::fault::RunFault;
-use crate::hooks::answer;
+use crate::hooks::{answer, no_hooks};
 use jc_engine::recorded::Recorded;
 use jc_hooks::{CacheHooks, Listener, Loader, Processor, Writer};
-use jc_model::call::Answer;
+use jc_model::call::{Answer, Call};
 use jc_model::event::{CacheId, Cause, Step};
 use jc_ring::ring::Ring;
 use jc_rows::rows::Rows;
-use jc_script::Line;
 use std::alloc::Global;
 
+/// The call of a line.
+#[derive(Drop)]
+pub struct LineCall {
+    pub session: u32,
+    pub id: CacheId,
+    pub at: u64,
+    pub call: Call,
+}
+
 /// Begins the call of a line.
-fn begin<R: Rows, G: Ring>(recorded: &mut Recorded<R, G>, line: Line) -> Result<Step, RunFault>
+fn begin<R: Rows, G: Ring>(recorded: &mut Recorded<R, G>, line: LineCall) -> Result<Step, RunFault>
     requires { CanMove recorded.old (event_of line) }
-    ensures moves { IfOk result (λ step. Moves recorded.old recorded.new line.session (event_of line) step) }
+    ensures moves { IfOk result (λ step. Moves recorded.old recorded.new line.session (event_of line) (Stepped step)) }
     ensures faults { IfErr result (λ e. e ≡ faults.Memory) }
 {
-    let Line {
+    let LineCall {
         session,
         id,
         at,
@@ -44,7 +50,7 @@ fn resume<R: Rows, G: Ring>(
     answer: Answer,
 ) -> Result<Step, RunFault>
     requires { CanMove recorded.old (Answered id answer) }
-    ensures moves { IfOk result (λ step. (session : ℕ) → Moves recorded.old recorded.new session (Answered id answer) step) }
+    ensures moves { IfOk result (λ step. (session : ℕ) → Moves recorded.old recorded.new session (Answered id answer) (Stepped step)) }
     ensures faults { IfErr result (λ e. e ≡ faults.Memory) }
 {
     match recorded.resume(id, answer) {
@@ -54,15 +60,15 @@ fn resume<R: Rows, G: Ring>(
     }
 }
 
-/// Makes the call of a line: the callbacks of its cache answer each of its requests, until it replies.
+/// Makes the call of a line: these callbacks answer each of its requests, until it replies.
 fn carry_out<R: Rows, G: Ring, L: Loader, W: Writer, P: Processor, K: Listener>(
     alloc: Global,
     recorded: &mut Recorded<R, G>,
     hooks: &mut CacheHooks<L, W, P, K>,
-    line: Line,
+    line: LineCall,
 ) -> Result<(), RunFault>
     requires ready { IsReady recorded.old line }
-    ensures replies { OnOk result (Replies L.load_of W.may P.verdict_of K.state_after recorded.old recorded.new hooks.old hooks.new line) }
+    ensures replies { OnOk result (Replies L.load_of W.may P.verdict_of K.state_after recorded.old recorded.new (Some hooks.old) (Some hooks.new) line) }
     ensures faults { IfErr result (λ e. e ≡ faults.Memory) }
 {
     let id = line.id;
@@ -74,35 +80,21 @@ fn carry_out<R: Rows, G: Ring, L: Loader, W: Writer, P: Processor, K: Listener>(
     Ok(())
 }
 
-/// Makes the call of a line with the callbacks of its cache.
-fn run_line<R: Rows, G: Ring, L: Loader, W: Writer, P: Processor, K: Listener>(
+/// Makes the call of a line with the callbacks of its cache, or with none where it has none.
+pub(crate) fn run_call<R: Rows, G: Ring, L: Loader, W: Writer, P: Processor, K: Listener>(
     alloc: Global,
     recorded: &mut Recorded<R, G>,
     hooks: &mut [CacheHooks<L, W, P, K>],
-    line: Line,
+    line: LineCall,
 ) -> Result<(), RunFault>
-    requires ready { IsReady recorded.old line }
-    requires there { line.id < length hooks.old }
+    requires { IsReady recorded.old line }
     ensures replies { OnOk result (RepliesAt L.load_of W.may P.verdict_of K.state_after recorded.old recorded.new hooks.old hooks.new line) }
     ensures faults { IfErr result (λ e. e ≡ faults.Memory) }
 {
-    let own = &mut hooks[line.id.number() as usize];
-    carry_out(alloc, recorded, own, line)
-}
-
-/// Makes the calls of all lines in their order.
-pub fn run_all<R: Rows, G: Ring, L: Loader, W: Writer, P: Processor, K: Listener>(
-    alloc: Global,
-    recorded: &mut Recorded<R, G>,
-    hooks: &mut [CacheHooks<L, W, P, K>],
-    lines: Vec<Line>,
-) -> Result<(), RunFault>
-    requires ready { CanRun L.load_of W.may P.verdict_of K.state_after recorded.old hooks.old lines.items }
-    ensures done { (caches : List CacheConfig) (handed : List (Callbacks L W P K)) (all : List ScriptLine) → Halfway L.load_of W.may P.verdict_of K.state_after caches handed all lines.items recorded.old hooks.old → OnOk result (Halfway L.load_of W.may P.verdict_of K.state_after caches handed all [] recorded.new hooks.new) }
-    ensures faults { IfErr result (λ e. e ≡ faults.Memory) }
-{
-    for line in lines {
-        run_line(alloc, recorded, hooks, line)?;
+    let place = line.id.number() as usize;
+    if place < hooks.len() {
+        return carry_out(alloc, recorded, &mut hooks[place], line);
     }
-    Ok(())
+    let mut none: CacheHooks<L, W, P, K> = no_hooks(alloc);
+    carry_out(alloc, recorded, &mut none, line)
 }

@@ -2,7 +2,7 @@
 ghost use Rattle.std.specs.Prelude.{◌↔◌, ◌∷◌, [], IsTrue, IfOk};
 ghost use Rattle.jc_model.specs.Run.{is_answer_to};
 ghost use Rattle.jc_runner.specs.Answering.{Heard};
-ghost use Rattle.jc_runner.specs.Hooks.{AllSuit};
+ghost use Rattle.jc_runner.specs.Hooks.{AllSuit, HasNone};
 
 use jc_config::Settings;
 use jc_hooks::{
@@ -30,6 +30,20 @@ pub fn all_suit<L: Loader, W: Writer, P: Processor, K: Listener>(
         }
     }
     true
+}
+
+/// The callbacks of a cache that has none.
+pub(crate) fn no_hooks<L: Loader, W: Writer, P: Processor, K: Listener>(
+    alloc: Global,
+) -> CacheHooks<L, W, P, K>
+    ensures { HasNone result }
+{
+    CacheHooks {
+        loader: None,
+        writer: None,
+        processors: Vec::new(alloc),
+        listeners: Vec::new(alloc),
+    }
 }
 
 /// The answer of a cache's callbacks to a request. A callback that is not there fails.

@@ -1,11 +1,11 @@
 //! The caches of a run without a configuration.
 ghost use Rattle.std.specs.Prelude.{◌≡◌, ◌≤◌, IfOk, length};
 ghost use Rattle.jc_model.specs.Limits.{key_bytes};
-ghost use Rattle.jc_runner.specs.Demonstration.{plain_cache, demonstration_caches};
+ghost use Rattle.jc_runner.specs.Demonstration.{demonstration_caches};
 
-use jc_config::Settings;
+use jc_config::{Settings, plain_cache};
 use jc_model::OutOfMemory;
-use jc_model::config::{CacheConfig, Policy};
+use jc_model::config::Policy;
 use jc_model::key::Key;
 use jc_model::list::Sequence;
 use std::alloc::Global;
@@ -18,20 +18,6 @@ fn key_of(text: &str) -> Key
     match Key::from_text(text) {
         Ok(key) => key,
         Err(_) => unreachable!(),
-    }
-}
-
-fn plain_cache(alloc: Global, name: Key, capacity: u32, policy: Policy) -> CacheConfig
-    ensures { result ≡ plain_cache name capacity policy }
-{
-    CacheConfig {
-        name,
-        capacity,
-        policy,
-        loader: false,
-        writer: false,
-        processors: Sequence::new(Vec::new(alloc)),
-        listeners: 0,
     }
 }
 

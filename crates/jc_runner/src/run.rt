@@ -1,27 +1,26 @@
 //! One run: a script in, a report out.
-ghost use Rattle.std.specs.Prelude.{◌≡◌, ◌<◌, ◌≢◌, List, true, IfOk, IfErr, IfSome, IsSome, OnOk, IsOk, Ok, Err, [], length, map, string_bytes};
+ghost use Rattle.std.specs.Prelude.{◌≡◌, ◌<◌, ◌≢◌, true, IfOk, IfErr, IfSome, IsSome, OnOk, IsOk, Ok, Err, length, string_bytes};
 ghost use Rattle.std.specs.FinMap as finite;
 ghost use Rattle.std.specs.Io.KnownBytes.{Appends, IsAtEnd, Keeps};
 ghost use Rattle.jc_cuckoo.specs.Cells.{rows_in};
 ghost use Rattle.jc_script.specs.Script.{lines};
 ghost use Rattle.jc_script.specs.declared.fault.ScriptFault.{ScriptFault as TextFault};
-ghost use Rattle.jc_script.specs.declared.line.Line.{Line as ScriptLine};
 ghost use Rattle.jc_script.specs.Named.{AllName};
 ghost use Rattle.jc_engine.specs.Opening.{open_refusal};
-ghost use Rattle.jc_hooks.specs.declared.cache_hooks.CacheHooks.{CacheHooks as Callbacks};
 ghost use Rattle.jc_model.specs.Limits.{text_bytes};
-ghost use Rattle.jc_model.specs.Solo.{opened};
-ghost use Rattle.jc_runner.specs.Halfway.{statuses_of};
+ghost use Rattle.jc_model.specs.Legal.{at_first};
+ghost use Rattle.jc_model.specs.Runs.{opened_from};
+ghost use Rattle.jc_runner.specs.Halfway.{lives_now};
 ghost use Rattle.jc_runner.specs.Hooks.{AllSuit, CannotOpen};
 ghost use Rattle.jc_runner.specs.Reports.{Reports, ReportsOf};
 ghost use Rattle.jc_runner.specs.Meters.{next, most_reads, AddsAtMost};
 ghost use Rattle.jc_runner.specs.Streams.{WritesFront, IsOfRunning, IsOfScript, IsBeforeCalls, HasRun};
 ghost use Rattle.jc_runner.specs.declared.fault.RunFault.TheVariants as faults;
 
-use crate::calls::run_all;
 use crate::fault::RunFault;
 use crate::hooks::all_suit;
 use crate::reading::read_bytes;
+use crate::running::run_all;
 use crate::watched::{Watched, WatchedWriter};
 use crate::writing::write_text;
 use jc_config::Settings;
@@ -41,7 +40,7 @@ fn lines_of(alloc: Global, bytes: &[u8], settings: &Settings) -> Result<Vec<Line
     ensures ok { IfOk result (λ v. lines settings.now bytes.now ≡ Ok v.items) }
     ensures script { (f : TextFault) → result ≡ Err (faults.Script f) → lines settings.now bytes.now ≡ Err f }
     ensures others { IfErr result IsOfScript }
-    ensures named { IfOk result (λ v. AllName settings.now v.items) }
+    ensures named { IfOk result (λ v. AllName (opened_from 0 settings.now) v.items) }
 {
     match read_script(alloc, bytes, settings) {
         Ok(lines) => Ok(lines),
@@ -71,8 +70,8 @@ fn opened<T: Rows>(
     settings: Settings,
 ) -> Result<Recorded<T, LinkRing>, RunFault>
     requires empty { T.contents rows ≡ finite.empty }
-    ensures fresh { IfOk result (λ r. statuses_of r ≡ map opened settings) }
-    ensures unrecorded { IfOk result (λ r. r.transcript ≡ []) }
+    ensures fresh { IfOk result (λ r. lives_now r ≡ opened_from 0 settings) }
+    ensures unrecorded { IfOk result (λ r. r.transcript ≡ at_first 0 settings) }
     ensures faults { IfErr result IsOfRunning }
     ensures refused { result ≡ Err faults.Open → IsSome (open_refusal settings) }
 {
@@ -83,7 +82,8 @@ fn opened<T: Rows>(
     }
 }
 
-/// Makes the calls of the lines on caches of these settings, which share this empty table. The result is the report.
+/// Runs the lines on caches of these settings, which share this empty table. The result is the report. A cache that a
+/// line creates has no callbacks.
 ///
 /// `Memory`, also where a callback finds none; `Open` where the manager does not open.
 pub fn report_on<T: Rows, L: Loader, W: Writer, P: Processor, K: Listener>(
@@ -94,7 +94,7 @@ pub fn report_on<T: Rows, L: Loader, W: Writer, P: Processor, K: Listener>(
     lines: Vec<Line>,
 ) -> Result<String, RunFault>
     requires empty { T.contents rows ≡ finite.empty }
-    requires named { AllName settings lines.items }
+    requires named { AllName (opened_from 0 settings) lines.items }
     requires suit { AllSuit P.wants settings hooks.old }
     ensures untouched { result ≡ Err faults.Open → hooks.new ≡ hooks.old }
     ensures text { IfOk result (λ s. Reports L.load_of W.may P.verdict_of K.state_after settings lines.items hooks.old hooks.new (string_bytes s)) }
@@ -102,13 +102,13 @@ pub fn report_on<T: Rows, L: Loader, W: Writer, P: Processor, K: Listener>(
     ensures refused { result ≡ Err faults.Open → IsSome (open_refusal settings) }
 {
     let mut recorded = opened(alloc, rows, settings)?;
-    run_all(alloc, &mut recorded, hooks, lines)?;
-    let text = report(alloc, recorded.names(), recorded.transcript())?;
+    let managed = run_all(alloc, &mut recorded, hooks, lines)?;
+    let text = report(alloc, recorded.transcript(), managed.as_slice())?;
     Ok(text)
 }
 
-/// Reads a script to its end, makes its calls in order on caches of these settings, each request being answered by
-/// the callbacks of its cache, and writes the report.
+/// Reads a script to its end, runs its lines in order on caches of these settings and on those that it creates, each
+/// request being answered by the callbacks of its cache, and writes the report.
 ///
 /// `Read`, `TooLong`; `Script` with the first fault; `Open` where the callbacks are not those that the settings name,
 /// or where the manager does not open; `Memory`, also where a callback finds none; `Write`. Only after `Write` may a

@@ -1,7 +1,7 @@
 -- The lines of a script name caches and processors that are there.
-use Rattle.std.proofs.Common.{◌≡◌, ℕ, suc, ◌+◌, List, [], ◌∷◌, ◌++◌, length, slice_get, Bool, true, false, ltb, Option, Some, None, Result, Ok, Err, refl, sym, ap, ◌∙◌, subst, arith}
-use Rattle.std.specs.Prelude.{IfSome, IfOk, nat_lt, option_and_then, if◌then◌else◌, ⊤}
-use Rattle.std.specs.List.{position_from, slice_split}
+use Rattle.std.proofs.Common.{◌≡◌, ℕ, suc, ◌+◌, List, [], ◌∷◌, ◌++◌, length, Bool, true, false, ltb, Option, Some, None, Result, Ok, Err, refl, sym, ap, ◌∙◌, subst, arith}
+use Rattle.std.specs.Prelude.{IfSome, IfOk, nat_lt, option_and_then, if◌then◌else◌, codes, ⊤}
+use Rattle.std.specs.List.{slice_split}
 use Rattle.std.specs.Option.{ok_or}
 use Rattle.std.specs.Str.{bytes_eq}
 use Rattle.serde_json.specs.Data.{Data}
@@ -10,17 +10,21 @@ use Rattle.jc_model.specs.declared.call.Call.{Call}
 use Rattle.jc_model.specs.declared.call.Call.TheVariants as calls
 use Rattle.jc_model.specs.declared.config.CacheConfig.{CacheConfig}
 use Rattle.jc_model.specs.Limits.{sessions, text_bytes}
-use Rattle.jc_model.specs.Runs.{has_processor}
+use Rattle.jc_model.specs.Places.{named_from}
+use Rattle.jc_model.specs.Runs.{Status, Lives, live_at, opened_from, has_processor}
 use Rattle.jc_script.specs.declared.fault.Member.TheVariants as members
 use Rattle.jc_script.specs.declared.fault.ScriptFault.{ScriptFault}
 use Rattle.jc_script.specs.declared.fault.ScriptFault.TheVariants.{TooLong, Bad}
 use Rattle.jc_script.specs.declared.line.Line.{Line}
 use Rattle.jc_script.specs.Faults.{◌>>=◌}
-use Rattle.jc_script.specs.Line.{processors_at, line_of}
-use Rattle.jc_script.specs.Member.{member_name, needed, whole, whole_below, place_of, cache, key, keys, pairs, value, object_of}
+use Rattle.jc_script.specs.declared.line.Line.TheVariants as line
+use Rattle.jc_script.specs.Creating.{asks_to_create, cache_name, capacity, policy_of, creating}
+use Rattle.jc_script.specs.Line.{calling, on_cache, line_of}
+use Rattle.jc_script.specs.Live.{after_line, id_of, processors_of, processors_at}
+use Rattle.jc_script.specs.Member.{member_name, needed, whole, whole_below, cache, key, keys, pairs, value, object_of}
 use Rattle.jc_script.specs.Operation.{Reading, of_key, of_key_value, of_key_expected, of_key_expected_value, of_key_processor, of_keys, of_keys_replace, of_keys_processor, of_pairs, on_one, on_many, chosen, call_of}
 use Rattle.jc_script.specs.Script.{piece_of, lines_from, lines, is_blank, is_feed}
-use Rattle.jc_script.specs.Named.{Names, AllName}
+use Rattle.jc_script.specs.Named.{IsLive, Names, AllName}
 
 -- Of what is read one after the other, where all of it can be read.
 
@@ -42,38 +46,35 @@ needed_ok P (Some x) e h = h
 
 -- Caches.
 
-record IsPlace (caches : List CacheConfig) (first id : ℕ) : Type 0 where
+record IsPlace (lives : Lives) (first id : ℕ) : Type 0 where
   offset : ℕ
-  config : CacheConfig
+  status : Status
   is : id ≡ first + offset
-  there : slice_get caches offset ≡ Some config
+  there : live_at lives offset ≡ Some status
 
-one_further : (c : CacheConfig) (caches : List CacheConfig) (first : ℕ) (o : Option ℕ) → IfSome o (IsPlace caches (first + 1)) → IfSome o (IsPlace (c ∷ caches) first)
-one_further c caches first None h = tt
-one_further c caches first (Some id) h = record { offset = suc h.offset; config = h.config; is = omega (arith, h.is); there = h.there }
+one_further : (l : Option Status) (lives : Lives) (first : ℕ) (o : Option ℕ) → IfSome o (IsPlace lives (first + 1)) → IfSome o (IsPlace (l ∷ lives) first)
+one_further l lives first None h = tt
+one_further l lives first (Some id) h = record { offset = suc h.offset; status = h.status; is = omega (arith, h.is); there = h.there }
 
-place_there : (test : CacheConfig → Bool) (first : ℕ) (caches : List CacheConfig) → IfSome (position_from test first caches) (IsPlace caches first)
-place_there test first [] = tt
-place_there test first (c ∷ caches) = go (test c) (place_there test (first + 1) caches)
+place_there : (name : List ℕ) (first : ℕ) (lives : Lives) → IfSome (named_from (λ k. k.config.name) name first lives) (IsPlace lives first)
+place_there name first [] = tt
+place_there name first (None ∷ lives) = one_further None lives first (named_from (λ k. k.config.name) name (first + 1) lives) (place_there name (first + 1) lives)
+place_there name first (Some k ∷ lives) = go (bytes_eq k.config.name name) (place_there name (first + 1) lives)
   where
-    go : (b : Bool) → IfSome (position_from test (first + 1) caches) (IsPlace caches (first + 1)) → IfSome (if b then Some first else position_from test (first + 1) caches) (IsPlace (c ∷ caches) first)
-    go true rest = record { offset = 0; config = c; is = omega arith; there = refl }
-    go false rest = one_further c caches first (position_from test (first + 1) caches) rest
+    go : (b : Bool) → IfSome (named_from (λ k. k.config.name) name (first + 1) lives) (IsPlace lives (first + 1)) → IfSome (if b then Some first else named_from (λ k. k.config.name) name (first + 1) lives) (IsPlace (Some k ∷ lives) first)
+    go true rest = record { offset = 0; status = k; is = omega arith; there = refl }
+    go false rest = one_further (Some k) lives first (named_from (λ k. k.config.name) name (first + 1) lives) rest
 
-record Stands (caches : List CacheConfig) (id : ℕ) : Type 0 where
-  config : CacheConfig
-  there : slice_get caches id ≡ Some config
-
-from_first : (caches : List CacheConfig) (o : Option ℕ) → IfSome o (IsPlace caches 0) → IfSome o (Stands caches)
-from_first caches None h = tt
-from_first caches (Some id) h =
+from_first : (lives : Lives) (o : Option ℕ) → IfSome o (IsPlace lives 0) → IfSome o (IsLive lives)
+from_first lives None h = tt
+from_first lives (Some id) h =
     let same : h.offset ≡ id = omega (arith, h.is) in
-    record { config = h.config; there = ap (slice_get caches) (sym same) ∙ h.there }
+    record { status = h.status; there = ap (live_at lives) (sym same) ∙ h.there }
 
-cache_stands : (caches : List CacheConfig) (n : ℕ) (d : Data) → IfOk (needed (cache caches) n members.Cache d) (Stands caches)
-cache_stands caches n d =
-    needed_ok (Stands caches) (option_and_then (cache caches) (get (member_name members.Cache) d)) (Bad n members.Cache)
-    (found_in (Stands caches) (cache caches) (get (member_name members.Cache) d) (λ m. found_in (Stands caches) (place_of caches) (as_str m) (λ name. from_first caches (place_of caches name) (place_there _ 0 caches))))
+cache_stands : (lives : Lives) (n : ℕ) (d : Data) → IfOk (needed (cache lives) n members.Cache d) (IsLive lives)
+cache_stands lives n d =
+    needed_ok (IsLive lives) (option_and_then (cache lives) (get (member_name members.Cache) d)) (Bad n members.Cache)
+    (found_in (IsLive lives) (cache lives) (get (member_name members.Cache) d) (λ m. found_in (IsLive lives) (id_of lives) (key m) (λ name. from_first lives (id_of lives name) (place_there name 0 lives))))
 
 -- Calls.
 
@@ -184,39 +185,59 @@ call_within name m n d = chosen_within (on_one ++ on_many) operations_within nam
 
 -- Lines.
 
-line_named : (caches : List CacheConfig) (n : ℕ) (d : Data) → IfOk (line_of caches n d) (Names caches)
+calling_named : (lives : Lives) (s id moment : ℕ) (name : List ℕ) (n : ℕ) (d : Data) → IsLive lives id → IfOk (calling lives s id moment name n d) (Names lives)
+unfolding calling
+calling_named lives s id moment name n d at =
+    knowing (IsWithin (processors_at lives id)) (Names lives) (call_of name (processors_at lives id) n d) _ (call_within name (processors_at lives id) n d)
+    (λ call within. record { status = at.status; there = at.there; processor = within at.status.config (ap processors_of at.there) })
+
+on_cache_named : (lives : Lives) (s n : ℕ) (d : Data) → IfOk (on_cache lives s n d) (Names lives)
+unfolding on_cache
+on_cache_named lives s n d =
+    knowing (IsLive lives) (Names lives) (needed (cache lives) n members.Cache d) _ (cache_stands lives n d)
+    (λ id at. behind (Names lives) (needed whole n members.At d) _ (λ moment. behind (Names lives) (needed as_str n members.Op d) _ (λ name. go id moment name at (bytes_eq name (codes "destroy")))))
+  where
+    go : (id moment : ℕ) (name : List ℕ) → IsLive lives id → (b : Bool) → IfOk (if b then Ok (line.Destroy s id) else calling lives s id moment name n d) (Names lives)
+    go id moment name at true = at
+    go id moment name at false = calling_named lives s id moment name n d at
+
+creating_named : (lives : Lives) (s n : ℕ) (d : Data) → IfOk (creating s n d) (Names lives)
+unfolding creating
+creating_named lives s n d =
+    behind (Names lives) (needed cache_name n members.Cache d) _ (λ name. behind (Names lives) (needed whole n members.At d) _ (λ moment. behind (Names lives) (needed capacity n members.Capacity d) _
+    (λ rows. behind (Names lives) (policy_of n d) _ (λ policy. tt))))
+
+line_named : (lives : Lives) (n : ℕ) (d : Data) → IfOk (line_of lives n d) (Names lives)
 unfolding line_of
-line_named caches n d =
-    behind (Names caches) (needed (whole_below sessions) n members.Session d) _ (λ s. knowing (Stands caches) (Names caches) (needed (cache caches) n members.Cache d) _ (cache_stands caches n d)
-    (λ id at. behind (Names caches) (needed whole n members.At d) _ (λ moment. behind (Names caches) (needed as_str n members.Op d) _
-    (λ name. knowing (IsWithin (processors_at caches id)) (Names caches) (call_of name (processors_at caches id) n d) _ (call_within name (processors_at caches id) n d)
-    (λ call within. record { config = at.config; there = at.there; processor = within at.config (counted id at) })))))
+line_named lives n d = behind (Names lives) (needed (whole_below sessions) n members.Session d) _ (λ s. go s (asks_to_create d))
   where
-    counted : (id : ℕ) (at : Stands caches id) → processors_at caches id ≡ length at.config.processors
-    counted id at = ap (λ (o : Option CacheConfig). elim o [ None ↦ 0 | Some c ↦ length c.processors ]) at.there
+    go : (s : ℕ) (b : Bool) → IfOk (if b then creating s n d else on_cache lives s n d) (Names lives)
+    go s true = creating_named lives s n d
+    go s false = on_cache_named lives s n d
 
-piece_named : (caches : List CacheConfig) (n : ℕ) (piece : List ℕ) → IfOk (piece_of caches n piece) (Names caches)
+piece_named : (lives : Lives) (n : ℕ) (piece : List ℕ) → IfOk (piece_of lives n piece) (Names lives)
 unfolding piece_of
-piece_named caches n piece = behind (Names caches) (object_of n piece) (line_of caches n) (line_named caches n)
+piece_named lives n piece = behind (Names lives) (object_of n piece) (line_of lives n) (line_named lives n)
 
-all_named : (caches : List CacheConfig) (n : ℕ) (pieces : List (List ℕ)) → IfOk (lines_from caches n pieces) (AllName caches)
+all_named : (lives : Lives) (n : ℕ) (pieces : List (List ℕ)) → IfOk (lines_from lives n pieces) (AllName lives)
 unfolding lines_from
-all_named caches n [] = tt
-all_named caches n (piece ∷ pieces) = go (is_blank piece) (all_named caches (n + 1) pieces)
+all_named lives n [] = tt
+all_named lives n (piece ∷ pieces) = go (is_blank piece) (λ after. all_named after (n + 1) pieces)
   where
-    go : (b : Bool) → IfOk (lines_from caches (n + 1) pieces) (AllName caches)
-        → IfOk (if b then lines_from caches (n + 1) pieces else (piece_of caches n piece >>= λ first. lines_from caches (n + 1) pieces >>= λ others. Ok (first ∷ others))) (AllName caches)
-    go true rest = rest
-    go false rest = knowing (Names caches) (AllName caches) (piece_of caches n piece) _ (piece_named caches n piece)
-        (λ first named. knowing (AllName caches) (AllName caches) (lines_from caches (n + 1) pieces) _ rest (λ others all. (named, all)))
+    go : (b : Bool) → ((after : Lives) → IfOk (lines_from after (n + 1) pieces) (AllName after))
+        → IfOk (if b then lines_from lives (n + 1) pieces else (piece_of lives n piece >>= λ first. lines_from (after_line lives first) (n + 1) pieces >>= λ others. Ok (first ∷ others))) (AllName lives)
+    go true rest = rest lives
+    go false rest =
+        knowing (Names lives) (AllName lives) (piece_of lives n piece) _ (piece_named lives n piece)
+        (λ first named. knowing (AllName (after_line lives first)) (AllName lives) (lines_from (after_line lives first) (n + 1) pieces) _ (rest (after_line lives first)) (λ others more. (named, more)))
 
-script_named : (caches : List CacheConfig) (bytes : List ℕ) → IfOk (lines caches bytes) (AllName caches)
+script_named : (caches : List CacheConfig) (bytes : List ℕ) → IfOk (lines caches bytes) (AllName (opened_from 0 caches))
 unfolding lines
 script_named caches bytes = go (nat_lt text_bytes (length bytes))
   where
-    go : (b : Bool) → IfOk (if b then Err TooLong else lines_from caches 1 (slice_split is_feed bytes)) (AllName caches)
+    go : (b : Bool) → IfOk (if b then Err TooLong else lines_from (opened_from 0 caches) 1 (slice_split is_feed bytes)) (AllName (opened_from 0 caches))
     go true = tt
-    go false = all_named caches 1 (slice_split is_feed bytes)
+    go false = all_named (opened_from 0 caches) 1 (slice_split is_feed bytes)
 
-pub lines_named : (caches : List CacheConfig) (bytes : List ℕ) (ls : List Line) → lines caches bytes ≡ Ok ls → AllName caches ls
-lines_named caches bytes ls e = subst (λ (read : Result (List Line) ScriptFault). IfOk read (AllName caches)) e (script_named caches bytes)
+pub lines_named : (caches : List CacheConfig) (bytes : List ℕ) (ls : List Line) → lines caches bytes ≡ Ok ls → AllName (opened_from 0 caches) ls
+lines_named caches bytes ls e = subst (λ (read : Result (List Line) ScriptFault). IfOk read (AllName (opened_from 0 caches))) e (script_named caches bytes)

@@ -7,6 +7,8 @@ use Rattle.std.proofs.Common.{le-ltb}
 use Rattle.std.specs.Prelude.{IfSome}
 use Rattle.jc_model.specs.declared.config.CacheConfig.{CacheConfig}
 use Rattle.jc_model.specs.Limits.{text_bytes}
+use Rattle.jc_model.specs.Runs.{Lives, opened_from}
+use Rattle.jc_script.specs.Live.{after_line}
 use Rattle.jc_script.specs.declared.line.Line.{Line}
 use Rattle.jc_script.specs.declared.fault.ScriptFault.{ScriptFault}
 use Rattle.jc_script.specs.declared.fault.ScriptFault.TheVariants.{TooLong, NotJson, NotObject, Bad, OutOfMemory}
@@ -26,23 +28,23 @@ regroup : (front : List Line) (x : Line) (read : Result (List Line) ScriptFault)
 regroup front x (Ok xs) = ap (λ (ys : List Line). Ok ys) (simp append_assoc)
 regroup front x (Err f) = refl
 
-pub passes : (caches : List CacheConfig) (front : List Line) (n : ℕ) (pieces rest : List (List ℕ)) (piece : List ℕ) (total : Result (List Line) ScriptFault) → pieces ≡ piece ∷ rest → is_blank piece ≡ true
-    → with_front front (lines_from caches n pieces) ≡ total → with_front front (lines_from caches (n + 1) rest) ≡ total
+pub passes : (lives : Lives) (front : List Line) (n : ℕ) (pieces rest : List (List ℕ)) (piece : List ℕ) (total : Result (List Line) ScriptFault) → pieces ≡ piece ∷ rest → is_blank piece ≡ true
+    → with_front front (lines_from lives n pieces) ≡ total → with_front front (lines_from lives (n + 1) rest) ≡ total
 unfolding lines_from
-passes caches front n pieces rest piece total cut blank so_far = rw (cut, blank) at so_far
+passes lives front n pieces rest piece total cut blank so_far = rw (cut, blank) at so_far
 
-pub goes_on : (caches : List CacheConfig) (front : List Line) (n : ℕ) (pieces rest : List (List ℕ)) (piece : List ℕ) (x : Line) (total : Result (List Line) ScriptFault) → pieces ≡ piece ∷ rest → is_blank piece ≡ false
-    → piece_of caches n piece ≡ Ok x → with_front front (lines_from caches n pieces) ≡ total → with_front (front ++ x ∷ []) (lines_from caches (n + 1) rest) ≡ total
+pub goes_on : (lives : Lives) (front : List Line) (n : ℕ) (pieces rest : List (List ℕ)) (piece : List ℕ) (x : Line) (total : Result (List Line) ScriptFault) → pieces ≡ piece ∷ rest → is_blank piece ≡ false
+    → piece_of lives n piece ≡ Ok x → with_front front (lines_from lives n pieces) ≡ total → with_front (front ++ x ∷ []) (lines_from (after_line lives x) (n + 1) rest) ≡ total
 unfolding lines_from
-goes_on caches front n pieces rest piece x total cut full line so_far =
-    let one : with_front front (lines_from caches n pieces) ≡ with_front (front ++ x ∷ []) (lines_from caches (n + 1) rest) = rw (cut, full, line) (regroup front x (lines_from caches (n + 1) rest)) in
+goes_on lives front n pieces rest piece x total cut full line so_far =
+    let one : with_front front (lines_from lives n pieces) ≡ with_front (front ++ x ∷ []) (lines_from (after_line lives x) (n + 1) rest) = rw (cut, full, line) (regroup front x (lines_from (after_line lives x) (n + 1) rest)) in
     sym one ∙ so_far
 
-stops : (caches : List CacheConfig) (front : List Line) (n : ℕ) (pieces rest : List (List ℕ)) (piece : List ℕ) (e : ScriptFault) (total : Result (List Line) ScriptFault) → pieces ≡ piece ∷ rest → is_blank piece ≡ false
-    → with_front front (lines_from caches n pieces) ≡ total → piece_of caches n piece ≡ Err e → total ≡ Err e
+stops : (lives : Lives) (front : List Line) (n : ℕ) (pieces rest : List (List ℕ)) (piece : List ℕ) (e : ScriptFault) (total : Result (List Line) ScriptFault) → pieces ≡ piece ∷ rest → is_blank piece ≡ false
+    → with_front front (lines_from lives n pieces) ≡ total → piece_of lives n piece ≡ Err e → total ≡ Err e
 unfolding lines_from
-stops caches front n pieces rest piece e total cut full so_far fault =
-    let one : with_front front (lines_from caches n pieces) ≡ Err e = rw (cut, full, fault) refl in
+stops lives front n pieces rest piece e total cut full so_far fault =
+    let one : with_front front (lines_from lives n pieces) ≡ Err e = rw (cut, full, fault) refl in
     sym so_far ∙ one
 
 -- a fault of a step that is a fault of the whole, by cases on the fault
@@ -53,18 +55,18 @@ fails_by (NotJson n) step total up h = up (NotJson n) h
 fails_by (NotObject n) step total up h = up (NotObject n) h
 fails_by (Bad n m) step total up h = up (Bad n m) h
 
-pub ends : (e : ScriptFault) (caches : List CacheConfig) (front : List Line) (n : ℕ) (pieces rest : List (List ℕ)) (piece : List ℕ) (total : Result (List Line) ScriptFault) → pieces ≡ piece ∷ rest → is_blank piece ≡ false
-    → with_front front (lines_from caches n pieces) ≡ total → Fails e (piece_of caches n piece) → Fails e total
-ends e caches front n pieces rest piece total cut full so_far h = fails_by e (piece_of caches n piece) total (λ f is. stops caches front n pieces rest piece f total cut full so_far is) h
+pub ends : (e : ScriptFault) (lives : Lives) (front : List Line) (n : ℕ) (pieces rest : List (List ℕ)) (piece : List ℕ) (total : Result (List Line) ScriptFault) → pieces ≡ piece ∷ rest → is_blank piece ≡ false
+    → with_front front (lines_from lives n pieces) ≡ total → Fails e (piece_of lives n piece) → Fails e total
+ends e lives front n pieces rest piece total cut full so_far h = fails_by e (piece_of lives n piece) total (λ f is. stops lives front n pieces rest piece f total cut full so_far is) h
 
 pub fewer : (o : Option (Bor (List ℕ))) (most : ℕ) → IfSome o (λ r. length r.now < most) → room o ≤ most
 fewer None most h = omega arith
 fewer (Some r) most h = omega (arith, h)
 
-pub is_done : (caches : List CacheConfig) (front : List Line) (n : ℕ) (total : Result (List Line) ScriptFault) → with_front front (lines_from caches n []) ≡ total → total ≡ Ok front
+pub is_done : (lives : Lives) (front : List Line) (n : ℕ) (total : Result (List Line) ScriptFault) → with_front front (lines_from lives n []) ≡ total → total ≡ Ok front
 unfolding lines_from
-is_done caches front n total so_far = sym so_far ∙ ap (λ (xs : List Line). Ok xs) (append-nil front)
+is_done lives front n total so_far = sym so_far ∙ ap (λ (xs : List Line). Ok xs) (append-nil front)
 
-pub all_from : (caches : List CacheConfig) (bytes : List ℕ) → length bytes ≤ text_bytes → lines_from caches 1 (slice_split is_feed bytes) ≡ lines caches bytes
+pub all_from : (caches : List CacheConfig) (bytes : List ℕ) → length bytes ≤ text_bytes → lines_from (opened_from 0 caches) 1 (slice_split is_feed bytes) ≡ lines caches bytes
 unfolding lines
 all_from caches bytes le = rw (le-ltb text_bytes (length bytes) le) refl

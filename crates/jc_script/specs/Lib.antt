@@ -1,8 +1,10 @@
 pub mod Faults
+pub mod Live
+pub mod Managing
 pub mod Member
+pub mod Creating
 pub mod Operation
 pub mod Line
 pub mod Script
 pub mod Named
-pub mod Caches
 pub mod Report

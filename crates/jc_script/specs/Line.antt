@@ -1,25 +1,35 @@
--- What a line of a script says: its call, or the first fault.
-use Rattle.std.specs.Prelude.{ℕ, List, length, Some, None, Result, Ok, slice_get}
+-- What a line of a script says: a call, a cache more or one less, or the first fault.
+use Rattle.std.specs.Prelude.{ℕ, List, Result, Ok, if◌then◌else◌, codes}
+use Rattle.std.specs.Str.{bytes_eq}
 use Rattle.serde_json.specs.Data.{Data}
 use Rattle.serde_json.specs.Find.{as_str}
-use Rattle.jc_model.specs.declared.config.CacheConfig.{CacheConfig}
 use Rattle.jc_model.specs.Limits.{sessions}
+use Rattle.jc_model.specs.Runs.{Lives}
 use Rattle.jc_script.specs.declared.fault.Member.TheVariants as members
 use Rattle.jc_script.specs.declared.fault.ScriptFault.{ScriptFault}
 use Rattle.jc_script.specs.declared.line.Line.{Line}
+use Rattle.jc_script.specs.declared.line.Line.TheVariants.{Call, Destroy}
+use Rattle.jc_script.specs.Creating.{asks_to_create, creating}
 use Rattle.jc_script.specs.Faults.{◌>>=◌}
+use Rattle.jc_script.specs.Live.{processors_at}
 use Rattle.jc_script.specs.Member.{needed, whole, whole_below, cache}
 use Rattle.jc_script.specs.Operation.{call_of}
 
--- how many processors the cache at a place has
-abbrev pub processors_at : List CacheConfig → ℕ → ℕ
-processors_at caches id = elim (slice_get caches id) [ None ↦ 0 | Some c ↦ length c.processors ]
+-- a call on a cache, in which the op's name has its own members
+unfoldable pub calling : Lives → ℕ → ℕ → ℕ → List ℕ → ℕ → Data → Result Line ScriptFault
+calling lives s id moment name n d = do
+  call ← call_of name (processors_at lives id) n d
+  Ok (Call s id moment call)
 
-unfoldable pub line_of : List CacheConfig → ℕ → Data → Result Line ScriptFault
-line_of caches n d = do
-  s ← needed (whole_below sessions) n members.Session d
-  id ← needed (cache caches) n members.Cache d
+-- a line that names a live cache
+unfoldable pub on_cache : Lives → ℕ → ℕ → Data → Result Line ScriptFault
+on_cache lives s n d = do
+  id ← needed (cache lives) n members.Cache d
   moment ← needed whole n members.At d
   name ← needed as_str n members.Op d
-  call ← call_of name (processors_at caches id) n d
-  Ok (record { session = s; id = id; at = moment; call = call })
+  if bytes_eq name (codes "destroy") then Ok (Destroy s id) else calling lives s id moment name n d
+
+unfoldable pub line_of : Lives → ℕ → Data → Result Line ScriptFault
+line_of lives n d = do
+  s ← needed (whole_below sessions) n members.Session d
+  if asks_to_create d then creating s n d else on_cache lives s n d

@@ -1,19 +1,19 @@
 -- The members of a line: what each is, or the line's fault.
 use Rattle.std.specs.Prelude.{ℕ, Bool, List, [], ◌∷◌, length, map, Option, Some, None, option_and_then, option_map, is_some, Result, Ok, Err, nat_lt, nat_le, ◌&&◌, if◌then◌else◌, codes}
 use Rattle.std.specs.Option.{ok_or}
-use Rattle.std.specs.List.{position_from}
-use Rattle.std.specs.Str.{is_utf8, bytes_eq}
+use Rattle.std.specs.Str.{is_utf8}
 use Rattle.serde_json.specs.Data.{Data, Items, no_items, item}
 use Rattle.serde_json.specs.Read.{read}
 use Rattle.serde_json.specs.Find.{get, as_array, as_object, as_number, as_u64, as_str}
-use Rattle.jc_model.specs.declared.config.CacheConfig.{CacheConfig}
 use Rattle.jc_model.specs.Limits.{key_bytes, value_bytes, most_keys}
 use Rattle.jc_model.specs.Lists.{distinct}
+use Rattle.jc_model.specs.Runs.{Lives}
 use Rattle.jc_script.specs.declared.fault.Member.{Member}
 use Rattle.jc_script.specs.declared.fault.Member.TheVariants as members
 use Rattle.jc_script.specs.declared.fault.ScriptFault.{ScriptFault}
 use Rattle.jc_script.specs.declared.fault.ScriptFault.TheVariants.{NotJson, NotObject, Bad}
 use Rattle.jc_script.specs.Faults.{◌>>=◌}
+use Rattle.jc_script.specs.Live.{id_of}
 
 -- a text as `Value::from_slice` reads it: bytes that are not UTF-8 are no JSON
 unfoldable pub json_of : List ℕ → Option Data
@@ -31,6 +31,9 @@ member_name members.Session = codes "s"
 member_name members.Cache = codes "c"
 member_name members.At = codes "at"
 member_name members.Op = codes "op"
+member_name members.Capacity = codes "capacity"
+member_name members.Expiry = codes "expiry"
+member_name members.Duration = codes "duration"
 member_name members.Key = codes "k"
 member_name members.Keys = codes "ks"
 member_name members.Pairs = codes "kvs"
@@ -50,21 +53,15 @@ whole d = option_and_then as_u64 (as_number d)
 abbrev pub whole_below : ℕ → Data → Option ℕ
 whole_below limit d = option_and_then (λ n. if nat_lt n limit then Some n else None) (whole d)
 
--- the place of the first cache of that name
-abbrev pub place_from : List ℕ → ℕ → List CacheConfig → Option ℕ
-place_from name n caches = position_from (λ c. bytes_eq name c.name) n caches
-
-abbrev pub place_of : List CacheConfig → List ℕ → Option ℕ
-place_of caches name = place_from name 0 caches
-
-abbrev pub cache : List CacheConfig → Data → Option ℕ
-cache caches d = option_and_then (place_of caches) (as_str d)
-
 abbrev pub key_text : List ℕ → Option (List ℕ)
 key_text text = if nat_lt 0 (length text) && nat_le (length text) key_bytes then Some text else None
 
 abbrev pub key : Data → Option (List ℕ)
 key d = option_and_then key_text (as_str d)
+
+-- the id of the live cache of that name
+abbrev pub cache : Lives → Data → Option ℕ
+cache lives d = option_and_then (id_of lives) (key d)
 
 abbrev pub value_text : List ℕ → Option (List ℕ)
 value_text text = if nat_le (length text) value_bytes then Some text else None

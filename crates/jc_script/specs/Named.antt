@@ -1,15 +1,27 @@
 -- Lines that name what is there.
-use Rattle.std.specs.Prelude.{◌≡◌, true, List, [], ◌∷◌, Some, slice_get, ⊤}
-use Rattle.jc_model.specs.declared.config.CacheConfig.{CacheConfig}
-use Rattle.jc_model.specs.Runs.{has_processor}
+use Rattle.std.specs.Prelude.{◌≡◌, ℕ, true, List, [], ◌∷◌, Some, ⊤}
+use Rattle.jc_model.specs.declared.call.Call.{Call}
+use Rattle.jc_model.specs.Runs.{Status, Lives, live_at, has_processor}
 use Rattle.jc_script.specs.declared.line.Line.{Line}
+use Rattle.jc_script.specs.declared.line.Line.TheVariants as line
+use Rattle.jc_script.specs.Live.{after_line}
 
--- a line's cache is among these, and has the processor that the line names, if it names one
-pub record Names (caches : List CacheConfig) (l : Line) : Type 0 where
-  pub config : CacheConfig
-  pub there : slice_get caches l.id ≡ Some config
-  pub processor : has_processor config l.call ≡ true
+pub record IsLive (lives : Lives) (id : ℕ) : Type 0 where
+  pub status : Status
+  pub there : live_at lives id ≡ Some status
 
-abbrev pub AllName : List CacheConfig → List Line → Type 0
-AllName caches [] = ⊤
-AllName caches (l ∷ ls) = Names caches l × AllName caches ls
+-- a call's cache is live, and has the processor that the call names, if it names one
+pub record IsNamed (lives : Lives) (id : ℕ) (call : Call) : Type 0 where
+  pub status : Status
+  pub there : live_at lives id ≡ Some status
+  pub processor : has_processor status.config call ≡ true
+
+abbrev pub Names : Lives → Line → Type 0
+Names lives (line.Call session id at call) = IsNamed lives id call
+Names lives (line.Create session c) = ⊤
+Names lives (line.Destroy session id) = IsLive lives id
+
+-- each line, of the caches that are live then
+abbrev pub AllName : Lives → List Line → Type 0
+AllName lives [] = ⊤
+AllName lives (l ∷ ls) = Names lives l × AllName (after_line lives l) ls

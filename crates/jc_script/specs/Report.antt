@@ -1,5 +1,5 @@
 -- The text of a report.
-use Rattle.std.specs.Prelude.{ℕ, ◌+◌, List, [], ◌∷◌, ◌++◌, map, true, false, Option, Some, None, Result, Ok, Err, Vec, if◌then◌else◌, codes, decimal}
+use Rattle.std.specs.Prelude.{ℕ, List, [], ◌∷◌, ◌++◌, map, true, false, Option, Some, None, Result, Ok, Err, Vec, if◌then◌else◌, codes, decimal}
 use Rattle.std.specs.Borrow.{Bor}
 use Rattle.std.specs.List.{flat_map}
 use Rattle.std.specs.Str.{is_utf8}
@@ -18,7 +18,13 @@ use Rattle.jc_model.specs.declared.call.Reply.TheVariants.{Done, Truth, Found, L
 use Rattle.jc_model.specs.declared.event.End.{End}
 use Rattle.jc_model.specs.declared.event.End.TheVariants.{Waiting, Replied, GivenUp}
 use Rattle.jc_model.specs.declared.event.Entry.{Entry}
-use Rattle.jc_model.specs.Legal.{entries_of}
+use Rattle.jc_model.specs.declared.event.CreateRefusal.{CreateRefusal}
+use Rattle.jc_model.specs.declared.event.CreateRefusal.TheVariants as create
+use Rattle.jc_model.specs.declared.event.Life.{Life}
+use Rattle.jc_model.specs.Legal.{History, entries_of}
+use Rattle.jc_script.specs.declared.managed.ManageOp.{ManageOp}
+use Rattle.jc_script.specs.declared.managed.ManageOp.TheVariants as op
+use Rattle.jc_script.specs.declared.managed.Managed.{Managed}
 use Rattle.jc_script.specs.Operation.{name_of}
 
 -- a key or a value as a JSON string, and as hexadecimal digits where it is no text
@@ -93,7 +99,7 @@ call_text e = spaced e.session ++ name_of e.call ++ codes " " ++ end_text e.end 
 abbrev pub entry_text : Entry → List ℕ
 entry_text e = flat_map (event_text e.session) e.told ++ call_text e
 
--- Caches.
+-- Lives.
 
 -- the entries behind a group's references
 abbrev pub group : Option (Vec (Bor Entry) Global) → List Entry
@@ -103,10 +109,35 @@ group (Some entries) = map (λ e. e.now) entries.items
 abbrev pub header : List ℕ → List ℕ
 header name = codes "cache " ++ name ++ codes "\n"
 
--- the caches from number id on, each with its entries
-abbrev pub text_from : ℕ → List (List ℕ) → List Entry → List ℕ
-text_from id [] entries = []
-text_from id (name ∷ names) entries = header name ++ flat_map entry_text (entries_of id entries) ++ text_from (id + 1) names entries
+-- each life with its entries
+abbrev pub lives_text : List Life → List Entry → List ℕ
+lives_text [] entries = []
+lives_text (life ∷ lives) entries = header life.config.name ++ flat_map entry_text (entries_of life.id entries) ++ lives_text lives entries
 
-abbrev pub text : List (List ℕ) → List Entry → List ℕ
-text names entries = text_from 0 names entries
+-- Creating and destroying.
+
+abbrev pub op_text : ManageOp → List ℕ
+op_text op.Create = codes "create"
+op_text op.Destroy = codes "destroy"
+
+abbrev pub answer_text : Option CreateRefusal → List ℕ
+answer_text None = codes "ok"
+answer_text (Some create.TooManyCaches) = codes "fault too many caches"
+answer_text (Some create.BadCapacity) = codes "fault bad capacity"
+answer_text (Some create.TooManyListeners) = codes "fault too many listeners"
+answer_text (Some create.TooManyProcessors) = codes "fault too many processors"
+answer_text (Some create.DuplicateName) = codes "fault duplicate name"
+answer_text (Some create.TotalCapacity) = codes "fault total capacity"
+answer_text (Some create.IdsSpent) = codes "fault ids spent"
+answer_text (Some create.OutOfMemory) = codes "fault out of memory"
+
+abbrev pub managed_line : Managed → List ℕ
+managed_line m = spaced m.session ++ op_text m.op ++ codes " " ++ m.name ++ codes " " ++ answer_text m.refusal ++ codes "\n"
+
+-- the manager's lines, where there are some
+abbrev pub managed_text : List Managed → List ℕ
+managed_text [] = []
+managed_text (m ∷ ms) = codes "manager\n" ++ flat_map managed_line (m ∷ ms)
+
+abbrev pub text : History → List Managed → List ℕ
+text h managed = lives_text h.lives h.entries ++ managed_text managed

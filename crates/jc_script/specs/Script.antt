@@ -4,17 +4,19 @@ use Rattle.std.specs.Borrow.{Bor}
 use Rattle.std.specs.List.{slice_split, list_all}
 use Rattle.jc_model.specs.declared.config.CacheConfig.{CacheConfig}
 use Rattle.jc_model.specs.Limits.{text_bytes}
+use Rattle.jc_model.specs.Runs.{Lives, opened_from}
 use Rattle.jc_script.specs.declared.fault.ScriptFault.{ScriptFault}
 use Rattle.jc_script.specs.declared.fault.ScriptFault.TheVariants.{TooLong}
 use Rattle.jc_script.specs.declared.line.Line.{Line}
 use Rattle.jc_script.specs.Faults.{◌>>=◌}
 use Rattle.jc_script.specs.Line.{line_of}
+use Rattle.jc_script.specs.Live.{after_line}
 use Rattle.jc_script.specs.Member.{object_of}
 
-unfoldable pub piece_of : List CacheConfig → ℕ → List ℕ → Result Line ScriptFault
-piece_of caches n piece = do
+unfoldable pub piece_of : Lives → ℕ → List ℕ → Result Line ScriptFault
+piece_of lives n piece = do
   d ← object_of n piece
-  line_of caches n d
+  line_of lives n d
 
 abbrev pub is_feed : ℕ → Bool
 is_feed b = b == 10
@@ -28,14 +30,14 @@ abbrev pub pieces_after : Option (Bor (List ℕ)) → List (List ℕ)
 pieces_after None = []
 pieces_after (Some rest) = slice_split is_feed rest.now
 
--- the pieces from line n on; a blank one is passed over and counted
-unfoldable pub lines_from : List CacheConfig → ℕ → List (List ℕ) → Result (List Line) ScriptFault
-lines_from caches n [] = Ok []
-lines_from caches n (piece ∷ pieces) = if is_blank piece then lines_from caches (n + 1) pieces else (do
-  first ← piece_of caches n piece
-  others ← lines_from caches (n + 1) pieces
+-- the pieces from line n on, where these caches are live; a blank one is passed over and counted
+unfoldable pub lines_from : Lives → ℕ → List (List ℕ) → Result (List Line) ScriptFault
+lines_from lives n [] = Ok []
+lines_from lives n (piece ∷ pieces) = if is_blank piece then lines_from lives (n + 1) pieces else (do
+  first ← piece_of lives n piece
+  others ← lines_from (after_line lives first) (n + 1) pieces
   Ok (first ∷ others))
 
 -- the bytes are cut at each line feed
 unfoldable pub lines : List CacheConfig → List ℕ → Result (List Line) ScriptFault
-lines caches bytes = if nat_lt text_bytes (length bytes) then Err TooLong else lines_from caches 1 (slice_split is_feed bytes)
+lines caches bytes = if nat_lt text_bytes (length bytes) then Err TooLong else lines_from (opened_from 0 caches) 1 (slice_split is_feed bytes)

@@ -1,11 +1,14 @@
 //! The program's texts: a script of calls, one JSON object a line, and the report of what they came to.
 #![tactic(auto)]
 
-mod caches;
+mod creating;
 mod fault;
 mod groups;
 mod item;
 mod line;
+mod live;
+mod managed;
+mod managed_text;
 mod member;
 mod operation;
 mod parse;
@@ -16,6 +19,7 @@ mod script;
 
 pub use fault::{Member, ScriptFault};
 pub use line::Line;
+pub use managed::{ManageOp, Managed};
 pub use reply::reply_text;
 pub use report_text::report;
 pub use script::read_script;

@@ -1,15 +1,18 @@
 //! The whole report.
-ghost use Rattle.std.specs.Prelude.{◌≡◌, ◌++◌, IfOk, OnOk, map, string_bytes, option_copied};
+ghost use Rattle.std.specs.Prelude.{◌≡◌, ◌++◌, IfOk, OnOk, map, nat_eq, string_bytes, option_copied};
 ghost use Rattle.std.specs.List.{flat_map};
-ghost use Rattle.jc_script.specs.Report.{kind_text, event_text, end_text, call_text, entry_text, group, header, text};
+ghost use Rattle.jc_script.specs.Report.{kind_text, event_text, end_text, call_text, entry_text, group, header, lives_text, text};
+ghost use Rattle.indexmap.specs.IndexMap.{get};
 
 use crate::groups::grouped;
+use crate::managed::Managed;
+use crate::managed_text::push_managed;
 use crate::operation::name_of;
 use crate::quote::push_bytes;
 use crate::reply::{push_number, push_reply, push_spaced};
+use indexmap::IndexMap;
 use jc_model::call::{Kind, Notice};
-use jc_model::event::{End, Entry};
-use jc_model::key::Key;
+use jc_model::event::{End, Entry, Life};
 use jc_model::transcript::Transcript;
 use std::alloc::{AllocError, Global};
 
@@ -113,14 +116,44 @@ fn push_cache(
     }
 }
 
-/// The report of a transcript: each cache by its name in order, then its entries, each with the notices that were told.
-pub fn report(alloc: Global, names: &[Key], transcript: &Transcript) -> Result<String, AllocError>
-    ensures { IfOk result (λ s. string_bytes s ≡ text names.now transcript.now) }
+fn push_life(
+    alloc: Global,
+    report: &mut String,
+    life: &Life,
+    groups: &IndexMap<usize, Vec<&Entry>>,
+) -> Result<(), AllocError>
+    ensures { OnOk result (string_bytes report.new ≡ string_bytes report.old ++ (header life.now.config.name ++ flat_map entry_text (group (get nat_eq groups.now life.now.id)))) }
 {
-    let groups = grouped(alloc, transcript.entries())?;
-    let mut report = String::new(alloc);
-    for (id, name) in names.iter().enumerate() {
-        push_cache(alloc, &mut report, name.text(), groups.get(&id))?;
+    let id = life.id.number() as usize;
+    push_cache(alloc, report, life.config.name.text(), groups.get(&id))
+}
+
+fn push_lives(
+    alloc: Global,
+    report: &mut String,
+    lives: &[Life],
+    entries: &[Entry],
+) -> Result<(), AllocError>
+    ensures { OnOk result (string_bytes report.new ≡ string_bytes report.old ++ lives_text lives.now entries.now) }
+{
+    let groups = grouped(alloc, entries)?;
+    for life in lives {
+        push_life(alloc, report, life, &groups)?;
     }
+    Ok(())
+}
+
+/// The report of a transcript: each life by its cache's name, in order of id, and its entries, each with the notices
+/// that were told; then, where there were such lines, what became of those that created and destroyed caches.
+pub fn report(
+    alloc: Global,
+    transcript: &Transcript,
+    managed: &[Managed],
+) -> Result<String, AllocError>
+    ensures { IfOk result (λ s. string_bytes s ≡ text transcript.now managed.now) }
+{
+    let mut report = String::new(alloc);
+    push_lives(alloc, &mut report, transcript.lives(), transcript.entries())?;
+    push_managed(alloc, &mut report, managed)?;
     Ok(report)
 }

@@ -1,17 +1,18 @@
 //! A whole script.
-ghost use Rattle.std.specs.Prelude.{◌≡◌, ◌≤◌, ◌<◌, ◌∷◌, length, IfSome, IfOk};
-ghost use Rattle.std.specs.List.{slice_split, list_all, All};
+ghost use Rattle.std.specs.Prelude.{◌≡◌, ◌<◌, ◌∷◌, length, IfSome, IfOk};
+ghost use Rattle.std.specs.List.{slice_split, list_all};
 ghost use Rattle.serde_json.specs.View.{view};
-ghost use Rattle.jc_model.specs.Limits.{most_processors};
-ghost use Rattle.jc_script.specs.Caches.{Finds};
+ghost use Rattle.jc_model.specs.Runs.{opened_from};
 ghost use Rattle.jc_script.specs.Faults.{Gives};
-ghost use Rattle.jc_script.specs.Line.{line_of};
+ghost use Rattle.jc_script.specs.Line.{line_of, on_cache};
+ghost use Rattle.jc_script.specs.Live.{lives_in};
 ghost use Rattle.jc_script.specs.Named.{AllName};
 ghost use Rattle.jc_script.specs.Script.{is_feed, is_blank, pieces_after, piece_of, lines};
 
-use crate::caches::{Caches, read_cache};
+use crate::creating::read_create;
 use crate::fault::ScriptFault;
 use crate::line::Line;
+use crate::live::{Live, read_cache};
 use crate::member::Reader;
 use crate::operation::read_call;
 use crate::parse::read_object;
@@ -20,39 +21,45 @@ use jc_model::event::CacheId;
 use jc_model::limits::TEXT_BYTES;
 use std::alloc::Global;
 
-#[tactic(auto, unfolding(crate::specs::Line::line_of))]
-fn read_line(caches: &Caches, reader: &Reader<'_>) -> Result<Line, ScriptFault>
-    requires places { Finds caches.now.places caches.now.list.now }
-    requires processors { All (λ c. length c.processors ≤ most_processors) caches.now.list.now }
-    ensures { Gives (λ x. x) result (line_of caches.now.list.now reader.now.line (view reader.now.object.now)) }
+/// The line of a session that names a live cache.
+#[tactic(auto, unfolding(crate::specs::Line::on_cache, crate::specs::Line::calling))]
+fn read_on_cache(live: &Live, reader: &Reader<'_>, session: u32) -> Result<Line, ScriptFault>
+    ensures { Gives (λ x. x) result (on_cache (lives_in live.now) session reader.now.line (view reader.now.object.now)) }
 {
-    let session = reader.session()?;
-    let place = read_cache(caches, reader)?;
+    let id = read_cache(live, reader)?;
     let at = reader.moment()?;
     let name = reader.op()?;
-    let call = read_call(reader, caches.processors(place), name)?;
-    Ok(Line {
+    if name == "destroy" {
+        let id = CacheId::new(id);
+        return Ok(Line::Destroy { session, id });
+    }
+    let call = read_call(reader, live.processors(id), name)?;
+    Ok(Line::Call {
         session,
-        id: CacheId::new(place),
+        id: CacheId::new(id),
         at,
         call,
     })
 }
 
+#[tactic(auto, unfolding(crate::specs::Line::line_of))]
+fn read_line(live: &Live, reader: &Reader<'_>) -> Result<Line, ScriptFault>
+    ensures { Gives (λ x. x) result (line_of (lives_in live.now) reader.now.line (view reader.now.object.now)) }
+{
+    let session = reader.session()?;
+    if reader.asks_to_create() {
+        return read_create(reader, session);
+    }
+    read_on_cache(live, reader, session)
+}
+
 #[tactic(auto, unfolding(crate::specs::Script::piece_of))]
-fn read_piece(
-    alloc: Global,
-    caches: &Caches,
-    piece: &[u8],
-    line: usize,
-) -> Result<Line, ScriptFault>
-    requires places { Finds caches.now.places caches.now.list.now }
-    requires processors { All (λ c. length c.processors ≤ most_processors) caches.now.list.now }
-    ensures { Gives (λ x. x) result (piece_of caches.now.list.now line piece.now) }
+fn read_piece(alloc: Global, live: &Live, piece: &[u8], line: usize) -> Result<Line, ScriptFault>
+    ensures { Gives (λ x. x) result (piece_of (lives_in live.now) line piece.now) }
 {
     let object = read_object(alloc, piece, line)?;
     read_line(
-        caches,
+        live,
         &Reader {
             alloc,
             line,
@@ -90,12 +97,12 @@ pub fn read_script(
     settings: &Settings,
 ) -> Result<Vec<Line>, ScriptFault>
     ensures read { Gives (λ v. v.items) result (lines settings.now bytes.now) }
-    ensures named { IfOk result (λ v. AllName settings.now v.items) }
+    ensures named { IfOk result (λ v. AllName (opened_from 0 settings.now) v.items) }
 {
     if bytes.len() > TEXT_BYTES {
         return Err(ScriptFault::TooLong);
     }
-    let caches = Caches::new(alloc, settings.caches())?;
+    let mut live = Live::new(alloc, settings)?;
     let mut lines = Vec::new(alloc);
     let mut number = 0;
     let mut left = Some(bytes);
@@ -104,7 +111,8 @@ pub fn read_script(
         number += 1;
         left = after;
         if !is_blank(piece) {
-            let line = read_piece(alloc, &caches, piece, number)?;
+            let line = read_piece(alloc, &live, piece, number)?;
+            live = live.after(&line)?;
             lines.push(line)?;
         }
     }

@@ -9,13 +9,13 @@ use Rattle.jc_model.specs.declared.event.End.TheVariants.{Waiting}
 use Rattle.jc_model.specs.declared.event.Entry.{Entry}
 use Rattle.jc_model.specs.State.{State}
 use Rattle.jc_model.specs.Run.{answered}
-use Rattle.jc_model.specs.Runs.{Standing, idle, busy, standing_of, Status}
-use Rattle.jc_model.specs.Solo.{run_of, after_call, standing_from, fresh}
-use Rattle.jc_model.specs.Legal.{is_waiting, played, IsLegalEntry, IsLegalFrom, entries_of, Tells, on_open}
-use Rattle.jc_model.proofs.EachCache.{at_same}
+use Rattle.jc_model.specs.Runs.{Standing, idle, busy, standing_of, fresh, Status, Lives, live_at}
+use Rattle.jc_model.specs.Solo.{run_of, after_call, standing_from}
+use Rattle.jc_model.specs.Legal.{is_waiting, played, IsLegalEntry, IsLegalFrom, entries_of, History, Tells, on_open}
+use Rattle.jc_model.proofs.Lives.{at_same}
 use Rattle.jc_model.proofs.OneCache.{IsBusy, by_end, none_after}
-use Rattle.jc_model.proofs.Legal.{set_open}
 use Rattle.jc_engine.specs.Recording.{HasOpen}
+use Rattle.jc_engine.proofs.Entries.{written_open}
 
 pub id_is_id : (id : ℕ) → (id == id) ≡ true
 id_is_id id = grind (arith, nat_tests)
@@ -61,36 +61,36 @@ last_open c (idle s) (d ∷ ds) e after h waits =
     record { none = l.none; state = l.state; legal = l.legal; stands = l.stands }
 
 -- The transcript of caches that stand so, where a cache's open call has this entry.
-module _ (statuses : List Status) (transcript : List Entry) (tells : Tells transcript statuses) (id place : ℕ) (open_there : HasOpen transcript id place) where
+module _ (lives : Lives) (transcript : History) (tells : Tells transcript lives) (id place : ℕ) (open_there : HasOpen transcript.entries id place) where
   own : (open_there.entry.id == id) ≡ true
   own = ap (λ (n : ℕ). n == id) open_there.own ∙ id_is_id id
 
   abbrev before : List Entry
-  before = entries_of id (take place transcript)
+  before = entries_of id (take place transcript.entries)
 
   abbrev after : List Entry
-  after = entries_of id (drop (suc place) transcript)
+  after = entries_of id (drop (suc place) transcript.entries)
 
-  split : entries_of id transcript ≡ before ++ open_there.entry ∷ after
-  split = entries_split id transcript place open_there.entry open_there.there own
+  split : entries_of id transcript.entries ≡ before ++ open_there.entry ∷ after
+  split = entries_split id transcript.entries place open_there.entry open_there.there own
 
   -- its cache
-  pub open_last : (k : Status) → slice_get statuses id ≡ Some k → IsLastOpen k.config fresh before open_there.entry after
-  open_last k at = last_open k.config fresh before open_there.entry after (subst (λ (es : List Entry). IsLegalFrom k.config fresh es) split (tells.each id k at).0) open_there.waits
+  pub open_last : (k : Status) → live_at lives id ≡ Some k → IsLastOpen k.config fresh before open_there.entry after
+  open_last k at = last_open k.config fresh before open_there.entry after (subst (λ (es : List Entry). IsLegalFrom k.config fresh es) split (tells.legal.each id k.config (tells.each id k at).0)) open_there.waits
 
-  pub open_stands : (k : Status) (at : slice_get statuses id ≡ Some k) → k.standing ≡ standing_of (answered (run_of k.config (open_last k at).state (played open_there.entry)) open_there.entry.answers)
+  pub open_stands : (k : Status) (at : live_at lives id ≡ Some k) → k.standing ≡ standing_of (answered (run_of k.config (open_last k at).state (played open_there.entry)) open_there.entry.answers)
   open_stands k at = (tells.each id k at).1 ∙ ap (λ (es : List Entry). standing_from k.config fresh (map played es)) split ∙ (open_last k at).stands
 
   -- its entry, changed where it stands, is the last of its cache
-  pub changed_last : (k : Status) → slice_get statuses id ≡ Some k → (f : Entry → Entry) → ((e : Entry) → (f e).id ≡ e.id) → (draft : Entry) → slice_get (on_open id f transcript) place ≡ Some draft
-      → (before : List Entry) × (entries_of id (on_open id f transcript) ≡ before ++ draft ∷ [])
+  pub changed_last : (k : Status) → live_at lives id ≡ Some k → (f : Entry → Entry) → ((e : Entry) → (f e).id ≡ e.id) → (draft : Entry) → slice_get (on_open id f transcript.entries) place ≡ Some draft
+      → (before : List Entry) × (entries_of id (on_open id f transcript.entries) ≡ before ++ draft ∷ [])
   changed_last k at f keeps draft there =
-      let new : List Entry = on_open id f transcript in
-      let set : slice_set transcript place (f open_there.entry) ≡ new = set_open k.config id f transcript place open_there.entry (record { standing = fresh; legal = (tells.each id k at).0 }) open_there.there own open_there.waits in
-      let here : slice_get new place ≡ Some (f open_there.entry) = ap (λ (es : List Entry). slice_get es place) (sym set) ∙ at_same transcript place open_there.entry (f open_there.entry) open_there.there in
+      let new : List Entry = on_open id f transcript.entries in
+      let set : slice_set transcript.entries place (f open_there.entry) ≡ new = written_open lives transcript id place k open_there.entry f tells at open_there.there open_there.own open_there.waits in
+      let here : slice_get new place ≡ Some (f open_there.entry) = ap (λ (es : List Entry). slice_get es place) (sym set) ∙ at_same transcript.entries place open_there.entry (f open_there.entry) open_there.there in
       let is : f open_there.entry ≡ draft = cc in
       let own' : (draft.id == id) ≡ true = ap (λ (e : Entry). e.id == id) (sym is) ∙ ap (λ (n : ℕ). n == id) (keeps open_there.entry) ∙ own in
-      let rest : drop (suc place) new ≡ drop (suc place) transcript = ap (λ (es : List Entry). drop (suc place) es) (sym set) ∙ drop_set transcript place (f open_there.entry) in
+      let rest : drop (suc place) new ≡ drop (suc place) transcript.entries = ap (λ (es : List Entry). drop (suc place) es) (sym set) ∙ drop_set transcript.entries place (f open_there.entry) in
       let none : entries_of id (drop (suc place) new) ≡ [] = ap (entries_of id) rest ∙ (open_last k at).none in (
         entries_of id (take place new),
         entries_split id new place draft there own' ∙ ap (λ (es : List Entry). entries_of id (take place new) ++ draft ∷ es) none,

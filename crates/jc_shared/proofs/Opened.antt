@@ -1,29 +1,40 @@
 -- Opening a manager.
-use Rattle.std.proofs.Common.{◌≡◌, ◌≤◌, suc, Bool, true, false, if◌then◌else◌, List, [], ◌∷◌, map, length, Option, Some, None, refl, sym, ◌∙◌, ap, subst, arith}
+use Rattle.std.proofs.Common.{◌≡◌, ◌≤◌, ℕ, ◌+◌, suc, Bool, true, false, if◌then◌else◌, List, [], ◌∷◌, map, length, take, Option, Some, None, refl, ◌∙◌, ap, subst, arith}
 use Rattle.std.specs.Prelude.{ltb}
 use Rattle.std.proofs.lemmas.Bool.Decides.{nat_tests}
-use Rattle.std.proofs.lemmas.List.{map-id}
 use Rattle.jc_model.specs.declared.config.CacheConfig.{CacheConfig}
 use Rattle.jc_model.specs.Limits.{most_caches}
-use Rattle.jc_model.specs.Runs.{Status}
-use Rattle.jc_model.specs.Solo.{opened}
+use Rattle.jc_model.specs.declared.event.Life.{Life}
+use Rattle.jc_model.specs.Runs.{Lives, opened, opened_from}
+use Rattle.jc_model.specs.Legal.{History, numbered, at_first}
 use Rattle.jc_hooks.specs.declared.cache_hooks.CacheHooks.{CacheHooks}
 use Rattle.jc_engine.specs.declared.open.OpenRefusal.{OpenRefusal}
 use Rattle.jc_engine.specs.declared.open.OpenRefusal.TheVariants.{TooManyCaches}
-use Rattle.jc_engine.specs.Caches.{Cache, status_of, configs_of}
 use Rattle.jc_engine.specs.Opening.{open_refusal}
-use Rattle.jc_engine.proofs.Places.{map_map}
 use Rattle.jc_place.specs.Place.{IsTableSize}
+use Rattle.jc_shared.specs.Finding.{configs_in, AreLive}
 use Rattle.jc_shared.specs.Opening.{AllSuit}
+use Rattle.jc_shared.specs.Sessions.{BeginsWith}
 
 -- the size of a new table
 pub sixteen : IsTableSize 16
 sixteen = record { exponent = 4; power = refl; least = omega arith; most = omega arith }
 
--- an opened engine has the configurations
-pub configs_opened : (caches : List Cache) (configs : List CacheConfig) → map status_of caches ≡ map opened configs → configs_of caches ≡ configs
-configs_opened caches configs h =
-    sym (map_map (λ (k : Status). k.config) status_of caches) ∙ ap (map (λ (k : Status). k.config)) h ∙ map_map (λ (k : Status). k.config) opened configs ∙ map-id configs
+-- the caches of the opening are live
+pub live_opened : (configs : List CacheConfig) (lives : Lives) → lives ≡ opened_from 0 configs → AreLive configs lives
+live_opened configs lives opens = ap configs_in opens ∙ each configs
+  where
+    each : (cs : List CacheConfig) → configs_in (map (λ c. Some (opened c)) cs) ≡ map Some cs
+    each [] = refl
+    each (c ∷ cs) = ap (λ (os : List (Option CacheConfig)). Some c ∷ os) (each cs)
+
+-- and they are the first lives
+pub begins_opened : (configs : List CacheConfig) (h : History) → h ≡ at_first 0 configs → BeginsWith configs h
+begins_opened configs h opens = ap (λ (t : History). take (length configs) t.lives) opens ∙ all 0 configs
+  where
+    all : (first : ℕ) (cs : List CacheConfig) → take (length cs) (numbered first cs) ≡ numbered first cs
+    all first [] = refl
+    all first (c ∷ cs) = ap (λ (ls : List Life). record { id = first; config = c } ∷ ls) (all (first + 1) cs)
 
 not_taken : (b : Bool) (r : OpenRefusal) (next : Option OpenRefusal) → (if b then Some r else next) ≡ None → b ≡ false
 not_taken true r next h = absurd cc

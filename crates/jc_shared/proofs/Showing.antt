@@ -1,34 +1,20 @@
 -- What the image that a pass has seen last tells of the caches.
-use Rattle.std.proofs.Common.{◌≡◌, ℕ, suc, zero, Bool, true, false, ◌==◌, if◌then◌else◌, List, [], ◌∷◌, map, slice_get, get_or, Option, Some, None, Result, Ok, Err, refl, sym, ap, ◌∙◌, eqb-true}
+use Rattle.std.proofs.Common.{◌≡◌, ℕ, suc, zero, Bool, true, false, ◌==◌, if◌then◌else◌, List, [], ◌∷◌, slice_get, get_or, Option, Some, None, Result, Ok, Err, refl, sym, ap, ◌∙◌, eqb-true}
 use Rattle.std.specs.Prelude.{OnOk, OnErr, option_map}
-use Rattle.jc_model.specs.declared.config.CacheConfig.{CacheConfig}
 use Rattle.jc_model.specs.declared.config.Expiry.{Expiry}
-use Rattle.jc_model.specs.declared.event.Entry.{Entry}
 use Rattle.jc_model.specs.State.{Item, live, is_live, row_of}
-use Rattle.jc_model.specs.Runs.{Status}
-use Rattle.jc_model.specs.Legal.{Tells}
-use Rattle.jc_rows.specs.Images.{Image, Shown, last_image}
-use Rattle.jc_engine.specs.Caches.{Cache, status_of, configs_of, holds_in}
+use Rattle.jc_model.specs.Places.{at_place}
+use Rattle.jc_rows.specs.Images.{Image, Shown}
+use Rattle.jc_engine.specs.Caches.{Cache, lives_of, holds_in}
 use Rattle.jc_engine.specs.Watching.{ShowsStates, expiry_at, states_of}
-use Rattle.jc_engine.proofs.Places.{map_map}
 use Rattle.jc_engine.proofs.Watching.{state_at}
 use Rattle.jc_index.specs.Found.{found, first_seen, answer}
 use Rattle.jc_index.proofs.Found.{seen_some, seen_none, got}
-use Rattle.jc_shared.specs.Sessions.{Sight, Sees}
 
 -- a pass that has met the table, or was refused
 pub met_shows : {A E P : Type 0} (R : Type 0) (r : Result A E) (m : Bool) → OnOk r (P × (m ≡ true)) → OnErr r (R × (m ≡ false)) → m ≡ true → P
 met_shows R (Ok x) m met refused is = met.0
 met_shows R (Err e) m met refused is = absurd cc
-
-pub sees : (configs : List CacheConfig) (caches : List Cache) (transcript : List Entry) (pass : Sight) → configs_of caches ≡ configs → Tells transcript (map status_of caches)
-    → (pass.met ≡ true → ShowsStates (states_of (map status_of caches)) (last_image pass.images)) → Sees configs transcript pass
-sees configs caches transcript pass named tells shows = record {
-  statuses = map status_of caches;
-  configs_are = map_map (λ (k : Status). k.config) status_of caches ∙ named;
-  tells = tells;
-  shows = shows;
-}
 
 -- whether a row is live, by when it expires
 abbrev lives_by : ℕ → Option Expiry → Bool
@@ -49,12 +35,12 @@ there (x ∷ xs) zero s at = ap Some at
 there (x ∷ xs) (suc i) s at = there xs i s at
 
 -- where the image tells whether a cache has a live row, it has one or not
-module _ (caches : List Cache) (image : Image) (id : ℕ) (key : List ℕ) (now : ℕ) (b : Bool) (shows : ShowsStates (states_of (map status_of caches)) image) where
+module _ (caches : List (Option Cache)) (image : Image) (id : ℕ) (key : List ℕ) (now : ℕ) (b : Bool) (shows : ShowsStates (states_of (lives_of caches)) image) where
   abbrev expires : Option Expiry
-  expires = expiry_at key (slice_get (states_of (map status_of caches)) id)
+  expires = expiry_at key (at_place (states_of (lives_of caches)) id)
 
-  holds : holds_in now key (slice_get caches id) ≡ lives_by now expires
-  holds = holds_by now key (slice_get caches id) ∙ ap (λ o. lives_by now (expiry_at key o)) (sym (state_at caches id))
+  holds : holds_in now key (at_place caches id) ≡ lives_by now expires
+  holds = holds_by now key (at_place caches id) ∙ ap (λ o. lives_by now (expiry_at key o)) (sym (state_at caches id))
 
   unseen : (e : Option Expiry) → expires ≡ e → first_seen id key now image.slots ≡ None → image.stash ≡ 0 → lives_by now e ≡ false
   unseen None here none empty = refl
@@ -62,18 +48,18 @@ module _ (caches : List Cache) (image : Image) (id : ℕ) (key : List ℕ) (now 
       let placed = shows.whole empty id key e here in
       absurd (seen_none id key now image.slots none placed.0 ((id, key), e) (there image.slots placed.0 ((id, key), e) placed.1) refl refl)
 
-  by_stash : (empty : Bool) → (image.stash == 0) ≡ empty → first_seen id key now image.slots ≡ None → (if empty then Some false else None) ≡ Some b → holds_in now key (slice_get caches id) ≡ b
+  by_stash : (empty : Bool) → (image.stash == 0) ≡ empty → first_seen id key now image.slots ≡ None → (if empty then Some false else None) ≡ Some b → holds_in now key (at_place caches id) ≡ b
   by_stash true e none is = let no : false ≡ b = cc in holds ∙ (unseen expires refl none (eqb-true image.stash 0 e) ∙ no)
   by_stash false e none is = absurd cc
 
-  by_seen : (x : Option Bool) → first_seen id key now image.slots ≡ x → answer x image.stash ≡ Some b → holds_in now key (slice_get caches id) ≡ b
+  by_seen : (x : Option Bool) → first_seen id key now image.slots ≡ x → answer x image.stash ≡ Some b → holds_in now key (at_place caches id) ≡ b
   by_seen None none is = by_stash (image.stash == 0) refl none is
   by_seen (Some x) some is =
       let same : x ≡ b = cc in
       let s = seen_some id key now image.slots x some in
       let placed = shows.placed s.place s.row (got image.slots s.place (Some s.row) s.at) in
-      let here : expires ≡ Some s.row.1 = (λ i. expiry_at (sym s.text i) (slice_get (states_of (map status_of caches)) (sym s.number i))) ∙ placed in
+      let here : expires ≡ Some s.row.1 = (λ i. expiry_at (sym s.text i) (at_place (states_of (lives_of caches)) (sym s.number i))) ∙ placed in
       holds ∙ (ap (lives_by now) here ∙ (s.lives ∙ same))
 
-  pub has_agrees : found image id key now ≡ Some b → holds_in now key (slice_get caches id) ≡ b
+  pub has_agrees : found image id key now ≡ Some b → holds_in now key (at_place caches id) ≡ b
   has_agrees is = by_seen (first_seen id key now image.slots) refl is

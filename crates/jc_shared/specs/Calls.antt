@@ -9,13 +9,13 @@ use Rattle.jc_model.specs.declared.event.End.{End}
 use Rattle.jc_model.specs.declared.event.End.TheVariants as end
 use Rattle.jc_model.specs.declared.event.Entry.{Entry}
 use Rattle.jc_model.specs.Runs.{has_processor}
-use Rattle.jc_model.specs.Legal.{IsLegal, entries_of}
+use Rattle.jc_model.specs.Legal.{History, IsLegal, entries_of}
 use Rattle.jc_shared.specs.declared.fault.CallFault.{CallFault}
 use Rattle.jc_shared.specs.declared.fault.CallFault.TheVariants.{NoSuchCache, NoSuchProcessor, Busy, Overtaken, OutOfMemory}
 use Rattle.jc_shared.specs.declared.turned.Turned.{Turned}
 use Rattle.jc_shared.specs.declared.turned.Turned.TheVariants.{Asked, Replied}
 use Rattle.jc_model.specs.Asking.{AsksOf}
-use Rattle.jc_shared.specs.Sessions.{Sitting, Sight, Sees}
+use Rattle.jc_shared.specs.Sessions.{Sitting, Sight, BeginsWith, Sees}
 use Rattle.jc_shared.specs.Stated.{Stated, AreStated}
 
 -- why a call can't begin, by the configurations alone
@@ -26,13 +26,14 @@ refusal_in (Some c) call = if has_processor c call then None else Some NoSuchPro
 abbrev pub call_refusal : List CacheConfig → ℕ → Call → Option CallFault
 call_refusal configs id call = refusal_in (slice_get configs id) call
 
--- the entry is the last of its cache in a legal transcript, of which the pass has seen all
+-- the entry is the last of its cache in a legal transcript that begins with these caches, and of which the pass has seen all
 pub record Stands (configs : List CacheConfig) (e : Entry) (pass : Sight) : Type 0 where
-  pub transcript : List Entry
-  pub legal : IsLegal configs transcript
+  pub transcript : History
+  pub legal : IsLegal transcript
+  pub begins : BeginsWith configs transcript
   pub before : List Entry
-  pub last : entries_of e.id transcript ≡ before ++ e ∷ []
-  pub sees : Sees configs transcript pass
+  pub last : entries_of e.id transcript.entries ≡ before ++ e ∷ []
+  pub sees : Sees transcript pass
 
 -- the entry of a call, by what it was told and how it ended
 abbrev pub called : ℕ → ℕ → ℕ → Call → List Answer → List Notice → End → Entry

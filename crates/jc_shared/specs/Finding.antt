@@ -1,5 +1,5 @@
 -- Where a call's entry stands in the transcript.
-use Rattle.std.specs.Prelude.{◌≡◌, ℕ, List, Some, slice_get, ⊤}
+use Rattle.std.specs.Prelude.{◌≡◌, ℕ, List, map, option_map, Option, Some, slice_get, ⊤}
 use Rattle.jc_model.specs.declared.config.CacheConfig.{CacheConfig}
 use Rattle.jc_model.specs.declared.event.Cause.{Cause}
 use Rattle.jc_model.specs.declared.event.Cause.TheVariants as causes
@@ -11,9 +11,17 @@ use Rattle.jc_model.specs.declared.event.Step.{Step}
 use Rattle.jc_model.specs.declared.event.Step.TheVariants.{Done, Need}
 use Rattle.jc_shared.specs.declared.turned.Turned.{Turned}
 use Rattle.jc_shared.specs.declared.turned.Turned.TheVariants.{Asked, Replied}
-use Rattle.jc_model.specs.Runs.{Status}
-use Rattle.jc_model.specs.Legal.{IsLegal, Tells}
+use Rattle.jc_model.specs.Runs.{Lives}
+use Rattle.jc_model.specs.Legal.{History, IsLegal, Tells}
 use Rattle.jc_engine.specs.Recording.{HasOpen}
+use Rattle.jc_shared.specs.Sessions.{BeginsWith}
+
+abbrev pub configs_in : Lives → List (Option CacheConfig)
+configs_in lives = map (option_map (λ k. k.config)) lives
+
+-- these caches are live, each under its place, and no others
+abbrev pub AreLive : List CacheConfig → Lives → Type 0
+AreLive configs lives = configs_in lives ≡ map Some configs
 
 -- why a call has no reply, by why the engine refuses it
 abbrev pub fault_of : Cause → CallFault
@@ -31,15 +39,16 @@ pub record IsOfCall (e draft : Entry) : Type 0 where
   pub call : e.call ≡ draft.call
 
 -- the open call of the draft's cache stands at this place, and is the draft's
-pub record IsOpenFor (statuses : List Status) (transcript : List Entry) (draft : Entry) (place : ℕ) : Type 0 where
-  pub tells : Tells transcript statuses
-  pub opened : HasOpen transcript draft.id place
+pub record IsOpenFor (lives : Lives) (transcript : History) (draft : Entry) (place : ℕ) : Type 0 where
+  pub tells : Tells transcript lives
+  pub opened : HasOpen transcript.entries draft.id place
   pub own : IsOfCall opened.entry draft
 
--- the draft stands at this place of a legal transcript, just as it is
-pub record StandsAt (configs : List CacheConfig) (transcript : List Entry) (draft : Entry) (place : ℕ) : Type 0 where
-  pub legal : IsLegal configs transcript
-  pub there : slice_get transcript place ≡ Some draft
+-- the draft stands at this place of a legal transcript that begins with these caches, just as it is
+pub record StandsAt (configs : List CacheConfig) (transcript : History) (draft : Entry) (place : ℕ) : Type 0 where
+  pub legal : IsLegal transcript
+  pub begins : BeginsWith configs transcript
+  pub there : slice_get transcript.entries place ≡ Some draft
 
 -- what a step comes to
 abbrev pub Turns : Entry → Step → Turned → Entry → Type 0

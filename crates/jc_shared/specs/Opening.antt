@@ -1,5 +1,5 @@
 -- With which configurations and callbacks a manager opens.
-use Rattle.std.specs.Prelude.{◌≡◌, ℕ, ◌<◌, Bool, List, [], ◌∷◌, map, length, replicate, slice_get, Option, Some, None, ⊤}
+use Rattle.std.specs.Prelude.{◌≡◌, ℕ, ◌<◌, Bool, List, [], ◌∷◌, length, replicate, slice_get, Option, Some, None, ⊤}
 use Rattle.atomic_table.specs.Seated.{TableId}
 use Rattle.jc_cuckoo.specs.declared.held.Held.{Held}
 use Rattle.jc_cuckoo.specs.Images.{image_of}
@@ -7,8 +7,9 @@ use Rattle.jc_index.specs.Indexes.{Index}
 use Rattle.jc_hooks.specs.Suits.{Suits}
 use Rattle.jc_hooks.specs.declared.cache_hooks.CacheHooks.{CacheHooks}
 use Rattle.jc_model.specs.declared.config.CacheConfig.{CacheConfig}
-use Rattle.jc_model.specs.Solo.{opened}
-use Rattle.jc_engine.specs.Caches.{status_of}
+use Rattle.jc_model.specs.Runs.{opened_from}
+use Rattle.jc_model.specs.Legal.{at_first}
+use Rattle.jc_engine.specs.Caches.{lives_of}
 use Rattle.jc_engine.specs.Recording.{Recording}
 use Rattle.jc_engine.specs.Opening.{open_refusal}
 use Rattle.jc_shared.specs.declared.fault.SharedRefusal.{SharedRefusal}
@@ -17,7 +18,8 @@ use Rattle.jc_shared.specs.declared.hooks.SharedHooks.{SharedHooks}
 
 -- no call has been made of the recorded engine, which has these configurations, and there are callbacks for each
 pub record IsOpened {S T : Type 0} (configs : List CacheConfig) (recorded : Recording) (locks : List S) (shared : List T) : Type 0 where
-  pub unused : map status_of recorded.caches ≡ map opened configs
+  pub unused : lives_of recorded.caches ≡ opened_from 0 configs
+  pub uncalled : recorded.transcript ≡ at_first 0 configs
   pub locks_counted : length locks ≡ length configs
   pub shared_counted : length shared ≡ length configs
 

@@ -1,9 +1,9 @@
 -- A session, and what its pass has seen of the table.
-use Rattle.std.specs.Prelude.{◌≡◌, ◌⊎◌, ℕ, List, map, Bool, true, false, Some, None}
+use Rattle.std.specs.Prelude.{◌≡◌, ℕ, List, length, take, true}
 use Rattle.jc_model.specs.declared.config.CacheConfig.{CacheConfig}
 use Rattle.jc_model.specs.declared.event.Entry.{Entry}
-use Rattle.jc_model.specs.Runs.{Status}
-use Rattle.jc_model.specs.Legal.{IsLegal, Tells}
+use Rattle.jc_model.specs.Runs.{Lives}
+use Rattle.jc_model.specs.Legal.{History, IsLegal, Tells, numbered}
 use Rattle.jc_rows.specs.Images.{last_image}
 use Rattle.jc_engine.specs.Watching.{ShowsStates, states_of}
 use Rattle.jc_index.specs.Indexes.{Passing}
@@ -26,15 +26,19 @@ pub record Sitting : Type 0 where
 abbrev pub log_of : Sitting → Own
 log_of s = record { number = s.number; calls = s.calls }
 
--- where the pass's last meeting succeeded, the last image that it has seen shows the caches as the transcript leaves them
-pub record Sees (configs : List CacheConfig) (transcript : List Entry) (pass : Sight) : Type 0 where
-  pub statuses : List Status
-  pub configs_are : map (λ k. k.config) statuses ≡ configs
-  pub tells : Tells transcript statuses
-  pub shows : pass.met ≡ true → ShowsStates (states_of statuses) (last_image pass.images)
+-- the first lives are these caches, each under its place
+abbrev pub BeginsWith : List CacheConfig → History → Type 0
+BeginsWith configs transcript = take (length configs) transcript.lives ≡ numbered 0 configs
 
--- it shows them as a legal transcript leaves them
+-- where the pass's last meeting succeeded, the last image that it has seen shows the live caches as the transcript leaves them
+pub record Sees (transcript : History) (pass : Sight) : Type 0 where
+  pub lives : Lives
+  pub tells : Tells transcript lives
+  pub shows : pass.met ≡ true → ShowsStates (states_of lives) (last_image pass.images)
+
+-- it shows them as a legal transcript leaves them, which begins with these caches
 pub record SeesSome (configs : List CacheConfig) (pass : Sight) : Type 0 where
-  pub transcript : List Entry
-  pub legal : IsLegal configs transcript
-  pub sees : Sees configs transcript pass
+  pub transcript : History
+  pub legal : IsLegal transcript
+  pub begins : BeginsWith configs transcript
+  pub sees : Sees transcript pass

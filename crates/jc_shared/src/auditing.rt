@@ -192,8 +192,8 @@ fn first_difference<S: Logged>(entries: &[Entry], logs: &[S], given: u32) -> Opt
 ///
 /// `Missing`, `StillOpen`, `Differs`, in this order. It takes no memory.
 pub fn audit<S: Logged>(transcript: &Transcript, logs: &[S], given: u32) -> Result<(), CloseFault>
-    ensures ok { OnOk result (Accounts given (map S.log logs.now) transcript.now) }
-    ensures fault { IfErr result (λ f. IsFault given (map S.log logs.now) transcript.now f) }
+    ensures ok { OnOk result (Accounts given (map S.log logs.now) transcript.now.entries) }
+    ensures fault { IfErr result (λ f. IsFault given (map S.log logs.now) transcript.now.entries f) }
 {
     let entries = transcript.entries();
     if !are_below(logs, given) || !are_once(logs, given) {

@@ -7,14 +7,14 @@ ghost use Rattle.jc_model.specs.Legal.{IsLegal};
 ghost use Rattle.jc_rows.specs.Images.{last_image};
 ghost use Rattle.jc_index.specs.Found.{found};
 ghost use Rattle.jc_engine.specs.Recording.{blank};
-ghost use Rattle.jc_engine.specs.Caches.{configs_of, status_of};
+ghost use Rattle.jc_engine.specs.Caches.{lives_of};
 ghost use Rattle.jc_engine.specs.Results.{reply_in};
 ghost use Rattle.jc_engine.specs.Watching.{ShowsStates, states_of};
 ghost use Rattle.jc_shared.specs.Accounts.{Accounts, IsCloseFault};
 ghost use Rattle.jc_shared.specs.Admitting.{Admits};
 ghost use Rattle.jc_shared.specs.Calls.{Stands, GoesOn, call_refusal};
-ghost use Rattle.jc_shared.specs.Sessions.{Sees, SeesSome};
-ghost use Rattle.jc_shared.specs.Finding.{fault_of, IsOfCall, IsOpenFor, StandsAt, Turns, IsReplied};
+ghost use Rattle.jc_shared.specs.Sessions.{BeginsWith, Sees, SeesSome};
+ghost use Rattle.jc_shared.specs.Finding.{fault_of, AreLive, IsOfCall, IsOpenFor, StandsAt, Turns, IsReplied};
 
 use crate::auditing::{Logged, audit};
 use crate::fault::{CallFault, CloseFault, SessionRefusal};
@@ -34,7 +34,7 @@ use std::marker::PhantomData;
 /// The most sessions of a manager.
 const MOST_SESSIONS: u32 = 64;
 
-/// A recorded engine whose configurations are those that the name tells.
+/// A recorded engine, whose caches are those that the name tells.
 #[derive(Drop)]
 pub(crate) struct Locked<N: Name> {
     recorded: Recorded<ShownTable<N>, LinkRing>,
@@ -42,7 +42,8 @@ pub(crate) struct Locked<N: Name> {
     given: u32,
     closed: bool,
     of: PhantomData<N>,
-    ghost named: { configs_of recorded.caches ≡ N.configs },
+    ghost begins: { BeginsWith N.configs recorded.transcript },
+    ghost stay: { AreLive N.configs (lives_of recorded.caches) },
 }
 
 fn fault_of(cause: Cause) -> CallFault
@@ -105,7 +106,8 @@ fn turned(step: Step, copy: Option<Reply>, draft: &mut Entry) -> Turned
 
 impl<N: Name> Locked<N> {
     pub(crate) fn new(recorded: Recorded<ShownTable<N>, LinkRing>) -> Locked<N>
-        requires { configs_of recorded.caches ≡ N.configs }
+        requires begins { BeginsWith N.configs recorded.transcript }
+        requires live { AreLive N.configs (lives_of recorded.caches) }
         ensures { (result.given ≡ 0) × (result.closed ≡ false) }
     {
         Locked {
@@ -118,7 +120,7 @@ impl<N: Name> Locked<N> {
 
     /// The place of the open call of the draft's cache, where that is the draft's call.
     fn open_place(&self, draft: &Entry) -> Option<usize>
-        ensures { IfSome result (λ place. IsOpenFor (map status_of self.now.recorded.caches) self.now.recorded.transcript draft.now place) }
+        ensures { IfSome result (λ place. IsOpenFor (lives_of self.now.recorded.caches) self.now.recorded.transcript draft.now place) }
     {
         let place = self.recorded.open_place(draft.id)?;
         let open = entry_at(self.recorded.transcript().entries(), place)?;
@@ -169,8 +171,8 @@ impl<N: Name> Locked<N> {
     fn show(&mut self, pass: &mut TablePass<N>)
         ensures same { (self.new.recorded ≡ self.old.recorded) × (self.new.given ≡ self.old.given) × (self.new.closed ≡ self.old.closed) }
         ensures front { IsPrefix pass.old.images pass.new.images }
-        ensures shows { pass.new.met ≡ true → ShowsStates (states_of (map status_of self.old.recorded.caches)) (last_image pass.new.images) }
-        ensures sees { Sees N.configs self.old.recorded.transcript pass.new }
+        ensures shows { pass.new.met ≡ true → ShowsStates (states_of (lives_of self.old.recorded.caches)) (last_image pass.new.images) }
+        ensures sees { Sees self.old.recorded.transcript pass.new }
     {
         let _ = self.recorded.meet(pass);
     }
@@ -179,7 +181,7 @@ impl<N: Name> Locked<N> {
     fn show_reply(&mut self, turned: &Turned, pass: &mut TablePass<N>)
         ensures same { (self.new.recorded ≡ self.old.recorded) × (self.new.given ≡ self.old.given) × (self.new.closed ≡ self.old.closed) }
         ensures front { IsPrefix pass.old.images pass.new.images }
-        ensures sees { IsReplied turned.now → Sees N.configs self.old.recorded.transcript pass.new }
+        ensures sees { IsReplied turned.now → Sees self.old.recorded.transcript pass.new }
     {
         match turned {
             Turned::Asked(_) => {}
@@ -319,10 +321,11 @@ impl<N: Name> Locked<N> {
 
     /// Closes the manager, where the logs account for the transcript, and hands the transcript out.
     pub(crate) fn finish<S: Logged>(&mut self, logs: &[S]) -> Result<Transcript, CloseFault>
-        ensures legal { IfOk result (λ t. IsLegal N.configs t) }
-        ensures accounts { IfOk result (λ t. Accounts self.old.given (map S.log logs.now) t) }
+        ensures legal { IfOk result (λ t. IsLegal t) }
+        ensures begins { IfOk result (λ t. BeginsWith N.configs t) }
+        ensures accounts { IfOk result (λ t. Accounts self.old.given (map S.log logs.now) t.entries) }
         ensures whole { IfOk result (λ t. t ≡ self.old.recorded.transcript) }
-        ensures fault { self.old.closed ≡ false → IfErr result (λ f. IsCloseFault self.old.given (map S.log logs.now) self.old.recorded.transcript f) }
+        ensures fault { self.old.closed ≡ false → IfErr result (λ f. IsCloseFault self.old.given (map S.log logs.now) self.old.recorded.transcript.entries f) }
         ensures closed { OnOk result ((self.old.closed ≡ false) × (self.new.closed ≡ true)) }
         ensures again { self.old.closed ≡ true → result ≡ Err CloseFault.Missing }
         ensures same { OnErr result (self.new ≡ self.old) }

@@ -4,7 +4,7 @@ ghost use Rattle.std.specs.Str.{bytes_eq};
 ghost use Rattle.jc_engine.specs.Opening.{names_in};
 ghost use Rattle.jc_model.specs.Legal.{IsLegal};
 ghost use Rattle.jc_shared.specs.Accounts.{Accounts};
-ghost use Rattle.jc_shared.specs.Sessions.{SeesSome, log_of};
+ghost use Rattle.jc_shared.specs.Sessions.{BeginsWith, SeesSome, log_of};
 ghost use Rattle.jc_shared.specs.Stated.{stated_by};
 
 use crate::directory::Directory;
@@ -78,8 +78,9 @@ impl<N: Name, L: Loader, W: Writer, P: Processor, K: Listener> Manager<N, L, W, 
         rt: &R,
         sessions: Vec<Session<'a, N, L, W, P, K>>,
     ) -> Result<Transcript, (CloseFault, Vec<Session<'a, N, L, W, P, K>>)>
-        ensures legal { IfOk result (λ t. IsLegal N.configs t) }
-        ensures accounts { IfOk result (λ t. (given : ℕ) × Accounts given (map log_of sessions.entry.items) t) }
+        ensures legal { IfOk result (λ t. IsLegal t) }
+        ensures begins { IfOk result (λ t. BeginsWith N.configs t) }
+        ensures accounts { IfOk result (λ t. (given : ℕ) × Accounts given (map log_of sessions.entry.items) t.entries) }
         ensures back { IfErr result (λ e. e.1.items ≡ sessions.entry.items) }
     {
         let finished = self.locked.lock(rt).finish(sessions.as_slice());

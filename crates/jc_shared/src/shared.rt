@@ -1,7 +1,8 @@
 //! Opening a manager.
 ghost use Rattle.std.specs.Prelude.{◌≡◌, None, IfOk, IfErr, OnOk, length, map};
-ghost use Rattle.jc_model.specs.Solo.{opened};
-ghost use Rattle.jc_engine.specs.Caches.{status_of};
+ghost use Rattle.jc_model.specs.Legal.{at_first};
+ghost use Rattle.jc_model.specs.Runs.{opened_from};
+ghost use Rattle.jc_engine.specs.Caches.{lives_of};
 ghost use Rattle.jc_engine.specs.Fresh.{AreIds};
 ghost use Rattle.jc_engine.specs.Opening.{open_refusal, names_in};
 ghost use Rattle.jc_shared.specs.Opening.{CanOpen, IsRefusal};
@@ -67,7 +68,8 @@ fn recorded(
     configs: Vec<CacheConfig>,
 ) -> Result<Recorded<ListRows, LinkRing>, OutOfMemory>
     requires { open_refusal configs.items ≡ None }
-    ensures { IfOk result (λ r. map status_of r.caches ≡ map opened configs.items) }
+    ensures opened { IfOk result (λ r. lives_of r.caches ≡ opened_from 0 configs.items) }
+    ensures uncalled { IfOk result (λ r. r.transcript ≡ at_first 0 configs.items) }
 {
     match Recorded::open(alloc, ListRows::new(alloc), configs) {
         Ok(recorded) => Ok(recorded),

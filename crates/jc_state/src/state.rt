@@ -10,7 +10,7 @@ mod room;
 mod rows;
 mod walk;
 
-ghost use Rattle.std.specs.Prelude.{◌≡◌, ℕ, ◌≤◌, List, [], length, true, Some, IfOk};
+ghost use Rattle.std.specs.Prelude.{◌≡◌, ℕ, ◌≤◌, List, [], length, true, Some, IfOk, IfErr};
 ghost use Rattle.jc_model.specs.State.{zeros, one_more, live};
 ghost use Rattle.jc_model.specs.Whole.{holds};
 ghost use Rattle.jc_state.specs.declared.slots.Record.{Record};
@@ -20,7 +20,6 @@ ghost use Rattle.jc_state.specs.Kept.{state_of, has_live, IsTied, FoundRow};
 use crate::shelf::Shelf;
 use jc_expiry::counters::{with_hit, with_miss, with_put, with_removal};
 use jc_expiry::expiry::live;
-use jc_model::OutOfMemory;
 use jc_model::call::Counts;
 use jc_model::config::CacheConfig;
 use jc_model::event::CacheId;
@@ -66,19 +65,29 @@ fn no_counts() -> Counts
 }
 
 impl<G: Ring> CacheState<G> {
-    /// A cache with no rows, with place for all that it may have, and all counters at zero.
-    pub fn empty(alloc: Global, id: CacheId, config: CacheConfig) -> Result<Self, OutOfMemory>
+    /// A cache with no rows, with place for all that it may have, and all counters at zero. Where memory is refused,
+    /// the configuration comes back.
+    pub fn empty(alloc: Global, id: CacheId, config: CacheConfig) -> Result<Self, CacheConfig>
         requires { 1 ≤ config.capacity }
-        ensures { IfOk result (λ s. s ≡ record { config = config; id = id; cells = []; counts = zeros }) }
+        ensures made { IfOk result (λ s. s ≡ record { config = config; id = id; cells = []; counts = zeros }) }
+        ensures back { IfErr result (λ back. back ≡ config) }
     {
-        let shelf = Shelf::with_capacity(alloc, config.capacity)?;
-        let counts = no_counts();
-        Ok(CacheState {
-            config,
-            id,
-            shelf,
-            counts,
-        })
+        match Shelf::with_capacity(alloc, config.capacity) {
+            Ok(shelf) => Ok(CacheState {
+                config,
+                id,
+                shelf,
+                counts: no_counts(),
+            }),
+            Err(_) => Err(config),
+        }
+    }
+
+    /// The configuration alone; the rest is let go.
+    pub fn into_config(self) -> CacheConfig
+        ensures { result ≡ self.config }
+    {
+        self.config
     }
 
     /// How many rows it has, expired ones among them.

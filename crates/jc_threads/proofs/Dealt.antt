@@ -3,8 +3,8 @@ use Rattle.std.proofs.Common.{◌≡◌, ◌≢◌, ℕ, zero, suc, replicate, B
 use Rattle.std.specs.Prelude.{slice_get, slice_set, ◌==◌}
 use Rattle.std.proofs.lemmas.List.Elements.{All-nil, All-push}
 use Rattle.std.proofs.lemmas.Bool.Decides.{nat_tests}
-use Rattle.jc_model.proofs.EachCache.{at_same, at_other}
-use Rattle.jc_script.specs.declared.line.Line.{Line}
+use Rattle.jc_model.proofs.Lives.{at_same, at_other}
+use Rattle.jc_threads.specs.declared.line.LineCall.{LineCall}
 use Rattle.jc_shared.specs.Sessions.{Sitting}
 use Rattle.jc_threads.specs.Dealing.{Share, idle, AreSeated, IsDealt, AreDealt}
 use Rattle.jc_threads.proofs.Lists.{kept_more, left_out, at_end}
@@ -14,7 +14,7 @@ seated_more : (workers worker place : ℕ) (sessions : List Sitting) (o : Sittin
 seated_more workers worker place sessions o seated next own here k x there = at_end (λ (j : ℕ) (y : Sitting). (y.number % workers ≡ worker) × (y.number / workers ≡ j)) sessions o seated (own, here ∙ sym next) k x there
 
 -- One worker's share has changed.
-module _ (before after : List Line) (crew : List Share) (worker : ℕ) (share' : Share) (at_worker : (share : Share) → slice_get crew worker ≡ Some share → IsDealt (length crew) worker before share → IsDealt (length crew) worker after share')
+module _ (before after : List LineCall) (crew : List Share) (worker : ℕ) (share' : Share) (at_worker : (share : Share) → slice_get crew worker ≡ Some share → IsDealt (length crew) worker before share → IsDealt (length crew) worker after share')
     (at_others : (other : ℕ) (share : Share) → worker ≢ other → slice_get crew other ≡ Some share → IsDealt (length crew) other before share → IsDealt (length crew) other after share) (share : Share) (at : slice_get crew worker ≡ Some share) where
   pub dealt_anew : AreDealt before crew → AreDealt after (slice_set crew worker share')
   dealt_anew dealt k x there = subst (λ (n : ℕ). IsDealt n k after x) (sym (length-set crew worker share')) (go (worker == k) refl)
@@ -31,7 +31,7 @@ module _ (before after : List Line) (crew : List Share) (worker : ℕ) (share' :
           at_others k x elsewhere same (dealt k x same)
 
 -- a session more
-pub seat_dealt : (all : List Line) (crew : List Share) (share : Share) (o : Sitting) (n : ℕ) → n ≡ o.number → o.calls ≡ [] → slice_get crew (n % length crew) ≡ Some share → length share.sessions ≡ n / length crew
+pub seat_dealt : (all : List LineCall) (crew : List Share) (share : Share) (o : Sitting) (n : ℕ) → n ≡ o.number → o.calls ≡ [] → slice_get crew (n % length crew) ≡ Some share → length share.sessions ≡ n / length crew
     → AreDealt all crew → AreDealt all (slice_set crew (n % length crew) (record share { sessions = share.sessions ++ o ∷ [] }))
 seat_dealt all crew share o n is none at next =
     dealt_anew all all crew (n % length crew) (record share { sessions = share.sessions ++ o ∷ [] })
@@ -45,7 +45,7 @@ seat_dealt all crew share o n is none at next =
     (λ other found differ there dealt. dealt) share at
 
 -- a line more
-pub hand_dealt : (done : List Line) (l : Line) (crew : List Share) (share : Share) → slice_get crew (l.session % length crew) ≡ Some share
+pub hand_dealt : (done : List LineCall) (l : LineCall) (crew : List Share) (share : Share) → slice_get crew (l.session % length crew) ≡ Some share
     → AreDealt done crew → AreDealt (done ++ l ∷ []) (slice_set crew (l.session % length crew) (record share { lines = share.lines ++ l ∷ [] }))
 hand_dealt done l crew share at =
     dealt_anew done (done ++ l ∷ []) crew (l.session % length crew) (record share { lines = share.lines ++ l ∷ [] })
@@ -54,12 +54,12 @@ hand_dealt done l crew share at =
     record {
       seated = had.seated;
       fresh = had.fresh;
-      lines = ap (λ (ls : List Line). ls ++ l ∷ []) had.lines ∙ sym (kept_more (λ (x : Line). (x.session % length crew) == (l.session % length crew)) done l (grind (arith, nat_tests)));
+      lines = ap (λ (ls : List LineCall). ls ++ l ∷ []) had.lines ∙ sym (kept_more (λ (x : LineCall). (x.session % length crew) == (l.session % length crew)) done l (grind (arith, nat_tests)));
     })
     (λ other found differ there dealt. record {
       seated = dealt.seated;
       fresh = dealt.fresh;
-      lines = dealt.lines ∙ sym (left_out (λ (x : Line). (x.session % length crew) == other) done l (grind (arith, nat_tests, differ)));
+      lines = dealt.lines ∙ sym (left_out (λ (x : LineCall). (x.session % length crew) == other) done l (grind (arith, nat_tests, differ)));
     }) share at
 
 -- Workers that have nothing.

@@ -8,7 +8,7 @@ use Rattle.std.proofs.lemmas.Bool.Decides.{nat_tests}
 use Rattle.std.proofs.lemmas.Nat.{mod_below}
 use Rattle.std.proofs.lemmas.Option.{slice_get_within}
 use Rattle.jc_model.specs.declared.event.Entry.{Entry}
-use Rattle.jc_script.specs.declared.line.Line.{Line}
+use Rattle.jc_threads.specs.declared.line.LineCall.{LineCall}
 use Rattle.jc_shared.specs.Accounts.{own_of, Accounts}
 use Rattle.jc_shared.specs.Sessions.{Sitting, log_of}
 use Rattle.jc_shared.specs.Stated.{Stated}
@@ -19,14 +19,14 @@ use Rattle.jc_threads.proofs.Lists.{all_at, all_from, all_by_class, all_flat, so
 
 -- Sessions that have made all lines.
 
-among_or_none : (number : ℕ) (logs : List Sitting) (lines : List Line) → All (λ l. Among l.session logs) lines → Among number logs ⊎ (lines_by number lines ≡ [])
+among_or_none : (number : ℕ) (logs : List Sitting) (lines : List LineCall) → All (λ l. Among l.session logs) lines → Among number logs ⊎ (lines_by number lines ≡ [])
 among_or_none number logs [] there = inr refl
-among_or_none number logs (l ∷ lines) there = go (l.session == number) refl (among_or_none number logs lines (All-tail (λ (x : Line). Among x.session logs) l lines there))
+among_or_none number logs (l ∷ lines) there = go (l.session == number) refl (among_or_none number logs lines (All-tail (λ (x : LineCall). Among x.session logs) l lines there))
   where
     go : (b : Bool) → (l.session == number) ≡ b → Among number logs ⊎ (lines_by number lines ≡ []) → Among number logs ⊎ (cond b (l ∷ lines_by number lines) (lines_by number lines) ≡ [])
     go true is rest =
         let own : l.session ≡ number = grind (arith, nat_tests, is) in
-        inl (subst (λ (n : ℕ). Among n logs) own (All-head (λ (x : Line). Among x.session logs) l lines there))
+        inl (subst (λ (n : ℕ). Among n logs) own (All-head (λ (x : LineCall). Among x.session logs) l lines there))
     go false is (inl found) = inl found
     go false is (inr none) = inr none
 
@@ -35,7 +35,7 @@ among_later number o logs N is (inl (inl own)) = absurd (grind (arith, nat_tests
 among_later number o logs N is (inl (inr found)) = inl found
 among_later number o logs N is (inr none) = inr none
 
-own_made : (stated : List Stated) (all : List Line) (number : ℕ) (logs : List Sitting) → All (HasMade stated all) logs → Among number logs ⊎ (lines_by number all ≡ []) → map line_of (own_of number (map log_of logs)) ≡ lines_by number all
+own_made : (stated : List Stated) (all : List LineCall) (number : ℕ) (logs : List Sitting) → All (HasMade stated all) logs → Among number logs ⊎ (lines_by number all ≡ []) → map line_of (own_of number (map log_of logs)) ≡ lines_by number all
 own_made stated all number [] made (inl found) = absurd found
 own_made stated all number [] made (inr none) = sym none
 own_made stated all number (o ∷ logs) made among = go (o.number == number) refl (own_made stated all number logs (All-tail (HasMade stated all) o logs made))
@@ -55,7 +55,7 @@ own_answered P number (o ∷ logs) h = go (o.number == number) (own_answered P n
     go false rest = rest
 
 -- A transcript that they account for.
-pub are_made : (stated : List Stated) (given : ℕ) (all : List Line) (logs : List Sitting) (transcript : List Entry) → Accounts given (map log_of logs) transcript → All (HasMade stated all) logs → All (λ l. Among l.session logs) all → AreMade stated all transcript
+pub are_made : (stated : List Stated) (given : ℕ) (all : List LineCall) (logs : List Sitting) (transcript : List Entry) → Accounts given (map log_of logs) transcript → All (HasMade stated all) logs → All (λ l. Among l.session logs) all → AreMade stated all transcript
 are_made stated given all logs transcript accounts made there = record {
   each = λ session. ap (map line_of) (accounts.agree session) ∙ own_made stated all session logs made (among_or_none session logs all there);
   answered = all_by_class (λ (e : Entry). e.session) (IsAnswered stated) transcript (λ e.
@@ -86,17 +86,17 @@ worked_as stated n workers job share r result is is' is'' has =
     (subst (λ (s : Share). IfOk r (λ v. HasWorked stated workers s v.items)) is' (subst (λ (m : ℕ). IfOk r (λ v. HasWorked stated m job v.items)) is has))
 
 -- a worker's lines are all lines of its sessions
-shared_lines : (workers worker number : ℕ) (all : List Line) → number % workers ≡ worker → lines_by number (dealt_to workers worker all) ≡ lines_by number all
-shared_lines workers worker number all own = twice_kept (λ (l : Line). l.session == number) (λ (l : Line). (l.session % workers) == worker) all (λ l is.
+shared_lines : (workers worker number : ℕ) (all : List LineCall) → number % workers ≡ worker → lines_by number (dealt_to workers worker all) ≡ lines_by number all
+shared_lines workers worker number all own = twice_kept (λ (l : LineCall). l.session == number) (λ (l : LineCall). (l.session % workers) == worker) all (λ l is.
     let same : l.session ≡ number = grind (arith, nat_tests, is) in
     let at : l.session % workers ≡ worker = ap (λ (n : ℕ). n % workers) same ∙ own in
     grind (arith, nat_tests, at))
 
-module _ (stated : List Stated) (all : List Line) (crew : List Share) (results : List (Result (Vec Sitting Global) WorkFault)) (dealt : AreDealt all crew) (worked : HaveWorked stated crew results) (done : All IsDone results) where
+module _ (stated : List Stated) (all : List LineCall) (crew : List Share) (results : List (Result (Vec Sitting Global) WorkFault)) (dealt : AreDealt all crew) (worked : HaveWorked stated crew results) (done : All IsDone results) where
   -- what a worker has done, whose sessions these are
   by_result : (worker : ℕ) (share : Share) (result : Result (Vec Sitting Global) WorkFault) → slice_get crew worker ≡ Some share → IfOk result (λ sessions. HasWorked stated (length crew) share sessions.items) → IsDone result → IsAtWork stated (length crew) worker (dealt_to (length crew) worker all) (handed result)
   by_result worker share (Ok sessions) at has is =
-      subst (λ (ls : List Line). IsAtWork stated (length crew) worker ls sessions.items) (dealt worker share at).lines (has worker (dealt worker share at).seated)
+      subst (λ (ls : List LineCall). IsAtWork stated (length crew) worker ls sessions.items) (dealt worker share at).lines (has worker (dealt worker share at).seated)
   by_result worker share (Err fault) at has is = absurd is
 
   at_work : (worker : ℕ) (result : Result (Vec Sitting Global) WorkFault) → slice_get results worker ≡ Some result → IsAtWork stated (length crew) worker (dealt_to (length crew) worker all) (handed result)
@@ -114,11 +114,11 @@ module _ (stated : List Stated) (all : List Line) (crew : List Share) (results :
   pub all_made : All (HasMade stated all) (all_handed results)
   all_made = all_flat (HasMade stated all) handed results made_by
 
-  there_by : 0 < length crew → (l : Line) → All (λ (x : Line). Among x.session (all_handed results)) (dealt_to (length crew) (l.session % length crew) all)
+  there_by : 0 < length crew → (l : LineCall) → All (λ (x : LineCall). Among x.session (all_handed results)) (dealt_to (length crew) (l.session % length crew) all)
   there_by some l =
       let found : (result : Result (Vec Sitting Global) WorkFault) × (slice_get results (l.session % length crew) ≡ Some result) = some_at results (l.session % length crew) (omega (arith, worked.counted, mod_below l.session (length crew) some)) in
-      All-weaker (λ (x : Line). Among x.session (handed found.0)) (λ (x : Line). Among x.session (all_handed results)) (λ x there. among_flat x.session handed results (l.session % length crew) found.0 found.1 there)
+      All-weaker (λ (x : LineCall). Among x.session (handed found.0)) (λ (x : LineCall). Among x.session (all_handed results)) (λ x there. among_flat x.session handed results (l.session % length crew) found.0 found.1 there)
       (dealt_to (length crew) (l.session % length crew) all) (at_work (l.session % length crew) found.0 found.1).there
 
   pub all_there : 0 < length crew → All (λ l. Among l.session (all_handed results)) all
-  all_there some = all_by_class (λ (l : Line). l.session % length crew) (λ (x : Line). Among x.session (all_handed results)) all (there_by some)
+  all_there some = all_by_class (λ (l : LineCall). l.session % length crew) (λ (x : LineCall). Among x.session (all_handed results)) all (there_by some)

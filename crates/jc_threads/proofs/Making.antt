@@ -10,8 +10,8 @@ use Rattle.jc_model.specs.declared.call.Reply.{Reply}
 use Rattle.jc_model.specs.declared.config.CacheConfig.{CacheConfig}
 use Rattle.jc_model.specs.declared.event.End.TheVariants.{Replied}
 use Rattle.jc_model.specs.declared.event.Entry.{Entry}
-use Rattle.jc_model.proofs.EachCache.{at_same, at_other}
-use Rattle.jc_script.specs.declared.line.Line.{Line}
+use Rattle.jc_model.proofs.Lives.{at_same, at_other}
+use Rattle.jc_threads.specs.declared.line.LineCall.{LineCall}
 use Rattle.jc_shared.specs.Calls.{Adds, called}
 use Rattle.jc_shared.specs.Sessions.{Sitting}
 use Rattle.jc_shared.specs.declared.fault.CallFault.{CallFault}
@@ -21,28 +21,28 @@ use Rattle.jc_threads.specs.Lines.{line_of, lines_by, IsAnswered, HasMade, Among
 use Rattle.jc_threads.proofs.Lists.{all_at, all_from, kept_more, left_out}
 
 -- of the session whose line it is
-has_made_more : (configs : List CacheConfig) (stated : List Stated) (done : List Line) (l : Line) (old new : Sitting) (reply : Reply) → old.number ≡ l.session → new.number ≡ old.number
+has_made_more : (configs : List CacheConfig) (stated : List Stated) (done : List LineCall) (l : LineCall) (old new : Sitting) (reply : Reply) → old.number ≡ l.session → new.number ≡ old.number
     → Adds configs stated old new l.id l.at l.call (Replied reply) → HasMade stated done old → HasMade stated (done ++ l ∷ []) new
 has_made_more configs stated done l old new reply own same adds made =
     let e : Entry = called old.number l.id l.at l.call adds.answers adds.told (Replied reply) in
     let line : line_of e ≡ l = ap (λ (n : ℕ). record { session = n; id = l.id; at = l.at; call = l.call }) own in
-    let kept : lines_by old.number (done ++ l ∷ []) ≡ lines_by old.number done ++ l ∷ [] = kept_more (λ (x : Line). x.session == old.number) done l (grind (arith, nat_tests, own)) in
+    let kept : lines_by old.number (done ++ l ∷ []) ≡ lines_by old.number done ++ l ∷ [] = kept_more (λ (x : LineCall). x.session == old.number) done l (grind (arith, nat_tests, own)) in
     record {
       calls =
-          ap (map line_of) adds.added ∙ (map_push line_of old.calls e ∙ (ap (λ (ls : List Line). ls ++ line_of e ∷ []) made.calls ∙ (ap (λ (x : Line). lines_by old.number done ++ x ∷ []) line
+          ap (map line_of) adds.added ∙ (map_push line_of old.calls e ∙ (ap (λ (ls : List LineCall). ls ++ line_of e ∷ []) made.calls ∙ (ap (λ (x : LineCall). lines_by old.number done ++ x ∷ []) line
           ∙ (sym kept ∙ ap (λ (n : ℕ). lines_by n (done ++ l ∷ [])) (sym same)))));
       answered = subst (All (IsAnswered stated)) (sym adds.added) (All-push (IsAnswered stated) old.calls e made.answered (record { replied = tt; answered = adds.answered }));
     }
 
-pub made_if_replied : (configs : List CacheConfig) (stated : List Stated) (done : List Line) (l : Line) (old new : Sitting) (r : Result Reply CallFault) → old.number ≡ l.session → new.number ≡ old.number
+pub made_if_replied : (configs : List CacheConfig) (stated : List Stated) (done : List LineCall) (l : LineCall) (old new : Sitting) (r : Result Reply CallFault) → old.number ≡ l.session → new.number ≡ old.number
     → IfOk r (λ reply. Adds configs stated old new l.id l.at l.call (Replied reply)) → IsOk r → HasMade stated done old → HasMade stated (done ++ l ∷ []) new
 made_if_replied configs stated done l old new (Ok reply) own same adds is made = has_made_more configs stated done l old new reply own same adds made
 made_if_replied configs stated done l old new (Err fault) own same adds is made = absurd (false≢true is)
 
 -- of another
-has_made_other : (stated : List Stated) (done : List Line) (l : Line) (o : Sitting) → l.session ≢ o.number → HasMade stated done o → HasMade stated (done ++ l ∷ []) o
+has_made_other : (stated : List Stated) (done : List LineCall) (l : LineCall) (o : Sitting) → l.session ≢ o.number → HasMade stated done o → HasMade stated (done ++ l ∷ []) o
 has_made_other stated done l o other made = record {
-  calls = made.calls ∙ sym (left_out (λ (x : Line). x.session == o.number) done l (grind (arith, nat_tests, other)));
+  calls = made.calls ∙ sym (left_out (λ (x : LineCall). x.session == o.number) done l (grind (arith, nat_tests, other)));
   answered = made.answered;
 }
 
@@ -61,7 +61,7 @@ among_set (p ∷ logs) (suc k) o o' number at same (inl is) = inl is
 among_set (p ∷ logs) (suc k) o o' number at same (inr there) = inr (among_set logs k o o' number at same there)
 
 -- A worker's sessions, of which the one at a place has made a line.
-module _ (stated : List Stated) (workers worker : ℕ) (done : List Line) (l : Line) (sessions : List Sitting) (place : ℕ) (o o' : Sitting) (at : slice_get sessions place ≡ Some o) (looked : l.session / workers ≡ place) (own : o.number ≡ l.session) (same : o'.number ≡ o.number) (work : IsAtWork stated workers worker done sessions) where
+module _ (stated : List Stated) (workers worker : ℕ) (done : List LineCall) (l : LineCall) (sessions : List Sitting) (place : ℕ) (o o' : Sitting) (at : slice_get sessions place ≡ Some o) (looked : l.session / workers ≡ place) (own : o.number ≡ l.session) (same : o'.number ≡ o.number) (work : IsAtWork stated workers worker done sessions) where
   still_seated : AreSeated workers worker (slice_set sessions place o')
   still_seated k x there = go (place == k) refl
     where
@@ -91,10 +91,10 @@ module _ (stated : List Stated) (workers worker : ℕ) (done : List Line) (l : L
           let other : l.session ≢ x.number = λ (e : l.session ≡ x.number). elsewhere (sym looked ∙ (ap (λ (n : ℕ). n / workers) e ∙ (work.seated k x before).1)) in
           has_made_other stated done l x other (all_at (HasMade stated done) sessions k x work.made before)
 
-  all_there : All (λ (x : Line). Among x.session (slice_set sessions place o')) (done ++ l ∷ [])
+  all_there : All (λ (x : LineCall). Among x.session (slice_set sessions place o')) (done ++ l ∷ [])
   all_there =
-      All-push (λ (x : Line). Among x.session (slice_set sessions place o')) done l
-      (All-weaker (λ (x : Line). Among x.session sessions) (λ (x : Line). Among x.session (slice_set sessions place o')) (λ x there. among_set sessions place o o' x.session at same there) done work.there)
+      All-push (λ (x : LineCall). Among x.session (slice_set sessions place o')) done l
+      (All-weaker (λ (x : LineCall). Among x.session sessions) (λ (x : LineCall). Among x.session (slice_set sessions place o')) (λ x there. among_set sessions place o o' x.session at same there) done work.there)
       (among_at (slice_set sessions place o') place o' l.session (at_same sessions place o o' at) (same ∙ own))
 
   pub at_work_more : HasMade stated (done ++ l ∷ []) o' → IsAtWork stated workers worker (done ++ l ∷ []) (slice_set sessions place o')
@@ -105,5 +105,5 @@ pub at_work_first : (stated : List Stated) (workers worker : ℕ) (sessions : Li
 at_work_first stated workers worker sessions seated fresh = record {
   seated = seated;
   made = All-weaker (λ (o : Sitting). o.calls ≡ []) (HasMade stated []) (λ o none. record { calls = ap (map line_of) none; answered = subst (All (IsAnswered stated)) (sym none) (All-nil (IsAnswered stated)) }) sessions fresh;
-  there = All-nil (λ (x : Line). Among x.session sessions);
+  there = All-nil (λ (x : LineCall). Among x.session sessions);
 }

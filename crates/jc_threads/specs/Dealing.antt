@@ -2,7 +2,7 @@
 use Rattle.std.specs.Prelude.{◌≡◌, ℕ, ◌%◌, ◌/◌, ◌==◌, List, [], length, slice_get, Some, Result, Ok, Err, IfOk, Vec, ⊤}
 use Rattle.std.specs.List.{filter, flat_map, All}
 use Rattle.std.specs.declared.alloc.Global.{Global}
-use Rattle.jc_script.specs.declared.line.Line.{Line}
+use Rattle.jc_threads.specs.declared.line.LineCall.{LineCall}
 use Rattle.jc_shared.specs.Sessions.{Sitting}
 use Rattle.jc_shared.specs.Stated.{Stated}
 use Rattle.jc_threads.specs.declared.fault.WorkFault.{WorkFault}
@@ -11,7 +11,7 @@ use Rattle.jc_threads.specs.Lines.{HasMade, Among}
 -- what a worker has
 pub record Share : Type 0 where
   pub sessions : List Sitting
-  pub lines : List Line
+  pub lines : List LineCall
 
 abbrev pub idle : Share
 idle = record { sessions = []; lines = [] }
@@ -21,20 +21,20 @@ abbrev pub AreSeated : ℕ → ℕ → List Sitting → Type 0
 AreSeated workers worker sessions =
     (place : ℕ) (o : Sitting) → slice_get sessions place ≡ Some o → (o.number % workers ≡ worker) × (o.number / workers ≡ place)
 
-abbrev pub dealt_to : ℕ → ℕ → List Line → List Line
+abbrev pub dealt_to : ℕ → ℕ → List LineCall → List LineCall
 dealt_to workers worker lines = filter (λ l. (l.session % workers) == worker) lines
 
 abbrev pub AreFresh : List Sitting → Type 0
 AreFresh sessions = All (λ o. o.calls ≡ []) sessions
 
 -- a worker has its part of these lines, and its sessions, which have made no call
-pub record IsDealt (workers worker : ℕ) (all : List Line) (share : Share) : Type 0 where
+pub record IsDealt (workers worker : ℕ) (all : List LineCall) (share : Share) : Type 0 where
   pub seated : AreSeated workers worker share.sessions
   pub fresh : AreFresh share.sessions
   pub lines : share.lines ≡ dealt_to workers worker all
 
 -- and so have all
-abbrev pub AreDealt : List Line → List Share → Type 0
+abbrev pub AreDealt : List LineCall → List Share → Type 0
 AreDealt all crew = (worker : ℕ) (share : Share) → slice_get crew worker ≡ Some share → IsDealt (length crew) worker all share
 
 -- what can be worked on
@@ -44,7 +44,7 @@ pub record IsReady (workers : ℕ) (share : Share) : Type 0 where
   pub fresh : AreFresh share.sessions
 
 -- a worker's sessions, some of whose lines are made
-pub record IsAtWork (stated : List Stated) (workers worker : ℕ) (done : List Line) (sessions : List Sitting) : Type 0 where
+pub record IsAtWork (stated : List Stated) (workers worker : ℕ) (done : List LineCall) (sessions : List Sitting) : Type 0 where
   pub seated : AreSeated workers worker sessions
   pub made : All (HasMade stated done) sessions
   pub there : All (λ l. Among l.session sessions) done

@@ -4,17 +4,17 @@ use Rattle.std.specs.List.{filter, All}
 use Rattle.jc_model.specs.declared.event.End.{End}
 use Rattle.jc_model.specs.declared.event.End.TheVariants.{Replied}
 use Rattle.jc_model.specs.declared.event.Entry.{Entry}
-use Rattle.jc_script.specs.declared.line.Line.{Line}
+use Rattle.jc_threads.specs.declared.line.LineCall.{LineCall}
 use Rattle.jc_shared.specs.Accounts.{calls_of}
 use Rattle.jc_shared.specs.Sessions.{Sitting}
 use Rattle.jc_shared.specs.Stated.{Stated, AreStated}
 
 -- the line whose call an entry is
-abbrev pub line_of : Entry → Line
+abbrev pub line_of : Entry → LineCall
 line_of e = record { session = e.session; id = e.id; at = e.at; call = e.call }
 
 -- the lines of a session
-abbrev pub lines_by : ℕ → List Line → List Line
+abbrev pub lines_by : ℕ → List LineCall → List LineCall
 lines_by session lines = filter (λ l. l.session == session) lines
 
 abbrev pub IsReply : End → Type 0
@@ -27,14 +27,14 @@ pub record IsAnswered (stated : List Stated) (e : Entry) : Type 0 where
   pub answered : AreStated (slice_get stated e.id) e.call e.answers
 
 -- a session's calls are its lines, each once and in order, and each has its reply
-pub record HasMade (stated : List Stated) (lines : List Line) (own : Sitting) : Type 0 where
+pub record HasMade (stated : List Stated) (lines : List LineCall) (own : Sitting) : Type 0 where
   pub calls : map line_of own.calls ≡ lines_by own.number lines
   pub answered : All (IsAnswered stated) own.calls
 
--- the same of every session, as a transcript tells it, which has no other calls
-pub record AreMade (stated : List Stated) (lines : List Line) (transcript : List Entry) : Type 0 where
-  pub each : (session : ℕ) → map line_of (calls_of session transcript) ≡ lines_by session lines
-  pub answered : All (IsAnswered stated) transcript
+-- the same of every session, as the entries tell it, which have no other calls
+pub record AreMade (stated : List Stated) (lines : List LineCall) (entries : List Entry) : Type 0 where
+  pub each : (session : ℕ) → map line_of (calls_of session entries) ≡ lines_by session lines
+  pub answered : All (IsAnswered stated) entries
 
 -- one of these is a session with this number
 abbrev pub Among : ℕ → List Sitting → Type 0

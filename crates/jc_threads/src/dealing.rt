@@ -1,19 +1,19 @@
 //! Dealing sessions and lines to workers.
 ghost use Rattle.std.specs.Prelude.{◌≡◌, ◌<◌, ◌++◌, ◌∷◌, [], List, IfOk, OnOk, length, replicate};
-ghost use Rattle.jc_script.specs.declared.line.Line.{Line as ScriptLine};
+ghost use Rattle.jc_threads.specs.declared.line.LineCall.{LineCall as CallValue};
 ghost use Rattle.jc_threads.specs.Dealing.{idle, AreDealt};
 
 use crate::fault::{WorkFault, of_session};
+use crate::line::LineCall;
 use crate::worker::Worker;
 use jc_hooks::{Listener, Loader, Processor, Writer};
 use jc_model::OutOfMemory;
-use jc_script::Line;
 use jc_shared::{Manager, Name, Session};
 use std::alloc::Global;
 use std::sync::Wait;
 
 /// How many sessions the lines need: those from 0 to the greatest that a line names.
-fn sessions_of(lines: &[Line]) -> usize {
+fn sessions_of(lines: &[LineCall]) -> usize {
     let mut count = 0;
     for line in lines {
         count = count.max(line.session as usize + 1);
@@ -46,7 +46,7 @@ fn seat<'a, N: Name, L: Loader, W: Writer, P: Processor, K: Listener>(
     requires some { 0 < length crew.old }
     requires fresh { session.calls ≡ [] }
     ensures counted { length crew.new ≡ length crew.old }
-    ensures dealt { OnOk result ((all : List ScriptLine) → AreDealt all crew.old → AreDealt all crew.new) }
+    ensures dealt { OnOk result ((all : List CallValue) → AreDealt all crew.old → AreDealt all crew.new) }
 {
     let number = session.number() as usize;
     let workers = crew.len();
@@ -62,7 +62,7 @@ fn seat_all<'a, N: Name, L: Loader, W: Writer, P: Processor, K: Listener, R: Wai
 ) -> Result<(), WorkFault>
     requires some { 0 < length crew.old }
     ensures counted { length crew.new ≡ length crew.old }
-    ensures dealt { OnOk result ((all : List ScriptLine) → AreDealt all crew.old → AreDealt all crew.new) }
+    ensures dealt { OnOk result ((all : List CallValue) → AreDealt all crew.old → AreDealt all crew.new) }
 {
     for number in 0..sessions {
         let session = match manager.session(rt) {
@@ -80,11 +80,11 @@ fn seat_all<'a, N: Name, L: Loader, W: Writer, P: Processor, K: Listener, R: Wai
 /// Gives a line to the worker that has its session.
 fn hand<'a, N: Name, L: Loader, W: Writer, P: Processor, K: Listener>(
     crew: &mut [Worker<'a, N, L, W, P, K>],
-    line: Line,
+    line: LineCall,
 ) -> Result<(), WorkFault>
     requires some { 0 < length crew.old }
     ensures counted { length crew.new ≡ length crew.old }
-    ensures dealt { OnOk result ((done : List ScriptLine) → AreDealt done crew.old → AreDealt (done ++ line ∷ []) crew.new) }
+    ensures dealt { OnOk result ((done : List CallValue) → AreDealt done crew.old → AreDealt (done ++ line ∷ []) crew.new) }
 {
     let workers = crew.len();
     crew[line.session as usize % workers].hand(line)
@@ -93,7 +93,7 @@ fn hand<'a, N: Name, L: Loader, W: Writer, P: Processor, K: Listener>(
 /// Gives all lines to the workers.
 fn hand_all<'a, N: Name, L: Loader, W: Writer, P: Processor, K: Listener>(
     crew: &mut [Worker<'a, N, L, W, P, K>],
-    lines: Vec<Line>,
+    lines: Vec<LineCall>,
 ) -> Result<(), WorkFault>
     requires some { 0 < length crew.old }
     ensures counted { length crew.new ≡ length crew.old }
@@ -110,7 +110,7 @@ fn deal<'a, N: Name, L: Loader, W: Writer, P: Processor, K: Listener, R: Wait>(
     rt: &R,
     manager: &'a Manager<N, L, W, P, K>,
     crew: &mut [Worker<'a, N, L, W, P, K>],
-    lines: Vec<Line>,
+    lines: Vec<LineCall>,
 ) -> Result<(), WorkFault>
     requires some { 0 < length crew.old }
     ensures counted { length crew.new ≡ length crew.old }
@@ -127,7 +127,7 @@ pub(crate) fn dealt<'a, N: Name, L: Loader, W: Writer, P: Processor, K: Listener
     alloc: Global,
     manager: &'a Manager<N, L, W, P, K>,
     workers: usize,
-    lines: Vec<Line>,
+    lines: Vec<LineCall>,
 ) -> Result<Vec<Worker<'a, N, L, W, P, K>>, WorkFault>
     requires { 0 < workers }
     ensures { IfOk result (λ crew. (length crew.items ≡ workers) × AreDealt lines.items crew.items) }

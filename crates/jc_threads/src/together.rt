@@ -2,16 +2,17 @@
 ghost use Rattle.std.specs.Prelude.{◌≡◌, ◌<◌, List, IfOk, OnOk, length};
 ghost use Rattle.std.specs.List.{All};
 ghost use Rattle.jc_model.specs.Legal.{IsLegal};
+ghost use Rattle.jc_shared.specs.Sessions.{BeginsWith};
 ghost use Rattle.jc_threads.specs.Dealing.{IsReady, AreReady, HasWorked, HaveWorked, IsDone, all_handed};
 ghost use Rattle.jc_threads.specs.Lines.{AreMade};
 
 use crate::dealing::dealt;
 use crate::fault::{WorkFault, of_close};
 use crate::gate::Gate;
+use crate::line::LineCall;
 use crate::worker::{Worker, work};
 use jc_hooks::{Listener, Loader, Processor, Writer};
 use jc_model::transcript::Transcript;
-use jc_script::Line;
 use jc_shared::{Manager, Name, Session};
 use std::alloc::Global;
 use std::sync::Wait;
@@ -63,8 +64,8 @@ fn all_sessions<'a, N: Name, L: Loader, W: Writer, P: Processor, K: Listener>(
     Ok(all)
 }
 
-/// Makes the lines by sessions of this manager on so many worker threads, session s by worker s mod workers. Each worker
-/// makes its lines in the script's order. Then it closes the manager, and hands the transcript out.
+/// Makes the calls of the lines by sessions of this manager on so many worker threads, session s by worker s mod workers.
+/// Each worker makes its lines in the script's order. Then it closes the manager, and hands the transcript out.
 ///
 /// The sessions are those from 0 to the greatest that a line names. The manager is to have none yet.
 pub fn transcribed<
@@ -81,11 +82,12 @@ pub fn transcribed<
     manager: &Manager<N, L, W, P, K>,
     gate: &G,
     workers: usize,
-    lines: Vec<Line>,
+    lines: Vec<LineCall>,
 ) -> Result<Transcript, WorkFault>
     requires { 0 < workers }
-    ensures legal { IfOk result (λ t. IsLegal N.configs t) }
-    ensures made { IfOk result (λ t. AreMade N.stated lines.items t) }
+    ensures legal { IfOk result (λ t. IsLegal t) }
+    ensures begins { IfOk result (λ t. BeginsWith N.configs t) }
+    ensures made { IfOk result (λ t. AreMade N.stated lines.items t.entries) }
 {
     let crew = dealt(rt, alloc, manager, workers, lines)?;
     let results = work_all(rt, gate, crew)?;

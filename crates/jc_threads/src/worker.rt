@@ -1,14 +1,14 @@
 //! One worker: it makes the lines of its sessions, in the script's order.
 ghost use Rattle.std.specs.Prelude.{◌≡◌, ℕ, ◌<◌, [], ◌++◌, ◌∷◌, List, length, IsOk, IfOk, OnOk};
-ghost use Rattle.jc_script.specs.declared.line.Line.{Line as ScriptLine};
+ghost use Rattle.jc_threads.specs.declared.line.LineCall.{LineCall as CallValue};
 ghost use Rattle.jc_threads.specs.Dealing.{AreSeated, IsReady, IsAtWork, HasWorked};
 ghost use Rattle.jc_threads.specs.Lines.{HasMade};
 
 use crate::fault::{WorkFault, of_call};
 use crate::gate::Gate;
+use crate::line::LineCall;
 use jc_hooks::{Listener, Loader, Processor, Writer};
 use jc_model::call::Reply;
-use jc_script::Line;
 use jc_shared::{CallFault, Logged, Name, Session};
 use std::alloc::Global;
 use std::marker::Model;
@@ -18,7 +18,7 @@ use std::sync::Wait;
 #[derive(Drop)]
 pub(crate) struct Worker<'a, N: Name, L: Loader, W: Writer, P: Processor, K: Listener> {
     pub(crate) sessions: Vec<Session<'a, N, L, W, P, K>>,
-    pub(crate) lines: Vec<Line>,
+    pub(crate) lines: Vec<LineCall>,
 }
 
 impl<'a, N: Name, L: Loader, W: Writer, P: Processor, K: Listener> Model
@@ -48,7 +48,7 @@ impl<'a, N: Name, L: Loader, W: Writer, P: Processor, K: Listener> Worker<'a, N,
     }
 
     /// Takes a line.
-    pub(crate) fn hand(&mut self, line: Line) -> Result<(), WorkFault>
+    pub(crate) fn hand(&mut self, line: LineCall) -> Result<(), WorkFault>
         ensures { OnOk result (self.new ≡ record self.old { lines = self.old.lines ++ line ∷ [] }) }
     {
         self.lines.push(line)?;
@@ -70,16 +70,16 @@ fn make_call<'a, N: Name, L: Loader, W: Writer, P: Processor, K: Listener, G: Ga
     rt: &R,
     gate: &G,
     session: &mut Session<'a, N, L, W, P, K>,
-    line: Line,
+    line: LineCall,
 ) -> Result<(), WorkFault>
     ensures number { session.new.number ≡ session.old.number }
     ensures own { OnOk result (session.old.number ≡ line.session) }
-    ensures made { OnOk result ((done : List ScriptLine) → HasMade N.stated done session.old → HasMade N.stated (done ++ line ∷ []) session.new) }
+    ensures made { OnOk result ((done : List CallValue) → HasMade N.stated done session.old → HasMade N.stated (done ++ line ∷ []) session.new) }
 {
     if session.number() != line.session {
         return Err(WorkFault::Close);
     }
-    let Line {
+    let LineCall {
         session: number,
         id,
         at,
@@ -98,10 +98,10 @@ fn make_line<'a, N: Name, L: Loader, W: Writer, P: Processor, K: Listener, G: Ga
     gate: &G,
     workers: usize,
     sessions: &mut [Session<'a, N, L, W, P, K>],
-    line: Line,
+    line: LineCall,
 ) -> Result<(), WorkFault>
     requires { 0 < workers }
-    ensures { OnOk result ((worker : ℕ) (done : List ScriptLine) → IsAtWork N.stated workers worker done sessions.old → IsAtWork N.stated workers worker (done ++ line ∷ []) sessions.new) }
+    ensures { OnOk result ((worker : ℕ) (done : List CallValue) → IsAtWork N.stated workers worker done sessions.old → IsAtWork N.stated workers worker (done ++ line ∷ []) sessions.new) }
 {
     let place = line.session as usize / workers;
     if place >= sessions.len() {
@@ -116,7 +116,7 @@ fn make_all<'a, N: Name, L: Loader, W: Writer, P: Processor, K: Listener, G: Gat
     gate: &G,
     workers: usize,
     sessions: &mut [Session<'a, N, L, W, P, K>],
-    lines: Vec<Line>,
+    lines: Vec<LineCall>,
 ) -> Result<(), WorkFault>
     requires { 0 < workers }
     ensures { OnOk result ((worker : ℕ) → IsAtWork N.stated workers worker [] sessions.old → IsAtWork N.stated workers worker lines.items sessions.new) }

@@ -21,7 +21,11 @@ mod closing;
 #[cfg(test)]
 mod closures;
 #[cfg(test)]
+mod crews;
+#[cfg(test)]
 mod large;
+#[cfg(test)]
+mod lives;
 #[cfg(test)]
 mod lookups;
 #[cfg(test)]
@@ -44,5 +48,7 @@ mod shapes;
 mod streams;
 #[cfg(test)]
 mod tables;
+#[cfg(test)]
+mod vacated;
 #[cfg(test)]
 mod wearing;

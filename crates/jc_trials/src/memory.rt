@@ -247,19 +247,22 @@ fn answer(alloc: Global, request: &Request) -> Result<Answer, Trouble> {
 
 /// What a call does next, from the beginning or from an answer on; it is handed back and made again where memory was
 /// refused.
-fn begun(manager: &mut Manager, line: Line) -> Result<Step, Trouble> {
-    let Line {
+fn begun(manager: &mut Manager, line: Line) -> Result<(CacheId, Step), Trouble> {
+    let Line::Call {
         session,
         id,
         at,
         call,
-    } = line;
+    } = line
+    else {
+        return Err(Trouble::NoCall);
+    };
     let begun = match manager.begin(session, id, at, call) {
         Err((Cause::OutOfMemory, call)) => manager.begin(session, id, at, call),
         begun => begun,
     };
     match begun {
-        Ok((step, _)) => Ok(step),
+        Ok((step, _)) => Ok((id, step)),
         Err(_) => Err(Trouble::Memory),
     }
 }
@@ -277,8 +280,7 @@ fn resumed(manager: &mut Manager, id: CacheId, answer: Answer) -> Result<Step, T
 
 /// Makes the call of a line, with at most so many requests.
 fn made(alloc: Global, manager: &mut Manager, line: Line) -> Result<(), Trouble> {
-    let id = line.id;
-    let mut step = begun(manager, line)?;
+    let (id, mut step) = begun(manager, line)?;
     for _ in 0..8 {
         match step {
             Step::Done(_) => return Ok(()),
@@ -330,8 +332,8 @@ fn played(alloc: Global, scene: &Scene, refuses_after: u32) -> Result<(String, b
     for line in lines {
         made(alloc, &mut manager, line)?;
     }
-    let text = match report(alloc, manager.names(), manager.transcript()) {
-        Err(_) => report(alloc, manager.names(), manager.transcript())?,
+    let text = match report(alloc, manager.transcript(), &[]) {
+        Err(_) => report(alloc, manager.transcript(), &[])?,
         Ok(text) => text,
     };
     Ok((text, manager.rows().has_refused()))

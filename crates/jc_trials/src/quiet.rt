@@ -1,4 +1,4 @@
-//! What others are told of the table: nothing, where a call changes nothing there.
+//! What others are told of the table: nothing, where nothing changes there.
 
 use crate::placers::ConstantPlacer;
 use crate::refusing::CountingMirror;
@@ -26,8 +26,8 @@ expiry = "accessed"
 duration = 10
 "#;
 
-/// Calls, and how many images each tells.
-static CALLS: [(&str, u64); 20] = [
+/// Lines, and how many images each tells.
+static LINES: [(&str, u64); 24] = [
     (r#"{"s":0,"c":"a","at":0,"op":"put","k":"x","v":"1"}"#, 1),
     (r#"{"s":0,"c":"a","at":5,"op":"get","k":"x"}"#, 0),
     (r#"{"s":0,"c":"a","at":5,"op":"get","k":"y"}"#, 0),
@@ -60,13 +60,35 @@ static CALLS: [(&str, u64); 20] = [
     (r#"{"s":0,"c":"b","at":5,"op":"contains","k":"x"}"#, 0),
     (r#"{"s":0,"c":"b","at":15,"op":"get","k":"x"}"#, 1),
     (r#"{"s":0,"c":"b","at":15,"op":"get","k":"x"}"#, 0),
+    (r#"{"s":0,"c":"c","at":15,"op":"create","capacity":2}"#, 0),
+    (r#"{"s":0,"c":"b","at":15,"op":"destroy"}"#, 0),
+    (r#"{"s":0,"c":"a","at":15,"op":"put","k":"y","v":"1"}"#, 1),
+    (r#"{"s":0,"c":"a","at":15,"op":"destroy"}"#, 2),
 ];
 
-/// The number of the first call that tells more or fewer images, if there is one.
+/// Does what a line asks for.
+fn done(manager: &mut Counted, line: Line) -> Result<(), Trouble> {
+    let refused = match line {
+        Line::Call {
+            session,
+            id,
+            at,
+            call,
+        } => manager.begin(session, id, at, call).is_err(),
+        Line::Create { config, .. } => manager.create(config).is_err(),
+        Line::Destroy { id, .. } => manager.destroy(id).is_err(),
+    };
+    if refused {
+        return Err(Trouble::Memory);
+    }
+    Ok(())
+}
+
+/// The number of the first line that tells more or fewer images, if there is one.
 fn first_other(alloc: Global) -> Result<Option<usize>, Trouble> {
     let Configuration { settings, .. } = read_config(alloc, CACHES.as_bytes())?;
     let mut lines: Vec<Line> = Vec::new(alloc);
-    for (text, _) in &CALLS {
+    for (text, _) in &LINES {
         let Ok(read) = read_script(alloc, text.as_bytes(), &settings) else {
             return Err(Trouble::Memory);
         };
@@ -81,19 +103,11 @@ fn first_other(alloc: Global) -> Result<Option<usize>, Trouble> {
     let table = Cuckoo::new(alloc, ConstantPlacer, mirror, 16)?;
     let mut manager = Counted::open(alloc, table, settings.into_caches())?;
     for (number, line) in lines.into_iter().enumerate() {
-        let Some((_, images)) = CALLS.get(number) else {
+        let Some((_, images)) = LINES.get(number) else {
             return Ok(Some(number));
         };
         let before = told.load(Ordering::SeqCst);
-        let Line {
-            session,
-            id,
-            at,
-            call,
-        } = line;
-        if manager.begin(session, id, at, call).is_err() {
-            return Err(Trouble::Memory);
-        }
+        done(&mut manager, line)?;
         if told.load(Ordering::SeqCst).wrapping_sub(before) != *images {
             return Ok(Some(number));
         }

@@ -193,12 +193,15 @@ fn make<N: Name, L: Loader, W: Writer, P: Processor, K: Listener, R: Wait>(
     log: &Log,
 ) {
     for line in lines {
-        let Line {
+        let Line::Call {
             session,
             id,
             at,
             call,
-        } = line;
+        } = line
+        else {
+            continue;
+        };
         if let Some(session) = sessions.get_mut(session as usize) {
             let _ = session.call(rt, id, at, call);
         }
@@ -217,7 +220,7 @@ fn closed<'a, N: Name, L: Loader, W: Writer, P: Processor, K: Listener, R: Wait>
     let mut sessions = seated(rt, alloc, manager, SESSIONS)?;
     make(rt, sessions.as_mut_slice(), lines, log);
     match manager.close(rt, sessions) {
-        Ok(transcript) => Ok(report(alloc, manager.names(), &transcript)?),
+        Ok(transcript) => Ok(report(alloc, &transcript, &[])?),
         Err((fault, _)) => Err(Trouble::NotClosed(fault)),
     }
 }

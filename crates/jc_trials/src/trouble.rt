@@ -8,15 +8,17 @@ use jc_model::OutOfMemory;
 use jc_model::config::{CacheConfig, Policy};
 use jc_model::key::{Key, KeyFault};
 use jc_model::keys::ListFault;
-use jc_model::list::Sequence;
 use jc_model::value::{Value, ValueFault};
 use jc_runner::{ProgramFault, RunFault};
 use jc_shared::{CloseFault, SessionRefusal, SharedRefusal};
+use jc_threads::WorkFault;
 use std::alloc::{AllocFailed, Global};
 
 #[derive(Debug, Drop, PartialEq, Eq)]
 pub enum Trouble {
     Memory,
+    /// A line that makes no call stands where one is wanted.
+    NoCall,
     Opening(OpenRefusal),
     NoConfig(ConfigFault),
     NoKey(KeyFault),
@@ -28,6 +30,7 @@ pub enum Trouble {
     NoManager(SharedRefusal),
     NoSession(SessionRefusal),
     NotClosed(CloseFault),
+    NotWorked(WorkFault),
 }
 
 impl From<OutOfMemory> for Trouble {
@@ -96,6 +99,12 @@ impl From<SharedRefusal> for Trouble {
     }
 }
 
+impl From<WorkFault> for Trouble {
+    fn from(fault: WorkFault) -> Trouble {
+        Trouble::NotWorked(fault)
+    }
+}
+
 impl From<SessionRefusal> for Trouble {
     fn from(refusal: SessionRefusal) -> Trouble {
         Trouble::NoSession(refusal)
@@ -115,15 +124,8 @@ pub fn value_of(alloc: Global, text: &str) -> Result<Value, Trouble> {
 
 /// A cache whose rows never expire, without callbacks.
 pub fn plain_cache(alloc: Global, name: &str, capacity: u32) -> Result<CacheConfig, Trouble> {
-    Ok(CacheConfig {
-        name: key(name)?,
-        capacity,
-        policy: Policy::Eternal,
-        loader: false,
-        writer: false,
-        processors: Sequence::new(Vec::new(alloc)),
-        listeners: 0,
-    })
+    let name = key(name)?;
+    Ok(jc_config::plain_cache(alloc, name, capacity, Policy::Eternal))
 }
 
 /// No callbacks.

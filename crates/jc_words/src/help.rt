@@ -63,11 +63,13 @@ Ops and what they need besides:
     ks replace      load_all
     ks p arg        invoke_all
     kvs             put_all
-    nothing         remove_all clear entries stats clear_stats
+    nothing         remove_all clear entries stats clear_stats destroy
+    capacity        create, which may have expiry and duration too
 
 k is a key, v and expect are values, ks is a list of keys, kvs a list of pairs
 of a key and a value, replace is true or false, p is the place of a processor
-from 0, and arg is its argument.
+from 0, and arg is its argument. create makes a cache of the name c with a
+table's members, without callbacks; destroy ends the cache c.
 
 Status:
     0  the report was printed, or help or the version was asked for

@@ -2,4 +2,4 @@ use Rattle.std.proofs.Common.{rules}
 use Rattle.jc_runner.proofs.calls.resume.Goals as goal
 
 pub returns-in-Ok-clause-moves : goal.returns-in-Ok-clause-moves
-returns-in-Ok-clause-moves g c = λ session. record { outcome = search rules; statuses = search rules; transcript = c.in-Ok.ensures.transcript session }
+returns-in-Ok-clause-moves g c = λ session. record { answers = search rules; lives = search rules; transcript = c.in-Ok.ensures.transcript session }

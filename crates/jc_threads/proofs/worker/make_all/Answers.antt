@@ -1,16 +1,16 @@
 use Rattle.std.proofs.Common.{◌∙◌, ◌++◌, ◌∷◌, [], List, sym, ap, subst, append_assoc}
-use Rattle.jc_script.specs.declared.line.Line.{Line}
+use Rattle.jc_threads.specs.declared.line.LineCall.{LineCall}
 use Rattle.jc_threads.specs.Dealing.{IsAtWork}
 use Rattle.jc_threads.proofs.Lists.{all_taken}
 use Rattle.jc_threads.proofs.worker.make_all.Goals as goal
 
 pub loop-line-preserved : goal.loop-line-preserved
 loop-line-preserved g c = record {
-  all = append_assoc c.loop-line.yielded (c.in-Some.line ∷ []) c.next.new.self.rest.items ∙ (ap (λ (ls : List Line). c.loop-line.yielded ++ ls) (sym c.in-Some.ensures.steps.0) ∙ c.loop-line.invariant.all);
+  all = append_assoc c.loop-line.yielded (c.in-Some.line ∷ []) c.next.new.self.rest.items ∙ (ap (λ (ls : List LineCall). c.loop-line.yielded ++ ls) (sym c.in-Some.ensures.steps.0) ∙ c.loop-line.invariant.all);
   made = λ worker first. c.in_ok-make_line.ensures worker c.loop-line.yielded (c.loop-line.invariant.made worker first);
 }
 
 pub returns : goal.returns
 returns g c =
     let all = all_taken c.loop-line.yielded c.loop-line.line-iterator.rest.items c.args.lines.items c.loop-line.invariant.all (sym c.loop-line.line-iterator.rest.ok.0 ∙ c.in-None.ensures.steps.0) in
-    λ worker first. subst (λ (ls : List Line). IsAtWork g.N.Name.stated c.args.workers worker ls c.loop-line.sessions) all (c.loop-line.invariant.made worker first)
+    λ worker first. subst (λ (ls : List LineCall). IsAtWork g.N.Name.stated c.args.workers worker ls c.loop-line.sessions) all (c.loop-line.invariant.made worker first)

@@ -1,5 +1,5 @@
 use Rattle.std.proofs.Common.{◌≡◌, ◌∙◌, [], List, length, drop, sym, ap, subst, arith}
-use Rattle.jc_script.specs.declared.line.Line.{Line}
+use Rattle.jc_threads.specs.declared.line.LineCall.{LineCall}
 use Rattle.jc_shared.specs.Sessions.{Sitting}
 use Rattle.jc_threads.specs.Dealing.{Share, IsAtWork}
 use Rattle.jc_threads.proofs.Lists.{written_back}
@@ -15,4 +15,4 @@ returns g c =
     let first = at_work_first g.N.Name.stated c.args.workers worker c.args.worker.sessions seated c.requires.ready.fresh in
     let made = c.in_ok-make_all.ensures worker (subst (λ (os : List Sitting). IsAtWork g.N.Name.stated c.args.workers worker [] os) (sym items) first) in
     subst (λ (os : List Sitting). IsAtWork g.N.Name.stated c.args.workers worker c.args.worker.lines os) (sym same)
-    (subst (λ (ls : List Line). IsAtWork g.N.Name.stated c.args.workers worker ls c.make_all.new.sessions) lines made)
+    (subst (λ (ls : List LineCall). IsAtWork g.N.Name.stated c.args.workers worker ls c.make_all.new.sessions) lines made)

@@ -1,51 +1,59 @@
-use Rattle.std.proofs.Common.{◌≡◌, Some, refl, sym, ap, subst, ◌∙◌, List, ℕ, false, rules}
-use Rattle.std.specs.Prelude.{slice_get, slice_set, map, IfOk, OnOk}
+use Rattle.std.proofs.Common.{◌≡◌, Some, None, refl, false, ap, sym, ◌∙◌, rules}
+use Rattle.std.specs.Prelude.{nat_eq}
 use Rattle.std.specs.HashMap.{get}
-use Rattle.std.specs.Str.{bytes_eq}
-use Rattle.jc_model.specs.declared.event.Event.TheVariants.{GiveUp}
-use Rattle.jc_model.specs.Runs.{answer_to, statuses_after}
-use Rattle.jc_engine.specs.Caches.{Cache, status_of}
-use Rattle.jc_engine.specs.Managed.{cache_in}
-use Rattle.jc_engine.specs.Advances.{of_abandon, LeavesAt, ClosedAt}
-use Rattle.jc_engine.proofs.Moving.{read_at, managed_own, sound_after, one_after}
-use Rattle.jc_engine.proofs.GivingUp.{abandoned, left_here, managed_after, config_after, closed_here, always}
-use Rattle.jc_engine.proofs.engine.Engine.abandon.Given as given
+use Rattle.jc_model.specs.Runs.{gives_up}
+use Rattle.jc_engine.specs.Caches.{lives_of}
+use Rattle.jc_engine.proofs.Numbered.{Puts, puts_for}
+use Rattle.jc_engine.proofs.Places.{managed_own, live_here, seen_here}
+use Rattle.jc_engine.proofs.Moving.{unknown, sound_after, one_after, lives_put, new_here, unchanged}
+use Rattle.jc_engine.proofs.GivingUp.{abandoned, abandoned_leaves, left_here, closed_here, same_on_err, managed_after, config_after, always}
 use Rattle.jc_engine.proofs.engine.Engine.abandon.Goals as goal
 
-found : (g : given.Over) (c : goal.After-self-1 g) → slice_get c.self.inside.caches.items c.args.id ≡ Some c.index_mut-cache.result.now
-found g c = read_at c.self.inside.caches.items c.self.inside.caches.items c.number-2.result c.args.id c.index_mut-cache.result.now refl c.number-2.ensures (search rules) c.index_mut-cache.ensures.value
-
-pub invariant_of-self : goal.invariant_of-self
-invariant_of-self g c =
-    let m = g.R.Rows.contents c.self.inside.rows in
-    sound_after c.self.inside.caches.items c.args.self.now c.self.view_is (GiveUp c.args.id) c.number-2.result c.number-2.ensures c.index_mut-cache.result.now (found g c) c.abandon.new.self
-    m m c.self.inside.names.items (get bytes_eq c.self.inside.ids) c.self.invariant
-    (managed_after m c.index_mut-cache.result.now.state.id c.index_mut-cache.result.now c.abandon.new.self c.abandon.result
-    (managed_own c.self.inside.caches.items c.args.self.now c.self.view_is (GiveUp c.args.id) c.number-2.result c.number-2.ensures c.index_mut-cache.result.now (found g c) m c.self.inside.names.items (get bytes_eq c.self.inside.ids) c.self.invariant)
-    c.abandon.ensures)
-    (config_after c.index_mut-cache.result.now c.abandon.new.self c.abandon.result c.abandon.ensures)
+pub invariant_of-self-2 : goal.invariant_of-self-2
+invariant_of-self-2 g c =
+    let at : get nat_eq c.self.inside.caches c.args.id ≡ Some c.in-Some.cache.now = sym (c.in-Some.ensures.value ∙ ap (get nat_eq c.self.inside.caches) c.number-number.ensures) in
+    let puts : Puts (get nat_eq c.self.inside.caches) c.args.id (Some c.abandon.new.self) (get nat_eq (c.get_mut.follows.lender c.abandon.new.self)) = puts_for (get nat_eq c.self.inside.caches) (get nat_eq (c.get_mut.follows.lender c.abandon.new.self)) c.number-number.result c.args.id (Some c.abandon.new.self) c.number-number.ensures ((c.get_mut.follows.holds c.abandon.new.self).3 (search rules)).0 in
+    sound_after (g.R.Rows.contents c.self.inside.rows) (get nat_eq c.self.inside.caches) c.self.inside.roster c.args.self.now c.self.view_is c.self.invariant c.args.id gives_up c.in-Some.cache.now at (get nat_eq (c.get_mut.follows.lender c.abandon.new.self)) c.abandon.new.self puts (g.R.Rows.contents c.self.inside.rows)
+    (managed_after (g.R.Rows.contents c.self.inside.rows) c.in-Some.cache.now.state.id c.in-Some.cache.now c.abandon.new.self c.abandon.result (managed_own (g.R.Rows.contents c.self.inside.rows) (get nat_eq c.self.inside.caches) c.self.inside.roster c.args.self.now c.self.view_is c.self.invariant c.args.id c.in-Some.cache.now at) c.abandon.ensures)
+    (config_after c.in-Some.cache.now c.abandon.new.self c.abandon.result c.abandon.ensures)
     (λ other k differ. refl)
 
 pub returns-clause-outcome : goal.returns-clause-outcome
 returns-clause-outcome g c =
-    (abandoned c.self.inside.caches.items c.args.id c.index_mut-cache.result.now c.abandon.new.self (found g c) c.abandon.result c.abandon.ensures).outcome
-    ∙ ap (λ (ks : List Cache). answer_to (map status_of ks) (GiveUp c.args.id) false) c.self.view_is
+    let at : get nat_eq c.self.inside.caches c.args.id ≡ Some c.in-Some.cache.now = sym (c.in-Some.ensures.value ∙ ap (get nat_eq c.self.inside.caches) c.number-number.ensures) in
+    abandoned c.in-Some.cache.now c.abandon.new.self (lives_of c.args.self.now) c.args.id (live_here (g.R.Rows.contents c.self.inside.rows) (get nat_eq c.self.inside.caches) c.self.inside.roster c.args.self.now c.self.view_is c.self.invariant c.args.id c.in-Some.cache.now at) c.abandon.result c.abandon.ensures
 
-pub returns-clause-statuses : goal.returns-clause-statuses
-returns-clause-statuses g c =
-    ap (λ (i : ℕ). map status_of (map cache_in (slice_set c.self.inside.caches.items i c.abandon.new.self))) c.number-2.ensures
-    ∙ (abandoned c.self.inside.caches.items c.args.id c.index_mut-cache.result.now c.abandon.new.self (found g c) c.abandon.result c.abandon.ensures).leaves
-    ∙ ap (λ (ks : List Cache). statuses_after (map status_of ks) (GiveUp c.args.id) (of_abandon c.abandon.result)) c.self.view_is
+pub returns-clause-lives : goal.returns-clause-lives
+returns-clause-lives g c =
+    let at : get nat_eq c.self.inside.caches c.args.id ≡ Some c.in-Some.cache.now = sym (c.in-Some.ensures.value ∙ ap (get nat_eq c.self.inside.caches) c.number-number.ensures) in
+    let puts : Puts (get nat_eq c.self.inside.caches) c.args.id (Some c.abandon.new.self) (get nat_eq (c.get_mut.follows.lender c.abandon.new.self)) = puts_for (get nat_eq c.self.inside.caches) (get nat_eq (c.get_mut.follows.lender c.abandon.new.self)) c.number-number.result c.args.id (Some c.abandon.new.self) c.number-number.ensures ((c.get_mut.follows.holds c.abandon.new.self).3 (search rules)).0 in
+    abandoned_leaves c.in-Some.cache.now c.abandon.new.self (lives_of c.args.self.now) c.args.id (live_here (g.R.Rows.contents c.self.inside.rows) (get nat_eq c.self.inside.caches) c.self.inside.roster c.args.self.now c.self.view_is c.self.invariant c.args.id c.in-Some.cache.now at) c.abandon.result _
+    (lives_put (g.R.Rows.contents c.self.inside.rows) (get nat_eq c.self.inside.caches) c.self.inside.roster c.args.self.now c.self.view_is c.self.invariant c.args.id gives_up c.in-Some.cache.now at (get nat_eq (c.get_mut.follows.lender c.abandon.new.self)) c.abandon.new.self puts) c.abandon.ensures
 
 pub returns-clause-one : goal.returns-clause-one
-returns-clause-one g c = always c.abandon.result (one_after c.self.inside.caches.items c.args.self.now c.self.view_is (GiveUp c.args.id) c.number-2.result c.number-2.ensures c.index_mut-cache.result.now (found g c) c.abandon.new.self)
+returns-clause-one g c =
+    let at : get nat_eq c.self.inside.caches c.args.id ≡ Some c.in-Some.cache.now = sym (c.in-Some.ensures.value ∙ ap (get nat_eq c.self.inside.caches) c.number-number.ensures) in
+    let puts : Puts (get nat_eq c.self.inside.caches) c.args.id (Some c.abandon.new.self) (get nat_eq (c.get_mut.follows.lender c.abandon.new.self)) = puts_for (get nat_eq c.self.inside.caches) (get nat_eq (c.get_mut.follows.lender c.abandon.new.self)) c.number-number.result c.args.id (Some c.abandon.new.self) c.number-number.ensures ((c.get_mut.follows.holds c.abandon.new.self).3 (search rules)).0 in
+    always c.abandon.result (one_after (g.R.Rows.contents c.self.inside.rows) (get nat_eq c.self.inside.caches) c.self.inside.roster c.args.self.now c.self.view_is c.self.invariant c.args.id gives_up c.in-Some.cache.now at (get nat_eq (c.get_mut.follows.lender c.abandon.new.self)) c.abandon.new.self puts)
 
 pub returns-clause-closed : goal.returns-clause-closed
 returns-clause-closed g c =
-    subst (λ (i : ℕ). OnOk c.abandon.result (ClosedAt (slice_get (map cache_in (slice_set c.self.inside.caches.items i c.abandon.new.self)) c.args.id))) (sym c.number-2.ensures)
-    (closed_here c.self.inside.caches.items c.args.id c.index_mut-cache.result.now c.abandon.new.self (found g c) c.abandon.result c.abandon.ensures)
+    let at : get nat_eq c.self.inside.caches c.args.id ≡ Some c.in-Some.cache.now = sym (c.in-Some.ensures.value ∙ ap (get nat_eq c.self.inside.caches) c.number-number.ensures) in
+    let puts : Puts (get nat_eq c.self.inside.caches) c.args.id (Some c.abandon.new.self) (get nat_eq (c.get_mut.follows.lender c.abandon.new.self)) = puts_for (get nat_eq c.self.inside.caches) (get nat_eq (c.get_mut.follows.lender c.abandon.new.self)) c.number-number.result c.args.id (Some c.abandon.new.self) c.number-number.ensures ((c.get_mut.follows.holds c.abandon.new.self).3 (search rules)).0 in
+    closed_here c.in-Some.cache.now c.abandon.new.self c.args.id _ c.abandon.result (new_here (g.R.Rows.contents c.self.inside.rows) (get nat_eq c.self.inside.caches) c.self.inside.roster c.args.self.now c.self.view_is c.self.invariant c.args.id gives_up c.in-Some.cache.now at (get nat_eq (c.get_mut.follows.lender c.abandon.new.self)) c.abandon.new.self puts) c.abandon.ensures
 
 pub returns-clause-left : goal.returns-clause-left
 returns-clause-left g c =
-    subst (λ (ks : List Cache). IfOk c.abandon.result (λ left. LeavesAt (slice_get ks c.args.id) left)) c.self.view_is
-    (left_here c.self.inside.caches.items c.args.id c.index_mut-cache.result.now c.abandon.new.self (found g c) c.abandon.result c.abandon.ensures)
+    let at : get nat_eq c.self.inside.caches c.args.id ≡ Some c.in-Some.cache.now = sym (c.in-Some.ensures.value ∙ ap (get nat_eq c.self.inside.caches) c.number-number.ensures) in
+    left_here c.in-Some.cache.now c.abandon.new.self c.args.id c.args.self.now c.abandon.result (seen_here (g.R.Rows.contents c.self.inside.rows) (get nat_eq c.self.inside.caches) c.self.inside.roster c.args.self.now c.self.view_is c.self.invariant c.args.id c.in-Some.cache.now at) c.abandon.ensures
+
+pub returns-clause-refused : goal.returns-clause-refused
+returns-clause-refused g c =
+    let at : get nat_eq c.self.inside.caches c.args.id ≡ Some c.in-Some.cache.now = sym (c.in-Some.ensures.value ∙ ap (get nat_eq c.self.inside.caches) c.number-number.ensures) in
+    let puts : Puts (get nat_eq c.self.inside.caches) c.args.id (Some c.abandon.new.self) (get nat_eq (c.get_mut.follows.lender c.abandon.new.self)) = puts_for (get nat_eq c.self.inside.caches) (get nat_eq (c.get_mut.follows.lender c.abandon.new.self)) c.number-number.result c.args.id (Some c.abandon.new.self) c.number-number.ensures ((c.get_mut.follows.holds c.abandon.new.self).3 (search rules)).0 in
+    unchanged (g.R.Rows.contents c.self.inside.rows) (get nat_eq c.self.inside.caches) c.self.inside.roster c.args.self.now c.self.view_is c.self.invariant c.args.id gives_up c.in-Some.cache.now at (get nat_eq (c.get_mut.follows.lender c.abandon.new.self)) c.abandon.new.self puts c.abandon.result (same_on_err c.in-Some.cache.now c.abandon.new.self c.args.id c.abandon.result c.abandon.ensures)
+
+pub returns-in_default-clause-outcome : goal.returns-in_default-clause-outcome
+returns-in_default-clause-outcome g c =
+    let none : get nat_eq c.self.inside.caches c.args.id ≡ None = sym (c.in_default.ensures.value ∙ ap (get nat_eq c.self.inside.caches) c.number-number.ensures) in
+    sym (unknown (g.R.Rows.contents c.self.inside.rows) (get nat_eq c.self.inside.caches) c.self.inside.roster c.args.self.now c.self.view_is c.self.invariant c.args.id gives_up none false)

@@ -1,10 +1,8 @@
-use Rattle.std.specs.Prelude.{map}
-use Rattle.jc_model.specs.declared.event.Event.TheVariants.{Begin}
 use Rattle.jc_model.specs.declared.event.Outcome.TheVariants.{Refused}
-use Rattle.jc_model.specs.Runs.{for_memory}
-use Rattle.jc_engine.specs.Caches.{status_of}
+use Rattle.jc_model.specs.Runs.{live_at, begins, for_memory}
+use Rattle.jc_engine.specs.Caches.{lives_of}
 use Rattle.jc_engine.proofs.Moving.{refused_anyway}
 use Rattle.jc_engine.proofs.engine.Engine.begin.Goals as goal
 
 pub returns-in-Some-clause-outcome : goal.returns-in-Some-clause-outcome
-returns-in-Some-clause-outcome g c = refused_anyway (map status_of c.args.self.now) (Begin c.args.id c.args.now c.args.call) c.in-Some.cause (for_memory (Refused c.in-Some.cause)) (c.in-Some.ensures c.args.now)
+returns-in-Some-clause-outcome g c = refused_anyway (live_at (lives_of c.args.self.now) c.args.id) (begins c.args.now c.args.call) c.in-Some.cause (for_memory (Refused c.in-Some.cause)) (c.in-Some.ensures c.args.now)

@@ -1,11 +1,8 @@
-use Rattle.std.proofs.Common.{ap, sym, ◌∙◌}
-use Rattle.jc_engine.specs.Caches.{Cache, names_of}
-use Rattle.jc_engine.specs.Managed.{cache_in}
-use Rattle.jc_engine.proofs.Places.{map_map}
+use Rattle.std.proofs.Common.{◌∙◌}
+use Rattle.std.specs.Prelude.{nat_eq}
+use Rattle.std.specs.HashMap.{get}
+use Rattle.jc_engine.proofs.Listed.{names_listed}
 use Rattle.jc_engine.proofs.engine.Engine.names.Goals as goal
 
 pub returns : goal.returns
-returns g c =
-    c.as_slice.ensures.value ∙ c.self.invariant.named
-    ∙ sym (map_map (λ (k : Cache). k.config.name) cache_in c.self.inside.caches.items)
-    ∙ ap names_of c.self.view_is
+returns g c = c.names.ensures ∙ names_listed (g.R.Rows.contents c.self.inside.rows) (get nat_eq c.self.inside.caches) c.self.inside.roster c.args.self.now c.self.view_is c.self.invariant

@@ -1,51 +1,48 @@
-use Rattle.std.proofs.Common.{◌≡◌, Some, refl}
-use Rattle.std.specs.Prelude.{slice_get}
+use Rattle.std.proofs.Common.{◌≡◌, Some, None, ap, sym, ◌∙◌, rules}
+use Rattle.std.specs.Prelude.{nat_eq}
 use Rattle.std.specs.HashMap.{get}
-use Rattle.std.specs.Str.{bytes_eq}
-use Rattle.jc_model.specs.declared.event.Event.TheVariants.{Begin}
-use Rattle.jc_engine.proofs.Moving.{read_at, managed_own, within, allowed_here, sound_after, one_after, outcome_after, statuses_later, fits_after}
+use Rattle.jc_model.specs.Runs.{begins}
+use Rattle.jc_engine.proofs.Numbered.{Puts, puts_for}
+use Rattle.jc_engine.proofs.Places.{managed_own}
+use Rattle.jc_engine.proofs.Moving.{must_be, allowed_here, sound_after, one_after, outcome_after, lives_later, fits_after, unchanged}
 use Rattle.jc_engine.proofs.engine.Engine.start.Given as given
 use Rattle.jc_engine.proofs.engine.Engine.start.Goals as goal
 
-found : (g : given.Over) (c : goal.After-self-1 g) → slice_get c.self.inside.caches.items c.args.id ≡ Some c.index_mut-cache.result.now
-found g c = read_at c.self.inside.caches.items c.self.inside.caches.items c.number.result c.args.id c.index_mut-cache.result.now refl c.number.ensures
-    (within c.self.inside.caches.items c.args.self.now c.self.view_is (Begin c.args.id c.args.now c.args.call.now) c.number.result c.number.ensures c.requires) c.index_mut-cache.ensures.value
-
-pub start-requires-clause-allowed : goal.start-requires-clause-allowed
-start-requires-clause-allowed g c =
-    allowed_here c.self.inside.caches.items c.args.self.now c.self.view_is (Begin c.args.id c.args.now c.args.call.now) c.number.result c.number.ensures c.index_mut-cache.result.now
-    (read_at c.self.inside.caches.items c.self.inside.caches.items c.number.result c.args.id c.index_mut-cache.result.now refl c.number.ensures
-    (within c.self.inside.caches.items c.args.self.now c.self.view_is (Begin c.args.id c.args.now c.args.call.now) c.number.result c.number.ensures c.requires) c.index_mut-cache.ensures.value)
-    c.requires
-
-pub invariant_of-self : goal.invariant_of-self
-invariant_of-self g c =
-    sound_after c.self.inside.caches.items c.args.self.now c.self.view_is (Begin c.args.id c.args.now c.args.call.now) c.number.result c.number.ensures c.index_mut-cache.result.now (found g c) c.start.new.self
-    (g.R.Rows.contents c.self.inside.rows) (g.R.Rows.contents c.start.new.rows) c.self.inside.names.items (get bytes_eq c.self.inside.ids)
-    c.self.invariant c.start.ensures.managed_after c.start.ensures.config c.start.ensures.elsewhere
-
-pub returns-clause-outcome : goal.returns-clause-outcome
-returns-clause-outcome g c =
-    outcome_after c.self.inside.caches.items c.args.self.now c.self.view_is (Begin c.args.id c.args.now c.args.call.now) c.number.result c.number.ensures c.index_mut-cache.result.now (found g c) c.start.new.self
-    c.start.result c.requires c.start.ensures.ok c.start.ensures.same
-
-pub returns-clause-statuses : goal.returns-clause-statuses
-returns-clause-statuses g c =
-    statuses_later c.self.inside.caches.items c.args.self.now c.self.view_is (Begin c.args.id c.args.now c.args.call.now) c.number.result c.number.ensures c.index_mut-cache.result.now (found g c) c.start.new.self
-    c.start.result c.requires c.start.ensures.ok c.start.ensures.same
-
-pub returns-clause-one : goal.returns-clause-one
-returns-clause-one g c =
-    one_after c.self.inside.caches.items c.args.self.now c.self.view_is (Begin c.args.id c.args.now c.args.call.now) c.number.result c.number.ensures c.index_mut-cache.result.now (found g c) c.start.new.self
-
-pub returns-clause-fits : goal.returns-clause-fits
-returns-clause-fits g c =
-    fits_after c.self.inside.caches.items c.args.self.now c.self.view_is (Begin c.args.id c.args.now c.args.call.now) c.number.result c.number.ensures c.index_mut-cache.result.now (found g c) c.start.new.self
-    c.start.result c.requires c.start.ensures.ok c.start.ensures.same
+pub unreachable-requires : goal.unreachable-requires
+unreachable-requires g c =
+    let none : get nat_eq c.self.inside.caches c.args.id ≡ None = sym (c.in-None.ensures.value ∙ ap (get nat_eq c.self.inside.caches) c.number-number.ensures) in
+    must_be (g.R.Rows.contents c.self.inside.rows) (get nat_eq c.self.inside.caches) c.self.inside.roster c.args.self.now c.self.view_is c.self.invariant c.args.id (begins c.args.now c.args.call.now) c.requires none
 
 pub start-requires-clause-managed : goal.start-requires-clause-managed
 start-requires-clause-managed g c =
-    managed_own c.self.inside.caches.items c.args.self.now c.self.view_is (Begin c.args.id c.args.now c.args.call.now) c.number.result c.number.ensures c.index_mut-cache.result.now
-    (read_at c.self.inside.caches.items c.self.inside.caches.items c.number.result c.args.id c.index_mut-cache.result.now refl c.number.ensures
-    (within c.self.inside.caches.items c.args.self.now c.self.view_is (Begin c.args.id c.args.now c.args.call.now) c.number.result c.number.ensures c.requires) c.index_mut-cache.ensures.value)
-    (g.R.Rows.contents c.self.inside.rows) c.self.inside.names.items (get bytes_eq c.self.inside.ids) c.self.invariant
+    let at : get nat_eq c.self.inside.caches c.args.id ≡ Some c.in-Some.cache.now = sym (c.in-Some.ensures.value ∙ ap (get nat_eq c.self.inside.caches) c.number-number.ensures) in
+    managed_own (g.R.Rows.contents c.self.inside.rows) (get nat_eq c.self.inside.caches) c.self.inside.roster c.args.self.now c.self.view_is c.self.invariant c.args.id c.in-Some.cache.now at
+
+pub start-requires-clause-allowed : goal.start-requires-clause-allowed
+start-requires-clause-allowed g c =
+    let at : get nat_eq c.self.inside.caches c.args.id ≡ Some c.in-Some.cache.now = sym (c.in-Some.ensures.value ∙ ap (get nat_eq c.self.inside.caches) c.number-number.ensures) in
+    allowed_here (g.R.Rows.contents c.self.inside.rows) (get nat_eq c.self.inside.caches) c.self.inside.roster c.args.self.now c.self.view_is c.self.invariant c.args.id (begins c.args.now c.args.call.now) c.in-Some.cache.now at c.requires
+
+at : (g : given.Over) (c : goal.After-self-in-Some-1 g) → get nat_eq c.self.inside.caches c.args.id ≡ Some c.in-Some.cache.now
+at g c = sym (c.in-Some.ensures.value ∙ ap (get nat_eq c.self.inside.caches) c.number-number.ensures)
+
+puts : (g : given.Over) (c : goal.After-self-in-Some-1 g) → Puts (get nat_eq c.self.inside.caches) c.args.id (Some c.start.new.self) (get nat_eq (c.get_mut.follows.lender c.start.new.self))
+puts g c = puts_for (get nat_eq c.self.inside.caches) (get nat_eq (c.get_mut.follows.lender c.start.new.self)) c.number-number.result c.args.id (Some c.start.new.self) c.number-number.ensures ((c.get_mut.follows.holds c.start.new.self).3 (search rules)).0
+
+pub invariant_of-self : goal.invariant_of-self
+invariant_of-self g c = sound_after (g.R.Rows.contents c.self.inside.rows) (get nat_eq c.self.inside.caches) c.self.inside.roster c.args.self.now c.self.view_is c.self.invariant c.args.id (begins c.args.now c.args.call.now) c.in-Some.cache.now (at g c) (get nat_eq (c.get_mut.follows.lender c.start.new.self)) c.start.new.self (puts g c) (g.R.Rows.contents c.start.new.rows) c.start.ensures.managed_after c.start.ensures.config c.start.ensures.elsewhere
+
+pub returns-clause-outcome : goal.returns-clause-outcome
+returns-clause-outcome g c = outcome_after (g.R.Rows.contents c.self.inside.rows) (get nat_eq c.self.inside.caches) c.self.inside.roster c.args.self.now c.self.view_is c.self.invariant c.args.id (begins c.args.now c.args.call.now) c.in-Some.cache.now (at g c) (get nat_eq (c.get_mut.follows.lender c.start.new.self)) c.start.new.self (puts g c) c.start.result c.requires c.start.ensures.ok c.start.ensures.same
+
+pub returns-clause-lives : goal.returns-clause-lives
+returns-clause-lives g c = lives_later (g.R.Rows.contents c.self.inside.rows) (get nat_eq c.self.inside.caches) c.self.inside.roster c.args.self.now c.self.view_is c.self.invariant c.args.id (begins c.args.now c.args.call.now) c.in-Some.cache.now (at g c) (get nat_eq (c.get_mut.follows.lender c.start.new.self)) c.start.new.self (puts g c) c.start.result c.requires c.start.ensures.ok c.start.ensures.same
+
+pub returns-clause-one : goal.returns-clause-one
+returns-clause-one g c = one_after (g.R.Rows.contents c.self.inside.rows) (get nat_eq c.self.inside.caches) c.self.inside.roster c.args.self.now c.self.view_is c.self.invariant c.args.id (begins c.args.now c.args.call.now) c.in-Some.cache.now (at g c) (get nat_eq (c.get_mut.follows.lender c.start.new.self)) c.start.new.self (puts g c)
+
+pub returns-clause-fits : goal.returns-clause-fits
+returns-clause-fits g c = fits_after (g.R.Rows.contents c.self.inside.rows) (get nat_eq c.self.inside.caches) c.self.inside.roster c.args.self.now c.self.view_is c.self.invariant c.args.id (begins c.args.now c.args.call.now) c.in-Some.cache.now (at g c) (get nat_eq (c.get_mut.follows.lender c.start.new.self)) c.start.new.self (puts g c) c.start.result c.requires c.start.ensures.ok c.start.ensures.same
+
+pub returns-clause-refused : goal.returns-clause-refused
+returns-clause-refused g c = unchanged (g.R.Rows.contents c.self.inside.rows) (get nat_eq c.self.inside.caches) c.self.inside.roster c.args.self.now c.self.view_is c.self.invariant c.args.id (begins c.args.now c.args.call.now) c.in-Some.cache.now (at g c) (get nat_eq (c.get_mut.follows.lender c.start.new.self)) c.start.new.self (puts g c) c.start.result c.start.ensures.same

@@ -1,0 +1,139 @@
+//! Caches that are created and destroyed while the manager runs.
+ghost use Rattle.std.specs.Prelude.{◌≡◌, ◌≤◌, None, Some, [], ◌∷◌, ◌++◌, IfOk, IfErr, OnOk, OnErr, MatchOption, length, slice_set, false};
+ghost use Rattle.jc_model.specs.declared.event.Event.TheVariants.{Create, Destroy};
+ghost use Rattle.jc_model.specs.declared.event.Outcome.TheVariants.{Destroyed, Refused};
+ghost use Rattle.jc_model.specs.Places.{at_place};
+ghost use Rattle.jc_model.specs.Runs.{answer_to, lives_after, for_memory, create_refusal};
+ghost use Rattle.jc_engine.specs.Caches.{Cache, lives_of, fresh_cache};
+ghost use Rattle.jc_engine.specs.Fresh.{MayCome, fresh_fields};
+ghost use Rattle.jc_engine.specs.Results.{of_create, of_destroy};
+
+use crate::cache::{Managed, Turn};
+use crate::engine::Engine;
+use jc_model::config::CacheConfig;
+use jc_model::event::{CacheId, Cause, CreateRefusal};
+use jc_ring::ring::Ring;
+use jc_rows::rows::Rows;
+use jc_state::state::CacheState;
+use std::alloc::Global;
+
+impl<R: Rows, G: Ring> Engine<R, G> {
+    /// Creates a cache without rows and counts. Its id is the least above all that were given before.
+    ///
+    /// Refused as `TooManyCaches` (1,024 live ones), `BadCapacity`, `TooManyListeners`, `TooManyProcessors`,
+    /// `DuplicateName` (of a live cache), `TotalCapacity` (of all live caches together), `IdsSpent`, `OutOfMemory`, in
+    /// this order; the configuration is then handed back.
+    pub fn create(&mut self, config: CacheConfig) -> Result<CacheId, (CreateRefusal, CacheConfig)>
+        ensures outcome { of_create result ≡ answer_to (lives_of self.old) (Create config) (for_memory (of_create result)) }
+        ensures lives { lives_of self.new ≡ lives_after (lives_of self.old) (Create config) (of_create result) }
+        ensures added { OnOk result (self.new ≡ self.old ++ Some (fresh_cache config) ∷ []) }
+        ensures back { IfErr result (λ e. e.1 ≡ config) }
+        ensures refused { OnErr result (self.new ≡ self.old) }
+    {
+        if let Some(refusal) = self.create_refusal(&config) {
+            return Err((refusal, config));
+        }
+        match self.admit(config) {
+            Ok(id) => Ok(id),
+            Err(config) => Err((CreateRefusal::OutOfMemory, config)),
+        }
+    }
+
+    /// Destroys a cache: all its rows are taken out of the table, which no one is told and nothing counts, and its id
+    /// is given to no other.
+    ///
+    /// Refused as `NoSuchCache`, `Busy` (a call on this cache is open), in this order; takes no memory.
+    pub fn destroy(&mut self, id: CacheId) -> Result<(), Cause>
+        ensures outcome { of_destroy result ≡ answer_to (lives_of self.old) (Destroy id) false }
+        ensures lives { lives_of self.new ≡ lives_after (lives_of self.old) (Destroy id) (of_destroy result) }
+        ensures gone { OnOk result (self.new ≡ slice_set self.old id None) }
+        ensures refused { OnErr result (self.new ≡ self.old) }
+    {
+        if let Some(cause) = self.destroy_refusal(id) {
+            return Err(cause);
+        }
+        self.dismiss(id);
+        Ok(())
+    }
+
+    /// The id that the next cache gets.
+    pub(crate) fn next_id(&self) -> CacheId
+        ensures { result ≡ length self.now }
+    {
+        CacheId::new(self.roster.next())
+    }
+
+    /// Why no cache can be created now, where memory suffices.
+    pub(crate) fn create_refusal(&self, config: &CacheConfig) -> Option<CreateRefusal>
+        ensures { result ≡ create_refusal (lives_of self.now) config.now }
+    {
+        self.roster.refusal(config)
+    }
+
+    /// Adds a cache under the next id. Only memory can refuse it, before any change.
+    pub(crate) fn admit(&mut self, config: CacheConfig) -> Result<CacheId, CacheConfig>
+        requires { MayCome self.old config }
+        ensures id { IfOk result (λ id. id ≡ length self.old) }
+        ensures added { OnOk result (self.new ≡ self.old ++ Some (fresh_cache config) ∷ []) }
+        ensures back { IfErr result (λ back. back ≡ config) }
+        ensures refused { OnErr result (self.new ≡ self.old) }
+    {
+        let number = self.roster.next();
+        let (name, capacity) = (config.name, config.capacity);
+        let cache = fresh(self.alloc, number, config)?;
+        let Ok(_) = self.caches.reserve(1) else {
+            return Err(cache.into_config());
+        };
+        let Ok(_) = self.roster.add(name, capacity) else {
+            return Err(cache.into_config());
+        };
+        match self.caches.insert(number, cache) {
+            Ok(_) => Ok(CacheId::new(number)),
+            Err(_) => unreachable!(),
+        }
+    }
+
+    /// Why a cache can't be destroyed now.
+    pub(crate) fn destroy_refusal(&self, id: CacheId) -> Option<Cause>
+        ensures { let reply = answer_to (lives_of self.now) (Destroy id) false in MatchOption result (reply ≡ Destroyed) (λ cause. reply ≡ Refused cause) }
+    {
+        let number = id.number();
+        match self.caches.get(&number) {
+            Some(cache) => cache.destroy_refusal(),
+            None => Some(Cause::NoSuchCache),
+        }
+    }
+
+    /// Takes a cache and all its rows out.
+    fn dismiss(&mut self, id: CacheId)
+        requires { (k : Cache) × (at_place self.old id ≡ Some k) }
+        ensures { self.new ≡ slice_set self.old id None }
+    {
+        let number = id.number();
+        match self.caches.remove(&number) {
+            Some(mut cache) => {
+                cache.leave(&mut self.rows);
+                drop(cache);
+                self.roster.remove(number);
+            }
+            None => unreachable!(),
+        }
+    }
+}
+
+/// One cache as it is at first.
+fn fresh<G: Ring>(
+    alloc: Global,
+    number: u32,
+    config: CacheConfig,
+) -> Result<Managed<G>, CacheConfig>
+    requires { 1 ≤ config.capacity }
+    ensures made { IfOk result (λ cache. cache ≡ fresh_fields number config) }
+    ensures back { IfErr result (λ back. back ≡ config) }
+{
+    let state = CacheState::empty(alloc, CacheId::new(number), config)?;
+    Ok(Managed {
+        state,
+        turn: Turn::Idle,
+    })
+}

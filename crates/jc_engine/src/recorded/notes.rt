@@ -1,0 +1,156 @@
+//! What a recorded manager writes into its transcript, and where it finds what it has written.
+ghost use Rattle.std.specs.Prelude.{◌≡◌, ◌≤◌, ◌<◌, ◌+◌, ℕ, [], Some, IsSome, IfOk, OnOk, OnErr, length, nat_eq, if◌then◌else◌, slice_get, slice_set};
+ghost use Rattle.std.specs.HashMap.{get, spare};
+ghost use Rattle.jc_model.specs.declared.event.Outcome.TheVariants.{Step as Stepped, GivenUp};
+ghost use Rattle.jc_model.specs.declared.event.End.TheVariants.{Waiting};
+ghost use Rattle.jc_model.specs.declared.event.Entry.{Entry};
+ghost use Rattle.jc_model.specs.Limits.{most_ids};
+ghost use Rattle.jc_model.specs.Legal.{at_first, with_outcome, with_answer};
+ghost use Rattle.jc_engine.specs.Results.{reply_in};
+ghost use Rattle.jc_engine.specs.Managed.{step_of};
+ghost use Rattle.jc_engine.specs.Recording.{CanTell, blank, left_in, with_entries, with_life};
+
+use crate::cache::Advance;
+use jc_model::OutOfMemory;
+use jc_model::call::{Answer, Call, Notice, Reply, Request};
+use jc_model::config::CacheConfig;
+use jc_model::event::{CacheId, End, Entry, Life, Step};
+use jc_model::list::Sequence;
+use jc_model::share::Share;
+use jc_model::transcript::Transcript;
+use jc_state::notices::Notices;
+use std::alloc::Global;
+use std::collections::HashMap;
+
+/// The transcript of a manager that has just been opened.
+pub(crate) fn first_lives(
+    alloc: Global,
+    configs: &[CacheConfig],
+    first: u32,
+) -> Result<Transcript, OutOfMemory>
+    requires { first + length configs.now ≤ most_ids }
+    ensures { IfOk result (λ t. t ≡ at_first first configs.now) }
+{
+    let mut transcript = Transcript::new(alloc);
+    for (place, config) in configs.iter().enumerate() {
+        let id = CacheId::new(first + place as u32);
+        enter_life(&mut transcript, id, config)?;
+    }
+    Ok(transcript)
+}
+
+/// Adds a life to a transcript.
+pub(crate) fn enter_life(
+    transcript: &mut Transcript,
+    id: CacheId,
+    config: &CacheConfig,
+) -> Result<(), OutOfMemory>
+    ensures ok { OnOk result (transcript.new ≡ with_life id config.now transcript.old) }
+    ensures err { OnErr result (transcript.new ≡ transcript.old) }
+{
+    let config = config.share()?;
+    transcript.push_life(Life { id, config })
+}
+
+/// Keeps the place of a cache's last call, for which there is room.
+pub(crate) fn keep_place(places: &mut HashMap<u32, usize>, id: CacheId, place: usize)
+    requires { 1 ≤ spare places.old }
+    ensures { (other : ℕ) → get nat_eq places.new other ≡ (if nat_eq id other then Some place else get nat_eq places.old other) }
+{
+    let number = id.number();
+    if places.insert(number, place).is_err() {
+        unreachable!()
+    }
+}
+
+/// The place that is kept of a cache's last call.
+pub(crate) fn kept_place(places: &HashMap<u32, usize>, id: CacheId) -> usize
+    requires { IsSome (get nat_eq places.now id) }
+    ensures { get nat_eq places.now id ≡ Some result }
+{
+    let number = id.number();
+    match places.get(&number) {
+        Some(place) => *place,
+        None => unreachable!(),
+    }
+}
+
+/// The entry of a call that is about to begin.
+pub(crate) fn begun(alloc: Global, session: u32, id: CacheId, now: u64, call: Call) -> Entry
+    ensures { result ≡ blank session id now call }
+{
+    Entry {
+        session,
+        id,
+        at: now,
+        call,
+        answers: Sequence::new(Vec::new(alloc)),
+        told: Sequence::new(Vec::new(alloc)),
+        end: End::Waiting,
+    }
+}
+
+/// Adds an answer to the entry at a place.
+pub(crate) fn enter_answer(
+    transcript: &mut Transcript,
+    place: usize,
+    answer: &Answer,
+) -> Result<(), OutOfMemory>
+    requires { place < length transcript.old.entries }
+    ensures ok { OnOk result ((e : Entry) → slice_get transcript.old.entries place ≡ Some e → transcript.new ≡ with_entries (slice_set transcript.old.entries place (with_answer answer.now e)) transcript.old) }
+    ensures err { OnErr result (transcript.new ≡ transcript.old) }
+{
+    let answer = answer.share()?;
+    transcript.push_answer(place, answer)
+}
+
+/// Writes what a call has come to into its entry. The result is what the caller is shown, and a copy of the reply.
+pub(crate) fn note(
+    transcript: &mut Transcript,
+    place: usize,
+    advance: Advance,
+) -> (Step, Option<Reply>)
+    requires { place < length transcript.old.entries }
+    ensures shown { result.0 ≡ step_of advance }
+    ensures copy { result.1 ≡ reply_in result.0 }
+    ensures noted { (e : Entry) → slice_get transcript.old.entries place ≡ Some e → e.end ≡ Waiting → CanTell advance e → transcript.new ≡ with_entries (slice_set transcript.old.entries place (with_outcome (Stepped (step_of advance)) e)) transcript.old }
+{
+    match advance {
+        Advance::Replied(reply) => {
+            let (reply, copy, kept) = reply.into_three();
+            transcript.set_end(place, End::Replied(kept));
+            (Step::Done(reply), Some(copy))
+        }
+        Advance::Asked(request) => (Step::Need(request), None),
+        Advance::Told(notices) => {
+            let (told, kept) = notices.into_lists();
+            transcript.set_told(place, kept);
+            (Step::Need(Request::Tell(told)), None)
+        }
+    }
+}
+
+/// Writes into an entry that its call was given up. The result is the notices that are left.
+pub(crate) fn note_given_up(
+    alloc: Global,
+    transcript: &mut Transcript,
+    place: usize,
+    left: Option<Notices>,
+) -> Sequence<Notice>
+    requires { place < length transcript.old.entries }
+    ensures left { result ≡ left_in left }
+    ensures noted { (e : Entry) → slice_get transcript.old.entries place ≡ Some e → (IsSome left → e.told ≡ []) → transcript.new ≡ with_entries (slice_set transcript.old.entries place (with_outcome (GivenUp (left_in left)) e)) transcript.old }
+{
+    match left {
+        Some(left) => {
+            let (notices, kept) = left.into_lists();
+            transcript.set_told(place, kept);
+            transcript.set_end(place, End::GivenUp);
+            notices
+        }
+        None => {
+            transcript.set_end(place, End::GivenUp);
+            Sequence::new(Vec::new(alloc))
+        }
+    }
+}

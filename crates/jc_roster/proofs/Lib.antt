@@ -1,0 +1,4 @@
+pub mod Listing
+pub mod Rebuilt
+pub mod Rosters
+pub mod Members

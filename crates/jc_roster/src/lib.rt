@@ -1,0 +1,4 @@
+//! The live caches by name and number.
+#![tactic(auto)]
+
+pub mod roster;

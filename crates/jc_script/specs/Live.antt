@@ -1,0 +1,42 @@
+-- The caches that are live while a script's lines are read or run: creating and destroying follow the manager's rules, memory sufficing.
+use Rattle.std.specs.Prelude.{◌≡◌, ℕ, ◌≤◌, false, List, [], ◌∷◌, length, map, ⊤}
+use Rattle.std.specs.Prelude.{Option, Some, None}
+use Rattle.std.specs.Option.{option_map}
+use Rattle.jc_model.specs.declared.config.CacheConfig.{CacheConfig}
+use Rattle.jc_model.specs.Limits.{most_processors}
+use Rattle.jc_model.specs.Places.{named_from}
+use Rattle.jc_model.specs.Runs.{Status, Lives, live_at, opened, creates, destroys, answer_in, lives_by}
+use Rattle.jc_roster.specs.Members.{Member, members_of}
+use Rattle.jc_script.specs.declared.line.Line.{Line}
+use Rattle.jc_script.specs.declared.line.Line.TheVariants.{Call, Create, Destroy}
+
+-- the caches after a line
+abbrev pub after_line : Lives → Line → Lives
+after_line lives (Call session id at call) = lives
+after_line lives (Create session c) = lives_by lives (creates c) (answer_in lives (creates c) false)
+after_line lives (Destroy session id) = lives_by lives (destroys id) (answer_in lives (destroys id) false)
+
+-- the id of the live cache of that name
+abbrev pub id_of : Lives → List ℕ → Option ℕ
+id_of lives name = named_from (λ k. k.config.name) name 0 lives
+
+abbrev pub processors_of : Option Status → ℕ
+processors_of None = 0
+processors_of (Some k) = length k.config.processors
+
+-- how many processors the cache at an id has
+abbrev pub processors_at : Lives → ℕ → ℕ
+processors_at lives id = processors_of (live_at lives id)
+
+-- as a reader keeps them: by id, the configurations of those that are live
+abbrev pub lives_in : List (Option CacheConfig) → Lives
+lives_in caches = map (option_map opened) caches
+
+abbrev pub HaveFewProcessors : List (Option CacheConfig) → Type 0
+HaveFewProcessors [] = ⊤
+HaveFewProcessors (None ∷ caches) = HaveFewProcessors caches
+HaveFewProcessors (Some c ∷ caches) = (length c.processors ≤ most_processors) × HaveFewProcessors caches
+
+pub record IsFollowed (caches : List (Option CacheConfig)) (members : List (Option Member)) : Type 0 where
+  pub listed : members ≡ members_of (lives_in caches)
+  pub few : HaveFewProcessors caches

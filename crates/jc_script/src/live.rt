@@ -1,0 +1,151 @@
+//! The caches that are live at a line.
+ghost use Rattle.std.specs.Prelude.{◌≡◌, ◌≤◌, false, None, IfOk, option_map, slice_set};
+ghost use Rattle.serde_json.specs.View.{view};
+ghost use Rattle.jc_model.specs.Places.{at_place};
+ghost use Rattle.jc_model.specs.Limits.{most_processors};
+ghost use Rattle.jc_model.specs.Runs.{opened_from, creates, destroys, answer_in, lives_by};
+ghost use Rattle.jc_script.specs.declared.fault.Member.TheVariants as members;
+ghost use Rattle.jc_script.specs.Faults.{Gives};
+ghost use Rattle.jc_script.specs.Live.{after_line, id_of, processors_at, lives_in};
+ghost use Rattle.jc_script.specs.Member.{needed, cache};
+
+use crate::fault::{Member, ScriptFault};
+use crate::item::key_in;
+use crate::line::Line;
+use crate::member::Reader;
+use jc_config::Settings;
+use jc_model::OutOfMemory;
+use jc_model::config::CacheConfig;
+use jc_model::event::CacheId;
+use jc_model::key::Key;
+use jc_model::share::Share;
+use jc_roster::roster::Roster;
+use std::alloc::Global;
+use std::marker::Model;
+
+/// The caches that are live, by id. Contracts see their configurations.
+#[derive(Drop)]
+pub struct Live {
+    caches: Vec<Option<CacheConfig>>,
+    roster: Roster,
+}
+
+impl Model for Live {
+    ghost use Rattle.std.specs.Prelude.{List, Option};
+    ghost use Rattle.jc_model.specs.declared.config.CacheConfig.{CacheConfig};
+    ghost use Rattle.jc_script.specs.Live.{IsFollowed};
+
+    ghost Value = { List (Option CacheConfig) };
+
+    ghost view = { λ l. l.caches.items };
+
+    ghost invariant = { λ l. IsFollowed l.caches.items l.roster };
+}
+
+/// The cache with that id, if it is live.
+fn live_in(caches: &[Option<CacheConfig>], id: u32) -> Option<&CacheConfig>
+    ensures { option_map (λ c. c.now) result ≡ at_place caches.now id }
+{
+    match caches.get(id as usize) {
+        Some(Some(cache)) => Some(cache),
+        _ => None,
+    }
+}
+
+/// Leaves the place of that id empty.
+fn vacate(caches: &mut Vec<Option<CacheConfig>>, id: u32)
+    ensures { caches.new.items ≡ slice_set caches.old.items id None }
+{
+    let place = id as usize;
+    if place < caches.len() {
+        caches[place] = None;
+    }
+}
+
+impl Live {
+    /// These caches, none of which was destroyed.
+    pub fn new(alloc: Global, settings: &Settings) -> Result<Live, OutOfMemory>
+        ensures { IfOk result (λ live. lives_in live ≡ opened_from 0 settings.now) }
+    {
+        let mut caches = Vec::new(alloc);
+        let mut roster = Roster::new(alloc, 0);
+        for cache in settings.caches() {
+            roster.add(cache.name, cache.capacity)?;
+            caches.push(Some(cache.share()?))?;
+        }
+        Ok(Live { caches, roster })
+    }
+
+    /// The id of the live cache of that name.
+    fn find(&self, name: &Key) -> Option<u32>
+        ensures { result ≡ id_of (lives_in self.now) name.now }
+    {
+        self.roster.find(name)
+    }
+
+    /// How many processors the cache with that id has.
+    pub fn processors(&self, id: u32) -> usize
+        ensures count { result ≡ processors_at (lives_in self.now) id }
+        ensures few { result ≤ most_processors }
+    {
+        match live_in(&self.caches, id) {
+            Some(cache) => cache.processors.items().len(),
+            None => 0,
+        }
+    }
+
+    fn create(self, config: &CacheConfig) -> Result<Live, OutOfMemory>
+        ensures { IfOk result (λ live. lives_in live ≡ lives_by (lives_in self) (creates config.now) (answer_in (lives_in self) (creates config.now) false)) }
+    {
+        if self.roster.refusal(config).is_some() {
+            return Ok(self);
+        }
+        let Live {
+            mut caches,
+            mut roster,
+        } = self;
+        roster.add(config.name, config.capacity)?;
+        caches.push(Some(config.share()?))?;
+        Ok(Live { caches, roster })
+    }
+
+    fn destroy(self, id: CacheId) -> Live
+        ensures { lives_in result ≡ lives_by (lives_in self) (destroys id) (answer_in (lives_in self) (destroys id) false) }
+    {
+        if live_in(&self.caches, id.number()).is_none() {
+            return self;
+        }
+        let Live {
+            mut caches,
+            mut roster,
+        } = self;
+        vacate(&mut caches, id.number());
+        roster.remove(id.number());
+        Live { caches, roster }
+    }
+
+    /// The caches that are live after a line.
+    pub fn after(self, line: &Line) -> Result<Live, OutOfMemory>
+        ensures { IfOk result (λ live. lives_in live ≡ after_line (lives_in self) line.now) }
+    {
+        match line {
+            Line::Call { .. } => Ok(self),
+            Line::Create { config, .. } => self.create(config),
+            Line::Destroy { id, .. } => Ok(self.destroy(*id)),
+        }
+    }
+}
+
+/// The id of the live cache that a line names.
+pub fn read_cache(live: &Live, reader: &Reader<'_>) -> Result<u32, ScriptFault>
+    ensures { Gives (λ x. x) result (needed (cache (lives_in live.now)) reader.now.line members.Cache (view reader.now.object.now)) }
+{
+    let member = Member::Cache;
+    match reader.object.get(member.name()).and_then(key_in) {
+        None => Err(reader.bad(member)),
+        Some(name) => match live.find(&name) {
+            Some(id) => Ok(id),
+            None => Err(reader.bad(member)),
+        },
+    }
+}

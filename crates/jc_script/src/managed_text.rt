@@ -1,0 +1,70 @@
+//! The manager's part of a report.
+ghost use Rattle.std.specs.Prelude.{◌≡◌, ◌++◌, OnOk, string_bytes};
+ghost use Rattle.std.specs.List.{flat_map};
+ghost use Rattle.jc_script.specs.Report.{op_text, answer_text, managed_line, managed_text};
+
+use crate::managed::{ManageOp, Managed};
+use crate::reply::push_spaced;
+use jc_model::event::CreateRefusal;
+use std::alloc::{AllocError, Global};
+
+fn name_of_op(op: ManageOp) -> &'static str
+    ensures { result.now ≡ op_text op }
+{
+    match op {
+        ManageOp::Create => "create",
+        ManageOp::Destroy => "destroy",
+    }
+}
+
+fn text_of_answer(refusal: Option<CreateRefusal>) -> &'static str
+    ensures { result.now ≡ answer_text refusal }
+{
+    match refusal {
+        None => "ok",
+        Some(CreateRefusal::TooManyCaches) => "fault too many caches",
+        Some(CreateRefusal::BadCapacity) => "fault bad capacity",
+        Some(CreateRefusal::TooManyListeners) => "fault too many listeners",
+        Some(CreateRefusal::TooManyProcessors) => "fault too many processors",
+        Some(CreateRefusal::DuplicateName) => "fault duplicate name",
+        Some(CreateRefusal::TotalCapacity) => "fault total capacity",
+        Some(CreateRefusal::IdsSpent) => "fault ids spent",
+        Some(CreateRefusal::OutOfMemory) => "fault out of memory",
+    }
+}
+
+fn push_line(alloc: Global, report: &mut String, line: &Managed) -> Result<(), AllocError>
+    ensures { OnOk result (string_bytes report.new ≡ string_bytes report.old ++ managed_line line.now) }
+{
+    push_spaced(alloc, report, line.session as u64)?;
+    report.push_str(name_of_op(line.op))?;
+    report.push_str(" ")?;
+    report.push_str(line.name.text())?;
+    report.push_str(" ")?;
+    report.push_str(text_of_answer(line.refusal))?;
+    report.push_str("\n")
+}
+
+fn push_lines(alloc: Global, report: &mut String, lines: &[Managed]) -> Result<(), AllocError>
+    ensures { OnOk result (string_bytes report.new ≡ string_bytes report.old ++ flat_map managed_line lines.now) }
+{
+    for line in lines {
+        push_line(alloc, report, line)?;
+    }
+    Ok(())
+}
+
+/// Adds what became of the lines that created and destroyed caches; nothing where there were none.
+pub fn push_managed(
+    alloc: Global,
+    report: &mut String,
+    managed: &[Managed],
+) -> Result<(), AllocError>
+    ensures { OnOk result (string_bytes report.new ≡ string_bytes report.old ++ managed_text managed.now) }
+{
+    if managed.is_empty() {
+        return Ok(());
+    }
+    report.push_str("manager\n")?;
+    push_lines(alloc, report, managed)
+}
