@@ -12,7 +12,7 @@ use Rattle.jc_engine.specs.declared.open.OpenRefusal.{OpenRefusal}
 use Rattle.jc_engine.specs.declared.open.OpenRefusal.TheVariants.{TooManyCaches}
 use Rattle.jc_engine.specs.Opening.{open_refusal}
 use Rattle.jc_place.specs.Place.{IsTableSize}
-use Rattle.jc_shared.specs.Finding.{configs_in, AreLive}
+use Rattle.jc_shared.specs.Sessions.{configs_in, AreLive}
 use Rattle.jc_shared.specs.Opening.{AllSuit}
 use Rattle.jc_shared.specs.Sessions.{BeginsWith}
 

@@ -31,9 +31,9 @@ use Rattle.jc_model.specs.Asking.{AsksOf, AsksIn}
 use Rattle.jc_shared.specs.declared.fault.CallFault.TheVariants as faults
 use Rattle.jc_shared.specs.declared.turned.Turned.{Turned}
 use Rattle.jc_shared.specs.declared.turned.Turned.TheVariants.{Asked, Replied}
-use Rattle.jc_shared.specs.Sessions.{Sight, BeginsWith, Sees}
+use Rattle.jc_shared.specs.Sessions.{configs_in, AreLive, Sight, BeginsWith, Sees}
 use Rattle.jc_shared.specs.Calls.{Stands, GoesOn, refusal_in, call_refusal}
-use Rattle.jc_shared.specs.Finding.{fault_of, configs_in, AreLive, IsOpenFor, StandsAt, Turns, IsReplied}
+use Rattle.jc_shared.specs.Finding.{fault_of, IsOpenFor, StandsAt, Turns, IsReplied}
 use Rattle.jc_model.proofs.Asking.{whole_asks}
 use Rattle.jc_shared.proofs.Last.{open_last, open_stands, changed_last, added_last}
 
@@ -160,7 +160,7 @@ begin_faults lives configs live id now call known cause m is =
 -- How a tenure leaves the draft.
 
 pub begun_goes_on : (configs : List CacheConfig) (t new : History) (draft draft' : Entry) (pass : Sight) (call : Call) (step : Step) (turned : Turned) → draft ≡ blank draft.session draft.id draft.at call → Turns draft step turned draft'
-    → IsLegal new → BeginsWith configs new → (IsReplied turned → Sees new pass) → new ≡ recorded draft.session (event.Begin draft.id draft.at call) (outcome.Step step) t → AsksIn call step → GoesOn configs draft turned draft' pass
+    → IsLegal new → BeginsWith configs new → (IsReplied turned → Sees configs new pass) → new ≡ recorded draft.session (event.Begin draft.id draft.at call) (outcome.Step step) t → AsksIn call step → GoesOn configs draft turned draft' pass
 begun_goes_on configs t new draft draft' pass call (Need q) (Asked q') is turns legal first sees written asks =
     (turns.1, subst (λ (c : Call). AsksOf c q') (sym (ap (λ (e : Entry). e.call) is)) (subst (AsksOf call) (sym turns.0) asks))
 begun_goes_on configs t new draft draft' pass call (Need q) (Replied r) is turns legal first sees written asks = absurd turns
@@ -174,12 +174,12 @@ begun_goes_on configs t new draft draft' pass call (Done r) (Replied r') is turn
 
 module _ (configs : List CacheConfig) (lives : Lives) (t new : History) (draft draft' : Entry) (pass : Sight) (place : ℕ) (found : IsOpenFor lives t draft place) where
   -- the draft stands where the open call's entry was changed
-  stands_there : (f : Entry → Entry) → ((e : Entry) → (f e).id ≡ e.id) → new.entries ≡ on_open draft.id f t.entries → StandsAt configs new draft' place → Sees new pass → draft'.id ≡ draft.id → (k : Status) → live_at lives draft.id ≡ Some k → Stands configs draft' pass
+  stands_there : (f : Entry → Entry) → ((e : Entry) → (f e).id ≡ e.id) → new.entries ≡ on_open draft.id f t.entries → StandsAt configs new draft' place → Sees configs new pass → draft'.id ≡ draft.id → (k : Status) → live_at lives draft.id ≡ Some k → Stands configs draft' pass
   stands_there f keeps written stands sees same k at =
       let last = changed_last lives t found.tells draft.id place found.opened k at f keeps draft' (ap (λ (es : List Entry). slice_get es place) (sym written) ∙ stands.there) in
       record { transcript = new; legal = stands.legal; begins = stands.begins; before = last.0; last = ap (λ (id : ℕ). entries_of id new.entries) same ∙ ap (entries_of draft.id) written ∙ last.1; sees = sees }
 
-  pub resumed_goes_on : (a : Answer) (step : Step) (turned : Turned) (m : Bool) → Turns draft step turned draft' → (IsReplied turned → StandsAt configs new draft' place) → (IsReplied turned → Sees new pass)
+  pub resumed_goes_on : (a : Answer) (step : Step) (turned : Turned) (m : Bool) → Turns draft step turned draft' → (IsReplied turned → StandsAt configs new draft' place) → (IsReplied turned → Sees configs new pass)
       → new ≡ recorded draft.session (event.Answer draft.id a) (outcome.Step step) t → outcome.Step step ≡ answer_to lives (event.Answer draft.id a) m → GoesOn configs draft turned draft' pass
   resumed_goes_on a (Need q) (Asked q') m turns stands sees written is =
       let asks : AsksOf found.opened.entry.call q = resumed_asks lives t found.tells draft.id place found.opened a (Need q) m is in
@@ -194,7 +194,7 @@ module _ (configs : List CacheConfig) (lives : Lives) (t new : History) (draft d
       at (Some k) here is = stands_there (λ d. with_outcome (outcome.Step (Done r)) (with_answer a d)) (λ d. refl) (ap (λ (h : History). h.entries) written) (stands tt) (sees tt) (ap (λ (e : Entry). e.id) turns.1) k here
 
   pub given_up_stands : (left : List Notice) → new ≡ recorded draft.session (event.GiveUp draft.id) (outcome.GivenUp left) t → outcome.GivenUp left ≡ answer_to lives (event.GiveUp draft.id) false
-      → draft'.id ≡ draft.id → StandsAt configs new draft' place → Sees new pass → Stands configs draft' pass
+      → draft'.id ≡ draft.id → StandsAt configs new draft' place → Sees configs new pass → Stands configs draft' pass
   given_up_stands left written is same stands sees = at (live_at lives draft.id) refl is
     where
       at : (k : Option Status) → live_at lives draft.id ≡ k → outcome.GivenUp left ≡ answer_of k gives_up false → Stands configs draft' pass

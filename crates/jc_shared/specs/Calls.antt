@@ -33,7 +33,7 @@ pub record Stands (configs : List CacheConfig) (e : Entry) (pass : Sight) : Type
   pub begins : BeginsWith configs transcript
   pub before : List Entry
   pub last : entries_of e.id transcript.entries ≡ before ++ e ∷ []
-  pub sees : Sees transcript pass
+  pub sees : Sees configs transcript pass
 
 -- the entry of a call, by what it was told and how it ended
 abbrev pub called : ℕ → ℕ → ℕ → Call → List Answer → List Notice → End → Entry

@@ -1,5 +1,5 @@
 -- Where a call's entry stands in the transcript.
-use Rattle.std.specs.Prelude.{◌≡◌, ℕ, List, map, option_map, Option, Some, slice_get, ⊤}
+use Rattle.std.specs.Prelude.{◌≡◌, ℕ, List, Some, slice_get, ⊤}
 use Rattle.jc_model.specs.declared.config.CacheConfig.{CacheConfig}
 use Rattle.jc_model.specs.declared.event.Cause.{Cause}
 use Rattle.jc_model.specs.declared.event.Cause.TheVariants as causes
@@ -15,13 +15,6 @@ use Rattle.jc_model.specs.Runs.{Lives}
 use Rattle.jc_model.specs.Legal.{History, IsLegal, Tells}
 use Rattle.jc_engine.specs.Recording.{HasOpen}
 use Rattle.jc_shared.specs.Sessions.{BeginsWith}
-
-abbrev pub configs_in : Lives → List (Option CacheConfig)
-configs_in lives = map (option_map (λ k. k.config)) lives
-
--- these caches are live, each under its place, and no others
-abbrev pub AreLive : List CacheConfig → Lives → Type 0
-AreLive configs lives = configs_in lives ≡ map Some configs
 
 -- why a call has no reply, by why the engine refuses it
 abbrev pub fault_of : Cause → CallFault

@@ -13,8 +13,8 @@ ghost use Rattle.jc_engine.specs.Watching.{ShowsStates, states_of};
 ghost use Rattle.jc_shared.specs.Accounts.{Accounts, IsCloseFault};
 ghost use Rattle.jc_shared.specs.Admitting.{Admits};
 ghost use Rattle.jc_shared.specs.Calls.{Stands, GoesOn, call_refusal};
-ghost use Rattle.jc_shared.specs.Sessions.{BeginsWith, Sees, SeesSome};
-ghost use Rattle.jc_shared.specs.Finding.{fault_of, AreLive, IsOfCall, IsOpenFor, StandsAt, Turns, IsReplied};
+ghost use Rattle.jc_shared.specs.Sessions.{AreLive, BeginsWith, Sees, SeesSome};
+ghost use Rattle.jc_shared.specs.Finding.{fault_of, IsOfCall, IsOpenFor, StandsAt, Turns, IsReplied};
 
 use crate::auditing::{Logged, audit};
 use crate::fault::{CallFault, CloseFault, SessionRefusal};
@@ -172,7 +172,7 @@ impl<N: Name> Locked<N> {
         ensures same { (self.new.recorded ≡ self.old.recorded) × (self.new.given ≡ self.old.given) × (self.new.closed ≡ self.old.closed) }
         ensures front { IsPrefix pass.old.images pass.new.images }
         ensures shows { pass.new.met ≡ true → ShowsStates (states_of (lives_of self.old.recorded.caches)) (last_image pass.new.images) }
-        ensures sees { Sees self.old.recorded.transcript pass.new }
+        ensures sees { Sees N.configs self.old.recorded.transcript pass.new }
     {
         let _ = self.recorded.meet(pass);
     }
@@ -181,7 +181,7 @@ impl<N: Name> Locked<N> {
     fn show_reply(&mut self, turned: &Turned, pass: &mut TablePass<N>)
         ensures same { (self.new.recorded ≡ self.old.recorded) × (self.new.given ≡ self.old.given) × (self.new.closed ≡ self.old.closed) }
         ensures front { IsPrefix pass.old.images pass.new.images }
-        ensures sees { IsReplied turned.now → Sees self.old.recorded.transcript pass.new }
+        ensures sees { IsReplied turned.now → Sees N.configs self.old.recorded.transcript pass.new }
     {
         match turned {
             Turned::Asked(_) => {}

@@ -8,6 +8,7 @@ returns-clause-shows g c = met_shows _ c.meet.result c.meet.new.watcher.met c.me
 pub returns-clause-sees : goal.returns-clause-sees
 returns-clause-sees g c = record {
   lives = lives_of c.args.self.now.recorded.caches;
+  live = c.args.self.now.stay;
   tells = c.meet.ensures.tells;
   shows = met_shows _ c.meet.result c.meet.new.watcher.met c.meet.ensures.met c.meet.ensures.refused;
 }

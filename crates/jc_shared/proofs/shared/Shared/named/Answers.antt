@@ -2,7 +2,7 @@ use Rattle.std.proofs.Common.{ap, ◌∙◌, subst, List}
 use Rattle.jc_model.specs.declared.config.CacheConfig.{CacheConfig}
 use Rattle.jc_engine.specs.Caches.{lives_of}
 use Rattle.jc_engine.specs.Recording.{Recording}
-use Rattle.jc_shared.specs.Finding.{AreLive}
+use Rattle.jc_shared.specs.Sessions.{AreLive}
 use Rattle.jc_shared.specs.Opening.{Handed}
 use Rattle.jc_shared.specs.Sessions.{BeginsWith}
 use Rattle.jc_shared.proofs.Opened.{live_opened, begins_opened}
