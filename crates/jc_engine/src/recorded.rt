@@ -4,7 +4,7 @@ ghost use Rattle.std.specs.FinMap as table;
 ghost use Rattle.jc_model.specs.declared.event.Event.TheVariants.{Begin, Answer as Answered, GiveUp, Create, Destroy};
 ghost use Rattle.jc_model.specs.declared.event.Entry.{Entry};
 ghost use Rattle.jc_model.specs.Places.{at_place};
-ghost use Rattle.jc_model.specs.Runs.{opened_from, answer_to, lives_after, for_memory};
+ghost use Rattle.jc_model.specs.Runs.{opened_from, create_refusal, answer_to, lives_after, for_memory};
 ghost use Rattle.jc_model.specs.Legal.{IsLegal, Tells, at_first, recorded};
 ghost use Rattle.jc_engine.specs.Caches.{AreSound, lives_of, names_of, id_of, expiry_in, holds_in};
 ghost use Rattle.jc_engine.specs.Opening.{open_refusal, open_refusal_from};
@@ -236,6 +236,13 @@ impl<R: Rows, G: Ring> Recorded<R, G> {
         let left = self.engine.abandon(id)?;
         let place = kept_place(&self.places, id);
         Ok(note_given_up(self.alloc, &mut self.transcript, place, left))
+    }
+
+    /// Why no cache can be created with this configuration now, where memory suffices.
+    pub fn create_refusal(&self, config: &CacheConfig) -> Option<CreateRefusal>
+        ensures { result ≡ create_refusal (lives_of self.now.caches) config.now }
+    {
+        self.engine.create_refusal(config)
     }
 
     /// Creates a cache, as the manager's `create`; the transcript gets its life. Room is made before any change.

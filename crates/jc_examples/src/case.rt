@@ -4,10 +4,16 @@ use crate::events::play_events;
 use crate::run::{
     run_demonstration, run_each_configuration, run_each_script, run_files, run_words,
 };
+use std::fs::Files;
 use std::io;
+use std::sync::Wait;
+use std::thread::Threads;
 
 /// Prints an example's name, and then what the program prints; last its status, where that is not 0.
-pub fn play_case(rt: &HostRuntime, line: &str) -> io::Result<()> {
+pub fn play_case<R: Files + Print + Threads + Wait + Sync + AllocGlobal>(
+    rt: &R,
+    line: &str,
+) -> io::Result<()> {
     let alloc = rt.alloc();
     let words: Vec<&str> = line.split_whitespace().collect(alloc)?;
     let Some((name, words)) = words.split_first() else {

@@ -18,6 +18,7 @@ use jc_rows::rows::Rows;
 use jc_script::{Line, read_script, reply_text, report};
 use jc_trials::ConstantPlacer;
 use std::alloc::{AllocError, Global};
+use std::fs::Files;
 use std::{fs, io};
 
 /// The value with this text; nothing where it is too long.
@@ -184,7 +185,11 @@ fn settings_of(alloc: Global, config: &[u8]) -> Option<Settings> {
 
 /// Prints what each event of a file comes to, and the report. Over the cuckoo table and the linked ring it is the same,
 /// also where all keys share two buckets.
-pub fn play_events(rt: &HostRuntime, config: &str, events: &str) -> io::Result<()> {
+pub fn play_events<R: Files + Print + AllocGlobal>(
+    rt: &R,
+    config: &str,
+    events: &str,
+) -> io::Result<()> {
     let alloc = rt.alloc();
     let config = fs::read(rt, config)?;
     let events = fs::read_to_string(rt, events)?;

@@ -2,11 +2,17 @@
 
 use crate::over::reported;
 use jc_runner::{Disk, HostDisk, OpenFault, Opened, Standard, program};
-use std::alloc::Global;
+use std::fs::Files;
+use std::sync::Wait;
+use std::thread::Threads;
 use std::{fs, io};
 
-/// Seeds with which a run is made again: the report must be the same.
-const SEEDS: [&str; 2] = ["1", "9223372036854775807"];
+/// Words with which a run is made again: the report must be the same.
+const AGAIN: [[&str; 2]; 3] = [
+    ["--seed", "1"],
+    ["--seed", "9223372036854775807"],
+    ["--serial", "--seed=0"],
+];
 
 /// What the program wrote on standard output and on standard error, and its status.
 #[derive(Drop)]
@@ -42,19 +48,20 @@ impl<'a> Disk for Texts<'a> {
 }
 
 /// Runs the program on these words.
-fn printed<D: Disk>(
-    alloc: Global,
+fn printed<D: Disk, R: Threads + Wait + Sync + AllocGlobal>(
+    rt: &R,
     words: &[&str],
     disk: &mut D,
     input: &[u8],
 ) -> io::Result<Written> {
+    let alloc = rt.alloc();
     let mut given = Vec::with_capacity(alloc, words.len())?;
     for word in words {
         given.push(word.to_string(alloc)?)?;
     }
     let mut opened = Opened::none();
     let mut standard = Standard::new(input, Vec::new(alloc), Vec::new(alloc));
-    let ended = program(alloc, Ok(given), disk, &mut opened, &mut standard);
+    let ended = program(rt, alloc, Ok(given), disk, &mut opened, &mut standard);
     Ok(Written {
         output: standard.output.into_inner(),
         errors: standard.errors,
@@ -63,7 +70,7 @@ fn printed<D: Disk>(
 }
 
 /// Prints what a run wrote, and its status where that is not 0.
-fn show(rt: &HostRuntime, run: &Written) -> io::Result<()> {
+fn show<R: Print>(rt: &R, run: &Written) -> io::Result<()> {
     show_text(rt, run)?;
     if run.status == 0 {
         return Ok(());
@@ -71,7 +78,7 @@ fn show(rt: &HostRuntime, run: &Written) -> io::Result<()> {
     println!(rt; "status {}", run.status)
 }
 
-fn show_text(rt: &HostRuntime, run: &Written) -> io::Result<()> {
+fn show_text<R: Print>(rt: &R, run: &Written) -> io::Result<()> {
     for bytes in [&run.output, &run.errors] {
         match str::from_utf8(bytes.as_slice()) {
             Ok(text) => print!(rt; "{text}")?,
@@ -82,30 +89,38 @@ fn show_text(rt: &HostRuntime, run: &Written) -> io::Result<()> {
 }
 
 /// Runs what the words ask for.
-pub fn run_words(rt: &HostRuntime, words: &[&str]) -> io::Result<()> {
+pub fn run_words<R: Files + Print + Threads + Wait + Sync + AllocGlobal>(
+    rt: &R,
+    words: &[&str],
+) -> io::Result<()> {
     let mut disk = HostDisk { files: rt };
-    show(rt, &printed(rt.alloc(), words, &mut disk, &[])?)
+    show(rt, &printed(rt, words, &mut disk, &[])?)
 }
 
-/// Runs a configuration and a script, with places by this seed.
-fn seeded<'a>(
-    rt: &HostRuntime,
+/// Runs a configuration and a script, with these words.
+fn worded<'a, R: Files + Threads + Wait + Sync + AllocGlobal>(
+    rt: &R,
     config: &'a str,
     script: &'a str,
-    seed: &'a str,
+    words: &[&'a str; 2],
 ) -> io::Result<Written> {
     let mut disk = HostDisk { files: rt };
-    let words = ["run", config, script, "--seed", seed];
-    printed(rt.alloc(), &words, &mut disk, &[])
+    let words = ["run", config, script, words[0], words[1]];
+    printed(rt, &words, &mut disk, &[])
 }
 
-/// Runs a configuration and a script. With other seeds, and where all keys share two buckets, the report is the same.
-pub fn run_files<'a>(rt: &HostRuntime, config: &'a str, script: &'a str) -> io::Result<()> {
-    let run = seeded(rt, config, script, "0")?;
+/// Runs a configuration and a script. With other seeds, in the order of the lines, and where all keys share two
+/// buckets, the report is the same.
+pub fn run_files<'a, R: Files + Print + Threads + Wait + Sync + AllocGlobal>(
+    rt: &R,
+    config: &'a str,
+    script: &'a str,
+) -> io::Result<()> {
+    let run = worded(rt, config, script, &["--seed", "0"])?;
     show(rt, &run)?;
-    for seed in SEEDS {
-        if seeded(rt, config, script, seed)?.output != run.output {
-            println!(rt; "another report with the seed {seed}")?;
+    for words in &AGAIN {
+        if worded(rt, config, script, words)?.output != run.output {
+            println!(rt; "another report with {} {}", words[0], words[1])?;
         }
     }
     let config = fs::read(rt, config)?;
@@ -118,21 +133,32 @@ pub fn run_files<'a>(rt: &HostRuntime, config: &'a str, script: &'a str) -> io::
 }
 
 /// Runs a file as standard input on the demonstration's caches.
-pub fn run_demonstration(rt: &HostRuntime, script: &str) -> io::Result<()> {
+pub fn run_demonstration<R: Files + Print + Threads + Wait + Sync + AllocGlobal>(
+    rt: &R,
+    script: &str,
+) -> io::Result<()> {
     let script = fs::read(rt, script)?;
     let mut disk = HostDisk { files: rt };
-    show(rt, &printed(rt.alloc(), &[], &mut disk, script.as_slice())?)
+    show(rt, &printed(rt, &[], &mut disk, script.as_slice())?)
 }
 
 /// Runs a script on caches of a configuration.
-fn run_texts(rt: &HostRuntime, config: &[u8], script: &[u8]) -> io::Result<()> {
+fn run_texts<R: Files + Print + Threads + Wait + Sync + AllocGlobal>(
+    rt: &R,
+    config: &[u8],
+    script: &[u8],
+) -> io::Result<()> {
     let mut texts = Texts { config, script };
     let words = ["run", "config", "script"];
-    show_text(rt, &printed(rt.alloc(), &words, &mut texts, &[])?)
+    show_text(rt, &printed(rt, &words, &mut texts, &[])?)
 }
 
 /// Runs each line of a file as a script of its own.
-pub fn run_each_script(rt: &HostRuntime, scripts: &str, config: &str) -> io::Result<()> {
+pub fn run_each_script<R: Files + Print + Threads + Wait + Sync + AllocGlobal>(
+    rt: &R,
+    scripts: &str,
+    config: &str,
+) -> io::Result<()> {
     let config = fs::read(rt, config)?;
     for script in fs::read_to_string(rt, scripts)?.lines() {
         run_texts(rt, config.as_slice(), script.as_bytes())?;
@@ -141,7 +167,10 @@ pub fn run_each_script(rt: &HostRuntime, scripts: &str, config: &str) -> io::Res
 }
 
 /// Runs an empty script on each line of a file as a configuration of its own.
-pub fn run_each_configuration(rt: &HostRuntime, configs: &str) -> io::Result<()> {
+pub fn run_each_configuration<R: Files + Print + Threads + Wait + Sync + AllocGlobal>(
+    rt: &R,
+    configs: &str,
+) -> io::Result<()> {
     for config in fs::read_to_string(rt, configs)?.lines() {
         run_texts(rt, config.as_bytes(), &[])?;
     }

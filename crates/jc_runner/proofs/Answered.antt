@@ -16,7 +16,7 @@ use Rattle.jc_model.specs.Runs.{shown}
 use Rattle.jc_model.specs.Legal.{Fits, told_now, told_in, told_after, end_by, with_outcome, with_answer}
 use Rattle.jc_model.proofs.Resume.{answered-append, told-answer}
 use Rattle.jc_runner.specs.Alone.{exchanged, end_of, entry_by}
-use Rattle.jc_runner.specs.declared.calls.LineCall.{LineCall}
+use Rattle.jc_script.specs.declared.line.LineCall.{LineCall}
 
 pub record Waits (run : Run) (q : Request) : Type 0 where
   pub meanwhile : Progress

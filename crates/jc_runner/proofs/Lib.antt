@@ -14,3 +14,6 @@ pub mod Lives
 pub mod Lines
 pub mod Told
 pub mod Configured
+pub mod Gathering
+pub mod Sessions
+pub mod Apart

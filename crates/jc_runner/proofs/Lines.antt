@@ -26,7 +26,7 @@ use Rattle.jc_script.specs.Live.{after_line}
 use Rattle.jc_script.specs.Managing.{begun_by, begun_from, managed_by, managed_from}
 use Rattle.jc_script.specs.Named.{IsNamed, Names, AllName}
 use Rattle.jc_runner.specs.Alone.{run_alone}
-use Rattle.jc_runner.specs.declared.calls.LineCall.{LineCall}
+use Rattle.jc_script.specs.declared.line.LineCall.{LineCall}
 use Rattle.jc_runner.specs.Halfway.{lives_now, as_read, IsIdle, IsAtRest, IsReady, RunsLine, Goes, Comes, Halfway}
 use Rattle.jc_runner.proofs.Lives.{LivesOn, lives_on, live_read, read_one, create_follows, create_goes, create_comes, destroy_follows, destroy_goes, destroy_comes}
 use Rattle.jc_runner.proofs.Reached.{step_shown, shows_step}

@@ -1,5 +1,5 @@
 -- A script that is run with the callbacks that its configuration names.
-use Rattle.std.proofs.Common.{◌≡◌, ◌≢◌, ℕ, ◌<◌, true, List, length, Option, Some, None, Result, Ok, Err, refl, sym, subst}
+use Rattle.std.proofs.Common.{◌≡◌, ◌≢◌, ℕ, ◌<◌, true, false, List, length, Option, Some, None, Result, Ok, Err, refl, sym, subst}
 use Rattle.std.specs.Prelude.{IfSome, IfErr, OnOk, IsSome}
 use Rattle.std.specs.Io.KnownBytes.{Appends, Keeps}
 use Rattle.std.proofs.lemmas.Bool.{false≢true}
@@ -13,15 +13,17 @@ use Rattle.jc_engine.specs.declared.open.OpenRefusal.{OpenRefusal}
 use Rattle.jc_hooks.specs.Processors.{verdict_by, wants_of}
 use Rattle.jc_hooks.specs.Program.{echoed, AllChecked}
 use Rattle.jc_hooks.specs.Tallies.{numbers, tallied}
+use Rattle.jc_script.specs.declared.line.Line.{Line}
 use Rattle.jc_script.specs.Script.{lines}
 use Rattle.jc_script.specs.declared.fault.ScriptFault.{ScriptFault}
 use Rattle.jc_runner.specs.Hooks.{CannotOpen}
 use Rattle.jc_runner.specs.Meters.{next}
 use Rattle.jc_runner.specs.Naming.{ProgramHooks, AllNamed}
 use Rattle.jc_runner.specs.Opens.{Opens}
-use Rattle.jc_runner.specs.Program.{Reported, RunEnds}
+use Rattle.jc_runner.specs.Program.{Reported, Gathered, RunEnds}
 use Rattle.jc_runner.specs.Reports.{ReportsOf}
-use Rattle.jc_runner.specs.Streams.{WritesFront}
+use Rattle.jc_runner.specs.Streams.{WritesFront, IsOfThreads}
+use Rattle.jc_runner.specs.Together.{stated_of, GathersSo}
 use Rattle.jc_runner.specs.declared.fault.RunFault.{RunFault}
 use Rattle.jc_runner.specs.declared.fault.RunFault.TheVariants as run
 use Rattle.jc_runner.specs.declared.watched.Watched.{Watched}
@@ -32,6 +34,14 @@ pub named_as : (cs cs' : List CacheConfig) (ks ks' : List HookKinds) (hs hs' : L
 named_as cs cs' ks ks' hs hs' e e' e'' named =
     subst (λ (x : List CacheConfig). AllNamed x ks' hs') e (subst (λ (x : List HookKinds). AllNamed cs x hs') e' (subst (AllNamed cs ks) (sym e'') named))
 
+not_refused : (caches : List CacheConfig) (o : Option OpenRefusal) → o ≡ None → IsSome o → ⊥
+not_refused caches None e some = absurd (false≢true some)
+not_refused caches (Some r) e some = cc
+
+opens_so : (c : Configuration) (hooks : List ProgramHooks) → AllNamed c.settings c.hooks hooks → Opens c → CannotOpen wants_of c.settings hooks → ⊥
+opens_so c hooks named opens (inl differ) = differ (all_named_suit c.settings c.hooks hooks opens.kinds named)
+opens_so c hooks named opens (inr refused) = not_refused c.settings (open_refusal c.settings) opens.refuses_nothing refused
+
 module _ (c : Configuration) (hooks hooks' : List ProgramHooks) (named : AllNamed c.settings c.hooks hooks) where
   abbrev ReportsHere : List ℕ → (List ℕ → Type 0) → Type 0
   ReportsHere script IsSo = ReportsOf (λ l. echoed) (λ w given. AllChecked given) verdict_by (λ t notices. numbers (tallied t notices)) c.settings script hooks hooks' IsSo
@@ -39,14 +49,6 @@ module _ (c : Configuration) (hooks hooks' : List ProgramHooks) (named : AllName
   reported : (left : Option (List ℕ)) (IsSo : List ℕ → Type 0) → IfSome left (λ script. ReportsHere script IsSo) → IfSome left (λ script. Reported c script IsSo)
   reported None IsSo r = tt
   reported (Some script) IsSo r = record { hooks = hooks; hooks' = hooks'; named = named; reports = r }
-
-  opens_here : Opens c → CannotOpen wants_of c.settings hooks → ⊥
-  opens_here opens (inl differ) = differ (all_named_suit c.settings c.hooks hooks opens.kinds named)
-  opens_here opens (inr refused) = not_some (open_refusal c.settings) opens.refuses_nothing refused
-    where
-      not_some : (o : Option OpenRefusal) → o ≡ None → IsSome o → ⊥
-      not_some None e some = absurd (false≢true some)
-      not_some (Some r) e some = cc
 
   module _ {I O : Type 0} (remaining : I → Option (List ℕ)) (contents : O → Option (List ℕ)) (reader reader' : Watched I) (writer writer' : WatchedWriter O) (opens : Opens c) where
     pub run_ends : (result : Result (Unit {0}) RunFault)
@@ -60,12 +62,41 @@ module _ (c : Configuration) (hooks hooks' : List ProgramHooks) (named : AllName
         → (result ≡ Err run.Write → writer'.failures ≡ next writer.failures)
         → (result ≡ Err run.Read → reader'.failures ≡ next reader.failures)
         → IfErr result (λ e. e ≢ run.Write → Keeps (contents writer.inner) (contents writer'.inner))
-        → RunEnds remaining contents c reader reader' writer writer' result
+        → RunEnds remaining contents true c reader reader' writer writer' result
     run_ends (Ok done) ok flushed script long opening closed front write read nothing = (reported (remaining reader.inner) (Appends (contents writer.inner) (contents writer'.inner)) ok, flushed.1, flushed.0)
     run_ends (Err run.Read) ok flushed script long opening closed front write read nothing = (read refl, nothing (λ e. cc))
     run_ends (Err run.TooLong) ok flushed script long opening closed front write read nothing = (long refl, nothing (λ e. cc))
     run_ends (Err (run.Script f)) ok flushed script long opening closed front write read nothing = (script f refl, nothing (λ e. cc))
-    run_ends (Err run.Open) ok flushed script long opening closed front write read nothing = opens_here opens (opening refl)
-    run_ends (Err run.Close) ok flushed script long opening closed front write read nothing = closed refl
+    run_ends (Err run.Open) ok flushed script long opening closed front write read nothing = opens_so c hooks named opens (opening refl)
+    run_ends (Err run.Close) ok flushed script long opening closed front write read nothing = absurd (closed refl)
     run_ends (Err run.Write) ok flushed script long opening closed front write read nothing = (reported (remaining reader.inner) (WritesFront (contents writer.inner) (contents writer'.inner)) (front refl), write refl)
     run_ends (Err run.Memory) ok flushed script long opening closed front write read nothing = nothing (λ e. cc)
+
+-- The same on worker threads.
+
+module _ (c : Configuration) (hooks : List ProgramHooks) (named : AllNamed c.settings c.hooks hooks) (all : List Line) where
+  abbrev GathersHere : (List ℕ → Type 0) → Type 0
+  GathersHere IsSo = GathersSo (stated_of (λ l. echoed) verdict_by hooks) c.settings all IsSo
+
+  gathered : (left : Option (List ℕ)) (IsSo : List ℕ → Type 0) → IfSome left (λ script. lines c.settings script ≡ Ok all) → GathersHere IsSo → IfSome left (λ script. Gathered c script IsSo)
+  gathered None IsSo read g = tt
+  gathered (Some script) IsSo read g = record { hooks = hooks; named = named; all = all; read = read; gathers = g }
+
+  module _ {I O : Type 0} (remaining : I → Option (List ℕ)) (contents : O → Option (List ℕ)) (reader reader' : Watched I) (writer writer' : WatchedWriter O) (opens : Opens c) (read : IfSome (remaining reader.inner) (λ script. lines c.settings script ≡ Ok all)) where
+    pub threads_end : (result : Result (Unit {0}) RunFault)
+        → OnOk result (GathersHere (Appends (contents writer.inner) (contents writer'.inner)))
+        → OnOk result ((writer'.flushed ≡ true) × (writer'.failures ≡ writer.failures))
+        → (result ≡ Err run.Open → CannotOpen wants_of c.settings hooks)
+        → (result ≡ Err run.Write → GathersHere (WritesFront (contents writer.inner) (contents writer'.inner)))
+        → (result ≡ Err run.Write → writer'.failures ≡ next writer.failures)
+        → IfErr result (λ e. e ≢ run.Write → Keeps (contents writer.inner) (contents writer'.inner))
+        → IfErr result (λ e. e ≢ run.Write → IsOfThreads e)
+        → RunEnds remaining contents false c reader reader' writer writer' result
+    threads_end (Ok done) ok flushed opening front write nothing others = (gathered (remaining reader.inner) (Appends (contents writer.inner) (contents writer'.inner)) read ok, flushed.1, flushed.0)
+    threads_end (Err run.Read) ok flushed opening front write nothing others = absurd (others (λ e. cc))
+    threads_end (Err run.TooLong) ok flushed opening front write nothing others = absurd (others (λ e. cc))
+    threads_end (Err (run.Script f)) ok flushed opening front write nothing others = absurd (others (λ e. cc))
+    threads_end (Err run.Open) ok flushed opening front write nothing others = opens_so c hooks named opens (opening refl)
+    threads_end (Err run.Close) ok flushed opening front write nothing others = (refl, nothing (λ e. cc))
+    threads_end (Err run.Write) ok flushed opening front write nothing others = (gathered (remaining reader.inner) (WritesFront (contents writer.inner) (contents writer'.inner)) read (front refl), write refl)
+    threads_end (Err run.Memory) ok flushed opening front write nothing others = nothing (λ e. cc)

@@ -35,7 +35,7 @@ use Rattle.jc_hooks.specs.declared.cache_hooks.CacheHooks.{CacheHooks}
 use Rattle.jc_hooks.specs.declared.loader.Loaded.{Loaded}
 use Rattle.jc_runner.specs.Alone.{exchanged, end_of, run_alone, entry_by}
 use Rattle.jc_runner.specs.Answering.{HeardAt}
-use Rattle.jc_runner.specs.declared.calls.LineCall.{LineCall}
+use Rattle.jc_script.specs.declared.line.LineCall.{LineCall}
 use Rattle.jc_runner.specs.Halfway.{lives_now, event_of, CanMove, Moves, NoneOpen, IsReady, ReachedFrom, Reached, Replies}
 use Rattle.jc_runner.proofs.Answered.{awaits-need, exchanged-nil, exchanged-push, entry-push, entry-first}
 use Rattle.jc_runner.proofs.Bounds.{fewer_answers, answers_in, most_asked, most_at}

@@ -32,7 +32,7 @@ use Rattle.jc_script.specs.Live.{after_line}
 use Rattle.jc_script.specs.Managing.{begun_by}
 use Rattle.jc_runner.specs.Alone.{calls_on, line_of, IsReply, AllReplied, exchanged, exchanges, end_of, run_alone, entry_by}
 use Rattle.jc_runner.specs.Answering.{HeardAt}
-use Rattle.jc_runner.specs.declared.calls.LineCall.{LineCall}
+use Rattle.jc_script.specs.declared.line.LineCall.{LineCall}
 use Rattle.jc_runner.specs.Halfway.{lives_now, as_read, NoneOpen, IsIdle, IsAtRest, ReachedFrom, Reached, RepliesAt, Goes, Comes}
 use Rattle.jc_runner.proofs.Answered.{Ends, ends_with}
 use Rattle.jc_runner.proofs.Hearing.{more_heard}

@@ -71,7 +71,7 @@ module _ (caches : List CacheConfig) (r : Recording) (new : lives_now r ≡ open
 
 -- The report in the end.
 
-each_text : (lives : List Life) (entries : List Entry) → lives_text lives entries ≡ alone_from (λ id. entries_of id entries) lives
+pub each_text : (lives : List Life) (entries : List Entry) → lives_text lives entries ≡ alone_from (λ id. entries_of id entries) lives
 each_text [] entries = refl
 each_text (life ∷ lives) entries = ap (λ (rest : List ℕ). header life.config.name ++ flat_map entry_text (entries_of life.id entries) ++ rest) (each_text lives entries)
 
@@ -101,7 +101,7 @@ module _ {L W P K : Type 0} (load_of : L → List ℕ → Loaded) (may : W → L
 
 -- The bytes that were read are all that there were.
 
-lines_of_all : (caches : List CacheConfig) (all : List Line) (left left' : Option (List ℕ)) (bytes bytes' : List ℕ) → IsAll left left' bytes → bytes' ≡ bytes → lines caches bytes' ≡ Ok all → IfSome left (λ input. lines caches input ≡ Ok all)
+pub lines_of_all : (caches : List CacheConfig) (all : List Line) (left left' : Option (List ℕ)) (bytes bytes' : List ℕ) → IsAll left left' bytes → bytes' ≡ bytes → lines caches bytes' ≡ Ok all → IfSome left (λ input. lines caches input ≡ Ok all)
 lines_of_all caches all None left' bytes bytes' read same says = tt
 lines_of_all caches all (Some input) None bytes bytes' read same says = absurd read.0
 lines_of_all caches all (Some input) (Some rest) bytes bytes' read same says = ap (lines caches) (read.0 ∙ ap (λ (xs : List ℕ). bytes ++ xs) read.1 ∙ append-nil bytes ∙ sym same) ∙ says

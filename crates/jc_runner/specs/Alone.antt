@@ -1,5 +1,5 @@
 -- Each life of a cache alone: the calls of its lines in their order, as its solo run takes them under the answers of its callbacks.
-use Rattle.std.specs.Prelude.{◌≡◌, ℕ, ◌==◌, false, if◌then◌else◌, List, [], ◌∷◌, ◌++◌, map, ⊤}
+use Rattle.std.specs.Prelude.{◌≡◌, ℕ, false, List, [], ◌∷◌, ◌++◌, map, ⊤}
 use Rattle.std.specs.List.{flat_map}
 use Rattle.jc_model.specs.declared.call.Answer.{Answer}
 use Rattle.jc_model.specs.declared.call.Request.{Request}
@@ -15,28 +15,10 @@ use Rattle.jc_model.specs.Solo.{run_of, after_call, state_of}
 use Rattle.jc_model.specs.Whole.{whole}
 use Rattle.jc_model.specs.Legal.{IsLegalFrom, played, told_in}
 use Rattle.jc_script.specs.declared.line.Line.{Line}
-use Rattle.jc_script.specs.declared.line.Line.TheVariants as line
+use Rattle.jc_script.specs.declared.line.LineCall.{LineCall}
+pub use Rattle.jc_script.specs.Calls.{calls_on, line_of, IsReply}
 use Rattle.jc_script.specs.Managing.{lives_of, managed_of}
 use Rattle.jc_script.specs.Report.{header, entry_text, managed_text}
-use Rattle.jc_runner.specs.declared.calls.LineCall.{LineCall}
-
--- the call that a line makes on the cache with this id
-abbrev pub call_on : ℕ → Line → List LineCall
-call_on id (line.Call session i at call) = if i == id then record { session = session; id = i; at = at; call = call } ∷ [] else []
-call_on id (line.Create session c) = []
-call_on id (line.Destroy session i) = []
-
--- those of all lines; an id is given once, so that they are all of one life
-abbrev pub calls_on : ℕ → List Line → List LineCall
-calls_on id lines = flat_map (call_on id) lines
-
--- the line's call that an entry is
-abbrev pub line_of : Entry → LineCall
-line_of e = record { session = e.session; id = e.id; at = e.at; call = e.call }
-
-abbrev pub IsReply : End → Type 0
-IsReply (Replied reply) = ⊤
-IsReply _ = ⊥
 
 abbrev pub AllReplied : List Entry → Type 0
 AllReplied [] = ⊤

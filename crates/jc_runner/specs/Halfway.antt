@@ -30,7 +30,7 @@ use Rattle.jc_script.specs.declared.managed.Managed.{Managed}
 use Rattle.jc_script.specs.Managing.{begun_from, managed_from, managed_of, lives_of as lives_of_all}
 use Rattle.jc_runner.specs.Alone.{calls_on, line_of, AllReplied, exchanged, exchanges, run_alone, entry_by}
 use Rattle.jc_runner.specs.Answering.{HeardAt}
-use Rattle.jc_runner.specs.declared.calls.LineCall.{LineCall}
+use Rattle.jc_script.specs.declared.line.LineCall.{LineCall}
 
 abbrev pub lives_now : Recording → Lives
 lives_now r = lives_of r.caches

@@ -7,6 +7,8 @@ pub mod Answering
 pub mod Halfway
 pub mod Hooks
 pub mod Reports
+pub mod Together
+pub mod Apart
 pub mod Disks
 pub mod Endings
 pub mod Naming

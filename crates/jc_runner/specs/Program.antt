@@ -1,5 +1,5 @@
 -- What the program does with its words, its files and its streams.
-use Rattle.std.specs.Prelude.{true, ◌≡◌, ◌≢◌, ◌⊎◌, ℕ, ◌<◌, List, [], ◌∷◌, length, Option, Some, None, IfSome, Result, Ok, Err, string_bytes}
+use Rattle.std.specs.Prelude.{Bool, true, false, ◌≡◌, ◌≢◌, ◌⊎◌, ℕ, ◌<◌, List, [], ◌∷◌, length, Option, Some, None, IfSome, Result, Ok, Err, string_bytes}
 use Rattle.std.specs.Io.KnownBytes.{Appends, Keeps}
 use Rattle.clap.specs.Words.{Text, kind_of}
 use Rattle.clap.specs.declared.error.Error.{Error}
@@ -11,6 +11,7 @@ use Rattle.jc_hooks.specs.Processors.{verdict_by}
 use Rattle.jc_hooks.specs.Program.{echoed, AllChecked}
 use Rattle.jc_hooks.specs.Tallies.{numbers, tallied}
 use Rattle.jc_model.specs.Limits.{text_bytes}
+use Rattle.jc_script.specs.declared.line.Line.{Line}
 use Rattle.jc_script.specs.Script.{lines}
 use Rattle.jc_words.specs.Program.{AsksFor, MayRefuse}
 use Rattle.jc_words.specs.declared.run.Run.{Run}
@@ -21,6 +22,7 @@ use Rattle.jc_runner.specs.Meters.{next, most_reads, AddsAtMost}
 use Rattle.jc_runner.specs.Naming.{ProgramHooks, AllNamed}
 use Rattle.jc_runner.specs.Reports.{ReportsOf}
 use Rattle.jc_runner.specs.Streams.{WritesFront}
+use Rattle.jc_runner.specs.Together.{stated_of, GathersSo}
 use Rattle.jc_runner.specs.declared.ending.Ended.{Ended}
 use Rattle.jc_runner.specs.declared.ending.Ending.{Ending}
 use Rattle.jc_runner.specs.declared.ending.Ending.TheVariants.{Refused, NotText}
@@ -41,6 +43,19 @@ pub record Reported (c : Configuration) (script : List ℕ) (IsSo : List ℕ →
   pub named : AllNamed c.settings c.hooks hooks
   pub reports : ReportsOf (λ l. echoed) (λ w given. AllChecked given) verdict_by (λ t notices. numbers (tallied t notices)) c.settings script hooks hooks' IsSo
 
+-- the same of a run on worker threads
+pub record Gathered (c : Configuration) (script : List ℕ) (IsSo : List ℕ → Type 0) : Type 0 where
+  pub hooks : List ProgramHooks
+  pub named : AllNamed c.settings c.hooks hooks
+  pub all : List Line
+  pub read : lines c.settings script ≡ Ok all
+  pub gathers : GathersSo (stated_of (λ l. echoed) verdict_by hooks) c.settings all IsSo
+
+-- by one thread, or by workers
+abbrev pub Tells : Bool → Configuration → List ℕ → (List ℕ → Type 0) → Type 0
+Tells true c script IsSo = Reported c script IsSo
+Tells false c script IsSo = Gathered c script IsSo
+
 abbrev pub failed_once : {F : Type 0} → Watched F → Watched F → Type 0
 failed_once old new = new.failures ≡ next old.failures
 
@@ -48,16 +63,16 @@ failed_once old new = new.failures ≡ next old.failures
 abbrev pub unread : {F : Type 0} → F → Watched F
 unread file = record { inner = file; reads = 0; failures = 0 }
 
--- A script that is read and run: how that ends.
-module _ {I O : Type 0} (remaining : I → Option (List ℕ)) (contents : O → Option (List ℕ)) (c : Configuration) (reader reader' : Watched I) (writer writer' : WatchedWriter O) where
+-- A script that is read and run, by one thread or by workers: how that ends.
+module _ {I O : Type 0} (remaining : I → Option (List ℕ)) (contents : O → Option (List ℕ)) (serial : Bool) (c : Configuration) (reader reader' : Watched I) (writer writer' : WatchedWriter O) where
   abbrev pub RunEnds : Result (Unit {0}) RunFault → Type 0
-  RunEnds (Ok done) = IfSome (remaining reader.inner) (λ script. Reported c script (Appends (contents writer.inner) (contents writer'.inner))) × (writer'.failures ≡ writer.failures) × (writer'.flushed ≡ true)
+  RunEnds (Ok done) = IfSome (remaining reader.inner) (λ script. Tells serial c script (Appends (contents writer.inner) (contents writer'.inner))) × (writer'.failures ≡ writer.failures) × (writer'.flushed ≡ true)
   RunEnds (Err run.Read) = failed_once reader reader' × Keeps (contents writer.inner) (contents writer'.inner)
   RunEnds (Err run.TooLong) = IfSome (remaining reader.inner) (λ script. text_bytes < length script) × Keeps (contents writer.inner) (contents writer'.inner)
   RunEnds (Err (run.Script fault)) = IfSome (remaining reader.inner) (λ script. lines c.settings script ≡ Err fault) × Keeps (contents writer.inner) (contents writer'.inner)
   RunEnds (Err run.Open) = ⊥
-  RunEnds (Err run.Close) = ⊥
-  RunEnds (Err run.Write) = IfSome (remaining reader.inner) (λ script. Reported c script (WritesFront (contents writer.inner) (contents writer'.inner))) × (writer'.failures ≡ next writer.failures)
+  RunEnds (Err run.Close) = (serial ≡ false) × Keeps (contents writer.inner) (contents writer'.inner)
+  RunEnds (Err run.Write) = IfSome (remaining reader.inner) (λ script. Tells serial c script (WritesFront (contents writer.inner) (contents writer'.inner))) × (writer'.failures ≡ next writer.failures)
   RunEnds (Err run.Memory) = Keeps (contents writer.inner) (contents writer'.inner)
 
 -- A configuration that is read from a file.
@@ -74,10 +89,10 @@ module _ {F : Type 0} (remaining : F → Option (List ℕ)) (held : Option (Opti
   ConfigEnds (Some reader) result = (file : F) × IsFound held (remaining file) × AddsAtMost most_reads 0 reader.reads × ConfigRead file reader result
 
   -- the same of the script
-  module _ {O : Type 0} (contents : O → Option (List ℕ)) (c : Configuration) (writer writer' : WatchedWriter O) where
+  module _ {O : Type 0} (contents : O → Option (List ℕ)) (serial : Bool) (c : Configuration) (writer writer' : WatchedWriter O) where
     abbrev pub ScriptEnds : Option (Watched F) → Result (Unit {0}) RunFault → Type 0
     ScriptEnds None result = (((result ≡ Err run.Read) × MayBeMissing held) ⊎ (result ≡ Err run.Memory)) × Keeps (contents writer.inner) (contents writer'.inner)
-    ScriptEnds (Some reader) result = (file : F) × IsFound held (remaining file) × AddsAtMost most_reads 0 reader.reads × RunEnds remaining contents c (unread file) reader writer writer' result
+    ScriptEnds (Some reader) result = (file : F) × IsFound held (remaining file) × AddsAtMost most_reads 0 reader.reads × RunEnds remaining contents serial c (unread file) reader writer writer' result
 
 abbrev pub as_program : Result (Unit {0}) RunFault → Result (Unit {0}) ProgramFault
 as_program (Ok done) = Ok done
@@ -90,7 +105,7 @@ module _ {F O : Type 0} (remaining : F → Option (List ℕ)) (contents : O → 
   abbrev pub GoesOn : Option (List (List ℕ)) → Result Configuration ProgramFault → Result (Unit {0}) ProgramFault → Type 0
   GoesOn before (Err fault) result = (result ≡ Err fault) × (script ≡ None) × (asked' ≡ before) × Keeps (contents writer.inner) (contents writer'.inner)
   GoesOn before (Ok c) result =
-      (ran : Result (Unit {0}) RunFault) × (result ≡ as_program ran) × Asks before asked' (string_bytes run.script) × ScriptEnds remaining (holds (string_bytes run.script)) contents c writer writer' script ran
+      (ran : Result (Unit {0}) RunFault) × (result ≡ as_program ran) × Asks before asked' (string_bytes run.script) × ScriptEnds remaining (holds (string_bytes run.script)) contents run.serial c writer writer' script ran
 
   pub record FilesEnd (result : Result (Unit {0}) ProgramFault) : Type 0 where
     pub before : Option (List (List ℕ))
@@ -111,7 +126,7 @@ module _ {F I O : Type 0} (of_file : F → Option (List ℕ)) (of_input : I → 
   -- What words ask for, and how that ends. Where they are mistaken, or memory is wanting, nothing is run.
   module _ (words : List Text) (ending : Ending) where
     pub data WordsEnd : Type 0 where
-      plays : words ≡ [] → (ran : Result (Unit {0}) RunFault) → RunEnds of_input contents demonstration input input' writer writer' ran → ending ≡ ending_of (as_program ran) → WordsEnd
+      plays : words ≡ [] → (ran : Result (Unit {0}) RunFault) → RunEnds of_input contents true demonstration input input' writer writer' ran → ending ≡ ending_of (as_program ran) → WordsEnd
       runs : (run : Run) → AsksFor words run → (ran : Result (Unit {0}) ProgramFault) → FilesEnd of_file contents holds asked asked' run config script writer writer' ran → ending ≡ ending_of ran → WordsEnd
       refuses : (e : Error) → MayRefuse words e → kind_of e ≢ OutOfMemory → ending ≡ Refused e → writer' ≡ writer → WordsEnd
       lacks_memory : ending ≡ no_memory → writer' ≡ writer → WordsEnd

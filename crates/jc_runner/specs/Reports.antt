@@ -16,7 +16,7 @@ use Rattle.jc_script.specs.Managing.{lives_of}
 use Rattle.jc_script.specs.Script.{lines}
 use Rattle.jc_runner.specs.Alone.{calls_on, IsAlone, exchanges, alone}
 use Rattle.jc_runner.specs.Answering.{ServedAt}
-use Rattle.jc_runner.specs.declared.calls.LineCall.{LineCall}
+use Rattle.jc_script.specs.declared.line.LineCall.{LineCall}
 
 module _ {L W P K : Type 0} (load_of : L → List ℕ → Loaded) (may : W → List (Request × Answer) → Type 0) (verdict_of : P → Option (List ℕ) → List ℕ → Result Verdict ProcessorFault) (state_after : K → List Notice → List ℕ) where
   -- the entries of a life alone, its callbacks having answered their requests

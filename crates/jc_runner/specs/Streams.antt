@@ -2,7 +2,7 @@
 use Rattle.std.specs.Prelude.{◌≡◌, ℕ, ◌==◌, List, ◌++◌, Bool, true, Option, Result, Ok, Err}
 use Rattle.std.specs.Io.KnownBytes.{Consumes, IsAtEnd, Appends}
 use Rattle.jc_runner.specs.declared.fault.RunFault.{RunFault}
-use Rattle.jc_runner.specs.declared.fault.RunFault.TheVariants.{Read, TooLong, Script, Open, Write, Memory}
+use Rattle.jc_runner.specs.declared.fault.RunFault.TheVariants.{Read, TooLong, Script, Open, Close, Write, Memory}
 use Rattle.jc_runner.specs.declared.fault.ProgramFault.{ProgramFault}
 use Rattle.jc_runner.specs.declared.fault.ProgramFault.TheVariants.{ConfigRead, Config, Run}
 
@@ -57,3 +57,10 @@ abbrev pub HasRun : {T : Type 0} → Result T RunFault → Type 0
 HasRun (Ok done) = Unit {0}
 HasRun (Err Write) = Unit {0}
 HasRun (Err _) = ⊥
+
+-- the faults of a run on threads before its report is written
+abbrev pub IsOfThreads : RunFault → Type 0
+IsOfThreads Open = Unit {0}
+IsOfThreads Close = Unit {0}
+IsOfThreads Memory = Unit {0}
+IsOfThreads _ = ⊥

@@ -9,20 +9,12 @@ use crate::fault::RunFault;
 use crate::hooks::{answer, no_hooks};
 use jc_engine::recorded::Recorded;
 use jc_hooks::{CacheHooks, Listener, Loader, Processor, Writer};
-use jc_model::call::{Answer, Call};
+use jc_model::call::Answer;
 use jc_model::event::{CacheId, Cause, Step};
 use jc_ring::ring::Ring;
 use jc_rows::rows::Rows;
+use jc_script::LineCall;
 use std::alloc::Global;
-
-/// The call of a line.
-#[derive(Drop)]
-pub struct LineCall {
-    pub session: u32,
-    pub id: CacheId,
-    pub at: u64,
-    pub call: Call,
-}
 
 /// Begins the call of a line.
 fn begin<R: Rows, G: Ring>(recorded: &mut Recorded<R, G>, line: LineCall) -> Result<Step, RunFault>

@@ -1,5 +1,5 @@
 //! The two files of a run, and playing a script with the callbacks that a configuration names.
-ghost use Rattle.std.specs.Prelude.{◌≡◌, ℕ, List, IfOk, string_bytes};
+ghost use Rattle.std.specs.Prelude.{◌≡◌, ◌<◌, ℕ, true, false, List, IfOk, string_bytes};
 ghost use Rattle.jc_runner.specs.Disks.{Asks};
 ghost use Rattle.jc_runner.specs.Meters.{most_reads, AddsAtMost};
 ghost use Rattle.jc_runner.specs.Opens.{Opens};
@@ -9,13 +9,18 @@ use crate::configuring::read_configuration;
 use crate::disk::{Disk, OpenFault};
 use crate::fault::{ProgramFault, RunFault};
 use crate::naming::all_hooks;
-use crate::run::serial;
+use crate::reading::read_bytes;
+use crate::run::{lines_of, serial};
 use crate::streams::Opened;
+use crate::together::{Crew, Setup, threaded};
 use crate::watched::{Watched, WatchedWriter};
 use jc_config::Configuration;
+use jc_threads::OpenGate;
 use jc_words::Run;
 use std::alloc::Global;
 use std::io::{Read, Write};
+use std::sync::Wait;
+use std::thread::Threads;
 
 /// Opens a configuration and reads it to its end.
 fn configured<D: Disk>(
@@ -41,7 +46,7 @@ fn configured<D: Disk>(
     configuration
 }
 
-/// Runs a script with the callbacks that the configuration names.
+/// Runs a script in its lines' order with the callbacks that the configuration names.
 pub fn play<I: Read, O: Write>(
     alloc: Global,
     configuration: Configuration,
@@ -50,7 +55,7 @@ pub fn play<I: Read, O: Write>(
     writer: &mut WatchedWriter<O>,
 ) -> Result<(), RunFault>
     requires { Opens configuration }
-    ensures ends { RunEnds I.remaining O.contents configuration reader.old reader.new writer.old writer.new result }
+    ensures ends { RunEnds I.remaining O.contents true configuration reader.old reader.new writer.old writer.new result }
     ensures reads { AddsAtMost most_reads reader.old.reads reader.new.reads }
 {
     let Configuration { settings, hooks } = configuration;
@@ -58,8 +63,59 @@ pub fn play<I: Read, O: Write>(
     serial(alloc, settings, hooks.as_mut_slice(), seed, reader, writer)
 }
 
+/// Runs a script on so many workers, with the callbacks that the configuration names.
+fn play_together<I: Read, O: Write, R: Threads + Wait + Sync>(
+    rt: &R,
+    alloc: Global,
+    configuration: Configuration,
+    run: &Run,
+    reader: &mut Watched<I>,
+    writer: &mut WatchedWriter<O>,
+) -> Result<(), RunFault>
+    requires opens { Opens configuration }
+    requires workers { 0 < run.now.workers }
+    ensures ends { RunEnds I.remaining O.contents false configuration reader.old reader.new writer.old writer.new result }
+    ensures reads { AddsAtMost most_reads reader.old.reads reader.new.reads }
+{
+    let Configuration { settings, hooks } = configuration;
+    let bytes = read_bytes(alloc, reader)?;
+    let lines = lines_of(alloc, bytes.as_slice(), &settings)?;
+    let hooks = all_hooks(alloc, settings.caches(), hooks.items())?;
+    let setup = Setup {
+        settings,
+        hooks,
+        seed: run.seed,
+    };
+    let crew = Crew {
+        workers: run.workers as usize,
+        gate: &OpenGate,
+    };
+    threaded(rt, alloc, setup, &crew, lines, writer)
+}
+
+/// Runs a script as the words ask for it: in its lines' order, or on workers.
+fn play_so<I: Read, O: Write, R: Threads + Wait + Sync>(
+    rt: &R,
+    alloc: Global,
+    configuration: Configuration,
+    run: &Run,
+    reader: &mut Watched<I>,
+    writer: &mut WatchedWriter<O>,
+) -> Result<(), RunFault>
+    requires opens { Opens configuration }
+    requires workers { 0 < run.now.workers }
+    ensures ends { RunEnds I.remaining O.contents run.now.serial configuration reader.old reader.new writer.old writer.new result }
+    ensures reads { AddsAtMost most_reads reader.old.reads reader.new.reads }
+{
+    if run.serial {
+        return play(alloc, configuration, run.seed, reader, writer);
+    }
+    play_together(rt, alloc, configuration, run, reader, writer)
+}
+
 /// Opens a script and runs it.
-fn scripted<D: Disk, O: Write>(
+fn scripted<D: Disk, O: Write, R: Threads + Wait + Sync>(
+    rt: &R,
     alloc: Global,
     disk: &mut D,
     run: &Run,
@@ -67,8 +123,9 @@ fn scripted<D: Disk, O: Write>(
     script: &mut Option<Watched<D::File>>,
     writer: &mut WatchedWriter<O>,
 ) -> Result<(), RunFault>
-    requires { Opens configuration }
-    ensures ends { ScriptEnds D.File.remaining (D.holds disk.old (string_bytes run.now.script)) O.contents configuration writer.old writer.new script.new result }
+    requires opens { Opens configuration }
+    requires workers { 0 < run.now.workers }
+    ensures ends { ScriptEnds D.File.remaining (D.holds disk.old (string_bytes run.now.script)) O.contents run.now.serial configuration writer.old writer.new script.new result }
     ensures asked { Asks (D.asked disk.old) (D.asked disk.new) (string_bytes run.now.script) }
 {
     *script = None;
@@ -78,24 +135,34 @@ fn scripted<D: Disk, O: Write>(
         Err(OpenFault::OutOfMemory) => return Err(RunFault::Memory),
     };
     let mut reader = Watched::new(file);
-    let ran = play(alloc, configuration, run.seed, &mut reader, writer);
+    let ran = play_so(rt, alloc, configuration, run, &mut reader, writer);
     *script = Some(reader);
     ran
 }
 
 /// Runs the two files that the words name: first the configuration is read, then the script.
-pub fn run_files<D: Disk, O: Write>(
+pub fn run_files<D: Disk, O: Write, R: Threads + Wait + Sync>(
+    rt: &R,
     alloc: Global,
     disk: &mut D,
     opened: &mut Opened<D::File>,
     run: &Run,
     writer: &mut WatchedWriter<O>,
 ) -> Result<(), ProgramFault>
+    requires { 0 < run.now.workers }
     ensures { FilesEnd D.File.remaining O.contents (D.holds disk.old) (D.asked disk.old) (D.asked disk.new) run.now opened.new.config opened.new.script writer.old writer.new result }
 {
     opened.script = None;
     let configuration = configured(alloc, disk, run.config.as_str(), &mut opened.config)?;
-    match scripted(alloc, disk, run, configuration, &mut opened.script, writer) {
+    match scripted(
+        rt,
+        alloc,
+        disk,
+        run,
+        configuration,
+        &mut opened.script,
+        writer,
+    ) {
         Ok(()) => Ok(()),
         Err(fault) => Err(ProgramFault::Run(fault)),
     }

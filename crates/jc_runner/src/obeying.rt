@@ -1,5 +1,5 @@
 //! The program over its words, a disk and the standard streams.
-ghost use Rattle.std.specs.Prelude.{◌≡◌, ◌↔◌, IsTrue, IfOk, IfErr, Ok, Err, map, string_bytes};
+ghost use Rattle.std.specs.Prelude.{◌≡◌, ◌↔◌, true, IsTrue, IfOk, IfErr, Ok, Err, map, string_bytes};
 ghost use Rattle.clap.specs.Words.{kind_of};
 ghost use Rattle.jc_runner.specs.Program.{RunEnds, WordsEnd, Obeys, Ends, no_kinds, demonstration as demonstration_read};
 
@@ -19,6 +19,8 @@ use jc_model::list::Sequence;
 use jc_words::read_words;
 use std::alloc::Global;
 use std::io::{Read, Write};
+use std::sync::Wait;
+use std::thread::Threads;
 
 fn no_kinds(alloc: Global) -> HookKinds
     ensures { result ≡ no_kinds }
@@ -50,7 +52,7 @@ fn demonstrate<I: Read, O: Write>(
     input: &mut Watched<I>,
     output: &mut WatchedWriter<O>,
 ) -> Result<(), RunFault>
-    ensures { RunEnds I.remaining O.contents demonstration_read input.old input.new output.old output.new result }
+    ensures { RunEnds I.remaining O.contents true demonstration_read input.old input.new output.old output.new result }
 {
     let configuration = demonstrated(alloc)?;
     play(alloc, configuration, 0, input, output)
@@ -74,7 +76,8 @@ fn lacks_memory(error: &Error) -> bool
 }
 
 /// Does what the words behind the program's name ask for.
-fn obey<D: Disk, I: Read, O: Write>(
+fn obey<D: Disk, I: Read, O: Write, R: Threads + Wait + Sync>(
+    rt: &R,
     alloc: Global,
     words: &[String],
     disk: &mut D,
@@ -88,7 +91,7 @@ fn obey<D: Disk, I: Read, O: Write>(
         return Ending::Faulty(ProgramFault::Run(RunFault::Memory));
     };
     match read_words(alloc, texts.as_slice()) {
-        Ok(Some(run)) => ending_of(run_files(alloc, disk, opened, &run, output)),
+        Ok(Some(run)) => ending_of(run_files(rt, alloc, disk, opened, &run, output)),
         Ok(None) => match demonstrate(alloc, input, output) {
             Ok(()) => Ending::Printed,
             Err(fault) => Ending::Faulty(ProgramFault::Run(fault)),
@@ -103,7 +106,8 @@ fn obey<D: Disk, I: Read, O: Write>(
 }
 
 /// Does what the words ask for, where they are there.
-fn heed<D: Disk, I: Read, O: Write>(
+fn heed<D: Disk, I: Read, O: Write, R: Threads + Wait + Sync>(
+    rt: &R,
     alloc: Global,
     words: Result<Vec<String>, WordsFault>,
     disk: &mut D,
@@ -115,7 +119,7 @@ fn heed<D: Disk, I: Read, O: Write>(
     ensures wordless { IfErr words (λ fault. Obeys D.File.remaining I.remaining O.contents (D.holds disk.old) (D.asked disk.old) (D.asked disk.new) opened.new.config opened.new.script input.old input.new output.old output.new (Err fault) result) }
 {
     match words {
-        Ok(words) => obey(alloc, words.as_slice(), disk, opened, input, output),
+        Ok(words) => obey(rt, alloc, words.as_slice(), disk, opened, input, output),
         Err(WordsFault::NotText) => Ending::NotText,
         Err(WordsFault::OutOfMemory) => Ending::Faulty(ProgramFault::Run(RunFault::Memory)),
     }
@@ -127,7 +131,8 @@ fn heed<D: Disk, I: Read, O: Write>(
 /// words, reading the configuration, its text, reading the script, its text, the run, the writing of the report.
 /// Standard output has the report and nothing else, and nothing at all after a fault, save a front of the report
 /// where it could not be written whole; help goes there too. The texts of help and of mistaken words are `clap`'s.
-pub fn program<D: Disk, I: Read, O: Write, E: Write>(
+pub fn program<D: Disk, I: Read, O: Write, E: Write, R: Threads + Wait + Sync>(
+    rt: &R,
     alloc: Global,
     words: Result<Vec<String>, WordsFault>,
     disk: &mut D,
@@ -138,6 +143,6 @@ pub fn program<D: Disk, I: Read, O: Write, E: Write>(
     ensures wordless { IfErr words (λ fault. Ends D.File.remaining I.remaining O.contents E.contents (D.holds disk.old) (D.asked disk.old) (D.asked disk.new) opened.new.config opened.new.script standard.old standard.new (Err fault) result) }
 {
     let input = &mut standard.input;
-    let ending = heed(alloc, words, disk, opened, input, &mut standard.output);
+    let ending = heed(rt, alloc, words, disk, opened, input, &mut standard.output);
     say(&ending, &mut standard.output, &mut standard.errors)
 }

@@ -36,7 +36,12 @@ use jc_script::{Line, ScriptFault, read_script, report};
 use std::alloc::Global;
 use std::io::{Read, Write};
 
-fn lines_of(alloc: Global, bytes: &[u8], settings: &Settings) -> Result<Vec<Line>, RunFault>
+/// The lines of a script.
+pub(crate) fn lines_of(
+    alloc: Global,
+    bytes: &[u8],
+    settings: &Settings,
+) -> Result<Vec<Line>, RunFault>
     ensures ok { IfOk result (λ v. lines settings.now bytes.now ≡ Ok v.items) }
     ensures script { (f : TextFault) → result ≡ Err (faults.Script f) → lines settings.now bytes.now ≡ Err f }
     ensures others { IfErr result IsOfScript }

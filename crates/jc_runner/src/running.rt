@@ -8,14 +8,14 @@ ghost use Rattle.jc_script.specs.Named.{Names, AllName};
 ghost use Rattle.jc_runner.specs.Halfway.{lives_now, as_read, IsAtRest, RunsLine, Halfway};
 ghost use Rattle.jc_runner.specs.declared.fault.RunFault.TheVariants as faults;
 
-use crate::calls::{LineCall, run_call};
+use crate::calls::run_call;
 use crate::fault::RunFault;
 use crate::managing::{run_create, run_destroy};
 use jc_engine::recorded::Recorded;
 use jc_hooks::{CacheHooks, Listener, Loader, Processor, Writer};
 use jc_ring::ring::Ring;
 use jc_rows::rows::Rows;
-use jc_script::{Line, Managed};
+use jc_script::{Line, LineCall, Managed};
 use std::alloc::Global;
 
 /// Runs a line. What became of it is noted where it creates or destroys a cache.

@@ -2,4 +2,5 @@ pub mod Cuts
 pub mod Lines
 pub mod Shown
 pub mod Existing
-pub mod Followed
+pub mod KeptCaches
+pub mod SameLives

@@ -1,5 +1,6 @@
 pub mod Faults
 pub mod Live
+pub mod Calls
 pub mod Managing
 pub mod Member
 pub mod Creating

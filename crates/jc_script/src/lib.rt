@@ -3,6 +3,7 @@
 
 mod creating;
 mod fault;
+mod following;
 mod groups;
 mod item;
 mod line;
@@ -18,7 +19,8 @@ mod report_text;
 mod script;
 
 pub use fault::{Member, ScriptFault};
-pub use line::Line;
+pub use following::{Followed, follow, same_lives};
+pub use line::{Line, LineCall};
 pub use managed::{ManageOp, Managed};
 pub use reply::reply_text;
 pub use report_text::report;

@@ -1,4 +1,4 @@
-//! One line of a script.
+//! One line of a script, and the call that it makes.
 
 use jc_model::call::Call;
 use jc_model::config::CacheConfig;
@@ -22,4 +22,13 @@ pub enum Line {
         session: u32,
         id: CacheId,
     },
+}
+
+/// The call of a line: a session makes it on a cache at a moment in milliseconds.
+#[derive(Drop)]
+pub struct LineCall {
+    pub session: u32,
+    pub id: CacheId,
+    pub at: u64,
+    pub call: Call,
 }

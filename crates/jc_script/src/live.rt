@@ -1,9 +1,9 @@
 //! The caches that are live at a line.
-ghost use Rattle.std.specs.Prelude.{◌≡◌, ◌≤◌, false, None, IfOk, option_map, slice_set};
+ghost use Rattle.std.specs.Prelude.{◌≡◌, ◌≤◌, false, length, None, IfOk, option_map, slice_set};
 ghost use Rattle.serde_json.specs.View.{view};
 ghost use Rattle.jc_model.specs.Places.{at_place};
 ghost use Rattle.jc_model.specs.Limits.{most_processors};
-ghost use Rattle.jc_model.specs.Runs.{opened_from, creates, destroys, answer_in, lives_by};
+ghost use Rattle.jc_model.specs.Runs.{opened_from, creates, destroys, answer_in, lives_by, live_at, create_refusal};
 ghost use Rattle.jc_script.specs.declared.fault.Member.TheVariants as members;
 ghost use Rattle.jc_script.specs.Faults.{Gives};
 ghost use Rattle.jc_script.specs.Live.{after_line, id_of, processors_at, lives_in};
@@ -16,7 +16,7 @@ use crate::member::Reader;
 use jc_config::Settings;
 use jc_model::OutOfMemory;
 use jc_model::config::CacheConfig;
-use jc_model::event::CacheId;
+use jc_model::event::{CacheId, CreateRefusal};
 use jc_model::key::Key;
 use jc_model::share::Share;
 use jc_roster::roster::Roster;
@@ -94,7 +94,31 @@ impl Live {
         }
     }
 
-    fn create(self, config: &CacheConfig) -> Result<Live, OutOfMemory>
+    /// Why a cache of this configuration is not created, want of memory aside.
+    pub fn refusal(&self, config: &CacheConfig) -> Option<CreateRefusal>
+        ensures { result ≡ create_refusal (lives_in self.now) config.now }
+    {
+        self.roster.refusal(config)
+    }
+
+    /// The id that the next cache gets.
+    pub fn next(&self) -> u32
+        ensures { result ≡ length (lives_in self.now) }
+    {
+        self.roster.next()
+    }
+
+    /// The name of the live cache with that id.
+    pub fn name(&self, id: CacheId) -> Option<Key>
+        ensures { result ≡ option_map (λ k. k.config.name) (live_at (lives_in self.now) id) }
+    {
+        match live_in(&self.caches, id.number()) {
+            Some(cache) => Some(cache.name),
+            None => None,
+        }
+    }
+
+    pub fn create(self, config: &CacheConfig) -> Result<Live, OutOfMemory>
         ensures { IfOk result (λ live. lives_in live ≡ lives_by (lives_in self) (creates config.now) (answer_in (lives_in self) (creates config.now) false)) }
     {
         if self.roster.refusal(config).is_some() {
@@ -109,7 +133,7 @@ impl Live {
         Ok(Live { caches, roster })
     }
 
-    fn destroy(self, id: CacheId) -> Live
+    pub fn destroy(self, id: CacheId) -> Live
         ensures { lives_in result ≡ lives_by (lives_in self) (destroys id) (answer_in (lives_in self) (destroys id) false) }
     {
         if live_in(&self.caches, id.number()).is_none() {

@@ -1,8 +1,7 @@
 -- A call from its begin to its entry in the session's list.
-use Rattle.std.proofs.Common.{◌≡◌, ℕ, ◌<◌, List, [], ◌∷◌, ◌++◌, length, true, Option, Some, None, Result, Ok, Err, inr, refl, sym, ◌∙◌, ap, subst}
+use Rattle.std.proofs.Common.{◌≡◌, ℕ, List, [], ◌∷◌, ◌++◌, true, Option, Result, Ok, Err, inl, inr, refl, sym, ◌∙◌, ap, subst}
 use Rattle.std.specs.Prelude.{slice_get, is_err, OnErr, MatchResult, IfOk, IfErr}
 use Rattle.std.proofs.lemmas.List.Elements.{All-nil, All-push}
-use Rattle.std.proofs.lemmas.Option.{slice_get_within}
 use Rattle.jc_model.specs.declared.call.Answer.{Answer}
 use Rattle.jc_model.specs.declared.call.Call.{Call}
 use Rattle.jc_model.specs.declared.call.Notice.{Notice}
@@ -24,15 +23,7 @@ use Rattle.jc_shared.specs.declared.hooks.LockedHooks.{LockedHooks}
 use Rattle.jc_shared.specs.Serving.{told_behind, TellsOnce, Tells, TellsOn, Serves}
 use Rattle.jc_shared.specs.Stated.{Stated, AreStated, IsStatedBy}
 use Rattle.jc_shared.specs.Sessions.{Sitting, Sight}
-use Rattle.jc_shared.specs.Calls.{Stands, called, IsSameCall, HasEnded, Stays, EndsFaulty, GoesOn, Adds, AddsWaiting, Fails, refusal_in, call_refusal}
-
--- a call that is not refused is of a known cache
-pub known_below : (configs : List CacheConfig) (id : ℕ) (call : Call) → call_refusal configs id call ≡ None → id < length configs
-known_below configs id call known = at (slice_get configs id) refl known
-  where
-    at : (c : Option CacheConfig) → slice_get configs id ≡ c → refusal_in c call ≡ None → id < length configs
-    at None here known = absurd cc
-    at (Some c) here known = slice_get_within configs id c here
+use Rattle.jc_shared.specs.Calls.{Stands, called, IsSameCall, HasEnded, Stays, EndsFaulty, GoesOn, Adds, AddsWaiting, Fails, MayLack, IsBeginFault}
 
 -- no answers are stated ones
 no_answers : (h : Option Stated) (call : Call) (answers : List Answer) → answers ≡ [] → AreStated h call answers
@@ -141,3 +132,11 @@ module _ (configs : List CacheConfig) (stated : List Stated) (old new : Sitting)
   pub added_err : (r : Result Reply CallFault) → MatchResult r (λ reply. Stays configs stated (Replied reply) e new.pass) (λ fault. EndsFaulty configs stated fault e new.pass) → IfErr r (λ fault. Fails configs stated old new id at call fault)
   added_err (Ok reply) h = tt
   added_err (Err fault) h = fails fault h
+
+-- it did not begin
+pub begin_fails : (configs : List CacheConfig) (stated : List Stated) (old new : Sitting) (id at : ℕ) (call : Call) (draft : Entry) (fault : CallFault) → draft ≡ blank old.number id at call → new.calls ≡ old.calls → IsBeginFault configs draft.id call fault → Fails configs stated old new id at call fault
+begin_fails configs stated old new id at call draft faults.NoSuchCache is same h = same
+begin_fails configs stated old new id at call draft faults.NoSuchProcessor is same h = (same, subst (λ (i : ℕ). MayLack configs i call) (ap (λ (e : Entry). e.id) is) h)
+begin_fails configs stated old new id at call draft faults.Busy is same h = same
+begin_fails configs stated old new id at call draft faults.Overtaken is same h = absurd h
+begin_fails configs stated old new id at call draft faults.OutOfMemory is same h = inl same

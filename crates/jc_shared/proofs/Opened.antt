@@ -1,34 +1,26 @@
 -- Opening a manager.
-use Rattle.std.proofs.Common.{◌≡◌, ◌≤◌, ℕ, ◌+◌, suc, Bool, true, false, if◌then◌else◌, List, [], ◌∷◌, map, length, take, Option, Some, None, refl, ◌∙◌, ap, subst, arith}
+use Rattle.std.proofs.Common.{◌≡◌, ◌≤◌, ℕ, ◌+◌, suc, Bool, true, false, if◌then◌else◌, List, [], ◌∷◌, map, length, take, Option, Some, None, refl, sym, ◌∙◌, ap, subst, arith}
 use Rattle.std.specs.Prelude.{ltb}
 use Rattle.std.proofs.lemmas.Bool.Decides.{nat_tests}
 use Rattle.jc_model.specs.declared.config.CacheConfig.{CacheConfig}
 use Rattle.jc_model.specs.Limits.{most_caches}
 use Rattle.jc_model.specs.declared.event.Life.{Life}
-use Rattle.jc_model.specs.Runs.{Lives, opened, opened_from}
 use Rattle.jc_model.specs.Legal.{History, numbered, at_first}
 use Rattle.jc_hooks.specs.declared.cache_hooks.CacheHooks.{CacheHooks}
 use Rattle.jc_engine.specs.declared.open.OpenRefusal.{OpenRefusal}
 use Rattle.jc_engine.specs.declared.open.OpenRefusal.TheVariants.{TooManyCaches}
 use Rattle.jc_engine.specs.Opening.{open_refusal}
 use Rattle.jc_place.specs.Place.{IsTableSize}
-use Rattle.jc_shared.specs.Sessions.{configs_in, AreLive}
 use Rattle.jc_shared.specs.Opening.{AllSuit}
+use Rattle.jc_shared.specs.Stated.{shared_of, processor_counts, wanted_counts}
+use Rattle.std.proofs.lemmas.List.{length-map}
 use Rattle.jc_shared.specs.Sessions.{BeginsWith}
 
 -- the size of a new table
 pub sixteen : IsTableSize 16
 sixteen = record { exponent = 4; power = refl; least = omega arith; most = omega arith }
 
--- the caches of the opening are live
-pub live_opened : (configs : List CacheConfig) (lives : Lives) → lives ≡ opened_from 0 configs → AreLive configs lives
-live_opened configs lives opens = ap configs_in opens ∙ each configs
-  where
-    each : (cs : List CacheConfig) → configs_in (map (λ c. Some (opened c)) cs) ≡ map Some cs
-    each [] = refl
-    each (c ∷ cs) = ap (λ (os : List (Option CacheConfig)). Some c ∷ os) (each cs)
-
--- and they are the first lives
+-- the caches of the opening are the first lives
 pub begins_opened : (configs : List CacheConfig) (h : History) → h ≡ at_first 0 configs → BeginsWith configs h
 begins_opened configs h opens = ap (λ (t : History). take (length configs) t.lives) opens ∙ all 0 configs
   where
@@ -57,3 +49,12 @@ module _ {L W P K : Type 0} (wants : P → Bool) where
   -- the lists that were compared are those that were handed in
   pub suit_of : (configs configs' : List CacheConfig) (hooks hooks' : List (CacheHooks L W P K)) → configs ≡ configs' → hooks ≡ hooks' → AllSuit wants configs hooks → AllSuit wants configs' hooks'
   suit_of configs configs' hooks hooks' same same' s = subst (λ (cs : List CacheConfig). AllSuit wants cs hooks') same (subst (λ (hs : List (CacheHooks L W P K)). AllSuit wants configs hs) same' s)
+
+  -- and as many processors as their configurations name
+  pub counted : (configs : List CacheConfig) (hooks : List (CacheHooks L W P K)) → AllSuit wants configs hooks → processor_counts (map shared_of hooks) ≡ wanted_counts configs
+  counted [] [] s = refl
+  counted [] (h ∷ hooks) s = absurd (s 0)
+  counted (c ∷ configs) [] s = absurd (s 0)
+  counted (c ∷ configs) (h ∷ hooks) s =
+      let here : length h.processors.items ≡ length c.processors = sym (ap length (s 0).processes ∙ length-map h.processors.items wants) in
+      (λ i. here i ∷ counted configs hooks (λ place. s (suc place)) i)

@@ -1,5 +1,5 @@
 -- What a session knows of its calls.
-use Rattle.std.specs.Prelude.{◌≡◌, ◌⊎◌, ℕ, List, [], ◌∷◌, ◌++◌, if◌then◌else◌, slice_get, Option, Some, None}
+use Rattle.std.specs.Prelude.{◌≡◌, ◌⊎◌, ℕ, false, List, [], ◌∷◌, ◌++◌, slice_get, Some, IsSome, ⊤}
 use Rattle.jc_model.specs.declared.call.Answer.{Answer}
 use Rattle.jc_model.specs.declared.call.Call.{Call}
 use Rattle.jc_model.specs.declared.call.Notice.{Notice}
@@ -8,7 +8,7 @@ use Rattle.jc_model.specs.declared.config.CacheConfig.{CacheConfig}
 use Rattle.jc_model.specs.declared.event.End.{End}
 use Rattle.jc_model.specs.declared.event.End.TheVariants as end
 use Rattle.jc_model.specs.declared.event.Entry.{Entry}
-use Rattle.jc_model.specs.Runs.{has_processor}
+use Rattle.jc_model.specs.Runs.{Lives, live_at, has_processor}
 use Rattle.jc_model.specs.Legal.{History, IsLegal, entries_of}
 use Rattle.jc_shared.specs.declared.fault.CallFault.{CallFault}
 use Rattle.jc_shared.specs.declared.fault.CallFault.TheVariants.{NoSuchCache, NoSuchProcessor, Busy, Overtaken, OutOfMemory}
@@ -18,13 +18,23 @@ use Rattle.jc_model.specs.Asking.{AsksOf}
 use Rattle.jc_shared.specs.Sessions.{Sitting, Sight, BeginsWith, Sees}
 use Rattle.jc_shared.specs.Stated.{Stated, AreStated}
 
--- why a call can't begin, by the configurations alone
-abbrev pub refusal_in : Option CacheConfig → Call → Option CallFault
-refusal_in None call = Some NoSuchCache
-refusal_in (Some c) call = if has_processor c call then None else Some NoSuchProcessor
+-- the cache is one of the opening, and has not the processor that the call names
+pub record Lacks (configs : List CacheConfig) (id : ℕ) (call : Call) : Type 0 where
+  pub config : CacheConfig
+  pub there : slice_get configs id ≡ Some config
+  pub lacks : has_processor config call ≡ false
 
-abbrev pub call_refusal : List CacheConfig → ℕ → Call → Option CallFault
-call_refusal configs id call = refusal_in (slice_get configs id) call
+-- the cache has not the processor, where it is one of the opening
+abbrev pub MayLack : List CacheConfig → ℕ → Call → Type 0
+MayLack configs id call = (c : CacheConfig) → slice_get configs id ≡ Some c → has_processor c call ≡ false
+
+-- why a call does not begin
+abbrev pub IsBeginFault : List CacheConfig → ℕ → Call → CallFault → Type 0
+IsBeginFault configs id call NoSuchCache = ⊤
+IsBeginFault configs id call NoSuchProcessor = MayLack configs id call
+IsBeginFault configs id call Busy = ⊤
+IsBeginFault configs id call Overtaken = ⊥
+IsBeginFault configs id call OutOfMemory = ⊤
 
 -- the entry is the last of its cache in a legal transcript that begins with these caches, and of which the pass has seen all
 pub record Stands (configs : List CacheConfig) (e : Entry) (pass : Sight) : Type 0 where
@@ -33,7 +43,9 @@ pub record Stands (configs : List CacheConfig) (e : Entry) (pass : Sight) : Type
   pub begins : BeginsWith configs transcript
   pub before : List Entry
   pub last : entries_of e.id transcript.entries ≡ before ++ e ∷ []
-  pub sees : Sees configs transcript pass
+  pub lives : Lives
+  pub shown : IsSome (live_at lives e.id)
+  pub sees : Sees transcript lives pass
 
 -- the entry of a call, by what it was told and how it ended
 abbrev pub called : ℕ → ℕ → ℕ → Call → List Answer → List Notice → End → Entry
@@ -91,4 +103,5 @@ abbrev pub Fails : List CacheConfig → List Stated → Sitting → Sitting → 
 Fails configs stated old new id at call OutOfMemory = (new.calls ≡ old.calls) ⊎ Adds configs stated old new id at call end.GivenUp
 Fails configs stated old new id at call Overtaken = AddsWaiting old new id at call
 Fails configs stated old new id at call Busy = new.calls ≡ old.calls
-Fails configs stated old new id at call fault = (new.calls ≡ old.calls) × (call_refusal configs id call ≡ Some fault)
+Fails configs stated old new id at call NoSuchCache = new.calls ≡ old.calls
+Fails configs stated old new id at call NoSuchProcessor = (new.calls ≡ old.calls) × MayLack configs id call

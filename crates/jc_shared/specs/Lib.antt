@@ -3,7 +3,7 @@ pub mod Sessions
 pub mod Calls
 pub mod Accounts
 pub mod Opening
-pub mod Directory
+pub mod Living
 pub mod Finding
 pub mod Admitting
 pub mod Serving

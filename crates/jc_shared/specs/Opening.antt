@@ -1,5 +1,5 @@
 -- With which configurations and callbacks a manager opens.
-use Rattle.std.specs.Prelude.{◌≡◌, ℕ, ◌<◌, Bool, List, [], ◌∷◌, length, replicate, slice_get, Option, Some, None, ⊤}
+use Rattle.std.specs.Prelude.{◌≡◌, ℕ, ◌<◌, Bool, List, [], ◌∷◌, replicate, slice_get, Option, Some, None, ⊤}
 use Rattle.atomic_table.specs.Seated.{TableId}
 use Rattle.jc_cuckoo.specs.declared.held.Held.{Held}
 use Rattle.jc_cuckoo.specs.Images.{image_of}
@@ -15,13 +15,13 @@ use Rattle.jc_engine.specs.Opening.{open_refusal}
 use Rattle.jc_shared.specs.declared.fault.SharedRefusal.{SharedRefusal}
 use Rattle.jc_shared.specs.declared.fault.SharedRefusal.TheVariants.{Caches, HooksDiffer, OutOfMemory}
 use Rattle.jc_shared.specs.declared.hooks.SharedHooks.{SharedHooks}
+use Rattle.jc_shared.specs.Stated.{processor_counts, wanted_counts}
 
 -- no call has been made of the recorded engine, which has these configurations, and there are callbacks for each
-pub record IsOpened {S T : Type 0} (configs : List CacheConfig) (recorded : Recording) (locks : List S) (shared : List T) : Type 0 where
+pub record IsOpened {L P : Type 0} (configs : List CacheConfig) (recorded : Recording) (shared : List (SharedHooks L P)) : Type 0 where
   pub unused : lives_of recorded.caches ≡ opened_from 0 configs
   pub uncalled : recorded.transcript ≡ at_first 0 configs
-  pub locks_counted : length locks ≡ length configs
-  pub shared_counted : length shared ≡ length configs
+  pub counted : processor_counts shared ≡ wanted_counts configs
 
 -- a table of 16 buckets without rows, and an index that shows it
 pub record IsBlank (placer buckets : ℕ) (cells : List (Option Held)) (words : Index ℕ) : Type 0 where

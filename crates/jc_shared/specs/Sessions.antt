@@ -1,5 +1,5 @@
 -- A session, and what its pass has seen of the table.
-use Rattle.std.specs.Prelude.{◌≡◌, ℕ, List, length, take, map, option_map, Option, Some, true}
+use Rattle.std.specs.Prelude.{◌≡◌, ℕ, List, length, take, true}
 use Rattle.jc_model.specs.declared.config.CacheConfig.{CacheConfig}
 use Rattle.jc_model.specs.declared.event.Entry.{Entry}
 use Rattle.jc_model.specs.Runs.{Lives}
@@ -30,24 +30,15 @@ log_of s = record { number = s.number; calls = s.calls }
 abbrev pub BeginsWith : List CacheConfig → History → Type 0
 BeginsWith configs transcript = take (length configs) transcript.lives ≡ numbered 0 configs
 
-abbrev pub configs_in : Lives → List (Option CacheConfig)
-configs_in lives = map (option_map (λ k. k.config)) lives
-
--- these caches are live, each under its place, and no others
-abbrev pub AreLive : List CacheConfig → Lives → Type 0
-AreLive configs lives = configs_in lives ≡ map Some configs
-
--- where the pass's last meeting succeeded, the last image that it has seen shows these caches, which are the live ones, as the
--- transcript leaves them
-pub record Sees (configs : List CacheConfig) (transcript : History) (pass : Sight) : Type 0 where
-  pub lives : Lives
-  pub live : AreLive configs lives
+-- where the pass's last meeting succeeded, the last image that it has seen shows these live caches, as the transcript leaves them
+pub record Sees (transcript : History) (lives : Lives) (pass : Sight) : Type 0 where
   pub tells : Tells transcript lives
   pub shows : pass.met ≡ true → ShowsStates (states_of lives) (last_image pass.images)
 
--- it shows them as a legal transcript leaves them, which begins with these caches
+-- it shows those that are live at some moment, as a legal transcript leaves them, which begins with these caches
 pub record SeesSome (configs : List CacheConfig) (pass : Sight) : Type 0 where
   pub transcript : History
   pub legal : IsLegal transcript
   pub begins : BeginsWith configs transcript
-  pub sees : Sees configs transcript pass
+  pub lives : Lives
+  pub sees : Sees transcript lives pass

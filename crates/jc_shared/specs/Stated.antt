@@ -1,11 +1,12 @@
 -- What the callbacks that all sessions share state, and answers that they stated.
-use Rattle.std.specs.Prelude.{◌≡◌, ℕ, List, map, option_map, slice_get, Option, Some, None, Result, ⊤}
+use Rattle.std.specs.Prelude.{◌≡◌, ℕ, List, length, map, option_map, slice_get, Option, Some, None, Result, ⊤}
 use Rattle.std.specs.List.{All}
 use Rattle.jc_model.specs.declared.call.Answer.{Answer}
 use Rattle.jc_model.specs.declared.call.Answer.TheVariants.{Loaded as LoadedValue, LoadFailed, Processed}
 use Rattle.jc_model.specs.declared.call.Call.{Call}
 use Rattle.jc_model.specs.declared.call.ProcessorFault.{ProcessorFault}
 use Rattle.jc_model.specs.declared.call.Verdict.{Verdict}
+use Rattle.jc_model.specs.declared.config.CacheConfig.{CacheConfig}
 use Rattle.jc_hooks.specs.Answers.{load_answer_of}
 use Rattle.jc_hooks.specs.declared.cache_hooks.CacheHooks.{CacheHooks}
 use Rattle.jc_hooks.specs.declared.loader.Loaded.{Loaded}
@@ -20,6 +21,17 @@ pub record Stated : Type 0 where
 module _ {L P : Type 0} (load_of : L → List ℕ → Loaded) (verdict_of : P → Option (List ℕ) → List ℕ → Result Verdict ProcessorFault) where
   abbrev pub stated_by : SharedHooks L P → Stated
   stated_by h = record { load = option_map load_of h.loader; verdicts = map verdict_of h.processors.items }
+
+  -- these are the loader and processors of a cache, where it is one of the opening
+  abbrev pub AreOf : List Stated → ℕ → SharedHooks L P → Type 0
+  AreOf stated id asked = (h : Stated) → slice_get stated id ≡ Some h → stated_by asked ≡ h
+
+-- how many processors each cache has, and how many its configuration names
+abbrev pub processor_counts : {L P : Type 0} → List (SharedHooks L P) → List ℕ
+processor_counts shared = map (λ h. length h.processors.items) shared
+
+abbrev pub wanted_counts : List CacheConfig → List ℕ
+wanted_counts configs = map (λ c. length c.processors) configs
 
 -- of all callbacks of a cache, as they are handed in
 abbrev pub shared_of : {L W P K : Type 0} → CacheHooks L W P K → SharedHooks L P

@@ -1,5 +1,5 @@
 //! Carrying an open call on: each request is answered outside the engine's lock, each answer goes in under it.
-ghost use Rattle.std.specs.Prelude.{◌≡◌, ◌<◌, ◌++◌, ◌∷◌, [], List, false, IsTrue, IfOk, OnOk, OnErr, MatchResult, length, slice_get};
+ghost use Rattle.std.specs.Prelude.{◌≡◌, ◌++◌, ◌∷◌, [], List, false, IsTrue, IfOk, OnOk, OnErr, MatchResult, slice_get};
 ghost use mathlib.Core.List.{IsPrefix};
 ghost use Rattle.jc_model.specs.declared.call.Answer.{Answer as Given};
 ghost use Rattle.jc_model.specs.declared.event.End.TheVariants.{Waiting};
@@ -8,10 +8,10 @@ ghost use Rattle.jc_model.specs.Asking.{AsksOf};
 ghost use Rattle.jc_shared.specs.Calls.{IsSameCall, Stays, EndsFaulty};
 ghost use Rattle.jc_shared.specs.Serving.{Serves, TellsOn, TellsOnce, told_behind};
 ghost use Rattle.jc_shared.specs.declared.turned.Turned.TheVariants.{Asked, Replied};
-ghost use Rattle.jc_shared.specs.Stated.{IsStatedBy, AreStated};
+ghost use Rattle.jc_shared.specs.Stated.{AreOf, IsStatedBy, AreStated};
 
 use crate::fault::CallFault;
-use crate::hooks::LockedHooks;
+use crate::hooks::{LockedHooks, SharedHooks};
 use crate::manager::Manager;
 use crate::name::Name;
 use crate::tables::TablePass;
@@ -66,11 +66,12 @@ impl<N: Name, L: Loader, W: Writer, P: Processor, K: Listener> Manager<N, L, W, 
     /// The answer of a cache's callbacks to a request. One that is not there fails.
     fn answer(
         &self,
+        asked: &SharedHooks<L, P>,
         hooks: &mut LockedHooks<W, K>,
         draft: &Entry,
         request: &Request,
     ) -> Result<Answer, OutOfMemory>
-        requires known { draft.now.id < length N.configs }
+        requires asked { AreOf L.load_of P.verdict_of N.stated draft.now.id asked.now }
         requires asks { AsksOf draft.now.call request.now }
         ensures fits { IfOk result (λ a. IsTrue (is_answer_to request.now a)) }
         ensures stated { IfOk result (λ a. IsStatedBy (slice_get N.stated draft.now.id) draft.now.call a) }
@@ -78,9 +79,8 @@ impl<N: Name, L: Loader, W: Writer, P: Processor, K: Listener> Manager<N, L, W, 
         ensures untold { OnErr result (hooks.new.listeners ≡ hooks.old.listeners) }
     {
         let alloc = self.alloc;
-        let shared = &self.shared[draft.id.number() as usize];
         match request {
-            Request::Load(key) => ask_loader(alloc, &shared.loader, key),
+            Request::Load(key) => ask_loader(alloc, &asked.loader, key),
             Request::Write(key, value) => ask_to_write(alloc, &mut hooks.writer, key, value),
             Request::Delete(key) => ask_to_delete(alloc, &mut hooks.writer, key),
             Request::Process {
@@ -90,7 +90,7 @@ impl<N: Name, L: Loader, W: Writer, P: Processor, K: Listener> Manager<N, L, W, 
                 argument,
             } => ask_processor(
                 alloc,
-                shared.processors.as_slice(),
+                asked.processors.as_slice(),
                 *processor,
                 value.as_ref(),
                 argument,
@@ -106,12 +106,13 @@ impl<N: Name, L: Loader, W: Writer, P: Processor, K: Listener> Manager<N, L, W, 
     fn advance<R: Wait>(
         &self,
         rt: &R,
+        asked: &SharedHooks<L, P>,
         hooks: &mut LockedHooks<W, K>,
         draft: &mut Entry,
         request: Request,
         pass: &mut TablePass<N>,
     ) -> Result<Turned, CallFault>
-        requires known { draft.old.id < length N.configs }
+        requires shared { AreOf L.load_of P.verdict_of N.stated draft.old.id asked.now }
         requires asked { Stays N.configs N.stated (Asked request) draft.old pass.old }
         ensures same { IsSameCall draft.old draft.new }
         ensures brought { MatchResult result (λ turned. Stays N.configs N.stated turned draft.new pass.new) (λ fault. EndsFaulty N.configs N.stated fault draft.new pass.new) }
@@ -121,7 +122,7 @@ impl<N: Name, L: Loader, W: Writer, P: Processor, K: Listener> Manager<N, L, W, 
         if tells_again(draft, &request) {
             return Err(CallFault::Overtaken);
         }
-        let Ok(answer) = self.answer(hooks, draft, &request) else {
+        let Ok(answer) = self.answer(asked, hooks, draft, &request) else {
             return Err(self.give_up(rt, hooks, draft, pass));
         };
         keep_told(draft, request);
@@ -143,12 +144,13 @@ impl<N: Name, L: Loader, W: Writer, P: Processor, K: Listener> Manager<N, L, W, 
     pub(crate) fn carry_on<R: Wait>(
         &self,
         rt: &R,
+        asked: &SharedHooks<L, P>,
         hooks: &mut LockedHooks<W, K>,
         draft: &mut Entry,
         begun: Turned,
         pass: &mut TablePass<N>,
     ) -> Result<Reply, CallFault>
-        requires known { draft.old.id < length N.configs }
+        requires shared { AreOf L.load_of P.verdict_of N.stated draft.old.id asked.now }
         requires begun { Stays N.configs N.stated begun draft.old pass.old }
         ensures same { IsSameCall draft.old draft.new }
         ensures ends { MatchResult result (λ reply. Stays N.configs N.stated (Replied reply) draft.new pass.new) (λ fault. EndsFaulty N.configs N.stated fault draft.new pass.new) }
@@ -159,7 +161,9 @@ impl<N: Name, L: Loader, W: Writer, P: Processor, K: Listener> Manager<N, L, W, 
         for _ in rt.forever() {
             match turned {
                 Turned::Replied(reply) => return Ok(reply),
-                Turned::Asked(request) => turned = self.advance(rt, hooks, draft, request, pass)?,
+                Turned::Asked(request) => turned = self.advance(
+                    rt, asked, hooks, draft, request, pass,
+                )?,
             }
         }
         unreachable!()

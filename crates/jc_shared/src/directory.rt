@@ -1,86 +1,72 @@
-//! The configurations of a manager, and the way from a name to its cache.
-ghost use Rattle.std.specs.Prelude.{◌≡◌, Some, IfOk, position};
-ghost use Rattle.std.specs.Str.{bytes_eq};
-ghost use Rattle.jc_engine.specs.Fresh.{AreIds};
-ghost use Rattle.jc_engine.specs.Opening.{names_in};
-ghost use Rattle.jc_shared.specs.Calls.{call_refusal};
+//! The hooks locks of the live caches, by id.
+ghost use Rattle.std.specs.Prelude.{◌≤◌, OnOk, IfOk};
+ghost use Rattle.std.specs.HashMap.{spare};
 
-use crate::fault::CallFault;
-use jc_engine::open::all_names;
+use crate::hooks::OwnHooks;
 use jc_model::OutOfMemory;
-use jc_model::call::Call;
-use jc_model::config::CacheConfig;
 use jc_model::event::CacheId;
-use jc_model::key::Key;
 use std::alloc::Global;
 use std::collections::HashMap;
-use std::marker::Model;
+use std::sync::{Arc, Mutex};
 
-/// Contracts see the list of the configurations; a cache's id is its place there.
+/// The hooks lock of one cache, shared by the directory and by the calls on the cache.
+pub(crate) type HooksLock<L, W, P, K> = Arc<Mutex<OwnHooks<L, W, P, K>>>;
+
 #[derive(Drop)]
-pub(crate) struct Directory {
-    configs: Vec<CacheConfig>,
-    names: Vec<Key>,
-    ids: HashMap<Key, u32>,
+pub(crate) struct Directory<L, W, P, K> {
+    locks: HashMap<u32, HooksLock<L, W, P, K>>,
 }
 
-impl Model for Directory {
-    ghost use Rattle.std.specs.Prelude.{List};
-    ghost use Rattle.std.specs.HashMap.{get};
-    ghost use Rattle.std.specs.Str.{bytes_eq};
-    ghost use Rattle.jc_model.specs.declared.config.CacheConfig.{CacheConfig};
-    ghost use Rattle.jc_shared.specs.Directory.{IsDirectory};
+impl<L: Drop, W: Drop, P: Drop, K: Drop> Directory<L, W, P, K> {
+    pub(crate) fn new(alloc: Global) -> Directory<L, W, P, K> {
+        Directory {
+            locks: HashMap::new(alloc),
+        }
+    }
 
-    ghost Value = { List CacheConfig };
+    /// The hooks lock of a cache, if it has one.
+    pub(crate) fn find(&self, id: CacheId) -> Result<Option<HooksLock<L, W, P, K>>, OutOfMemory> {
+        let number = id.number();
+        match self.locks.get(&number) {
+            Some(lock) => Ok(Some(Arc::try_clone(lock)?)),
+            None => Ok(None),
+        }
+    }
 
-    ghost view = { λ d. d.configs.items };
+    /// A hooks lock over no callbacks, for which there is room now.
+    pub(crate) fn make_room(&mut self, alloc: Global) -> Result<HooksLock<L, W, P, K>, OutOfMemory>
+        ensures { OnOk result (1 ≤ spare self.new.locks) }
+    {
+        self.locks.reserve(1)?;
+        let lock = Arc::new(alloc, Mutex::new(OwnHooks::none(alloc)))?;
+        Ok(lock)
+    }
 
-    ghost invariant = { λ d. IsDirectory d.configs.items d.names.items (get bytes_eq d.ids) };
-}
+    /// Enters a cache's hooks lock, for which there is room.
+    pub(crate) fn enter(&mut self, id: CacheId, lock: HooksLock<L, W, P, K>)
+        requires { 1 ≤ spare self.old.locks }
+    {
+        let number = id.number();
+        if self.locks.insert(number, lock).is_err() {
+            unreachable!()
+        }
+    }
 
-impl Directory {
-    /// The directory of these caches, whose ids these are.
-    pub(crate) fn new(
+    /// Adds the callbacks of a cache.
+    pub(crate) fn add(
+        &mut self,
         alloc: Global,
-        configs: Vec<CacheConfig>,
-        ids: HashMap<Key, u32>,
-    ) -> Result<Directory, OutOfMemory>
-        requires { AreIds (Some ids) (names_in configs.items) }
-        ensures { IfOk result (λ d. d ≡ configs.items) }
-    {
-        let names = all_names(alloc, configs.as_slice())?;
-        Ok(Directory {
-            configs,
-            names,
-            ids,
-        })
+        id: CacheId,
+        own: OwnHooks<L, W, P, K>,
+    ) -> Result<(), OutOfMemory> {
+        let lock = Arc::new(alloc, Mutex::new(own))?;
+        self.locks.insert(id.number(), lock)?;
+        Ok(())
     }
 
-    /// The id of the cache with this name.
-    pub(crate) fn cache(&self, name: &Key) -> Option<CacheId>
-        ensures { result ≡ position (λ n. bytes_eq n name.now) (names_in self.now) }
-    {
-        match self.ids.get(name) {
-            Some(number) => Some(CacheId::new(*number)),
-            None => None,
-        }
-    }
-
-    /// The names of the caches, by their ids.
-    pub(crate) fn names(&self) -> &[Key]
-        ensures { result.now ≡ names_in self.now }
-    {
-        self.names.as_slice()
-    }
-
-    /// Why a call can't begin, by the configurations alone.
-    pub(crate) fn refusal(&self, id: CacheId, call: &Call) -> Option<CallFault>
-        ensures { result ≡ call_refusal self.now id call.now }
-    {
-        match self.configs.get(id.number() as usize) {
-            Some(config) if config.has_processor(call) => None,
-            Some(_) => Some(CallFault::NoSuchProcessor),
-            None => Some(CallFault::NoSuchCache),
-        }
+    /// Takes a cache's hooks lock out.
+    pub(crate) fn remove(&mut self, id: CacheId) {
+        let number = id.number();
+        self.locks.remove(&number);
     }
 }

@@ -1,5 +1,6 @@
 //! Why the calls of a shared manager are refused.
 use jc_engine::open::OpenRefusal;
+use jc_model::event::CreateRefusal;
 
 /// Why a shared manager does not open.
 #[derive(Debug, Drop, PartialEq, Eq)]
@@ -32,6 +33,25 @@ pub enum CallFault {
     /// The entry under the lock is not that of this call.
     Overtaken,
     /// Memory was refused, before the call began, or in its midst: then it was given up.
+    OutOfMemory,
+}
+
+/// Why a session creates no cache.
+#[derive(Clone, Copy, Debug, PartialEq, Eq)]
+pub enum CreateFault {
+    /// The engine refuses it, but not for memory.
+    Cache(CreateRefusal),
+    /// The callbacks are not those that the configuration names.
+    HooksDiffer,
+    OutOfMemory,
+}
+
+/// Why a session does not destroy a cache.
+#[derive(Clone, Copy, Debug, PartialEq, Eq)]
+pub enum DestroyFault {
+    NoSuchCache,
+    /// A call on the cache is open.
+    Busy,
     OutOfMemory,
 }
 

@@ -1,15 +1,19 @@
 //! A cache's callbacks, apart by who uses them: loader and processors are asked by all sessions side by side, writer
 //! and listeners by the one call that holds the cache's hooks lock.
-ghost use Rattle.std.specs.Prelude.{◌≡◌, ◌≤◌, ℕ, List, ◌++◌, ◌∷◌, [], length, map, IfOk, MatchOption};
+ghost use Rattle.std.specs.Prelude.{◌≡◌, ◌≤◌, length, map, IfOk, MatchOption};
+ghost use Rattle.jc_model.specs.declared.config.CacheConfig.{CacheConfig as Configured};
+ghost use Rattle.jc_model.specs.Runs.{has_processor};
 ghost use Rattle.jc_model.specs.Limits.{most_caches};
 ghost use Rattle.jc_shared.specs.Opening.{AllSuit, DifferFirst};
 ghost use Rattle.jc_shared.specs.Stated.{shared_of};
 
+use crate::directory::Directory;
 use jc_hooks::{CacheHooks, Listener, Loader, Processor, Writer, suits};
 use jc_model::OutOfMemory;
+use jc_model::call::Call;
 use jc_model::config::CacheConfig;
-use std::alloc::Global;
-use std::sync::Mutex;
+use jc_model::event::CacheId;
+use std::alloc::{AllocError, Global};
 
 /// The loader and the processors of one cache.
 #[derive(Drop)]
@@ -25,11 +29,66 @@ pub(crate) struct LockedHooks<W, K> {
     pub(crate) listeners: Vec<K>,
 }
 
-/// All callbacks, by cache.
+/// What lies under a cache's hooks lock. Loader and processors of a cache of the opening stand beside all locks, and
+/// here it has none.
+#[derive(Drop)]
+pub(crate) struct OwnHooks<L, W, P, K> {
+    pub(crate) asked: SharedHooks<L, P>,
+    pub(crate) locked: LockedHooks<W, K>,
+}
+
+/// All callbacks of the opening: loaders and processors by cache, and what goes under the hooks locks.
 #[derive(Drop)]
 pub(crate) struct AllHooks<L, W, P, K> {
     pub(crate) shared: Vec<SharedHooks<L, P>>,
-    pub(crate) locks: Vec<Mutex<LockedHooks<W, K>>>,
+    pub(crate) directory: Directory<L, W, P, K>,
+}
+
+impl<L, P> SharedHooks<L, P> {
+    pub(crate) fn none(alloc: Global) -> SharedHooks<L, P> {
+        SharedHooks {
+            loader: None,
+            processors: Vec::new(alloc),
+        }
+    }
+
+    /// Whether the processor that a call names, if any, is there.
+    pub(crate) fn has_processor(&self, call: &Call) -> bool
+        ensures { (c : Configured) → length c.processors ≡ length self.now.processors.items → result ≡ has_processor c call.now }
+    {
+        match call {
+            Call::Invoke { processor, .. } | Call::InvokeAll { processor, .. } => {
+                (*processor as usize) < self.processors.len()
+            }
+            _ => true,
+        }
+    }
+}
+
+impl<L, W, P, K> OwnHooks<L, W, P, K> {
+    pub(crate) fn none(alloc: Global) -> OwnHooks<L, W, P, K> {
+        OwnHooks {
+            asked: SharedHooks::none(alloc),
+            locked: LockedHooks {
+                writer: None,
+                listeners: Vec::new(alloc),
+            },
+        }
+    }
+
+    /// All callbacks of a cache that a session creates.
+    pub(crate) fn of(hooks: CacheHooks<L, W, P, K>) -> OwnHooks<L, W, P, K> {
+        let CacheHooks {
+            loader,
+            writer,
+            processors,
+            listeners,
+        } = hooks;
+        OwnHooks {
+            asked: SharedHooks { loader, processors },
+            locked: LockedHooks { writer, listeners },
+        }
+    }
 }
 
 /// The callbacks apart, in the order of the caches.
@@ -37,11 +96,10 @@ pub(crate) fn apart<L: Loader, W: Writer, P: Processor, K: Listener>(
     alloc: Global,
     hooks: Vec<CacheHooks<L, W, P, K>>,
 ) -> Result<AllHooks<L, W, P, K>, OutOfMemory>
-    ensures shared { IfOk result (λ all. all.shared.items ≡ map shared_of hooks.items) }
-    ensures locks { IfOk result (λ all. length all.locks.items ≡ length all.shared.items) }
+    ensures { IfOk result (λ all. all.shared.items ≡ map shared_of hooks.items) }
 {
     let mut shared = Vec::with_capacity(alloc, hooks.len())?;
-    let mut locks = Vec::with_capacity(alloc, hooks.len())?;
+    let mut directory = Directory::new(alloc);
     for own in hooks {
         let CacheHooks {
             loader,
@@ -49,10 +107,15 @@ pub(crate) fn apart<L: Loader, W: Writer, P: Processor, K: Listener>(
             processors,
             listeners,
         } = own;
+        let Ok(number) = u32::try_from(shared.len()) else {
+            return Err(AllocError);
+        };
+        let asked = SharedHooks::none(alloc);
+        let locked = LockedHooks { writer, listeners };
+        directory.add(alloc, CacheId::new(number), OwnHooks { asked, locked })?;
         shared.push(SharedHooks { loader, processors })?;
-        locks.push(Mutex::new(LockedHooks { writer, listeners }))?;
     }
-    Ok(AllHooks { shared, locks })
+    Ok(AllHooks { shared, directory })
 }
 
 /// The first place at which the callbacks are not those that the configuration names, or one of the two is missing.

@@ -15,7 +15,7 @@ mod tables;
 mod turned;
 
 pub use auditing::{Logged, SessionLog, audit};
-pub use fault::{CallFault, CloseFault, SessionRefusal, SharedRefusal};
+pub use fault::{CallFault, CloseFault, CreateFault, DestroyFault, SessionRefusal, SharedRefusal};
 pub use hooks::SharedHooks;
 pub use manager::Manager;
 pub use name::Name;

@@ -1,5 +1,5 @@
 //! What lies under the manager's lock: the recorded engine, and which sessions there are. Each tenure begins a call,
-//! brings it on or gives it up, and no callback runs in it.
+//! brings it on or gives it up, or creates or destroys a cache, and no callback runs in it.
 ghost use Rattle.std.specs.Prelude.{◌≡◌, ◌≢◌, ◌⊎◌, Bool, true, false, Ok, None, [], IsTrue, IfOk, IfErr, IfSome, OnOk, OnErr, Err, Some, map, slice_get};
 ghost use mathlib.Core.List.{IsPrefix};
 ghost use Rattle.jc_model.specs.declared.event.End.TheVariants.{Waiting, GivenUp};
@@ -9,12 +9,13 @@ ghost use Rattle.jc_index.specs.Found.{found};
 ghost use Rattle.jc_engine.specs.Recording.{blank};
 ghost use Rattle.jc_engine.specs.Caches.{lives_of};
 ghost use Rattle.jc_engine.specs.Results.{reply_in};
-ghost use Rattle.jc_engine.specs.Watching.{ShowsStates, states_of};
 ghost use Rattle.jc_shared.specs.Accounts.{Accounts, IsCloseFault};
 ghost use Rattle.jc_shared.specs.Admitting.{Admits};
-ghost use Rattle.jc_shared.specs.Calls.{Stands, GoesOn, call_refusal};
-ghost use Rattle.jc_shared.specs.Sessions.{AreLive, BeginsWith, Sees, SeesSome};
+ghost use Rattle.jc_shared.specs.Calls.{Stands, GoesOn, IsBeginFault};
+ghost use Rattle.jc_shared.specs.Sessions.{BeginsWith, Sees, SeesSome};
 ghost use Rattle.jc_shared.specs.Finding.{fault_of, IsOfCall, IsOpenFor, StandsAt, Turns, IsReplied};
+
+mod living;
 
 use crate::auditing::{Logged, audit};
 use crate::fault::{CallFault, CloseFault, SessionRefusal};
@@ -34,7 +35,7 @@ use std::marker::PhantomData;
 /// The most sessions of a manager.
 const MOST_SESSIONS: u32 = 64;
 
-/// A recorded engine, whose caches are those that the name tells.
+/// A recorded engine, whose first caches are those that the name tells.
 #[derive(Drop)]
 pub(crate) struct Locked<N: Name> {
     recorded: Recorded<ShownTable<N>, LinkRing>,
@@ -43,7 +44,6 @@ pub(crate) struct Locked<N: Name> {
     closed: bool,
     of: PhantomData<N>,
     ghost begins: { BeginsWith N.configs recorded.transcript },
-    ghost stay: { AreLive N.configs (lives_of recorded.caches) },
 }
 
 fn fault_of(cause: Cause) -> CallFault
@@ -106,8 +106,7 @@ fn turned(step: Step, copy: Option<Reply>, draft: &mut Entry) -> Turned
 
 impl<N: Name> Locked<N> {
     pub(crate) fn new(recorded: Recorded<ShownTable<N>, LinkRing>) -> Locked<N>
-        requires begins { BeginsWith N.configs recorded.transcript }
-        requires live { AreLive N.configs (lives_of recorded.caches) }
+        requires { BeginsWith N.configs recorded.transcript }
         ensures { (result.given ≡ 0) × (result.closed ≡ false) }
     {
         Locked {
@@ -171,8 +170,7 @@ impl<N: Name> Locked<N> {
     fn show(&mut self, pass: &mut TablePass<N>)
         ensures same { (self.new.recorded ≡ self.old.recorded) × (self.new.given ≡ self.old.given) × (self.new.closed ≡ self.old.closed) }
         ensures front { IsPrefix pass.old.images pass.new.images }
-        ensures shows { pass.new.met ≡ true → ShowsStates (states_of (lives_of self.old.recorded.caches)) (last_image pass.new.images) }
-        ensures sees { Sees N.configs self.old.recorded.transcript pass.new }
+        ensures sees { Sees self.old.recorded.transcript (lives_of self.old.recorded.caches) pass.new }
     {
         let _ = self.recorded.meet(pass);
     }
@@ -181,7 +179,7 @@ impl<N: Name> Locked<N> {
     fn show_reply(&mut self, turned: &Turned, pass: &mut TablePass<N>)
         ensures same { (self.new.recorded ≡ self.old.recorded) × (self.new.given ≡ self.old.given) × (self.new.closed ≡ self.old.closed) }
         ensures front { IsPrefix pass.old.images pass.new.images }
-        ensures sees { IsReplied turned.now → Sees N.configs self.old.recorded.transcript pass.new }
+        ensures sees { IsReplied turned.now → Sees self.old.recorded.transcript (lives_of self.old.recorded.caches) pass.new }
     {
         match turned {
             Turned::Asked(_) => {}
@@ -196,13 +194,13 @@ impl<N: Name> Locked<N> {
         call: Call,
         pass: &mut TablePass<N>,
     ) -> Result<Turned, CallFault>
-        requires blank { draft.old ≡ blank draft.old.session draft.old.id draft.old.at call }
-        requires known { call_refusal N.configs draft.old.id call ≡ None }
+        requires { draft.old ≡ blank draft.old.session draft.old.id draft.old.at call }
         ensures ok { IfOk result (λ turned. GoesOn N.configs draft.old turned draft.new pass.new) }
         ensures front { IsPrefix pass.old.images pass.new.images }
-        ensures err { IfErr result (λ fault. (fault ≡ CallFault.Busy) ⊎ (fault ≡ CallFault.OutOfMemory)) }
+        ensures err { IfErr result (λ fault. IsBeginFault N.configs draft.old.id call fault) }
         ensures same { OnErr result (draft.new ≡ draft.old) }
     {
+        let _told = self.recorded.transcript();
         match self.recorded.begin(draft.session, draft.id, draft.at, call) {
             Ok(pair) => {
                 let (step, copy) = pair;

@@ -1,55 +1,47 @@
 //! The manager that threads share.
-ghost use Rattle.std.specs.Prelude.{◌≡◌, ℕ, true, [], IfOk, IfErr, length, map, position};
-ghost use Rattle.std.specs.Str.{bytes_eq};
-ghost use Rattle.jc_engine.specs.Opening.{names_in};
+ghost use Rattle.std.specs.Prelude.{◌≡◌, ℕ, true, [], Some, IfOk, IfErr, length, map, option_map, slice_get};
+ghost use Rattle.jc_model.specs.declared.config.CacheConfig.{CacheConfig};
 ghost use Rattle.jc_model.specs.Legal.{IsLegal};
 ghost use Rattle.jc_shared.specs.Accounts.{Accounts};
+ghost use Rattle.jc_shared.specs.Living.{IsNamed};
 ghost use Rattle.jc_shared.specs.Sessions.{BeginsWith, SeesSome, log_of};
-ghost use Rattle.jc_shared.specs.Stated.{stated_by};
+ghost use Rattle.jc_shared.specs.Stated.{stated_by, AreOf, processor_counts, wanted_counts};
 
-use crate::directory::Directory;
+use crate::directory::{Directory, HooksLock};
 use crate::fault::{CloseFault, SessionRefusal};
-use crate::hooks::{LockedHooks, SharedHooks};
+use crate::hooks::SharedHooks;
 use crate::locked::Locked;
 use crate::name::Name;
 use crate::session::Session;
 use jc_hooks::{Listener, Loader, Processor, Writer};
+use jc_model::OutOfMemory;
 use jc_model::event::CacheId;
 use jc_model::key::Key;
 use jc_model::transcript::Transcript;
 use std::alloc::Global;
 use std::sync::{Mutex, Wait};
 
-/// Caches that many sessions share.
+/// Caches that many sessions share, and which they may create and destroy.
 ///
-/// One lock holds the recorded engine. Loaders and processors stand beside all locks. Each cache's writer and
-/// listeners stand under a lock of their own, which a call on the cache holds from its begin to its end.
+/// One lock holds the recorded engine. The loaders and processors of the opening stand beside all locks. All other
+/// callbacks stand under a lock for each cache, which a call on the cache holds from its begin to its end, and the way
+/// from a cache to that lock stands under a lock of its own.
 #[derive(Drop)]
 pub struct Manager<N: Name, L: Loader, W: Writer, P: Processor, K: Listener> {
     pub(crate) alloc: Global,
-    pub(crate) directory: Directory,
     pub(crate) shared: Vec<SharedHooks<L, P>>,
-    pub(crate) locks: Vec<Mutex<LockedHooks<W, K>>>,
+    pub(crate) directory: Mutex<Directory<L, W, P, K>>,
     pub(crate) locked: Mutex<Locked<N>>,
-    ghost configs_are: { directory ≡ N.configs },
     ghost stated_are: { map (stated_by L.load_of P.verdict_of) shared.items ≡ N.stated },
-    ghost locks_counted: { length locks.items ≡ length directory },
-    ghost shared_counted: { length shared.items ≡ length directory },
+    ghost counted: { processor_counts shared.items ≡ wanted_counts N.configs },
 }
 
 impl<N: Name, L: Loader, W: Writer, P: Processor, K: Listener> Manager<N, L, W, P, K> {
-    /// The id of the cache with this name.
-    pub fn cache(&self, name: &Key) -> Option<CacheId>
-        ensures { result ≡ position (λ n. bytes_eq n name.now) (names_in N.configs) }
+    /// The id of the live cache with this name.
+    pub fn cache<R: Wait>(&self, rt: &R, name: &Key) -> Option<CacheId>
+        ensures { IsNamed N.configs name.now result }
     {
-        self.directory.cache(name)
-    }
-
-    /// The names of the caches, by their ids.
-    pub fn names(&self) -> &[Key]
-        ensures { result.now ≡ names_in N.configs }
-    {
-        self.directory.names()
+        self.locked.lock(rt).cache(name)
     }
 
     /// A new session, which has made no call, and whose pass has seen the table as it is. Sessions have the numbers from
@@ -89,6 +81,37 @@ impl<N: Name, L: Loader, W: Writer, P: Processor, K: Listener> Manager<N, L, W, 
             Err(fault) => Err((fault, sessions)),
         }
     }
+
+    /// The hooks lock of a cache, if it has one.
+    pub(crate) fn hooks_lock<R: Wait>(
+        &self,
+        rt: &R,
+        id: CacheId,
+    ) -> Result<Option<HooksLock<L, W, P, K>>, OutOfMemory> {
+        self.directory.lock(rt).find(id)
+    }
+
+    /// The loader and the processors of a cache: those beside all locks, where it is one of the opening, else its own.
+    pub(crate) fn asked<'s>(
+        &'s self,
+        id: CacheId,
+        own: &'s SharedHooks<L, P>,
+    ) -> &'s SharedHooks<L, P>
+        ensures stated { AreOf L.load_of P.verdict_of N.stated id result.now }
+        ensures counted { (c : CacheConfig) → slice_get N.configs id ≡ Some c → length c.processors ≡ length result.now.processors.items }
+    {
+        match shared_at(self.shared.as_slice(), id) {
+            Some(shared) => shared,
+            None => own,
+        }
+    }
+}
+
+/// The loader and the processors of a cache of the opening.
+fn shared_at<L, P>(shared: &[SharedHooks<L, P>], id: CacheId) -> Option<&SharedHooks<L, P>>
+    ensures { option_map (λ h. h.now) result ≡ slice_get shared.now id }
+{
+    shared.get(id.number() as usize)
 }
 
 /// For how many calls a session has room at first.

@@ -1,8 +1,9 @@
 //! One caller's way to the caches of a manager.
-ghost use Rattle.std.specs.Prelude.{◌≡◌, ◌≢◌, ◌⊎◌, suc, Bool, true, false, Some, None, IfOk, IfErr, IfSome, Err};
+ghost use Rattle.std.specs.Prelude.{◌≡◌, ◌≢◌, ◌⊎◌, suc, Bool, true, false, Some, None, IfOk, IfErr, OnOk, Err};
 ghost use mathlib.Core.List.{IsPrefix};
 ghost use Rattle.jc_model.specs.declared.event.End.TheVariants.{Replied};
 ghost use Rattle.jc_engine.specs.Recording.{blank};
+ghost use Rattle.jc_hooks.specs.Suits.{Suits};
 ghost use Rattle.jc_place.specs.Seeded.{seeded_place};
 ghost use Rattle.jc_rows.specs.Images.{last_image};
 ghost use Rattle.jc_stripes.specs.Stripes.{SomeOdd, stripes_in};
@@ -10,18 +11,21 @@ ghost use Rattle.jc_index.specs.Spelling.{buckets_of};
 ghost use Rattle.jc_index.specs.Found.{found};
 ghost use Rattle.jc_index.specs.Versions.{read_for};
 ghost use Rattle.jc_index.specs.declared.lookup.Lookup.TheVariants.{Sure, Unsure};
-ghost use Rattle.jc_shared.specs.Calls.{Adds, Fails, call_refusal};
+ghost use Rattle.jc_shared.specs.Calls.{Adds, Fails, Lacks};
+ghost use Rattle.jc_shared.specs.Living.{IsCreated, IsCreateFault, HasGone};
 ghost use Rattle.jc_shared.specs.Sessions.{log_of};
 
 use crate::auditing::Logged;
-use crate::fault::CallFault;
+use crate::fault::{CallFault, CreateFault, DestroyFault};
+use crate::hooks::OwnHooks;
 use crate::manager::Manager;
 use crate::name::Name;
 use crate::tables::TablePass;
-use jc_hooks::{Listener, Loader, Processor, Writer};
+use jc_hooks::{CacheHooks, Listener, Loader, Processor, Writer, suits};
 use jc_index::lookup::Lookup;
 use jc_model::OutOfMemory;
 use jc_model::call::{Call, Reply};
+use jc_model::config::CacheConfig;
 use jc_model::event::{CacheId, End, Entry};
 use jc_model::key::Key;
 use jc_model::list::Sequence;
@@ -113,9 +117,10 @@ impl<'a, N: Name, L: Loader, W: Writer, P: Processor, K: Listener> Session<'a, N
     /// Makes a call on a cache at a moment. The cache's callbacks answer its requests, one call on the cache at a time.
     /// Its entry is added to the session's own.
     ///
-    /// Refused as `NoSuchCache` or `NoSuchProcessor`, by the configurations; then as `OutOfMemory`, `Busy` or
-    /// `Overtaken`. Where memory is refused in the midst of the call it is given up, and its listeners are told what
-    /// it has changed; its entry says so. No use of a manager comes to `Busy` or `Overtaken`.
+    /// Refused as `NoSuchCache`, `NoSuchProcessor`, then as `OutOfMemory`, `Busy` or `Overtaken`; also as
+    /// `NoSuchCache` where the cache is destroyed meanwhile, and as `OutOfMemory` at once where its callbacks can't be
+    /// shared. Where memory is refused in the midst of the call it is given up, and its listeners are told what it has
+    /// changed; its entry says so. No use of a manager comes to `Busy` or `Overtaken`.
     pub fn call<R: Wait>(
         &mut self,
         rt: &R,
@@ -125,13 +130,21 @@ impl<'a, N: Name, L: Loader, W: Writer, P: Processor, K: Listener> Session<'a, N
     ) -> Result<Reply, CallFault>
         ensures number { self.new.number ≡ self.old.number }
         ensures ok { IfOk result (λ reply. Adds N.configs N.stated self.old self.new id now call (Replied reply)) }
-        ensures refused { IfSome (call_refusal N.configs id call) (λ fault. result ≡ Err fault) }
+        ensures refused { Lacks N.configs id call → OnOk result ⊥ × (self.new ≡ self.old) }
         ensures err { IfErr result (λ fault. Fails N.configs N.stated self.old self.new id now call fault) }
         ensures front { IsPrefix self.old.pass.images self.new.pass.images }
     {
         let manager = self.manager;
-        if let Some(fault) = manager.directory.refusal(id, &call) {
-            return Err(fault);
+        let lock = match manager.hooks_lock(rt, id) {
+            Ok(Some(lock)) => lock,
+            Ok(None) => return Err(CallFault::NoSuchCache),
+            Err(_) => return Err(CallFault::OutOfMemory),
+        };
+        let mut hooks = lock.lock(rt);
+        let OwnHooks { asked, locked } = &mut *hooks;
+        let asked = manager.asked(id, asked);
+        if !asked.has_processor(&call) {
+            return Err(CallFault::NoSuchProcessor);
         }
         if self.own.reserve(1).is_err() {
             return Err(CallFault::OutOfMemory);
@@ -139,7 +152,6 @@ impl<'a, N: Name, L: Loader, W: Writer, P: Processor, K: Listener> Session<'a, N
         let Ok(mut draft) = draft_of(manager.alloc, self.number, id, now, &call) else {
             return Err(CallFault::OutOfMemory);
         };
-        let mut hooks = manager.locks[id.number() as usize].lock(rt);
         let begun = manager
             .locked
             .lock(rt)
@@ -148,9 +160,61 @@ impl<'a, N: Name, L: Loader, W: Writer, P: Processor, K: Listener> Session<'a, N
             Ok(turned) => turned,
             Err(fault) => return Err(fault),
         };
-        let replied = manager.carry_on(rt, &mut hooks, &mut draft, turned, &mut self.pass);
+        let replied = manager.carry_on(rt, asked, locked, &mut draft, turned, &mut self.pass);
         self.own.push_reserved(draft);
         replied
+    }
+
+    /// Creates a cache with these callbacks. It gets an id that no cache had before.
+    ///
+    /// Refused as `Cache`, with the engine's refusal; as `HooksDiffer`; as `OutOfMemory`. Configuration and callbacks
+    /// are handed back then. No entry tells of it, and the session's lookups know the cache from its next call on.
+    pub fn create<R: Wait>(
+        &self,
+        rt: &R,
+        config: CacheConfig,
+        hooks: CacheHooks<L, W, P, K>,
+    ) -> Result<CacheId, (CreateFault, CacheConfig, CacheHooks<L, W, P, K>)>
+        ensures created { IfOk result (λ id. IsCreated N.configs id config) }
+        ensures suits { OnOk result (Suits P.wants config hooks) }
+        ensures refused { IfErr result (λ e. IsCreateFault N.configs config (Suits P.wants config hooks) e.0) }
+        ensures back { IfErr result (λ e. (e.1 ≡ config) × (e.2 ≡ hooks)) }
+    {
+        let manager = self.manager;
+        let suited = suits(&config, &hooks);
+        let mut directory = manager.directory.lock(rt);
+        let room = directory.make_room(manager.alloc);
+        let created = manager.locked.lock(rt).create(config, suited, room.is_ok());
+        let id = match created {
+            Ok(id) => id,
+            Err((fault, config)) => return Err((fault, config, hooks)),
+        };
+        let Ok(lock) = room else { unreachable!() };
+        *lock.lock(rt) = OwnHooks::of(hooks);
+        directory.enter(id, lock);
+        Ok(id)
+    }
+
+    /// Destroys a cache, with its rows, its counters and its callbacks. No one is told. It waits for a call on the cache
+    /// that is under way. Where memory allows it the session's lookups know of it at once.
+    ///
+    /// Refused as `NoSuchCache`, `Busy`; as `OutOfMemory` at once where the callbacks can't be shared. No use of a
+    /// manager comes to `Busy`.
+    pub fn destroy<R: Wait>(&mut self, rt: &R, id: CacheId) -> Result<(), DestroyFault>
+        ensures gone { OnOk result (HasGone N.configs id self.new.pass) }
+        ensures front { IsPrefix self.old.pass.images self.new.pass.images }
+        ensures same { log_of self.new ≡ log_of self.old }
+    {
+        let manager = self.manager;
+        let lock = match manager.hooks_lock(rt, id) {
+            Ok(Some(lock)) => lock,
+            Ok(None) => return Err(DestroyFault::NoSuchCache),
+            Err(_) => return Err(DestroyFault::OutOfMemory),
+        };
+        let _hooks = lock.lock(rt);
+        manager.locked.lock(rt).destroy(id, &mut self.pass)?;
+        manager.directory.lock(rt).remove(id);
+        Ok(())
     }
 
     /// Whether a cache has a live row of this key, without waiting: it takes no lock. It is sure only of the last image

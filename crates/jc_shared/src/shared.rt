@@ -3,14 +3,12 @@ ghost use Rattle.std.specs.Prelude.{◌≡◌, None, IfOk, IfErr, OnOk, length, 
 ghost use Rattle.jc_model.specs.Legal.{at_first};
 ghost use Rattle.jc_model.specs.Runs.{opened_from};
 ghost use Rattle.jc_engine.specs.Caches.{lives_of};
-ghost use Rattle.jc_engine.specs.Fresh.{AreIds};
-ghost use Rattle.jc_engine.specs.Opening.{open_refusal, names_in};
-ghost use Rattle.jc_shared.specs.Opening.{CanOpen, IsRefusal};
+ghost use Rattle.jc_engine.specs.Opening.{open_refusal};
+ghost use Rattle.jc_shared.specs.Opening.{AllSuit, CanOpen, IsRefusal};
 ghost use Rattle.jc_shared.specs.Stated.{stated_by, shared_of};
 
-use crate::directory::Directory;
 use crate::fault::SharedRefusal;
-use crate::hooks::{AllHooks, LockedHooks, SharedHooks, apart, first_unsuited};
+use crate::hooks::{AllHooks, apart, first_unsuited};
 use crate::locked::Locked;
 use crate::manager::Manager;
 use crate::name::Name;
@@ -20,12 +18,10 @@ use jc_engine::recorded::Recorded;
 use jc_hooks::{CacheHooks, Listener, Loader, Processor, Writer};
 use jc_model::OutOfMemory;
 use jc_model::config::CacheConfig;
-use jc_model::key::Key;
 use jc_model::share::Share;
 use jc_ring::link_ring::LinkRing;
 use jc_rows::list_rows::ListRows;
 use std::alloc::{AllocError, Global};
-use std::collections::HashMap;
 use std::marker::Model;
 use std::sync::Mutex;
 
@@ -34,9 +30,8 @@ use std::sync::Mutex;
 #[derive(Drop)]
 pub struct Shared<L, W, P, K> {
     alloc: Global,
-    directory: Directory,
-    shared: Vec<SharedHooks<L, P>>,
-    locks: Vec<Mutex<LockedHooks<W, K>>>,
+    configs: Vec<CacheConfig>,
+    hooks: AllHooks<L, W, P, K>,
     /// Over no table yet.
     recorded: Recorded<ListRows, LinkRing>,
     table: BlankTable,
@@ -47,9 +42,9 @@ impl<L, W, P, K> Model for Shared<L, W, P, K> {
 
     ghost Value = { Handed L P };
 
-    ghost view = { λ s. record { configs = s.directory; shared = s.shared.items; index = s.table } };
+    ghost view = { λ s. record { configs = s.configs.items; shared = s.hooks.shared.items; index = s.table } };
 
-    ghost invariant = { λ s. IsOpened s.directory s.recorded s.locks.items s.shared.items };
+    ghost invariant = { λ s. IsOpened s.configs.items s.recorded s.hooks.shared.items };
 }
 
 fn copies(alloc: Global, configs: &[CacheConfig]) -> Result<Vec<CacheConfig>, OutOfMemory>
@@ -81,29 +76,22 @@ fn recorded(
 fn opened<L: Loader, W: Writer, P: Processor, K: Listener>(
     alloc: Global,
     configs: Vec<CacheConfig>,
-    ids: Option<HashMap<Key, u32>>,
     hooks: Vec<CacheHooks<L, W, P, K>>,
     seed: u64,
 ) -> Result<Shared<L, W, P, K>, OutOfMemory>
     requires opens { open_refusal configs.items ≡ None }
-    requires ids { AreIds ids (names_in configs.items) }
-    requires counted { length hooks.items ≡ length configs.items }
+    requires suit { AllSuit P.wants configs.items hooks.items }
     ensures configs { IfOk result (λ s. s.configs ≡ configs.items) }
     ensures shared { IfOk result (λ s. s.shared ≡ map shared_of hooks.items) }
 {
-    let Some(ids) = ids else {
-        return Err(AllocError);
-    };
     let second = copies(alloc, configs.as_slice())?;
     let recorded = recorded(alloc, second)?;
     let table = BlankTable::new(alloc, seed)?;
-    let directory = Directory::new(alloc, configs, ids)?;
-    let AllHooks { shared, locks } = apart(alloc, hooks)?;
+    let hooks = apart(alloc, hooks)?;
     Ok(Shared {
         alloc,
-        directory,
-        shared,
-        locks,
+        configs,
+        hooks,
         recorded,
         table,
     })
@@ -124,14 +112,13 @@ impl<L: Loader, W: Writer, P: Processor, K: Listener> Shared<L, W, P, K> {
         ensures opens { OnOk result (CanOpen P.wants configs.items hooks.items) }
         ensures refused { IfErr result (λ refusal. IsRefusal P.wants configs.items hooks.items refusal) }
     {
-        let ids = match ids_by_name(alloc, configs.as_slice()) {
-            Ok(ids) => ids,
-            Err(refusal) => return Err(SharedRefusal::Caches(refusal)),
-        };
+        if let Err(refusal) = ids_by_name(alloc, configs.as_slice()) {
+            return Err(SharedRefusal::Caches(refusal));
+        }
         if let Some(cache) = first_unsuited(configs.as_slice(), hooks.as_slice()) {
             return Err(SharedRefusal::HooksDiffer { cache });
         }
-        match opened(alloc, configs, ids, hooks, seed) {
+        match opened(alloc, configs, hooks, seed) {
             Ok(shared) => Ok(shared),
             Err(_) => Err(SharedRefusal::OutOfMemory),
         }
@@ -146,17 +133,16 @@ impl<L: Loader, W: Writer, P: Processor, K: Listener> Shared<L, W, P, K> {
     {
         let Shared {
             alloc,
-            directory,
-            shared,
-            locks,
+            configs: _,
+            hooks,
             recorded,
             table,
         } = self;
+        let AllHooks { shared, directory } = hooks;
         Manager {
             alloc,
-            directory,
             shared,
-            locks,
+            directory: Mutex::new(directory),
             locked: Mutex::new(Locked::new(recorded.over(table.named::<N>()))),
         }
     }

@@ -1,66 +1,78 @@
--- What a session more, or a line more, leaves of the dealing.
-use Rattle.std.proofs.Common.{◌≡◌, ◌≢◌, ℕ, zero, suc, replicate, Bool, true, false, ◌%◌, ◌/◌, List, [], ◌∷◌, ◌++◌, length, length-set, Some, refl, sym, ◌∙◌, ap, subst, arith}
+-- What a session more, or a call more, leaves of the dealing.
+use Rattle.std.proofs.Common.{◌≡◌, ◌≢◌, ℕ, zero, suc, replicate, Bool, true, false, ◌%◌, ◌/◌, List, [], ◌∷◌, ◌++◌, length, length-set, map, Some, refl, sym, ◌∙◌, ap, subst, arith, append_assoc, append-nil}
 use Rattle.std.specs.Prelude.{slice_get, slice_set, ◌==◌}
 use Rattle.std.proofs.lemmas.List.Elements.{All-nil, All-push}
 use Rattle.std.proofs.lemmas.Bool.Decides.{nat_tests}
 use Rattle.jc_model.proofs.Lives.{at_same, at_other}
-use Rattle.jc_threads.specs.declared.line.LineCall.{LineCall}
-use Rattle.jc_shared.specs.Sessions.{Sitting}
-use Rattle.jc_threads.specs.Dealing.{Share, idle, AreSeated, IsDealt, AreDealt}
+use Rattle.jc_script.specs.declared.line.LineCall.{LineCall}
+use Rattle.jc_shared.specs.Sessions.{Sitting, log_of}
+use Rattle.jc_shared.specs.Stated.{Stated}
+use Rattle.jc_threads.specs.Dealing.{Share, idle, AreSeated, IsIdle, AreIdle, IsUnderWay, AreUnderWay, HasRested, HaveRested, dealt_to}
 use Rattle.jc_threads.proofs.Lists.{kept_more, left_out, at_end}
+use Rattle.jc_threads.proofs.Making.{at_work_first, at_work_same}
 
 -- a session more at a worker
 seated_more : (workers worker place : ℕ) (sessions : List Sitting) (o : Sitting) → AreSeated workers worker sessions → length sessions ≡ place → o.number % workers ≡ worker → o.number / workers ≡ place → AreSeated workers worker (sessions ++ o ∷ [])
 seated_more workers worker place sessions o seated next own here k x there = at_end (λ (j : ℕ) (y : Sitting). (y.number % workers ≡ worker) × (y.number / workers ≡ j)) sessions o seated (own, here ∙ sym next) k x there
 
--- One worker's share has changed.
-module _ (before after : List LineCall) (crew : List Share) (worker : ℕ) (share' : Share) (at_worker : (share : Share) → slice_get crew worker ≡ Some share → IsDealt (length crew) worker before share → IsDealt (length crew) worker after share')
-    (at_others : (other : ℕ) (share : Share) → worker ≢ other → slice_get crew other ≡ Some share → IsDealt (length crew) other before share → IsDealt (length crew) other after share) (share : Share) (at : slice_get crew worker ≡ Some share) where
-  pub dealt_anew : AreDealt before crew → AreDealt after (slice_set crew worker share')
-  dealt_anew dealt k x there = subst (λ (n : ℕ). IsDealt n k after x) (sym (length-set crew worker share')) (go (worker == k) refl)
+-- of each worker, by how many there are and which it is
+abbrev Each : (ℕ → ℕ → Share → Type 0) → List Share → Type 0
+Each P crew = (worker : ℕ) (share : Share) → slice_get crew worker ≡ Some share → P (length crew) worker share
+
+-- One worker's share changes.
+module _ (P Q : ℕ → ℕ → Share → Type 0) (crew : List Share) (worker : ℕ) (share share' : Share) (at : slice_get crew worker ≡ Some share) (own : P (length crew) worker share → Q (length crew) worker share')
+    (others : (other : ℕ) (found : Share) → worker ≢ other → P (length crew) other found → Q (length crew) other found) where
+  changed : Each P crew → Each Q (slice_set crew worker share')
+  changed each k x there = subst (λ (n : ℕ). Q n k x) (sym (length-set crew worker share')) (go (worker == k) refl)
     where
-      go : (b : Bool) → (worker == k) ≡ b → IsDealt (length crew) k after x
+      go : (b : Bool) → (worker == k) ≡ b → Q (length crew) k x
       go true is =
           let here : worker ≡ k = grind (arith, nat_tests, is) in
           let this : Some share' ≡ Some x = sym (at_same crew worker share share' at) ∙ (ap (slice_get (slice_set crew worker share')) here ∙ there) in
           let x_is : share' ≡ x = cc in
-          subst (λ (j : ℕ). IsDealt (length crew) j after x) here (subst (IsDealt (length crew) worker after) x_is (at_worker share at (dealt worker share at)))
+          subst (λ (j : ℕ). Q (length crew) j x) here (subst (Q (length crew) worker) x_is (own (each worker share at)))
       go false is =
           let elsewhere : worker ≢ k = grind (arith, nat_tests, is) in
           let same : slice_get crew k ≡ Some x = sym (at_other crew worker k share' elsewhere) ∙ there in
-          at_others k x elsewhere same (dealt k x same)
+          others k x elsewhere (each k x same)
 
 -- a session more
-pub seat_dealt : (all : List LineCall) (crew : List Share) (share : Share) (o : Sitting) (n : ℕ) → n ≡ o.number → o.calls ≡ [] → slice_get crew (n % length crew) ≡ Some share → length share.sessions ≡ n / length crew
-    → AreDealt all crew → AreDealt all (slice_set crew (n % length crew) (record share { sessions = share.sessions ++ o ∷ [] }))
-seat_dealt all crew share o n is none at next =
-    dealt_anew all all crew (n % length crew) (record share { sessions = share.sessions ++ o ∷ [] })
-    (λ found there dealt. let this : Some share ≡ Some found = sym at ∙ there in let same : share ≡ found = cc in
-    let had : IsDealt (length crew) (n % length crew) all share = subst (IsDealt (length crew) (n % length crew) all) (sym same) dealt in
-    record {
+pub seat_idle : (crew : List Share) (share : Share) (o : Sitting) (n : ℕ) → n ≡ o.number → o.calls ≡ [] → slice_get crew (n % length crew) ≡ Some share → length share.sessions ≡ n / length crew
+    → AreIdle crew → AreIdle (slice_set crew (n % length crew) (record share { sessions = share.sessions ++ o ∷ [] }))
+seat_idle crew share o n is none at next =
+    changed IsIdle IsIdle crew (n % length crew) share (record share { sessions = share.sessions ++ o ∷ [] }) at
+    (λ had. record {
       seated = seated_more (length crew) (n % length crew) (n / length crew) share.sessions o had.seated next (ap (λ (m : ℕ). m % length crew) (sym is)) (ap (λ (m : ℕ). m / length crew) (sym is));
       fresh = All-push (λ (p : Sitting). p.calls ≡ []) share.sessions o had.fresh none;
       lines = had.lines;
     })
-    (λ other found differ there dealt. dealt) share at
+    (λ other found differ had. had)
 
--- a line more
-pub hand_dealt : (done : List LineCall) (l : LineCall) (crew : List Share) (share : Share) → slice_get crew (l.session % length crew) ≡ Some share
-    → AreDealt done crew → AreDealt (done ++ l ∷ []) (slice_set crew (l.session % length crew) (record share { lines = share.lines ++ l ∷ [] }))
-hand_dealt done l crew share at =
-    dealt_anew done (done ++ l ∷ []) crew (l.session % length crew) (record share { lines = share.lines ++ l ∷ [] })
-    (λ found there dealt. let same : share ≡ found = let this : Some share ≡ Some found = sym at ∙ there in cc in
-    let had : IsDealt (length crew) (l.session % length crew) done share = subst (IsDealt (length crew) (l.session % length crew) done) (sym same) dealt in
-    record {
-      seated = had.seated;
-      fresh = had.fresh;
-      lines = ap (λ (ls : List LineCall). ls ++ l ∷ []) had.lines ∙ sym (kept_more (λ (x : LineCall). (x.session % length crew) == (l.session % length crew)) done l (grind (arith, nat_tests)));
+-- a call more
+pub hand_more : (stated : List Stated) (all : List LineCall) (l : LineCall) (crew : List Share) (share : Share) → slice_get crew (l.session % length crew) ≡ Some share
+    → AreUnderWay stated all crew → AreUnderWay stated (all ++ l ∷ []) (slice_set crew (l.session % length crew) (record share { lines = share.lines ++ l ∷ [] }))
+hand_more stated all l crew share at =
+    changed (λ n worker s. IsUnderWay stated n worker all s) (λ n worker s. IsUnderWay stated n worker (all ++ l ∷ []) s) crew (l.session % length crew) share (record share { lines = share.lines ++ l ∷ [] }) at
+    (λ had. record {
+      done = had.done;
+      work = had.work;
+      held =
+          sym (append_assoc had.done share.lines (l ∷ [])) ∙ (ap (λ (ls : List LineCall). ls ++ l ∷ []) had.held
+          ∙ sym (kept_more (λ (x : LineCall). (x.session % length crew) == (l.session % length crew)) all l (grind (arith, nat_tests))));
     })
-    (λ other found differ there dealt. record {
-      seated = dealt.seated;
-      fresh = dealt.fresh;
-      lines = dealt.lines ∙ sym (left_out (λ (x : LineCall). (x.session % length crew) == other) done l (grind (arith, nat_tests, differ)));
-    }) share at
+    (λ other found differ had. record {
+      done = had.done;
+      work = had.work;
+      held = had.held ∙ sym (left_out (λ (x : LineCall). (x.session % length crew) == other) all l (grind (arith, nat_tests, differ)));
+    })
+
+-- sessions that have seen more, and made no call
+pub rested_still : (stated : List Stated) (crew : List Share) (worker : ℕ) (share share' : Share) → slice_get crew worker ≡ Some share → share'.lines ≡ share.lines → map log_of share'.sessions ≡ map log_of share.sessions
+    → (all : List LineCall) → HaveRested stated all crew → HaveRested stated all (slice_set crew worker share')
+rested_still stated crew worker share share' at lines logs all =
+    changed (λ n w s. HasRested stated n w all s) (λ n w s. HasRested stated n w all s) crew worker share share' at
+    (λ had. record { work = at_work_same stated (length crew) worker (dealt_to (length crew) worker all) share.sessions share'.sessions logs had.work; lines = lines ∙ had.lines })
+    (λ other found differ had. had)
 
 -- Workers that have nothing.
 
@@ -69,7 +81,20 @@ all_idle zero k share at = absurd cc
 all_idle (suc n) zero share at = cc
 all_idle (suc n) (suc k) share at = all_idle n k share at
 
-pub idle_dealt : (n : ℕ) → AreDealt [] (replicate n idle)
-idle_dealt n k share at =
-    subst (IsDealt (length (replicate n idle)) k []) (all_idle n k share at)
+pub idle_first : (n : ℕ) → AreIdle (replicate n idle)
+idle_first n k share at =
+    subst (IsIdle (length (replicate n idle)) k) (all_idle n k share at)
     (record { seated = λ place o there. absurd cc; fresh = All-nil (λ (o : Sitting). o.calls ≡ []); lines = refl })
+
+-- they are ready for a first round
+pub under_way_first : (stated : List Stated) (crew : List Share) → AreIdle crew → AreUnderWay stated [] crew
+under_way_first stated crew are worker share at =
+    let had : IsIdle (length crew) worker share = are worker share at in
+    record { done = []; work = at_work_first stated (length crew) worker share.sessions had.seated had.fresh; held = had.lines }
+
+-- and those that have rested for the next
+pub under_way_again : (stated : List Stated) (all : List LineCall) (crew : List Share) → HaveRested stated all crew → AreUnderWay stated all crew
+under_way_again stated all crew are worker share at =
+    let had : HasRested stated (length crew) worker all share = are worker share at in
+    let own : List LineCall = dealt_to (length crew) worker all in
+    record { done = own; work = had.work; held = ap (λ (ls : List LineCall). own ++ ls) had.lines ∙ append-nil own }

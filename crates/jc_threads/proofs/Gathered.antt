@@ -1,21 +1,22 @@
 -- What all workers have made together, as a transcript tells it that their sessions account for.
-use Rattle.std.proofs.Common.{◌≡◌, ◌⊎◌, inl, inr, ℕ, zero, suc, Bool, true, false, cond, ◌%◌, ◌<◌, List, [], ◌∷◌, ◌++◌, length, map, Some, Result, Ok, Err, IfOk, refl, sym, ◌∙◌, ap, subst, arith}
-use Rattle.std.specs.Prelude.{slice_get, ◌==◌, Vec, if◌then◌else◌}
+use Rattle.std.proofs.Common.{◌≡◌, ◌⊎◌, inl, inr, ℕ, zero, suc, Bool, true, false, cond, ◌%◌, ◌<◌, List, [], ◌∷◌, ◌++◌, length, map, Some, Result, Ok, IfOk, refl, sym, ◌∙◌, ap, subst, arith, append-nil}
+use Rattle.std.specs.Prelude.{slice_get, ◌==◌, if◌then◌else◌}
 use Rattle.std.specs.List.{All, flat_map}
-use Rattle.std.specs.declared.alloc.Global.{Global}
 use Rattle.std.proofs.lemmas.List.Elements.{All-nil, All-head, All-tail, All-weaker}
 use Rattle.std.proofs.lemmas.Bool.Decides.{nat_tests}
+use Rattle.std.proofs.lemmas.List.{length-map}
 use Rattle.std.proofs.lemmas.Nat.{mod_below}
 use Rattle.std.proofs.lemmas.Option.{slice_get_within}
 use Rattle.jc_model.specs.declared.event.Entry.{Entry}
-use Rattle.jc_threads.specs.declared.line.LineCall.{LineCall}
+use Rattle.jc_script.specs.declared.line.LineCall.{LineCall}
+use Rattle.jc_script.specs.Calls.{line_of}
 use Rattle.jc_shared.specs.Accounts.{own_of, Accounts}
 use Rattle.jc_shared.specs.Sessions.{Sitting, log_of}
 use Rattle.jc_shared.specs.Stated.{Stated}
 use Rattle.jc_threads.specs.declared.fault.WorkFault.{WorkFault}
-use Rattle.jc_threads.specs.Dealing.{Share, AreDealt, IsAtWork, HasWorked, HaveWorked, IsDone, handed, all_handed, dealt_to}
-use Rattle.jc_threads.specs.Lines.{line_of, lines_by, IsAnswered, HasMade, AreMade, Among}
-use Rattle.jc_threads.proofs.Lists.{all_at, all_from, all_by_class, all_flat, some_at, twice_kept}
+use Rattle.jc_threads.specs.Dealing.{Share, IsAtWork, AreAtRest, AreUnderWay, HasRested, HaveRested, HasWorked, HaveWorked, dealt_to}
+use Rattle.jc_threads.specs.Lines.{lines_by, IsAnswered, HasMade, AreMade, Among}
+use Rattle.jc_threads.proofs.Lists.{all_at, all_from, all_by_class, all_flat, some_at, twice_kept, map_at}
 
 -- Sessions that have made all lines.
 
@@ -79,11 +80,46 @@ among_flat number f (y ∷ xs) zero x at found = let same : y ≡ x = cc in amon
 among_flat number f (y ∷ xs) (suc k) x at found = among_right number (f y) (flat_map f xs) (among_flat number f xs k x at found)
 
 -- the same share, result and number of workers
-pub worked_as : (stated : List Stated) (n workers : ℕ) (job share : Share) (r result : Result (Vec Sitting Global) WorkFault) → n ≡ workers → job ≡ share → r ≡ result
-    → IfOk r (λ v. HasWorked stated n job v.items) → IfOk result (λ v. HasWorked stated workers share v.items)
+pub worked_as : (stated : List Stated) (n workers : ℕ) (job share : Share) (r result : Result Share WorkFault) → n ≡ workers → job ≡ share → r ≡ result
+    → IfOk r (HasWorked stated n job) → IfOk result (HasWorked stated workers share)
 worked_as stated n workers job share r result is is' is'' has =
-    subst (λ (x : Result (Vec Sitting Global) WorkFault). IfOk x (λ v. HasWorked stated workers share v.items)) is''
-    (subst (λ (s : Share). IfOk r (λ v. HasWorked stated workers s v.items)) is' (subst (λ (m : ℕ). IfOk r (λ v. HasWorked stated m job v.items)) is has))
+    subst (λ (x : Result Share WorkFault). IfOk x (HasWorked stated workers share)) is''
+    (subst (λ (s : Share). IfOk r (HasWorked stated workers s)) is' (subst (λ (m : ℕ). IfOk r (HasWorked stated m job)) is has))
+
+-- A round.
+module _ (stated : List Stated) (crew after : List Share) (results : List (Result Share WorkFault)) (worked : HaveWorked stated crew results) (done : map Ok after ≡ results) where
+  pub as_many : length after ≡ length crew
+  as_many = sym (length-map after Ok) ∙ (ap length done ∙ worked.counted)
+
+  -- what each worker has done
+  done_by : (worker : ℕ) (share : Share) → slice_get after worker ≡ Some share → (before : Share) × (slice_get crew worker ≡ Some before) × HasWorked stated (length crew) before share
+  done_by worker share at =
+      let within = slice_get_within after worker share at in
+      let before : (s : Share) × (slice_get crew worker ≡ Some s) = some_at crew worker (omega (arith, as_many, within)) in
+      let given : slice_get results worker ≡ Some (Ok share) = ap (λ (rs : List (Result Share WorkFault)). slice_get rs worker) (sym done) ∙ map_at Ok after worker share at in
+      (before.0, before.1, worked.each worker before.0 (Ok share) before.1 given)
+
+  pub at_rest : AreAtRest after
+  at_rest worker share at = (done_by worker share at).2.lines
+
+  pub rested : (all : List LineCall) → AreUnderWay stated all crew → HaveRested stated all after
+  rested all under worker share at =
+      let its = done_by worker share at in
+      let has : HasWorked stated (length crew) its.0 share = its.2 in
+      let way = under worker its.0 its.1 in
+      subst (λ (n : ℕ). HasRested stated n worker all share) (sym as_many)
+      (record {
+        work = subst (λ (ls : List LineCall). IsAtWork stated (length crew) worker ls share.sessions) way.held (has.made worker way.done way.work);
+        lines = has.lines;
+      })
+
+-- workers that hold no call have rested
+pub rested_already : (stated : List Stated) (crew : List Share) → AreAtRest crew → (all : List LineCall) → AreUnderWay stated all crew → HaveRested stated all crew
+rested_already stated crew rest all under worker share at =
+    let way = under worker share at in
+    let none : share.lines ≡ [] = rest worker share at in
+    let held : way.done ≡ dealt_to (length crew) worker all = sym (append-nil way.done) ∙ ap (λ (ls : List LineCall). way.done ++ ls) (sym none) ∙ way.held in
+    record { work = subst (λ (ls : List LineCall). IsAtWork stated (length crew) worker ls share.sessions) held way.work; lines = none }
 
 -- a worker's lines are all lines of its sessions
 shared_lines : (workers worker number : ℕ) (all : List LineCall) → number % workers ≡ worker → lines_by number (dealt_to workers worker all) ≡ lines_by number all
@@ -92,33 +128,24 @@ shared_lines workers worker number all own = twice_kept (λ (l : LineCall). l.se
     let at : l.session % workers ≡ worker = ap (λ (n : ℕ). n % workers) same ∙ own in
     grind (arith, nat_tests, at))
 
-module _ (stated : List Stated) (all : List LineCall) (crew : List Share) (results : List (Result (Vec Sitting Global) WorkFault)) (dealt : AreDealt all crew) (worked : HaveWorked stated crew results) (done : All IsDone results) where
-  -- what a worker has done, whose sessions these are
-  by_result : (worker : ℕ) (share : Share) (result : Result (Vec Sitting Global) WorkFault) → slice_get crew worker ≡ Some share → IfOk result (λ sessions. HasWorked stated (length crew) share sessions.items) → IsDone result → IsAtWork stated (length crew) worker (dealt_to (length crew) worker all) (handed result)
-  by_result worker share (Ok sessions) at has is =
-      subst (λ (ls : List LineCall). IsAtWork stated (length crew) worker ls sessions.items) (dealt worker share at).lines (has worker (dealt worker share at).seated)
-  by_result worker share (Err fault) at has is = absurd is
-
-  at_work : (worker : ℕ) (result : Result (Vec Sitting Global) WorkFault) → slice_get results worker ≡ Some result → IsAtWork stated (length crew) worker (dealt_to (length crew) worker all) (handed result)
-  at_work worker result at =
-      let there : (share : Share) × (slice_get crew worker ≡ Some share) = some_at crew worker (omega (arith, worked.counted, slice_get_within results worker result at)) in
-      by_result worker there.0 result there.1 (worked.each worker there.0 result there.1 at) (all_at IsDone results worker result done at)
-
-  made_by : (worker : ℕ) (result : Result (Vec Sitting Global) WorkFault) → slice_get results worker ≡ Some result → All (HasMade stated all) (handed result)
-  made_by worker result at =
-      let its : IsAtWork stated (length crew) worker (dealt_to (length crew) worker all) (handed result) = at_work worker result at in
-      all_from (HasMade stated all) (handed result) (λ k o there.
-      let made : HasMade stated (dealt_to (length crew) worker all) o = all_at (HasMade stated (dealt_to (length crew) worker all)) (handed result) k o its.made there in
+-- All workers have rested.
+module _ (stated : List Stated) (all : List LineCall) (crew : List Share) (rest : HaveRested stated all crew) where
+  made_by : (worker : ℕ) (share : Share) → slice_get crew worker ≡ Some share → All (HasMade stated all) share.sessions
+  made_by worker share at =
+      let its : IsAtWork stated (length crew) worker (dealt_to (length crew) worker all) share.sessions = (rest worker share at).work in
+      all_from (HasMade stated all) share.sessions (λ k o there.
+      let made : HasMade stated (dealt_to (length crew) worker all) o = all_at (HasMade stated (dealt_to (length crew) worker all)) share.sessions k o its.made there in
       record { calls = made.calls ∙ shared_lines (length crew) worker o.number all (its.seated k o there).0; answered = made.answered })
 
-  pub all_made : All (HasMade stated all) (all_handed results)
-  all_made = all_flat (HasMade stated all) handed results made_by
+  pub all_made : All (HasMade stated all) (flat_map (λ (s : Share). s.sessions) crew)
+  all_made = all_flat (HasMade stated all) (λ (s : Share). s.sessions) crew made_by
 
-  there_by : 0 < length crew → (l : LineCall) → All (λ (x : LineCall). Among x.session (all_handed results)) (dealt_to (length crew) (l.session % length crew) all)
+  there_by : 0 < length crew → (l : LineCall) → All (λ (x : LineCall). Among x.session (flat_map (λ (s : Share). s.sessions) crew)) (dealt_to (length crew) (l.session % length crew) all)
   there_by some l =
-      let found : (result : Result (Vec Sitting Global) WorkFault) × (slice_get results (l.session % length crew) ≡ Some result) = some_at results (l.session % length crew) (omega (arith, worked.counted, mod_below l.session (length crew) some)) in
-      All-weaker (λ (x : LineCall). Among x.session (handed found.0)) (λ (x : LineCall). Among x.session (all_handed results)) (λ x there. among_flat x.session handed results (l.session % length crew) found.0 found.1 there)
-      (dealt_to (length crew) (l.session % length crew) all) (at_work (l.session % length crew) found.0 found.1).there
+      let found : (share : Share) × (slice_get crew (l.session % length crew) ≡ Some share) = some_at crew (l.session % length crew) (mod_below l.session (length crew) some) in
+      All-weaker (λ (x : LineCall). Among x.session found.0.sessions) (λ (x : LineCall). Among x.session (flat_map (λ (s : Share). s.sessions) crew))
+      (λ x there. among_flat x.session (λ (s : Share). s.sessions) crew (l.session % length crew) found.0 found.1 there)
+      (dealt_to (length crew) (l.session % length crew) all) (rest (l.session % length crew) found.0 found.1).work.there
 
-  pub all_there : 0 < length crew → All (λ l. Among l.session (all_handed results)) all
-  all_there some = all_by_class (λ (l : LineCall). l.session % length crew) (λ (x : LineCall). Among x.session (all_handed results)) all (there_by some)
+  pub all_there : 0 < length crew → All (λ l. Among l.session (flat_map (λ (s : Share). s.sessions) crew)) all
+  all_there some = all_by_class (λ (l : LineCall). l.session % length crew) (λ (x : LineCall). Among x.session (flat_map (λ (s : Share). s.sessions) crew)) all (there_by some)

@@ -2,3 +2,4 @@ pub mod Lists
 pub mod Making
 pub mod Dealt
 pub mod Gathered
+pub mod Managed

@@ -1,6 +1,6 @@
 -- Lists by their elements.
-use Rattle.std.proofs.Common.{◌≡◌, ℕ, zero, suc, Bool, true, false, cond, ◌<◌, List, [], ◌∷◌, ◌++◌, length, Some, refl, sym, ◌∙◌, ap, subst, arith, append-nil, take, Result, Ok, Err, OnOk}
-use Rattle.std.specs.Prelude.{slice_get, ◌==◌}
+use Rattle.std.proofs.Common.{◌≡◌, ℕ, zero, suc, Bool, true, false, cond, ◌<◌, List, [], ◌∷◌, ◌++◌, length, map, Some, refl, sym, ◌∙◌, ap, subst, arith, append-nil, take, Result, Ok, Err, OnOk}
+use Rattle.std.specs.Prelude.{slice_get, slice_set, ◌==◌}
 use Rattle.std.specs.List.{All, filter, flat_map}
 use Rattle.std.proofs.lemmas.List.Elements.{All-nil, All-head, All-tail, All-cons, All-append, filter-append}
 use Rattle.std.proofs.Math.Seq.{take-append_seam}
@@ -73,10 +73,25 @@ at_end P (z ∷ xs) x h here (suc k) y is = at_end (λ j w. P (suc j) w) xs x (�
 pub written_back : {X : Type 0} (n : ℕ) (xs ys : List X) → length xs ≡ n → take n (xs ++ ys) ≡ xs
 written_back n xs ys counted = subst (λ (m : ℕ). take m (xs ++ ys) ≡ xs) counted (take-append_seam xs ys)
 
+-- a function of the elements, at a place
+pub map_at : {X Y : Type 0} (f : X → Y) (xs : List X) (k : ℕ) (x : X) → slice_get xs k ≡ Some x → slice_get (map f xs) k ≡ Some (f x)
+map_at f [] k x at = absurd cc
+map_at f (y ∷ xs) zero x at = let same : y ≡ x = cc in ap (λ z. Some (f z)) same
+map_at f (y ∷ xs) (suc k) x at = map_at f xs k x at
+
+pub map_set_same : {X Y : Type 0} (f : X → Y) (xs : List X) (k : ℕ) (x x' : X) → slice_get xs k ≡ Some x → f x' ≡ f x → map f (slice_set xs k x') ≡ map f xs
+map_set_same f [] k x x' at same = absurd cc
+map_set_same f (y ∷ xs) zero x x' at same = let here : y ≡ x = cc in ap (λ z. z ∷ map f xs) (same ∙ ap f (sym here))
+map_set_same f (y ∷ xs) (suc k) x x' at same = ap (λ zs. f y ∷ zs) (map_set_same f xs k x x' at same)
+
 -- two facts of one result
 pub on_ok_both : {T E A B C : Type 0} (r : Result T E) → OnOk r A → OnOk r B → (A → B → C) → OnOk r C
 on_ok_both (Ok x) a b f = f a b
 on_ok_both (Err e) a b f = tt
+
+pub on_ok_always : {T E A : Type 0} (r : Result T E) → A → OnOk r A
+on_ok_always (Ok x) a = a
+on_ok_always (Err e) a = tt
 
 -- nothing is left
 pub all_taken : {X : Type 0} (xs rest all : List X) → xs ++ rest ≡ all → length rest ≡ 0 → xs ≡ all

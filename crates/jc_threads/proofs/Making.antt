@@ -11,13 +11,14 @@ use Rattle.jc_model.specs.declared.config.CacheConfig.{CacheConfig}
 use Rattle.jc_model.specs.declared.event.End.TheVariants.{Replied}
 use Rattle.jc_model.specs.declared.event.Entry.{Entry}
 use Rattle.jc_model.proofs.Lives.{at_same, at_other}
-use Rattle.jc_threads.specs.declared.line.LineCall.{LineCall}
+use Rattle.jc_script.specs.declared.line.LineCall.{LineCall}
 use Rattle.jc_shared.specs.Calls.{Adds, called}
-use Rattle.jc_shared.specs.Sessions.{Sitting}
+use Rattle.jc_shared.specs.Sessions.{Own, Sitting, log_of}
 use Rattle.jc_shared.specs.declared.fault.CallFault.{CallFault}
 use Rattle.jc_shared.specs.Stated.{Stated}
 use Rattle.jc_threads.specs.Dealing.{AreSeated, AreFresh, IsAtWork}
-use Rattle.jc_threads.specs.Lines.{line_of, lines_by, IsAnswered, HasMade, Among}
+use Rattle.jc_script.specs.Calls.{line_of}
+use Rattle.jc_threads.specs.Lines.{lines_by, IsAnswered, HasMade, Among}
 use Rattle.jc_threads.proofs.Lists.{all_at, all_from, kept_more, left_out}
 
 -- of the session whose line it is
@@ -106,4 +107,49 @@ at_work_first stated workers worker sessions seated fresh = record {
   seated = seated;
   made = All-weaker (λ (o : Sitting). o.calls ≡ []) (HasMade stated []) (λ o none. record { calls = ap (map line_of) none; answered = subst (All (IsAnswered stated)) (sym none) (All-nil (IsAnswered stated)) }) sessions fresh;
   there = All-nil (λ (x : LineCall). Among x.session sessions);
+}
+
+-- Sessions with the same logs.
+
+record Twin (xs : List Sitting) (k : ℕ) (y : Sitting) : Type 0 where
+  own : Sitting
+  there : slice_get xs k ≡ Some own
+  same : log_of own ≡ log_of y
+
+first_log : (xs ys : List Sitting) (x y : Sitting) → map log_of (y ∷ ys) ≡ map log_of (x ∷ xs) → log_of x ≡ log_of y
+first_log xs ys x y same = let heads : log_of y ≡ log_of x = cc in sym heads
+
+other_logs : (xs ys : List Sitting) (x y : Sitting) → map log_of (y ∷ ys) ≡ map log_of (x ∷ xs) → map log_of ys ≡ map log_of xs
+other_logs xs ys x y same = cc
+
+twin : (xs ys : List Sitting) (k : ℕ) (y : Sitting) → map log_of ys ≡ map log_of xs → slice_get ys k ≡ Some y → Twin xs k y
+twin xs [] k y same at = absurd cc
+twin [] (z ∷ ys) k y same at = absurd cc
+twin (x ∷ xs) (z ∷ ys) zero y same at = let here : z ≡ y = cc in record { own = x; there = refl; same = first_log xs ys x z same ∙ ap log_of here }
+twin (x ∷ xs) (z ∷ ys) (suc k) y same at = let t = twin xs ys k y (other_logs xs ys x z same) at in record { own = t.own; there = t.there; same = t.same }
+
+among_same : (number : ℕ) (xs ys : List Sitting) → map log_of ys ≡ map log_of xs → Among number xs → Among number ys
+among_same number [] ys same found = absurd found
+among_same number (x ∷ xs) [] same found = absurd cc
+among_same number (x ∷ xs) (y ∷ ys) same (inl is) = inl (ap (λ (o : Own). o.number) (sym (first_log xs ys x y same)) ∙ is)
+among_same number (x ∷ xs) (y ∷ ys) same (inr found) = inr (among_same number xs ys (other_logs xs ys x y same) found)
+
+has_made_same : (stated : List Stated) (done : List LineCall) (x y : Sitting) → log_of x ≡ log_of y → HasMade stated done x → HasMade stated done y
+has_made_same stated done x y same made =
+    let calls : x.calls ≡ y.calls = ap (λ (o : Own). o.calls) same in
+    let number : x.number ≡ y.number = ap (λ (o : Own). o.number) same in
+    record {
+      calls = ap (map line_of) (sym calls) ∙ (made.calls ∙ ap (λ (n : ℕ). lines_by n done) number);
+      answered = subst (All (IsAnswered stated)) calls made.answered;
+    }
+
+pub at_work_same : (stated : List Stated) (workers worker : ℕ) (done : List LineCall) (xs ys : List Sitting) → map log_of ys ≡ map log_of xs → IsAtWork stated workers worker done xs → IsAtWork stated workers worker done ys
+at_work_same stated workers worker done xs ys same work = record {
+  seated = λ k y at.
+      let t = twin xs ys k y same at in
+      subst (λ (n : ℕ). (n % workers ≡ worker) × (n / workers ≡ k)) (ap (λ (o : Own). o.number) t.same) (work.seated k t.own t.there);
+  made = all_from (HasMade stated done) ys (λ k y at.
+      let t = twin xs ys k y same at in
+      has_made_same stated done t.own y t.same (all_at (HasMade stated done) xs k t.own work.made t.there));
+  there = All-weaker (λ (l : LineCall). Among l.session xs) (λ (l : LineCall). Among l.session ys) (λ l found. among_same l.session xs ys same found) done work.there;
 }

@@ -1,14 +1,13 @@
--- How lines and sessions are dealt to workers: session s goes to worker s mod workers, and with it its lines.
-use Rattle.std.specs.Prelude.{◌≡◌, ℕ, ◌%◌, ◌/◌, ◌==◌, List, [], length, slice_get, Some, Result, Ok, Err, IfOk, Vec, ⊤}
-use Rattle.std.specs.List.{filter, flat_map, All}
-use Rattle.std.specs.declared.alloc.Global.{Global}
-use Rattle.jc_threads.specs.declared.line.LineCall.{LineCall}
+-- How sessions and calls are dealt to workers: session s goes to worker s mod workers, and with it its calls.
+use Rattle.std.specs.Prelude.{◌≡◌, ℕ, ◌%◌, ◌/◌, ◌==◌, List, [], ◌++◌, length, slice_get, Some, Result, IfOk}
+use Rattle.std.specs.List.{filter, All}
+use Rattle.jc_script.specs.declared.line.LineCall.{LineCall}
 use Rattle.jc_shared.specs.Sessions.{Sitting}
 use Rattle.jc_shared.specs.Stated.{Stated}
 use Rattle.jc_threads.specs.declared.fault.WorkFault.{WorkFault}
 use Rattle.jc_threads.specs.Lines.{HasMade, Among}
 
--- what a worker has
+-- what a worker has: its sessions, and calls that are still to be made
 pub record Share : Type 0 where
   pub sessions : List Sitting
   pub lines : List LineCall
@@ -27,49 +26,48 @@ dealt_to workers worker lines = filter (λ l. (l.session % workers) == worker) l
 abbrev pub AreFresh : List Sitting → Type 0
 AreFresh sessions = All (λ o. o.calls ≡ []) sessions
 
--- a worker has its part of these lines, and its sessions, which have made no call
-pub record IsDealt (workers worker : ℕ) (all : List LineCall) (share : Share) : Type 0 where
+-- a worker has its sessions, which have made no call, and no calls to make
+pub record IsIdle (workers worker : ℕ) (share : Share) : Type 0 where
   pub seated : AreSeated workers worker share.sessions
   pub fresh : AreFresh share.sessions
-  pub lines : share.lines ≡ dealt_to workers worker all
+  pub lines : share.lines ≡ []
 
--- and so have all
-abbrev pub AreDealt : List LineCall → List Share → Type 0
-AreDealt all crew = (worker : ℕ) (share : Share) → slice_get crew worker ≡ Some share → IsDealt (length crew) worker all share
+abbrev pub AreIdle : List Share → Type 0
+AreIdle crew = (worker : ℕ) (share : Share) → slice_get crew worker ≡ Some share → IsIdle (length crew) worker share
 
--- what can be worked on
-pub record IsReady (workers : ℕ) (share : Share) : Type 0 where
-  pub worker : ℕ
-  pub seated : AreSeated workers worker share.sessions
-  pub fresh : AreFresh share.sessions
-
--- a worker's sessions, some of whose lines are made
+-- a worker's sessions, which have made these calls
 pub record IsAtWork (stated : List Stated) (workers worker : ℕ) (done : List LineCall) (sessions : List Sitting) : Type 0 where
   pub seated : AreSeated workers worker sessions
   pub made : All (HasMade stated done) sessions
   pub there : All (λ l. Among l.session sessions) done
 
--- the share is done
-abbrev pub HasWorked : List Stated → ℕ → Share → List Sitting → Type 0
-HasWorked stated workers share sessions =
-    (worker : ℕ) → AreSeated workers worker share.sessions → IsAtWork stated workers worker share.lines sessions
+-- a worker's sessions have made the first of its part of these calls, and it holds the others
+pub record IsUnderWay (stated : List Stated) (workers worker : ℕ) (all : List LineCall) (share : Share) : Type 0 where
+  pub done : List LineCall
+  pub work : IsAtWork stated workers worker done share.sessions
+  pub held : done ++ share.lines ≡ dealt_to workers worker all
 
--- the sessions that workers hand back
-abbrev pub handed : Result (Vec Sitting Global) WorkFault → List Sitting
-handed (Ok sessions) = sessions.items
-handed (Err fault) = []
+abbrev pub AreUnderWay : List Stated → List LineCall → List Share → Type 0
+AreUnderWay stated all crew = (worker : ℕ) (share : Share) → slice_get crew worker ≡ Some share → IsUnderWay stated (length crew) worker all share
 
-abbrev pub IsDone : Result (Vec Sitting Global) WorkFault → Type 0
-IsDone (Ok sessions) = ⊤
-IsDone (Err fault) = ⊥
+-- they have made all, and it holds none
+pub record HasRested (stated : List Stated) (workers worker : ℕ) (all : List LineCall) (share : Share) : Type 0 where
+  pub work : IsAtWork stated workers worker (dealt_to workers worker all) share.sessions
+  pub lines : share.lines ≡ []
 
-abbrev pub all_handed : List (Result (Vec Sitting Global) WorkFault) → List Sitting
-all_handed results = flat_map handed results
+abbrev pub HaveRested : List Stated → List LineCall → List Share → Type 0
+HaveRested stated all crew = (worker : ℕ) (share : Share) → slice_get crew worker ≡ Some share → HasRested stated (length crew) worker all share
 
-abbrev pub AreReady : List Share → Type 0
-AreReady crew = (worker : ℕ) (share : Share) → slice_get crew worker ≡ Some share → IsReady (length crew) share
+-- no worker holds a call
+abbrev pub AreAtRest : List Share → Type 0
+AreAtRest crew = (worker : ℕ) (share : Share) → slice_get crew worker ≡ Some share → share.lines ≡ []
 
--- each worker that hands its sessions back has done its share
-pub record HaveWorked (stated : List Stated) (crew : List Share) (results : List (Result (Vec Sitting Global) WorkFault)) : Type 0 where
+-- a worker has made the calls that it held
+pub record HasWorked (stated : List Stated) (workers : ℕ) (before after : Share) : Type 0 where
+  pub lines : after.lines ≡ []
+  pub made : (worker : ℕ) (done : List LineCall) → IsAtWork stated workers worker done before.sessions → IsAtWork stated workers worker (done ++ before.lines) after.sessions
+
+-- and so has each that is not at fault
+pub record HaveWorked (stated : List Stated) (crew : List Share) (results : List (Result Share WorkFault)) : Type 0 where
   pub counted : length results ≡ length crew
-  pub each : (worker : ℕ) (share : Share) (result : Result (Vec Sitting Global) WorkFault) → slice_get crew worker ≡ Some share → slice_get results worker ≡ Some result → IfOk result (λ sessions. HasWorked stated (length crew) share sessions.items)
+  pub each : (worker : ℕ) (share : Share) (result : Result Share WorkFault) → slice_get crew worker ≡ Some share → slice_get results worker ≡ Some result → IfOk result (HasWorked stated (length crew) share)

@@ -1,25 +1,16 @@
--- Which lines sessions have made.
-use Rattle.std.specs.Prelude.{◌≡◌, ◌⊎◌, ℕ, ◌==◌, List, [], ◌∷◌, map, slice_get, ⊤}
+-- Which calls sessions have made.
+use Rattle.std.specs.Prelude.{◌≡◌, ◌⊎◌, ℕ, ◌==◌, List, [], ◌∷◌, map, slice_get}
 use Rattle.std.specs.List.{filter, All}
-use Rattle.jc_model.specs.declared.event.End.{End}
-use Rattle.jc_model.specs.declared.event.End.TheVariants.{Replied}
 use Rattle.jc_model.specs.declared.event.Entry.{Entry}
-use Rattle.jc_threads.specs.declared.line.LineCall.{LineCall}
+use Rattle.jc_script.specs.Calls.{line_of, IsReply}
+use Rattle.jc_script.specs.declared.line.LineCall.{LineCall}
 use Rattle.jc_shared.specs.Accounts.{calls_of}
 use Rattle.jc_shared.specs.Sessions.{Sitting}
 use Rattle.jc_shared.specs.Stated.{Stated, AreStated}
 
--- the line whose call an entry is
-abbrev pub line_of : Entry → LineCall
-line_of e = record { session = e.session; id = e.id; at = e.at; call = e.call }
-
--- the lines of a session
+-- the calls of a session's lines
 abbrev pub lines_by : ℕ → List LineCall → List LineCall
 lines_by session lines = filter (λ l. l.session == session) lines
-
-abbrev pub IsReply : End → Type 0
-IsReply (Replied reply) = ⊤
-IsReply _ = ⊥
 
 -- a call has its reply, under answers that loader and processors stated
 pub record IsAnswered (stated : List Stated) (e : Entry) : Type 0 where

@@ -1,22 +1,29 @@
-//! Dealing sessions and lines to workers.
+//! Dealing sessions and calls to workers.
 ghost use Rattle.std.specs.Prelude.{◌≡◌, ◌<◌, ◌++◌, ◌∷◌, [], List, IfOk, OnOk, length, replicate};
-ghost use Rattle.jc_threads.specs.declared.line.LineCall.{LineCall as CallValue};
-ghost use Rattle.jc_threads.specs.Dealing.{idle, AreDealt};
+ghost use Rattle.jc_script.specs.declared.line.LineCall.{LineCall as CallValue};
+ghost use Rattle.jc_threads.specs.Dealing.{idle, AreIdle, AreUnderWay};
 
 use crate::fault::{WorkFault, of_session};
-use crate::line::LineCall;
 use crate::worker::Worker;
 use jc_hooks::{Listener, Loader, Processor, Writer};
 use jc_model::OutOfMemory;
+use jc_script::{Line, LineCall};
 use jc_shared::{Manager, Name, Session};
 use std::alloc::Global;
 use std::sync::Wait;
 
+fn session_of(line: &Line) -> u32 {
+    match line {
+        Line::Call { session, .. } | Line::Create { session, .. } | Line::Destroy { session, .. } =>
+            *session,
+    }
+}
+
 /// How many sessions the lines need: those from 0 to the greatest that a line names.
-fn sessions_of(lines: &[LineCall]) -> usize {
+fn sessions_of(lines: &[Line]) -> usize {
     let mut count = 0;
     for line in lines {
-        count = count.max(line.session as usize + 1);
+        count = count.max(session_of(line) as usize + 1);
     }
     count
 }
@@ -46,7 +53,7 @@ fn seat<'a, N: Name, L: Loader, W: Writer, P: Processor, K: Listener>(
     requires some { 0 < length crew.old }
     requires fresh { session.calls ≡ [] }
     ensures counted { length crew.new ≡ length crew.old }
-    ensures dealt { OnOk result ((all : List CallValue) → AreDealt all crew.old → AreDealt all crew.new) }
+    ensures seated { OnOk result (AreIdle crew.old → AreIdle crew.new) }
 {
     let number = session.number() as usize;
     let workers = crew.len();
@@ -62,7 +69,7 @@ fn seat_all<'a, N: Name, L: Loader, W: Writer, P: Processor, K: Listener, R: Wai
 ) -> Result<(), WorkFault>
     requires some { 0 < length crew.old }
     ensures counted { length crew.new ≡ length crew.old }
-    ensures dealt { OnOk result ((all : List CallValue) → AreDealt all crew.old → AreDealt all crew.new) }
+    ensures seated { OnOk result (AreIdle crew.old → AreIdle crew.new) }
 {
     for number in 0..sessions {
         let session = match manager.session(rt) {
@@ -77,62 +84,32 @@ fn seat_all<'a, N: Name, L: Loader, W: Writer, P: Processor, K: Listener, R: Wai
     Ok(())
 }
 
-/// Gives a line to the worker that has its session.
-fn hand<'a, N: Name, L: Loader, W: Writer, P: Processor, K: Listener>(
+/// Gives a call to the worker that has its session.
+pub(crate) fn hand<'a, N: Name, L: Loader, W: Writer, P: Processor, K: Listener>(
     crew: &mut [Worker<'a, N, L, W, P, K>],
     line: LineCall,
 ) -> Result<(), WorkFault>
     requires some { 0 < length crew.old }
     ensures counted { length crew.new ≡ length crew.old }
-    ensures dealt { OnOk result ((done : List CallValue) → AreDealt done crew.old → AreDealt (done ++ line ∷ []) crew.new) }
+    ensures handed { OnOk result ((all : List CallValue) → AreUnderWay N.stated all crew.old → AreUnderWay N.stated (all ++ line ∷ []) crew.new) }
 {
     let workers = crew.len();
     crew[line.session as usize % workers].hand(line)
 }
 
-/// Gives all lines to the workers.
-fn hand_all<'a, N: Name, L: Loader, W: Writer, P: Processor, K: Listener>(
-    crew: &mut [Worker<'a, N, L, W, P, K>],
-    lines: Vec<LineCall>,
-) -> Result<(), WorkFault>
-    requires some { 0 < length crew.old }
-    ensures counted { length crew.new ≡ length crew.old }
-    ensures dealt { OnOk result (AreDealt [] crew.old → AreDealt lines.items crew.new) }
-{
-    for line in lines {
-        hand(crew, line)?;
-    }
-    Ok(())
-}
-
-/// Deals the sessions that the lines need, and the lines.
-fn deal<'a, N: Name, L: Loader, W: Writer, P: Processor, K: Listener, R: Wait>(
-    rt: &R,
-    manager: &'a Manager<N, L, W, P, K>,
-    crew: &mut [Worker<'a, N, L, W, P, K>],
-    lines: Vec<LineCall>,
-) -> Result<(), WorkFault>
-    requires some { 0 < length crew.old }
-    ensures counted { length crew.new ≡ length crew.old }
-    ensures dealt { OnOk result (AreDealt [] crew.old → AreDealt lines.items crew.new) }
-{
-    let sessions = sessions_of(lines.as_slice());
-    seat_all(rt, manager, crew, sessions)?;
-    hand_all(crew, lines)
-}
-
-/// Workers among whom the lines and their sessions are dealt.
+/// Opens the sessions that the lines need, and gives each to its worker.
 pub(crate) fn dealt<'a, N: Name, L: Loader, W: Writer, P: Processor, K: Listener, R: Wait>(
     rt: &R,
     alloc: Global,
     manager: &'a Manager<N, L, W, P, K>,
     workers: usize,
-    lines: Vec<LineCall>,
+    lines: &[Line],
 ) -> Result<Vec<Worker<'a, N, L, W, P, K>>, WorkFault>
     requires { 0 < workers }
-    ensures { IfOk result (λ crew. (length crew.items ≡ workers) × AreDealt lines.items crew.items) }
+    ensures { IfOk result (λ crew. (length crew.items ≡ workers) × AreUnderWay N.stated [] crew.items) }
 {
+    let sessions = sessions_of(lines);
     let mut crew = idle(alloc, workers)?;
-    deal(rt, manager, crew.as_mut_slice(), lines)?;
+    seat_all(rt, manager, crew.as_mut_slice(), sessions)?;
     Ok(crew)
 }

@@ -1,13 +1,13 @@
 //! Why a run on threads comes to no transcript.
 
-use jc_shared::{CallFault, CloseFault, SessionRefusal};
+use jc_shared::{CallFault, CloseFault, CreateFault, DestroyFault, SessionRefusal};
 use std::alloc::{AllocError, AllocFailed};
 
 /// The fault of a run on threads.
 #[derive(Clone, Copy, Debug, PartialEq, Eq)]
 pub enum WorkFault {
-    /// A session was refused, or had another number than the next one; a call was refused; or what the sessions saw is
-    /// not what the manager recorded.
+    /// A session was refused, or had another number than the next one; a call or a destroying was refused, or a creating
+    /// for its callbacks; or what the sessions saw is not what the manager recorded.
     Close,
     /// Memory was refused, to a callback too.
     OutOfMemory,
@@ -36,6 +36,13 @@ pub(crate) fn of_call(fault: CallFault) -> WorkFault {
     match fault {
         CallFault::OutOfMemory => WorkFault::OutOfMemory,
         _ => WorkFault::Close,
+    }
+}
+
+pub(crate) fn of_destroy(fault: DestroyFault) -> WorkFault {
+    match fault {
+        DestroyFault::OutOfMemory => WorkFault::OutOfMemory,
+        DestroyFault::NoSuchCache | DestroyFault::Busy => WorkFault::Close,
     }
 }
 

@@ -2,7 +2,7 @@
 
 /// A gate that the workers pass before and after each call. It may hold one back until another has passed.
 pub trait Gate: Sync {
-    /// Before a session makes the call of a line; `line` is which of the session's lines, from 0.
+    /// Before a session makes the call of a line; `line` is which of the session's calls, from 0.
     fn before(&self, session: u32, line: usize);
 
     /// After that call, whether it has a reply or not.

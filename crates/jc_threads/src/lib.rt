@@ -4,11 +4,11 @@
 mod dealing;
 mod fault;
 mod gate;
-mod line;
+mod managing;
+mod rounds;
 mod together;
 mod worker;
 
 pub use fault::WorkFault;
 pub use gate::{Gate, OpenGate};
-pub use line::LineCall;
-pub use together::transcribed;
+pub use together::{Transcription, transcribed};

@@ -1,20 +1,24 @@
-//! One worker: it makes the lines of its sessions, in the script's order.
-ghost use Rattle.std.specs.Prelude.{◌≡◌, ℕ, ◌<◌, [], ◌++◌, ◌∷◌, List, length, IsOk, IfOk, OnOk};
-ghost use Rattle.jc_threads.specs.declared.line.LineCall.{LineCall as CallValue};
-ghost use Rattle.jc_threads.specs.Dealing.{AreSeated, IsReady, IsAtWork, HasWorked};
+//! One worker: it makes the calls that it holds, by its sessions and in the script's order.
+ghost use Rattle.std.specs.Prelude.{◌≡◌, ℕ, ◌<◌, ◌++◌, ◌∷◌, [], List, length, map, IsTrue, IsOk, IfOk, OnOk};
+ghost use Rattle.jc_script.specs.declared.line.LineCall.{LineCall as CallValue};
+ghost use Rattle.jc_shared.specs.Sessions.{log_of};
+ghost use Rattle.jc_threads.specs.Dealing.{IsAtWork, HasWorked};
 ghost use Rattle.jc_threads.specs.Lines.{HasMade};
+ghost use Rattle.jc_threads.specs.Managing.{IsDestroying};
 
 use crate::fault::{WorkFault, of_call};
 use crate::gate::Gate;
-use crate::line::LineCall;
+use crate::managing::destroy_by;
 use jc_hooks::{Listener, Loader, Processor, Writer};
 use jc_model::call::Reply;
+use jc_model::event::CacheId;
+use jc_script::LineCall;
 use jc_shared::{CallFault, Logged, Name, Session};
 use std::alloc::Global;
 use std::marker::Model;
 use std::sync::Wait;
 
-/// A worker's sessions, session s being at place s / workers, and their lines.
+/// A worker's sessions, session s being at place s / workers, and the calls that it is to make.
 #[derive(Drop)]
 pub(crate) struct Worker<'a, N: Name, L: Loader, W: Writer, P: Processor, K: Listener> {
     pub(crate) sessions: Vec<Session<'a, N, L, W, P, K>>,
@@ -47,12 +51,49 @@ impl<'a, N: Name, L: Loader, W: Writer, P: Processor, K: Listener> Worker<'a, N,
         Ok(())
     }
 
-    /// Takes a line.
+    /// Takes a call.
     pub(crate) fn hand(&mut self, line: LineCall) -> Result<(), WorkFault>
         ensures { OnOk result (self.new ≡ record self.old { lines = self.old.lines ++ line ∷ [] }) }
     {
         self.lines.push(line)?;
         Ok(())
+    }
+
+    /// Whether it holds no call.
+    pub(crate) fn is_at_rest(&self) -> bool
+        ensures { IsTrue result → self.now.lines ≡ [] }
+    {
+        self.lines.is_empty()
+    }
+
+    /// Its sessions.
+    pub(crate) fn sessions(&self) -> &[Session<'a, N, L, W, P, K>]
+        ensures { result.now ≡ self.now.sessions }
+    {
+        self.sessions.as_slice()
+    }
+
+    /// Destroys a cache by the session at a place, if it has this number.
+    pub(crate) fn destroy<R: Wait>(
+        &mut self,
+        rt: &R,
+        place: usize,
+        session: u32,
+        id: CacheId,
+    ) -> Result<(), WorkFault>
+        ensures gone { OnOk result (IsDestroying N.configs id) }
+        ensures lines { self.new.lines ≡ self.old.lines }
+        ensures same { map log_of self.new.sessions ≡ map log_of self.old.sessions }
+    {
+        destroy_by(rt, self.sessions.as_mut_slice(), place, session, id)
+    }
+
+    /// Its sessions alone.
+    pub(crate) fn into_sessions(self) -> Vec<Session<'a, N, L, W, P, K>>
+        ensures { result.items ≡ self.entry.sessions }
+    {
+        let Worker { sessions, .. } = self;
+        sessions
     }
 }
 
@@ -65,7 +106,7 @@ fn outcome(replied: Result<Reply, CallFault>) -> Result<(), WorkFault>
     }
 }
 
-/// Makes the call of a line by its session.
+/// Makes a call by its session.
 fn make_call<'a, N: Name, L: Loader, W: Writer, P: Processor, K: Listener, G: Gate, R: Wait>(
     rt: &R,
     gate: &G,
@@ -92,7 +133,7 @@ fn make_call<'a, N: Name, L: Loader, W: Writer, P: Processor, K: Listener, G: Ga
     outcome(replied)
 }
 
-/// Makes the call of a line by that of the worker's sessions whose line it is.
+/// Makes a call by that of the worker's sessions whose call it is.
 fn make_line<'a, N: Name, L: Loader, W: Writer, P: Processor, K: Listener, G: Gate, R: Wait>(
     rt: &R,
     gate: &G,
@@ -110,7 +151,7 @@ fn make_line<'a, N: Name, L: Loader, W: Writer, P: Processor, K: Listener, G: Ga
     make_call(rt, gate, &mut sessions[place], line)
 }
 
-/// Makes all lines.
+/// Makes these calls.
 fn make_all<'a, N: Name, L: Loader, W: Writer, P: Processor, K: Listener, G: Gate, R: Wait>(
     rt: &R,
     gate: &G,
@@ -119,7 +160,7 @@ fn make_all<'a, N: Name, L: Loader, W: Writer, P: Processor, K: Listener, G: Gat
     lines: Vec<LineCall>,
 ) -> Result<(), WorkFault>
     requires { 0 < workers }
-    ensures { OnOk result ((worker : ℕ) → IsAtWork N.stated workers worker [] sessions.old → IsAtWork N.stated workers worker lines.items sessions.new) }
+    ensures { OnOk result ((worker : ℕ) (done : List CallValue) → IsAtWork N.stated workers worker done sessions.old → IsAtWork N.stated workers worker (done ++ lines.items) sessions.new) }
 {
     for line in lines {
         make_line(rt, gate, workers, sessions, line)?;
@@ -127,21 +168,24 @@ fn make_all<'a, N: Name, L: Loader, W: Writer, P: Processor, K: Listener, G: Gat
     Ok(())
 }
 
-/// Makes a worker's lines, and hands its sessions back.
+/// Makes the calls that a worker holds.
 pub(crate) fn work<'a, N: Name, L: Loader, W: Writer, P: Processor, K: Listener, G: Gate, R: Wait>(
     rt: &R,
+    alloc: Global,
     gate: &G,
     workers: usize,
     worker: Worker<'a, N, L, W, P, K>,
-) -> Result<Vec<Session<'a, N, L, W, P, K>>, WorkFault>
+) -> Result<Worker<'a, N, L, W, P, K>, WorkFault>
     requires workers { 0 < workers }
-    requires ready { IsReady workers worker }
-    ensures { IfOk result (λ v. HasWorked N.stated workers worker.entry v.items) }
+    ensures { IfOk result (λ w. HasWorked N.stated workers worker.entry w) }
 {
     let Worker {
         mut sessions,
         lines,
     } = worker;
     make_all(rt, gate, workers, sessions.as_mut_slice(), lines)?;
-    Ok(sessions)
+    Ok(Worker {
+        sessions,
+        lines: Vec::new(alloc),
+    })
 }

@@ -1,22 +1,19 @@
-//! Workers on threads: callbacks of one cache go on beside those of another, and many sessions share one cache.
-ghost use Rattle.std.specs.Prelude.{◌≡◌, map};
-ghost use Rattle.jc_shared.specs.Stated.{stated_by};
+//! Runs on worker threads: callbacks of one cache go on beside those of another, a worker asks as its sessions do, and many
+//! sessions share one cache.
+ghost use Rattle.std.specs.Prelude.{◌<◌};
 
+use crate::log::{Log, Text};
+use crate::sessions::{SCENES as NOTED, Scene as Noted, noting_hooks};
 use crate::trouble::{Trouble, no_hooks};
 use jc_config::{Configuration, read_config};
-use jc_hooks::program::{CheckWriter, EchoLoader, ProgramProcessor};
+use jc_hooks::program::{CheckWriter, EchoLoader, ProgramHooks, ProgramProcessor};
 use jc_hooks::{CacheHooks, Listener, Loaded, Loader, Processor, TallyListener, Writer};
 use jc_model::OutOfMemory;
-use jc_model::call::Call;
-use jc_model::event::CacheId;
 use jc_model::key::Key;
-use jc_model::transcript::Transcript;
-use jc_model::value::Value;
-use jc_script::{Line, read_script, report};
-use jc_shared::{Name, Shared};
-use jc_threads::{Gate, LineCall, OpenGate, WorkFault, transcribed};
+use jc_runner::{Crew, RunFault, Setup, WatchedWriter, threaded};
+use jc_script::read_script;
+use jc_threads::{Gate, OpenGate};
 use std::alloc::Global;
-use std::marker::Brand;
 use std::sync::atomic::{AtomicU64, Ordering};
 use std::sync::{Arc, Wait};
 use std::thread::Threads;
@@ -151,64 +148,29 @@ cache b
     },
 ];
 
-/// Makes the calls by workers of a manager under this name, and closes it.
-fn worked_under<
-    N: Name + Send + Sync,
-    L: Loader,
-    W: Writer,
-    P: Processor,
-    K: Listener,
-    G: Gate,
-    R: Threads + Wait + Sync,
->(
+/// What a script reports, run by this crew.
+fn gathered<L: Loader, W: Writer, P: Processor, K: Listener, G: Gate, R: Threads + Wait + Sync>(
     rt: &R,
     alloc: Global,
-    shared: Shared<L, W, P, K>,
-    gate: &G,
-    workers: usize,
-    calls: Vec<LineCall>,
-) -> Result<Transcript, WorkFault>
-    requires configs { shared.configs ≡ N.configs }
-    requires stated { map (stated_by L.load_of P.verdict_of) shared.shared ≡ N.stated }
-    requires index { shared.index ≡ N.index }
+    caches: &str,
+    calls: &[u8],
+    hooks: Vec<CacheHooks<L, W, P, K>>,
+    crew: &Crew<'_, G>,
+) -> Result<Vec<u8>, Trouble>
+    requires { 0 < crew.now.workers }
 {
-    let manager = shared.named::<N>();
-    transcribed(rt, alloc, &manager, gate, workers.max(1), calls)
-}
-
-/// The same, under a name that this call picks.
-fn worked<L: Loader, W: Writer, P: Processor, K: Listener, G: Gate, R: Threads + Wait + Sync>(
-    rt: &R,
-    alloc: Global,
-    shared: Shared<L, W, P, K>,
-    gate: &G,
-    workers: usize,
-    calls: Vec<LineCall>,
-) -> Result<Transcript, WorkFault> {
-    worked_under::<Brand, L, W, P, K, G, R>(rt, alloc, shared, gate, workers, calls)
-}
-
-/// The calls of a script that makes no others.
-fn calls_of(alloc: Global, lines: Vec<Line>) -> Result<Vec<LineCall>, Trouble> {
-    let mut calls = Vec::new(alloc);
-    for line in lines {
-        let Line::Call {
-            session,
-            id,
-            at,
-            call,
-        } = line
-        else {
-            continue;
-        };
-        calls.push(LineCall {
-            session,
-            id,
-            at,
-            call,
-        })?;
-    }
-    Ok(calls)
+    let Configuration { settings, .. } = read_config(alloc, caches.as_bytes())?;
+    let Ok(lines) = read_script(alloc, calls, &settings) else {
+        return Err(Trouble::Memory);
+    };
+    let setup = Setup {
+        settings,
+        hooks,
+        seed: 7,
+    };
+    let mut writer = WatchedWriter::new(Vec::new(alloc));
+    threaded(rt, alloc, setup, crew, lines, &mut writer)?;
+    Ok(writer.into_inner())
 }
 
 /// The callbacks of a scene.
@@ -234,19 +196,24 @@ fn reported<R: Threads + Wait + Sync>(
     rt: &R,
     alloc: Global,
     scene: &Scene,
-) -> Result<(String, bool), Trouble> {
-    let Configuration { settings, .. } = read_config(alloc, scene.caches.as_bytes())?;
-    let Ok(lines) = read_script(alloc, scene.calls.as_bytes(), &settings) else {
-        return Err(Trouble::Memory);
-    };
+) -> Result<(Vec<u8>, bool), Trouble> {
     let flags = lowered_flags(alloc)?;
     let hooks = waiting_hooks(alloc, scene, &flags)?;
     let gate = RaisingGate {
         raises: Arc::try_clone(&flags.raised[2])?,
     };
-    let shared = Shared::open(alloc, settings.into_caches(), hooks, 7)?;
-    let transcript = worked(rt, alloc, shared, &gate, 2, calls_of(alloc, lines)?)?;
-    let text = report(alloc, &transcript, &[])?;
+    let crew = Crew {
+        workers: 2,
+        gate: &gate,
+    };
+    let text = gathered(
+        rt,
+        alloc,
+        scene.caches,
+        scene.calls.as_bytes(),
+        hooks,
+        &crew,
+    )?;
     Ok((text, flags.missed.load(Ordering::SeqCst) != 0))
 }
 
@@ -254,9 +221,77 @@ fn reported<R: Threads + Wait + Sync>(
 fn callbacks_of_two_caches_run_side_by_side(rt: HostRuntime) -> Result<(), Trouble> {
     for scene in &SCENES {
         let (text, missed) = reported(&rt, rt.alloc(), scene)?;
-        assert_eq!(rt; text.as_str(), scene.report);
+        assert_eq!(rt; text.as_slice(), scene.report.as_bytes());
         assert!(rt; !missed, "{}", scene.calls);
     }
+    Ok(())
+}
+
+/// Notes a point behind each call.
+#[derive(Drop)]
+struct PointGate {
+    log: Log,
+}
+
+impl Gate for PointGate {
+    fn before(&self, _session: u32, _line: usize) {}
+
+    fn after(&self, _session: u32, _line: usize) {
+        self.log.note(Text::of(b"."));
+    }
+}
+
+/// What a worker reports of a scene of sessions, or why it does not, and what the callbacks are asked.
+fn asked_of<R: Threads + Wait + Sync>(
+    rt: &R,
+    alloc: Global,
+    scene: &Noted,
+) -> Result<(Result<Vec<u8>, Trouble>, Vec<u8>), Trouble> {
+    let log = Log::new(alloc, 32)?;
+    let gate = PointGate { log: log.share()? };
+    let crew = Crew {
+        workers: 1,
+        gate: &gate,
+    };
+    let hooks = noting_hooks(alloc, scene, &log)?;
+    let text = gathered(
+        rt,
+        alloc,
+        scene.caches,
+        scene.calls.as_bytes(),
+        hooks,
+        &crew,
+    );
+    Ok((text, log.text(alloc)?))
+}
+
+#[test]
+fn a_worker_asks_as_its_sessions_do(rt: HostRuntime) -> Result<(), Trouble> {
+    let (text, asked) = asked_of(&rt, rt.alloc(), &NOTED[0])?;
+    assert_eq!(rt; text?.as_slice(), NOTED[0].report.as_bytes());
+    assert_eq!(rt; asked.as_slice(), NOTED[0].asked.as_bytes());
+    // A callback without memory ends the run.
+    for scene in &NOTED[1..] {
+        let (text, _) = asked_of(&rt, rt.alloc(), scene)?;
+        assert_eq!(rt; text.err(), Some(Trouble::Running(RunFault::Memory)));
+    }
+    Ok(())
+}
+
+/// Callbacks that the settings do not name.
+#[test]
+fn other_callbacks_open_no_crew(rt: HostRuntime) -> Result<(), Trouble> {
+    let alloc = rt.alloc();
+    let mut hooks: Vec<ProgramHooks> = Vec::new(alloc);
+    let crew = Crew {
+        workers: 2,
+        gate: &OpenGate,
+    };
+    for _ in 0..2 {
+        hooks.push(no_hooks(alloc))?;
+    }
+    let text = gathered(&rt, alloc, SCENES[0].caches, b"", hooks, &crew);
+    assert_eq!(rt; text.err(), Some(Trouble::Running(RunFault::Open)));
     Ok(())
 }
 
@@ -265,44 +300,50 @@ const SESSIONS: u32 = 64;
 
 const CALLS: u32 = 640;
 
-/// Puts and gets of 100 keys of cache 0, by all sessions in turn.
-fn crowd(alloc: Global) -> Result<Vec<LineCall>, Trouble> {
-    let mut calls = Vec::new(alloc);
+/// Puts and gets of 100 keys of one cache, by all sessions in turn.
+fn crowd(alloc: Global) -> Result<String, Trouble> {
+    let mut script = String::new(alloc);
     for number in 0..CALLS {
-        let name = format!(in alloc; "k{}", number % 100)?;
-        let key = Key::from_text(name.as_str())?;
-        let call = if number % 3 == 0 {
-            Call::Put(key, Value::new(alloc, name.as_bytes().to_vec(alloc)?)?)
+        let (session, key) = (number % SESSIONS, number % 100);
+        let line = if number % 3 == 0 {
+            format!(in alloc;
+                "{{\"s\":{session},\"c\":\"a\",\"at\":0,\"op\":\"put\",\"k\":\"k{key}\",\"v\":\"k{key}\"}}\n"
+            )?
         } else {
-            Call::Get(key)
+            format!(in alloc;
+                "{{\"s\":{session},\"c\":\"a\",\"at\":0,\"op\":\"get\",\"k\":\"k{key}\"}}\n"
+            )?
         };
-        calls.push(LineCall {
-            session: number % SESSIONS,
-            id: CacheId::new(0),
-            at: 0,
-            call,
-        })?;
+        script.push_str(line.as_str())?;
     }
-    Ok(calls)
+    Ok(script)
 }
 
-/// How many calls are in the transcript when 64 sessions on 8 workers have shared one cache.
+/// How many lines the report has when 64 sessions on 8 workers have shared one of two caches.
 fn crowded<R: Threads + Wait + Sync>(rt: &R, alloc: Global) -> Result<usize, Trouble> {
-    let Configuration { settings, .. } = read_config(alloc, SCENES[0].caches.as_bytes())?;
-    let mut hooks: Vec<CacheHooks<EchoLoader, CheckWriter, ProgramProcessor, TallyListener>> =
-        Vec::new(alloc);
+    let script = crowd(alloc)?;
+    let mut hooks: Vec<ProgramHooks> = Vec::new(alloc);
     hooks.push(no_hooks(alloc))?;
     hooks[0].loader = Some(EchoLoader);
     hooks.push(no_hooks(alloc))?;
-    let shared = Shared::open(alloc, settings.into_caches(), hooks, 7)?;
-    let transcript = worked(rt, alloc, shared, &OpenGate, 8, crowd(alloc)?)?;
-    Ok(transcript.entries().len())
+    let crew = Crew {
+        workers: 8,
+        gate: &OpenGate,
+    };
+    let text = gathered(rt, alloc, SCENES[0].caches, script.as_bytes(), hooks, &crew)?;
+    let mut lines = 0usize;
+    for byte in text.as_slice() {
+        if *byte == b'\n' {
+            lines = lines.saturating_add(1);
+        }
+    }
+    Ok(lines)
 }
 
 #[test]
 fn a_crowd_of_sessions_closes(rt: HostRuntime) -> Result<(), Trouble> {
     for _ in 0..10 {
-        assert_eq!(rt; crowded(&rt, rt.alloc())?, 640);
+        assert_eq!(rt; crowded(&rt, rt.alloc())?, 642);
     }
     Ok(())
 }

@@ -21,6 +21,8 @@ mod closing;
 #[cfg(test)]
 mod closures;
 #[cfg(test)]
+mod coming;
+#[cfg(test)]
 mod crews;
 #[cfg(test)]
 mod large;

@@ -17,15 +17,15 @@ use std::sync::Wait;
 
 /// A configuration, whose callbacks each find no memory for one of their questions; a script; what the callbacks are
 /// asked, with a point behind each call; and the report.
-struct Scene {
-    caches: &'static str,
+pub(crate) struct Scene {
+    pub(crate) caches: &'static str,
     poor: u64,
-    calls: &'static str,
-    asked: &'static str,
-    report: &'static str,
+    pub(crate) calls: &'static str,
+    pub(crate) asked: &'static str,
+    pub(crate) report: &'static str,
 }
 
-static SCENES: [Scene; 3] = [
+pub(crate) static SCENES: [Scene; 3] = [
     // Sessions share one state; a value is loaded once; listeners are told before the reply.
     Scene {
         caches: r#"
@@ -127,7 +127,7 @@ listeners = 1
 /// How many sessions the scenes have.
 const SESSIONS: u32 = 3;
 
-type PoorHooks = CacheHooks<
+pub(crate) type PoorHooks = CacheHooks<
     NotedLoader<OncePoor<EchoLoader>>,
     NotedWriter<OncePoor<CheckWriter>>,
     NotedProcessor<OncePoor<ProgramProcessor>>,
@@ -252,17 +252,28 @@ fn play<L: Loader, W: Writer, P: Processor, K: Listener, R: Wait>(
     played::<Brand, L, W, P, K, R>(rt, alloc, shared, lines, log)
 }
 
+/// The callbacks of a scene.
+pub(crate) fn noting_hooks(
+    alloc: Global,
+    scene: &Scene,
+    log: &Log,
+) -> Result<Vec<PoorHooks>, Trouble> {
+    let Configuration { settings, hooks } = read_config(alloc, scene.caches.as_bytes())?;
+    let mut noting = Vec::new(alloc);
+    for (config, kinds) in settings.caches().iter().zip(hooks.items()) {
+        noting.push(poor_hooks(alloc, kinds, config.listeners, scene.poor, log)?)?;
+    }
+    Ok(noting)
+}
+
 /// The report of a scene, and what its callbacks are asked.
 fn report_of<R: Wait>(rt: &R, alloc: Global, scene: &Scene) -> Result<(String, Vec<u8>), Trouble> {
-    let Configuration { settings, hooks } = read_config(alloc, scene.caches.as_bytes())?;
+    let Configuration { settings, .. } = read_config(alloc, scene.caches.as_bytes())?;
     let Ok(lines) = read_script(alloc, scene.calls.as_bytes(), &settings) else {
         return Err(Trouble::Memory);
     };
     let log = Log::new(alloc, 32)?;
-    let mut noting = Vec::new(alloc);
-    for (config, kinds) in settings.caches().iter().zip(hooks.items()) {
-        noting.push(poor_hooks(alloc, kinds, config.listeners, scene.poor, &log)?)?;
-    }
+    let noting = noting_hooks(alloc, scene, &log)?;
     let shared = Shared::open(alloc, settings.into_caches(), noting, 7)?;
     let report = play(rt, alloc, shared, lines, &log)?;
     Ok((report, log.text(alloc)?))

@@ -4,13 +4,16 @@ use crate::trouble::{Trouble, no_hooks};
 use jc_config::ConfigFault;
 use jc_hooks::program::ProgramHooks;
 use jc_runner::{
-    ProgramFault, RunFault, Watched, WatchedWriter, demonstration, read_configuration, serial,
-    write_fault,
+    Crew, ProgramFault, RunFault, Setup, Watched, WatchedWriter, demonstration, read_configuration,
+    serial, threaded, write_fault,
 };
-use jc_script::ScriptFault;
+use jc_script::{ScriptFault, read_script};
+use jc_threads::OpenGate;
 use std::alloc::Global;
 use std::io;
 use std::io::{ErrorKind, Read, Write};
+use std::sync::Wait;
+use std::thread::Threads;
 
 /// A script for the demonstration's caches.
 const SCRIPT: &str = r#"{"s":0,"c":"a","at":0,"op":"put","k":"x","v":"1"}
@@ -199,11 +202,41 @@ fn failing(alloc: Global, left: usize) -> FailingWriter {
     }
 }
 
+/// The fault of a run of the script by two workers.
+fn fault_of_workers<O: Write, R: Threads + Wait + Sync>(
+    rt: &R,
+    alloc: Global,
+    writer: &mut WatchedWriter<O>,
+) -> Result<Option<RunFault>, Trouble> {
+    let settings = demonstration(alloc)?;
+    let Ok(lines) = read_script(alloc, SCRIPT.as_bytes(), &settings) else {
+        return Err(Trouble::Memory);
+    };
+    let mut hooks: Vec<ProgramHooks> = Vec::new(alloc);
+    for _ in 0..2 {
+        hooks.push(no_hooks(alloc))?;
+    }
+    let setup = Setup {
+        settings,
+        hooks,
+        seed: 0,
+    };
+    let crew = Crew {
+        workers: 2,
+        gate: &OpenGate,
+    };
+    Ok(threaded(rt, alloc, setup, &crew, lines, writer).err())
+}
+
 #[test]
 fn a_writer_fails_at_each_byte(rt: HostRuntime) -> Result<(), Trouble> {
     let alloc = rt.alloc();
     let report = REPORTS[3].as_bytes();
     for left in 0..report.len() {
+        let mut writer = WatchedWriter::new(failing(alloc, left));
+        let fault = fault_of_workers(&rt, alloc, &mut writer)?;
+        assert_eq!(rt; fault, Some(RunFault::Write));
+        assert_eq!(rt; writer.into_inner().taken.as_slice(), &report[..left]);
         let mut reader = Watched::new(SCRIPT.as_bytes());
         let mut writer = WatchedWriter::new(failing(alloc, left));
         let fault = fault_of(alloc, 2, &mut reader, &mut writer)?;

@@ -11,7 +11,6 @@ use jc_model::keys::ListFault;
 use jc_model::value::{Value, ValueFault};
 use jc_runner::{ProgramFault, RunFault};
 use jc_shared::{CloseFault, SessionRefusal, SharedRefusal};
-use jc_threads::WorkFault;
 use std::alloc::{AllocFailed, Global};
 
 #[derive(Debug, Drop, PartialEq, Eq)]
@@ -30,7 +29,6 @@ pub enum Trouble {
     NoManager(SharedRefusal),
     NoSession(SessionRefusal),
     NotClosed(CloseFault),
-    NotWorked(WorkFault),
 }
 
 impl From<OutOfMemory> for Trouble {
@@ -96,12 +94,6 @@ impl From<RunFault> for Trouble {
 impl From<SharedRefusal> for Trouble {
     fn from(refusal: SharedRefusal) -> Trouble {
         Trouble::NoManager(refusal)
-    }
-}
-
-impl From<WorkFault> for Trouble {
-    fn from(fault: WorkFault) -> Trouble {
-        Trouble::NotWorked(fault)
     }
 }
 

@@ -17,12 +17,12 @@ pub const CONFIG: &str = "Path of the configuration, a TOML file";
 
 pub const SCRIPT: &str = "Path of the script, one JSON object a line";
 
-pub const WORKERS: &str = "From 1 to 8; has no effect yet: one thread makes all calls";
+pub const WORKERS: &str = "From 1 to 8; session s makes its calls on worker s mod N";
 
 pub const SEED: &str =
     "From 0 to 9223372036854775807; picks places in the table, and changes no report";
 
-pub const SERIAL: &str = "Has no effect yet: all calls are made in the script's order";
+pub const SERIAL: &str = "No workers: one thread makes all calls, in the script's order";
 
 /// What stands below the arguments.
 pub const AFTER: &str = "\

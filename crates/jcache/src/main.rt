@@ -23,6 +23,7 @@ fn main(rt: HostRuntime) -> ExitCode {
     let mut opened = Opened::none();
     let mut standard = Standard::new(rt.stdin(), rt.stdout(), rt.stderr());
     let ended = program(
+        &rt,
         rt.alloc(),
         words_of(&rt),
         &mut disk,

@@ -1,9 +1,8 @@
-use Rattle.std.proofs.Common.{◌≡◌, ◌∙◌, [], List, length, drop, sym, ap, subst, arith}
-use Rattle.jc_threads.specs.declared.line.LineCall.{LineCall}
+use Rattle.std.proofs.Common.{◌≡◌, ◌∙◌, ◌++◌, List, length, drop, sym, ap, subst, arith}
+use Rattle.jc_script.specs.declared.line.LineCall.{LineCall}
 use Rattle.jc_shared.specs.Sessions.{Sitting}
 use Rattle.jc_threads.specs.Dealing.{Share, IsAtWork}
 use Rattle.jc_threads.proofs.Lists.{written_back}
-use Rattle.jc_threads.proofs.Making.{at_work_first}
 use Rattle.jc_threads.proofs.worker.work.Goals as goal
 
 pub returns : goal.returns
@@ -11,8 +10,10 @@ returns g c =
     let items : c.as_mut_slice.result.now ≡ c.args.worker.sessions = c.as_mut_slice.ensures.value ∙ ap (λ (s : Share). s.sessions) c.worker.view_is in
     let lines : c.worker.inside.lines.items ≡ c.args.worker.lines = ap (λ (s : Share). s.lines) c.worker.view_is in
     let same = written_back c.worker.inside.sessions.len c.make_all.new.sessions (drop (length c.make_all.new.sessions) c.worker.inside.sessions.items) (omega (arith, c.make_all.auto.sessions, c.as_mut_slice.ensures.len)) in
-    λ worker seated.
-    let first = at_work_first g.N.Name.stated c.args.workers worker c.args.worker.sessions seated c.requires.ready.fresh in
-    let made = c.in_ok-make_all.ensures worker (subst (λ (os : List Sitting). IsAtWork g.N.Name.stated c.args.workers worker [] os) (sym items) first) in
-    subst (λ (os : List Sitting). IsAtWork g.N.Name.stated c.args.workers worker c.args.worker.lines os) (sym same)
-    (subst (λ (ls : List LineCall). IsAtWork g.N.Name.stated c.args.workers worker ls c.make_all.new.sessions) lines made)
+    record {
+      lines = c.new.ensures.items;
+      made = λ worker done first.
+          let made = c.in_ok-make_all.ensures worker done (subst (λ (os : List Sitting). IsAtWork g.N.Name.stated c.args.workers worker done os) (sym items) first) in
+          subst (λ (os : List Sitting). IsAtWork g.N.Name.stated c.args.workers worker (done ++ c.args.worker.lines) os) (sym same)
+          (subst (λ (ls : List LineCall). IsAtWork g.N.Name.stated c.args.workers worker (done ++ ls) c.make_all.new.sessions) lines made);
+    }

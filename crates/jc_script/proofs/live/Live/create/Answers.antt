@@ -4,7 +4,7 @@ use Rattle.jc_model.specs.Runs.{creates, answer_in, lives_by}
 use Rattle.jc_roster.specs.Members.{create_refusal_in}
 use Rattle.jc_roster.proofs.Members.{allowed}
 use Rattle.jc_script.specs.Live.{lives_in}
-use Rattle.jc_script.proofs.Followed.{none_there, refused, accepted, one_more}
+use Rattle.jc_script.proofs.KeptCaches.{none_there, refused, accepted, one_more}
 use Rattle.jc_script.proofs.live.Live.create.Goals as goal
 
 pub returns-then-is_some : goal.returns-then-is_some

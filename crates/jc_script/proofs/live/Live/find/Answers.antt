@@ -1,7 +1,7 @@
 use Rattle.std.proofs.Common.{ap, ◌∙◌}
 use Rattle.jc_roster.specs.Members.{id_named}
 use Rattle.jc_script.specs.Live.{id_of, lives_in}
-use Rattle.jc_script.proofs.Followed.{id_by_members}
+use Rattle.jc_script.proofs.KeptCaches.{id_by_members}
 use Rattle.jc_script.proofs.live.Live.find.Goals as goal
 
 pub returns : goal.returns

@@ -3,7 +3,7 @@ use Rattle.std.proofs.Math.Seq.{take-length}
 use Rattle.std.proofs.lemmas.List.Elements.{recursion_from_All}
 use Rattle.jc_model.specs.declared.config.CacheConfig.{CacheConfig}
 use Rattle.jc_model.specs.Limits.{most_processors}
-use Rattle.jc_script.proofs.Followed.{new_name, room_left, at_first, few_first}
+use Rattle.jc_script.proofs.KeptCaches.{new_name, room_left, at_first, few_first}
 use Rattle.jc_script.proofs.live.Live.new.Goals as goal
 
 pub add-requires-clause-new : goal.add-requires-clause-new

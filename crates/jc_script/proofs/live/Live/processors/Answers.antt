@@ -1,7 +1,7 @@
 use Rattle.std.proofs.Common.{◌≡◌, ap, sym, ◌∙◌, rules, Some, None}
 use Rattle.jc_model.specs.Places.{at_place}
 use Rattle.jc_script.specs.Live.{processors_at, lives_in}
-use Rattle.jc_script.proofs.Followed.{few_at, no_processors}
+use Rattle.jc_script.proofs.KeptCaches.{few_at, no_processors}
 use Rattle.jc_script.proofs.live.Live.processors.Goals as goal
 
 pub returns-in-Some-clause-few : goal.returns-in-Some-clause-few

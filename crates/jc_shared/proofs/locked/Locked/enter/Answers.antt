@@ -9,7 +9,8 @@ returns-in-Ok-clause-sees g c =
         transcript = recorded.transcript;
         legal = c.transcript-legal.ensures.legal;
         begins = c.args.self.now.begins;
-        sees = record { lives = lives_of recorded.caches; live = c.args.self.now.stay; tells = c.in-Ok.ensures.tells; shows = λ _. shown.0 };
+        lives = lives_of recorded.caches;
+        sees = record { tells = c.in-Ok.ensures.tells; shows = λ _. shown.0 };
       },
       shown.1,
     )

@@ -5,7 +5,7 @@ use Rattle.jc_model.specs.declared.event.Entry.{Entry}
 use Rattle.jc_model.specs.Runs.{gives_up}
 use Rattle.jc_engine.specs.Caches.{lives_of}
 use Rattle.jc_engine.specs.Results.{of_give_up}
-use Rattle.jc_shared.proofs.Tenures.{stay_live, still_begins, given_up_stands}
+use Rattle.jc_shared.proofs.Tenures.{still_begins, given_up_stands}
 use Rattle.jc_shared.proofs.locked.Locked.give_up.Goals as goal
 
 pub invariant_of-self : goal.invariant_of-self
@@ -15,7 +15,6 @@ invariant_of-self g c =
     let draft = c.args.draft.now in
     record {
       begins = still_begins g.N.Name.configs old.transcript new.transcript draft.session draft.id gives_up (of_give_up c.give_up.result) c.args.self.now.begins (c.give_up.ensures.transcript draft.session);
-      stay = stay_live g.N.Name.configs (lives_of old.caches) (lives_of new.caches) draft.id gives_up (of_give_up c.give_up.result) c.args.self.now.stay c.give_up.ensures.lives;
     }
 
 pub returns-then-stands_at-clause-ok : goal.returns-then-stands_at-clause-ok
@@ -26,6 +25,6 @@ returns-then-stands_at-clause-ok g c =
     let same : final ≡ record draft { told = final.told; end = ends.GivenUp } =
     c.end_with.ensures ∙ ap (λ (e : Entry). record e { end = ends.GivenUp }) c.keep_left.ensures.kept ∙ ap (λ (ns : List Notice). record draft { told = ns; end = ends.GivenUp }) (sym told) in (
       same,
-      given_up_stands g.N.Name.configs (lives_of c.args.self.now.recorded.caches) c.args.self.now.recorded.transcript c.give_up.new.self.transcript draft final c.show.new.pass c.in-Some.place c.in-Some.ensures
-          c.in-Ok.left (c.in-Ok.ensures.transcript draft.session) c.in-Ok.ensures.outcome (ap (λ (e : Entry). e.id) same) (c.stands_at.ensures c.if-stands_at.true) c.show.ensures.sees,
+      given_up_stands g.N.Name.configs (lives_of c.args.self.now.recorded.caches) (lives_of c.give_up.new.self.caches) c.args.self.now.recorded.transcript c.give_up.new.self.transcript draft final c.show.new.pass c.in-Some.place c.in-Some.ensures
+          c.in-Ok.left (c.in-Ok.ensures.transcript draft.session) c.in-Ok.ensures.outcome c.in-Ok.ensures.lives (ap (λ (e : Entry). e.id) same) (c.stands_at.ensures c.if-stands_at.true) c.show.ensures.sees,
     )

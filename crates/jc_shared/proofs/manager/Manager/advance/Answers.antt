@@ -3,7 +3,7 @@ use Rattle.jc_model.specs.declared.call.Notice.{Notice}
 use Rattle.jc_model.specs.declared.event.Entry.{Entry}
 use Rattle.jc_shared.specs.Serving.{told_behind, Tells}
 use Rattle.jc_engine.proofs.Recordings.{on_ok}
-use Rattle.jc_shared.proofs.Carrying.{on_err, served_on, noted_waits, goes_stays}
+use Rattle.jc_shared.proofs.Carrying.{on_err, served_on, noted_waits, goes_stays, goes_untold}
 use Rattle.jc_shared.proofs.manager.Manager.advance.Goals as goal
 
 pub returns-in-Ok-resumed-clause-brought : goal.returns-in-Ok-resumed-clause-brought
@@ -19,3 +19,12 @@ returns-then-is_err-clause-told g c =
     let kept : c.note_answer.new.draft.told ≡ told = ap (λ (e : Entry). e.told) same ∙ ap (λ (e : Entry). e.told) c.keep_told.ensures in
     let served = served_on g.K.Listener.state_after g.W.Writer.may c.args.hooks.now c.answer.new.hooks c.args.request c.in-Ok.answer c.args.draft.now.told (c.tells_again.ensures c.if-tells_again.false) c.in-Ok.ensures.served in
     λ first h. c.give_up-then-is_err.ensures.told first (subst (λ (ns : List Notice). Tells g.K.Listener.state_after first c.answer.new.hooks ns) (sym kept) (served first h))
+
+pub returns-in-Ok-resumed-clause-told : goal.returns-in-Ok-resumed-clause-told
+returns-in-Ok-resumed-clause-told g c =
+    let told = told_behind c.args.request c.args.draft.now.told in
+    let noted = on_ok c.note_answer.result c.note_answer.ensures.ok (sym c.is_err.ensures.value ∙ c.if-is_err.false) in
+    let kept : c.resume-resumed.new.draft.told ≡ told =
+    goes_untold g.N.Name.configs c.note_answer.new.draft c.resume-resumed.new.draft c.resume-resumed.new.pass c.in-Ok-resumed.turned c.in-Ok-resumed.ensures.ok ∙ ap (λ (e : Entry). e.told) noted ∙ ap (λ (e : Entry). e.told) c.keep_told.ensures in
+    let served = served_on g.K.Listener.state_after g.W.Writer.may c.args.hooks.now c.answer.new.hooks c.args.request c.in-Ok.answer c.args.draft.now.told (c.tells_again.ensures c.if-tells_again.false) c.in-Ok.ensures.served in
+    λ first h. subst (λ (ns : List Notice). Tells g.K.Listener.state_after first c.answer.new.hooks ns) (sym kept) (served first h)

@@ -2,7 +2,7 @@ use Rattle.std.proofs.Common.{◌≡◌, ◌++◌, ◌∷◌, [], ◌∙◌, ap,
 use Rattle.jc_model.specs.declared.event.Entry.{Entry}
 use Rattle.jc_stripes.proofs.Lists.{prefix_trans}
 use Rattle.jc_shared.specs.Calls.{IsSameCall}
-use Rattle.jc_shared.proofs.Carrying.{begun_same, same_call, added_ok, added_err}
+use Rattle.jc_shared.proofs.Carrying.{begun_same, same_call, added_ok, added_err, begin_fails}
 use Rattle.jc_shared.proofs.session.Session.call.Goals as goal
 
 pub returns-clause-ok : goal.returns-clause-ok
@@ -25,3 +25,9 @@ returns-clause-err g c =
 
 pub returns-clause-front : goal.returns-clause-front
 returns-clause-front g c = rw (← c.self.view_is) (prefix_trans _ _ _ c.begin-begun.ensures.front c.carry_on-replied.ensures.front)
+
+pub returns-in-Err-begun-clause-err : goal.returns-in-Err-begun-clause-err
+returns-in-Err-begun-clause-err g c =
+    rw (← c.self.view_is)
+    (begin_fails g.N.Name.configs g.N.Name.stated (record { number = c.self.inside.number; calls = c.self.inside.own.items; pass = c.self.inside.pass }) (record { number = c.self.inside.number; calls = c.reserve.new.self.items; pass = c.begin-begun.new.pass }) c.args.id c.args.now c.args.call
+    c.in-Ok.draft c.in-Err-begun.fault c.in-Ok.ensures c.reserve.ensures.items c.in-Err-begun.ensures.err)

@@ -1,0 +1,110 @@
+-- A run on worker threads: its callbacks, and what its manager has refused.
+use Rattle.std.proofs.Common.{◌≡◌, ℕ, zero, suc, ◌+◌, ◌<◌, ◌≤◌, Bool, List, [], ◌∷◌, ◌++◌, length, map, get_or, take, sym, ap, ap₂, subst, ◌∙◌, arith, Option, Some, Result, Err}
+use Rattle.std.specs.Prelude.{slice_get, is_some}
+use Rattle.std.specs.Result.{result_err}
+use Rattle.std.proofs.lemmas.List.{take_all, take_more, map_push}
+use Rattle.std.proofs.lemmas.Option.{same_Some}
+use Rattle.jc_hooks.specs.declared.cache_hooks.CacheHooks.{CacheHooks}
+use Rattle.jc_hooks.specs.declared.loader.Loaded.{Loaded}
+use Rattle.jc_model.specs.declared.call.ProcessorFault.{ProcessorFault}
+use Rattle.jc_model.specs.declared.call.Verdict.{Verdict}
+use Rattle.jc_model.specs.declared.config.CacheConfig.{CacheConfig}
+use Rattle.jc_model.specs.declared.event.CreateRefusal.{CreateRefusal}
+use Rattle.jc_model.specs.Legal.{History, IsLegal}
+use Rattle.jc_script.specs.declared.line.Line.{Line}
+use Rattle.jc_script.specs.declared.line.LineCall.{LineCall}
+use Rattle.jc_script.specs.declared.managed.Managed.{Managed}
+use Rattle.jc_script.specs.Calls.{calls_in}
+use Rattle.jc_script.specs.Managing.{lives_of, managed_of}
+use Rattle.jc_script.specs.Report.{text}
+use Rattle.jc_shared.specs.declared.hooks.SharedHooks.{SharedHooks}
+use Rattle.jc_shared.specs.Stated.{Stated, stated_by, shared_of}
+use Rattle.jc_threads.specs.Lines.{AreMade}
+use Rattle.jc_threads.specs.Managing.{AreManaged}
+use mathlib.Core.Logic.{inl, inr}
+use Rattle.jc_engine.specs.Opening.{open_refusal}
+use Rattle.jc_engine.specs.declared.open.OpenRefusal.{OpenRefusal}
+use Rattle.jc_shared.specs.declared.fault.SharedRefusal.{SharedRefusal}
+use Rattle.jc_shared.specs.declared.fault.SharedRefusal.TheVariants.{Caches, HooksDiffer}
+use Rattle.jc_shared.specs.Opening.{SuitAt, AllSuit as AllSuitByPlace, CanOpen, IsRefusal}
+use Rattle.jc_runner.specs.Hooks.{AllSuit, CannotOpen}
+use Rattle.jc_runner.specs.Together.{stated_of, Gathers, GathersSo}
+use Rattle.jc_runner.specs.declared.fault.RunFault.{RunFault}
+
+-- Callbacks that suit, one after the other and by place.
+
+module _ {L W P K : Type 0} (wants : P → Bool) where
+  pub suit_at : (caches : List CacheConfig) (hooks : List (CacheHooks L W P K)) (place : ℕ) → AllSuit wants caches hooks → SuitAt wants (slice_get caches place) (slice_get hooks place)
+  suit_at [] [] place s = tt
+  suit_at [] (h ∷ hs) place s = absurd s
+  suit_at (c ∷ cs) [] place s = absurd s
+  suit_at (c ∷ cs) (h ∷ hs) zero s = s.0
+  suit_at (c ∷ cs) (h ∷ hs) (suc place) s = suit_at cs hs place s.1
+
+  pub all_suit : (caches : List CacheConfig) (hooks : List (CacheHooks L W P K)) → AllSuitByPlace wants caches hooks → AllSuit wants caches hooks
+  all_suit [] [] s = tt
+  all_suit [] (h ∷ hs) s = s 0
+  all_suit (c ∷ cs) [] s = s 0
+  all_suit (c ∷ cs) (h ∷ hs) s = (s 0, all_suit cs hs (λ place. s (suc place)))
+
+  -- why a shared manager does not open
+  pub refused_caches : (caches caches' : List CacheConfig) (hooks : List (CacheHooks L W P K)) (f : SharedRefusal) (r : OpenRefusal) → caches' ≡ caches → f ≡ Caches r → IsRefusal wants caches' hooks f → CannotOpen wants caches hooks
+  refused_caches caches caches' hooks f r same is refused =
+      let refused' : open_refusal caches' ≡ Some r = subst (IsRefusal wants caches' hooks) is refused in inr (ap is_some (ap open_refusal (sym same) ∙ refused'))
+
+  pub refused_hooks : (caches caches' : List CacheConfig) (hooks : List (CacheHooks L W P K)) (f : SharedRefusal) (place : ℕ) → caches' ≡ caches → f ≡ HooksDiffer place → IsRefusal wants caches' hooks f → CannotOpen wants caches hooks
+  refused_hooks caches caches' hooks f place same is refused =
+      let refused' : IsRefusal wants caches hooks (HooksDiffer place) = subst (λ (cs : List CacheConfig). IsRefusal wants cs hooks (HooksDiffer place)) same (subst (IsRefusal wants caches' hooks) is refused) in
+      inl (λ suits. refused'.1.here (suit_at caches hooks place suits))
+
+  pub opened_suits : (caches caches' : List CacheConfig) (hooks : List (CacheHooks L W P K)) → caches' ≡ caches → CanOpen wants caches' hooks → AllSuit wants caches hooks
+  opened_suits caches caches' hooks same opens = subst (λ (cs : List CacheConfig). AllSuit wants cs hooks) same (all_suit caches' hooks opens.1)
+
+-- What was refused, line by line.
+
+abbrev pub refusals : List Managed → List (Option CreateRefusal)
+refusals managed = map (λ m. m.refusal) managed
+
+pub refused_at : (managed : List Managed) (all : List (Option CreateRefusal)) (i : ℕ) (m d : Managed) (r e : Option CreateRefusal) → i < length managed → refusals managed ≡ all → m ≡ get_or managed i d → r ≡ get_or all i e → m.refusal ≡ r
+refused_at [] all i m d r e below same is is' = absurd (omega arith)
+refused_at (x ∷ xs) [] i m d r e below same is is' = cc
+refused_at (x ∷ xs) (y ∷ ys) zero m d r e below same is is' = ap (λ (z : Managed). z.refusal) is ∙ ap (λ (zs : List (Option CreateRefusal)). get_or zs 0 e) same ∙ sym is'
+refused_at (x ∷ xs) (y ∷ ys) (suc i) m d r e below same is is' = refused_at xs ys i m d r e (omega arith) (ap (λ (zs : List (Option CreateRefusal)). get_tail zs) same) is is'
+  where
+    get_tail : List (Option CreateRefusal) → List (Option CreateRefusal)
+    get_tail [] = []
+    get_tail (z ∷ zs) = zs
+
+pub one_more_refused : (managed : List Managed) (all : List (Option CreateRefusal)) (i : ℕ) (m d : Managed) (r e : Option CreateRefusal) → i < length managed → i < length all → refusals (take i managed) ≡ take i all → m ≡ get_or managed i d → r ≡ get_or all i e → m.refusal ≡ r
+    → refusals (take (i + 1) managed) ≡ take (i + 1) all
+one_more_refused managed all i m d r e below below' so_far is is' same =
+    ap refusals (take_more managed i d below) ∙ map_push (λ (x : Managed). x.refusal) (take i managed) (get_or managed i d)
+    ∙ ap₂ (λ (xs : List (Option CreateRefusal)) (x : Option CreateRefusal). xs ++ x ∷ []) so_far (ap (λ (x : Managed). x.refusal) (sym is) ∙ same ∙ is') ∙ sym (take_more all i e below')
+
+pub all_refused : (managed : List Managed) (all : List (Option CreateRefusal)) (i : ℕ) → length managed ≤ i → length managed ≡ length all → refusals (take i managed) ≡ take i all → refusals managed ≡ all
+all_refused managed all i le same so_far = ap refusals (sym (take_all i managed le)) ∙ so_far ∙ take_all i all (omega (arith, same))
+
+-- The report of what was made.
+
+module _ (stated : List Stated) (caches : List CacheConfig) (all : List Line) where
+  pub gathers : (t : History) (managed : List Managed) (refused : List (Option CreateRefusal)) (bytes : List ℕ) → IsLegal t → t.lives ≡ lives_of caches all → AreMade stated (calls_in all) t.entries
+      → managed ≡ managed_of caches all → refusals managed ≡ refused → AreManaged caches all refused → bytes ≡ text t managed → Gathers stated caches all bytes
+  gathers t managed refused bytes legal lives made is_of same answered told = record {
+    transcript = t;
+    is_made = record { legal = legal; lives = lives; made = made };
+    managed = subst (λ (ms : List Managed). AreManaged caches all (refusals ms)) is_of (subst (AreManaged caches all) (sym same) answered);
+    told = told ∙ ap (text t) is_of;
+  }
+
+  pub gathers_so : {IsSo : List ℕ → Type 0} (bytes : List ℕ) → Gathers stated caches all bytes → IsSo bytes → GathersSo stated caches all IsSo
+  gathers_so bytes g so = record { text = bytes; gathers = g; so = so }
+
+-- the answers that were stated, and the transcript that was compared
+pub made_of : {L W P K : Type 0} (load_of : L → List ℕ → Loaded) (verdict_of : P → Option (List ℕ) → List ℕ → Result Verdict ProcessorFault) (shared : List (SharedHooks L P)) (hooks : List (CacheHooks L W P K)) (calls : List LineCall) (t t' : History)
+    → shared ≡ map shared_of hooks → t ≡ t' → AreMade (map (stated_by load_of verdict_of) shared) calls t'.entries → AreMade (stated_of load_of verdict_of hooks) calls t.entries
+made_of load_of verdict_of shared hooks calls t t' handed same made =
+    subst (λ (h : History). AreMade (stated_of load_of verdict_of hooks) calls h.entries) (sym same) (subst (λ (ss : List Stated). AreMade ss calls t'.entries) (ap (map (stated_by load_of verdict_of)) handed) made)
+
+-- a fault that was passed on
+pub passed_fault : {T : Type 0} (r : Result T RunFault) (e f : RunFault) → (y : RunFault) × (r ≡ Err y) × (y ≡ e) → r ≡ Err f → e ≡ f
+passed_fault r e f p is = sym p.2 ∙ same_Some p.0 f (ap result_err (sym p.1 ∙ is))

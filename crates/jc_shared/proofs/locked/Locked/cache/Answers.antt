@@ -1,0 +1,15 @@
+use Rattle.std.proofs.Common.{◌∙◌}
+use Rattle.jc_engine.specs.Caches.{lives_of}
+use Rattle.jc_shared.proofs.Livings.{named_lives}
+use Rattle.jc_shared.proofs.locked.Locked.cache.Goals as goal
+
+pub returns : goal.returns
+returns g c =
+    let recorded = c.args.self.now.recorded in
+    let told = c.transcript-legal.ensures in
+    record {
+      transcript = recorded.transcript;
+      lives = lives_of recorded.caches;
+      told = record { legal = told.legal; begins = c.args.self.now.begins; tells = told.tells };
+      named = c.cache.ensures ∙ named_lives c.args.name.now 0 recorded.caches;
+    }

@@ -1,0 +1,74 @@
+//! Tenures in which caches are found, created and destroyed.
+ghost use Rattle.std.specs.Prelude.{◌≡◌, ◌≢◌, true, IfOk, IfErr, OnOk};
+ghost use mathlib.Core.List.{IsPrefix};
+ghost use Rattle.jc_shared.specs.Living.{IsNamed, IsCreated, IsCreateFault, HasGone};
+
+use super::Locked;
+use crate::fault::{CreateFault, DestroyFault};
+use crate::name::Name;
+use crate::tables::TablePass;
+use jc_model::config::CacheConfig;
+use jc_model::event::{CacheId, Cause};
+use jc_model::key::Key;
+
+impl<N: Name> Locked<N> {
+    /// The id of the live cache with this name.
+    pub(crate) fn cache(&self, name: &Key) -> Option<CacheId>
+        ensures { IsNamed N.configs name.now result }
+    {
+        let _legal = self.recorded.transcript();
+        self.recorded.cache(name)
+    }
+
+    /// Creates a cache, where its callbacks suit it and there is room for them.
+    pub(crate) fn create(
+        &mut self,
+        config: CacheConfig,
+        suited: bool,
+        room: bool,
+    ) -> Result<CacheId, (CreateFault, CacheConfig)>
+        ensures created { IfOk result (λ id. IsCreated N.configs id config) }
+        ensures refused { IfErr result (λ e. IsCreateFault N.configs config (suited ≡ true) e.0) }
+        ensures may { OnOk result ((suited ≡ true) × (room ≡ true)) }
+        ensures back { IfErr result (λ e. e.1 ≡ config) }
+    {
+        let _legal = self.recorded.transcript();
+        if let Some(refusal) = self.recorded.create_refusal(&config) {
+            return Err((CreateFault::Cache(refusal), config));
+        }
+        if !suited {
+            return Err((CreateFault::HooksDiffer, config));
+        }
+        if !room {
+            return Err((CreateFault::OutOfMemory, config));
+        }
+        match self.recorded.create(config) {
+            Ok(id) => {
+                let _legal = self.recorded.transcript();
+                Ok(id)
+            }
+            Err((_, config)) => Err((CreateFault::OutOfMemory, config)),
+        }
+    }
+
+    /// Destroys a cache. The pass sees the table without its rows, where memory allows it.
+    pub(crate) fn destroy(
+        &mut self,
+        id: CacheId,
+        pass: &mut TablePass<N>,
+    ) -> Result<(), DestroyFault>
+        ensures gone { OnOk result (HasGone N.configs id pass.new) }
+        ensures front { IsPrefix pass.old.images pass.new.images }
+        ensures err { IfErr result (λ fault. (fault ≢ DestroyFault.OutOfMemory) × (pass.new ≡ pass.old)) }
+    {
+        let _legal = self.recorded.transcript();
+        match self.recorded.destroy(id) {
+            Ok(()) => {
+                self.show(pass);
+                Ok(())
+            }
+            Err(Cause::NoSuchCache) => Err(DestroyFault::NoSuchCache),
+            Err(_) => Err(DestroyFault::Busy),
+        }
+    }
+}

@@ -1,0 +1,96 @@
+//! Caches created and destroyed by a worker's session.
+ghost use Rattle.std.specs.Prelude.{◌≡◌, ◌<◌, List, IfOk, OnOk, length, map};
+ghost use Rattle.jc_script.specs.declared.line.LineCall.{LineCall as CallValue};
+ghost use Rattle.jc_shared.specs.Sessions.{log_of};
+ghost use Rattle.jc_threads.specs.Dealing.{AreAtRest, HaveRested};
+ghost use Rattle.jc_threads.specs.Managing.{IsCreating, IsDestroying};
+
+use crate::fault::{WorkFault, of_destroy};
+use crate::worker::Worker;
+use jc_hooks::{CacheHooks, Listener, Loader, Processor, Writer};
+use jc_model::config::CacheConfig;
+use jc_model::event::{CacheId, CreateRefusal};
+use jc_shared::{CreateFault, Name, Session};
+use std::alloc::Global;
+use std::sync::Wait;
+
+/// Creates a cache without callbacks by a session, and says why not, if it is refused.
+fn create_by<'a, N: Name, L: Loader, W: Writer, P: Processor, K: Listener, R: Wait>(
+    rt: &R,
+    alloc: Global,
+    session: &Session<'a, N, L, W, P, K>,
+    config: CacheConfig,
+) -> Result<Option<CreateRefusal>, WorkFault>
+    ensures { IfOk result (λ refusal. IsCreating N.configs config refusal) }
+{
+    let hooks: CacheHooks<L, W, P, K> = CacheHooks {
+        loader: None,
+        writer: None,
+        processors: Vec::new(alloc),
+        listeners: Vec::new(alloc),
+    };
+    match session.create(rt, config, hooks) {
+        Ok(_) => Ok(None),
+        Err((CreateFault::Cache(refusal), _, _)) => Ok(Some(refusal)),
+        Err((CreateFault::HooksDiffer, _, _)) => Err(WorkFault::Close),
+        Err((CreateFault::OutOfMemory, _, _)) => Err(WorkFault::OutOfMemory),
+    }
+}
+
+/// Creates a cache by the session of this number, once the round has ended.
+pub(crate) fn create<'a, N: Name, L: Loader, W: Writer, P: Processor, K: Listener, R: Wait>(
+    rt: &R,
+    alloc: Global,
+    crew: &[Worker<'a, N, L, W, P, K>],
+    session: u32,
+    config: CacheConfig,
+) -> Result<Option<CreateRefusal>, WorkFault>
+    requires some { 0 < length crew.now }
+    requires rest { AreAtRest crew.now }
+    ensures { IfOk result (λ refusal. IsCreating N.configs config refusal) }
+{
+    let workers = crew.len();
+    let number = session as usize;
+    match crew[number % workers].sessions().get(number / workers) {
+        Some(own) if own.number() == session => create_by(rt, alloc, own, config),
+        _ => Err(WorkFault::Close),
+    }
+}
+
+/// Destroys a cache by the session at a place, if it has this number.
+pub(crate) fn destroy_by<'a, N: Name, L: Loader, W: Writer, P: Processor, K: Listener, R: Wait>(
+    rt: &R,
+    sessions: &mut [Session<'a, N, L, W, P, K>],
+    place: usize,
+    session: u32,
+    id: CacheId,
+) -> Result<(), WorkFault>
+    ensures gone { OnOk result (IsDestroying N.configs id) }
+    ensures same { map log_of sessions.new ≡ map log_of sessions.old }
+{
+    if place >= sessions.len() || sessions[place].number() != session {
+        return Err(WorkFault::Close);
+    }
+    match sessions[place].destroy(rt, id) {
+        Ok(()) => Ok(()),
+        Err(fault) => Err(of_destroy(fault)),
+    }
+}
+
+/// Destroys a cache by the session of this number, once the round has ended.
+pub(crate) fn destroy<'a, N: Name, L: Loader, W: Writer, P: Processor, K: Listener, R: Wait>(
+    rt: &R,
+    crew: &mut [Worker<'a, N, L, W, P, K>],
+    session: u32,
+    id: CacheId,
+) -> Result<(), WorkFault>
+    requires some { 0 < length crew.old }
+    requires rest { AreAtRest crew.old }
+    ensures gone { OnOk result (IsDestroying N.configs id) }
+    ensures counted { length crew.new ≡ length crew.old }
+    ensures rested { (all : List CallValue) → HaveRested N.stated all crew.old → HaveRested N.stated all crew.new }
+{
+    let workers = crew.len();
+    let number = session as usize;
+    crew[number % workers].destroy(rt, number / workers, session, id)
+}

@@ -1,0 +1,249 @@
+//! Sessions that create and destroy caches: which ids they get, what is refused and handed back, whose callbacks are
+//! asked, and what lookups know of it.
+ghost use Rattle.std.specs.Prelude.{◌≡◌, map};
+ghost use Rattle.jc_hooks.specs.Program.{echoed};
+ghost use Rattle.jc_hooks.specs.Processors.{verdict_by};
+ghost use Rattle.jc_shared.specs.Stated.{stated_by};
+
+use crate::fakes::{NotedListener, NotedLoader, NotedProcessor, NotedWriter};
+use crate::log::Log;
+use crate::trouble::{Trouble, key, no_hooks, plain_cache, value_of};
+use jc_hooks::CacheHooks;
+use jc_hooks::program::{CheckWriter, EchoLoader, ProgramProcessor};
+use jc_index::lookup::Lookup;
+use jc_model::OutOfMemory;
+use jc_model::call::{Call, Reply};
+use jc_model::config::CacheConfig;
+use jc_model::event::{CacheId, CreateRefusal};
+use jc_model::list::Sequence;
+use jc_shared::{CallFault, CreateFault, DestroyFault, Manager, Name, Session, Shared};
+use std::alloc::Global;
+use std::marker::Brand;
+use std::sync::Wait;
+
+type NotedEcho = NotedLoader<EchoLoader>;
+
+type NotedCheck = NotedWriter<CheckWriter>;
+
+type NotedAppend = NotedProcessor<ProgramProcessor>;
+
+type Hooks = CacheHooks<NotedEcho, NotedCheck, NotedAppend, NotedListener>;
+
+type Caches<N> = Manager<N, NotedEcho, NotedCheck, NotedAppend, NotedListener>;
+
+type Caller<'a, N> = Session<'a, N, NotedEcho, NotedCheck, NotedAppend, NotedListener>;
+
+/// A cache with a loader, a writer, a processor and a listener.
+fn full_cache(alloc: Global, name: &str) -> Result<CacheConfig, Trouble> {
+    let mut config = plain_cache(alloc, name, 4)?;
+    config.loader = true;
+    config.writer = true;
+    config.processors = Sequence::new(Vec::from_array(alloc, [true])?);
+    config.listeners = 1;
+    Ok(config)
+}
+
+/// Its callbacks, which note what they are asked.
+fn full_hooks(alloc: Global, log: &Log) -> Result<Hooks, OutOfMemory> {
+    let mut hooks: Hooks = no_hooks(alloc);
+    hooks.loader = Some(NotedLoader {
+        loader: EchoLoader,
+        log: log.share()?,
+    });
+    hooks.writer = Some(NotedWriter {
+        writer: CheckWriter,
+        log: log.share()?,
+    });
+    hooks.processors.push(NotedProcessor {
+        name: b"a",
+        processor: ProgramProcessor::Append,
+        log: log.share()?,
+    })?;
+    hooks.listeners.push(NotedListener {
+        name: b'1',
+        log: log.share()?,
+    })?;
+    Ok(hooks)
+}
+
+/// Whether all callbacks are there.
+fn are_full(hooks: &Hooks) -> bool {
+    let asked = hooks.loader.is_some() && hooks.processors.len() == 1;
+    asked && hooks.writer.is_some() && hooks.listeners.len() == 1
+}
+
+/// The first cache is destroyed while another session knows a row of it.
+fn goes<N: Name, R: Wait>(
+    rt: &R,
+    alloc: Global,
+    manager: &Caches<N>,
+    first: &mut Caller<'_, N>,
+    second: &mut Caller<'_, N>,
+) -> Result<[bool; 8], Trouble> {
+    let (a, x) = (CacheId::new(0), key("x")?);
+    let put = Call::Put(x, value_of(alloc, "1")?);
+    Ok([
+        second.call(rt, a, 0, put) == Ok(Reply::Done),
+        first.call(rt, a, 0, Call::Contains(x)) == Ok(Reply::Truth(true)),
+        first.contains_key(a, &x, 1) == Lookup::Sure(true),
+        first.destroy(rt, a) == Ok(()),
+        first.contains_key(a, &x, 1) == Lookup::Sure(false),
+        first.destroy(rt, a) == Err(DestroyFault::NoSuchCache),
+        second.call(rt, a, 1, Call::Get(x)) == Err(CallFault::NoSuchCache),
+        manager.cache(rt, &key("a")?).is_none(),
+    ])
+}
+
+/// A cache is created with callbacks, and calls on it ask them.
+fn comes<N: Name, R: Wait>(
+    rt: &R,
+    alloc: Global,
+    manager: &Caches<N>,
+    first: &Caller<'_, N>,
+    second: &mut Caller<'_, N>,
+    log: &Log,
+) -> Result<[bool; 6], Trouble> {
+    let (c, k) = (CacheId::new(2), key("k")?);
+    let created = first.create(rt, full_cache(alloc, "c")?, full_hooks(alloc, log)?);
+    let put = Call::Put(k, value_of(alloc, "2")?);
+    let invoke = |processor| {
+        Ok::<Call, Trouble>(Call::Invoke {
+            key: k,
+            processor,
+            argument: value_of(alloc, "+")?,
+        })
+    };
+    Ok([
+        created.ok() == Some(c),
+        manager.cache(rt, &key("c")?) == Some(c),
+        second.call(rt, c, 2, Call::Get(k)) == Ok(Reply::Found(Some(value_of(alloc, "k")?))),
+        second.call(rt, c, 2, put) == Ok(Reply::Done),
+        second.call(rt, c, 2, invoke(0)?).is_ok(),
+        second.call(rt, c, 2, invoke(1)?) == Err(CallFault::NoSuchProcessor),
+    ])
+}
+
+/// A cache that is not created: why, and whether its callbacks are handed back.
+fn refused<N: Name, R: Wait>(
+    rt: &R,
+    session: &Caller<'_, N>,
+    config: CacheConfig,
+    hooks: Hooks,
+) -> Option<(CreateFault, bool)> {
+    match session.create(rt, config, hooks) {
+        Ok(_) => None,
+        Err((fault, _, back)) => Some((fault, are_full(&back))),
+    }
+}
+
+/// Caches that are refused, in order, and one that gets the name of the destroyed one.
+fn stays<N: Name, R: Wait>(
+    rt: &R,
+    alloc: Global,
+    session: &mut Caller<'_, N>,
+    log: &Log,
+) -> Result<[bool; 5], Trouble> {
+    let full = |name| full_cache(alloc, name);
+    let hooks = || full_hooks(alloc, log);
+    let again = refused(rt, session, full("c")?, hooks()?);
+    let bare = refused(rt, session, full("d")?, no_hooks(alloc));
+    let empty = refused(rt, session, plain_cache(alloc, "e", 0)?, no_hooks(alloc));
+    let named = session.create(rt, plain_cache(alloc, "a", 1)?, no_hooks(alloc));
+    let get = Call::Get(key("x")?);
+    Ok([
+        again == Some((CreateFault::Cache(CreateRefusal::DuplicateName), true)),
+        bare == Some((CreateFault::HooksDiffer, false)),
+        empty == Some((CreateFault::Cache(CreateRefusal::BadCapacity), false)),
+        named.ok() == Some(CacheId::new(3)),
+        session.call(rt, CacheId::new(3), 3, get) == Ok(Reply::Found(None)),
+    ])
+}
+
+/// What has become of the two sessions' calls, and of the manager at its close: the ids of all lives, and how many
+/// calls were made.
+#[derive(Drop)]
+struct Lived {
+    gone: [bool; 8],
+    come: [bool; 6],
+    stay: [bool; 5],
+    lives: Vec<u32>,
+    calls: usize,
+}
+
+fn outlived<N: Name, R: Wait>(
+    rt: &R,
+    alloc: Global,
+    manager: &Caches<N>,
+    log: &Log,
+) -> Result<Lived, Trouble> {
+    let (mut first, mut second) = (manager.session(rt)?, manager.session(rt)?);
+    let gone = goes(rt, alloc, manager, &mut first, &mut second)?;
+    let come = comes(rt, alloc, manager, &first, &mut second, log)?;
+    let stay = stays(rt, alloc, &mut first, log)?;
+    let mut sessions = Vec::new(alloc);
+    sessions.push(first)?;
+    sessions.push(second)?;
+    match manager.close(rt, sessions) {
+        Ok(transcript) => {
+            let mut lives = Vec::new(alloc);
+            for life in transcript.lives() {
+                lives.push(life.id.number())?;
+            }
+            let calls = transcript.entries().len();
+            Ok(Lived {
+                gone,
+                come,
+                stay,
+                lives,
+                calls,
+            })
+        }
+        Err((fault, _)) => Err(Trouble::NotClosed(fault)),
+    }
+}
+
+type Opened = Shared<NotedEcho, NotedCheck, NotedAppend, NotedListener>;
+
+/// The same, under this name.
+fn named<N: Name, R: Wait>(
+    rt: &R,
+    alloc: Global,
+    shared: Opened,
+    log: &Log,
+) -> Result<Lived, Trouble>
+    requires configs { shared.configs ≡ N.configs }
+    requires stated { map (stated_by (λ l. echoed) (λ p. verdict_by p.processor)) shared.shared ≡ N.stated }
+    requires index { shared.index ≡ N.index }
+{
+    let manager = shared.named::<N>();
+    outlived(rt, alloc, &manager, log)
+}
+
+/// The same, under a name that this call picks.
+fn live<R: Wait>(rt: &R, alloc: Global, shared: Opened, log: &Log) -> Result<Lived, Trouble> {
+    named::<Brand, R>(rt, alloc, shared, log)
+}
+
+#[test]
+fn sessions_create_and_destroy(rt: HostRuntime) -> Result<(), Trouble> {
+    let alloc = rt.alloc();
+    let log = Log::new(alloc, 16)?;
+    let configs = [plain_cache(alloc, "a", 4)?, plain_cache(alloc, "b", 4)?];
+    let mut hooks = Vec::new(alloc);
+    for _ in 0..2 {
+        hooks.push(no_hooks(alloc))?;
+    }
+    let shared = Shared::open(alloc, Vec::from_array(alloc, configs)?, hooks, 7)?;
+    let lived = live(&rt, alloc, shared, &log)?;
+    assert_eq!(rt; lived.gone, [true; 8]);
+    assert_eq!(rt; lived.come, [true; 6]);
+    assert_eq!(rt; lived.stay, [true; 5]);
+    assert_eq!(rt; lived.lives.as_slice(), [0u32, 1, 2, 3].as_slice());
+    assert_eq!(rt; lived.calls, 6);
+    let asked = log.text(alloc)?;
+    assert_eq!(rt;
+        asked.as_slice(),
+        b"lk 1ck wk=2 1uk a:2,+ wk=2+ 1uk ".as_slice()
+    );
+    Ok(())
+}
