@@ -1,9 +1,7 @@
-pub mod Others
+pub mod Names
 pub mod Left
 pub mod Ready
 pub mod EachStep
 pub mod TiedKeys
 pub mod Rows
 pub mod Apart
-pub mod Touched
-pub mod Plans

@@ -1,18 +1,8 @@
 -- The table has as many rows as the caches have together.
-use Rattle.std.proofs.Common.{◌≡◌, ℕ, suc, ◌+◌, ◌-◌, ◌<◌, Bool, true, false, cond, List, [], ◌∷◌, length, Option, Some, None, inl, inr, IsSome, refl, sym, ap, subst, ◌∙◌, arith}
-use Rattle.std.specs.Prelude.{Decides, option_map, sum_by}
+use Rattle.jc_engine.proofs.Names.{common_steps, cases_lt, sum_by-cons, bytes_eq-Decides, Expiry, Item, State, row_of, at_place, all_there, Lacks, HasDistinctKeys, RowMap, expiry_at, same_rows, get-empty, len-empty}
+use Rattle.jc_engine.proofs.Names.{get-removed_same, get-removed_other, get-removed_absent, len-removed}
+use Rattle.std.proofs.Common.{◌≡◌, ℕ, suc, ◌+◌, ◌-◌, ◌<◌, Bool, true, false, cond, List, [], ◌∷◌, length, Option, Some, None, inl, inr, IsSome, refl, sym, ap, subst, ◌∙◌, arith, Decides, option_map, sum_by, bytes_eq}
 use Rattle.std.specs.FinMap as table
-use Rattle.std.specs.Str.{bytes_eq}
-use Rattle.std.proofs.lemmas.Bool.{cases_lt}
-use Rattle.std.proofs.lemmas.List.Sums.{sum_by-cons}
-use Rattle.std.proofs.lemmas.Slice.Eq.{bytes_eq-Decides}
-use Rattle.jc_model.specs.declared.config.Expiry.{Expiry}
-use Rattle.jc_model.specs.State.{Item, State, row_of}
-use Rattle.jc_model.specs.Places.{at_place, all_there}
-use Rattle.jc_model.specs.Sound.{Lacks, HasDistinctKeys}
-use Rattle.jc_rows.specs.Rows.{RowMap}
-use Rattle.jc_rows.proofs.Laws.{same_rows, get-empty, len-empty, get-removed_same, get-removed_other, get-removed_absent, len-removed}
-use Rattle.jc_engine.specs.Watching.{expiry_at}
 
 abbrev Found : Type 0
 Found = Option (ℕ × Expiry)
@@ -20,26 +10,14 @@ Found = Option (ℕ × Expiry)
 -- A key of a ring.
 
 own_key : (x : Item) (xs : List Item) → row_of x.key (x ∷ xs) ≡ None → ⊥
-own_key x xs none = go (bytes_eq x.key x.key) ((bytes_eq-Decides x.key x.key).1 refl) none
-  where
-    go : (b : Bool) → b ≡ true → cond b (Some x) (row_of x.key xs) ≡ None → ⊥
-    go true e p = cc
-    go false e p = cc
+own_key x xs none = grind (arith, common_steps, (bytes_eq-Decides x.key x.key).1 refl)
 
 later_key : (x : Item) (xs : List Item) (key : List ℕ) → (row_of key xs ≡ None → ⊥) → row_of key (x ∷ xs) ≡ None → ⊥
-later_key x xs key there none = go (bytes_eq x.key key) none
-  where
-    go : (b : Bool) → cond b (Some x) (row_of key xs) ≡ None → ⊥
-    go true p = cc
-    go false p = there p
+later_key x xs key there none = grind (arith, common_steps)
 
 lacking : (key : List ℕ) (xs : List Item) → Lacks key xs → row_of key xs ≡ None
 lacking key [] lacks = refl
-lacking key (x ∷ xs) lacks = go (bytes_eq x.key key) (bytes_eq-Decides x.key key) (lacking key xs lacks.1)
-  where
-    go : (b : Bool) → Decides b (x.key ≡ key) → row_of key xs ≡ None → cond b (Some x) (row_of key xs) ≡ None
-    go true d rest = absurd (lacks.0 (d.0 refl))
-    go false d rest = rest
+lacking key (x ∷ xs) lacks = grind (arith, common_steps, (bytes_eq-Decides x.key key).0, lacks.0, lacking key xs lacks.1)
 
 -- The table without the rows of a ring.
 
@@ -99,8 +77,7 @@ no_rows m base has = same_rows m table.empty (λ x. at x.0 x.1 ∙ sym (get-empt
     at : (id : ℕ) (key : List ℕ) → table.get m (id, key) ≡ None
     at id key = elim (cases_lt id base) [
       | inl below ↦ has.before id key below
-      | inr above ↦ (let same : base + (id - base) ≡ id = omega (arith, above) in
-          subst (λ (j : ℕ). table.get m (j, key) ≡ None) same (absent_by (table.get m (base + (id - base), key)) (has.own (id - base) key)))
+      | inr above ↦ (let same : base + (id - base) ≡ id = omega (arith, above) in rw same at (absent_by (table.get m (base + (id - base), key)) (has.own (id - base) key)))
     ]
 
 module _ (m : RowMap) (base : ℕ) (s : State) (states : List (Option State)) (has : HasRows m base (Some s ∷ states)) where
@@ -114,12 +91,11 @@ module _ (m : RowMap) (base : ℕ) (s : State) (states : List (Option State)) (h
   rest_rows = record {
     own = λ i key. (let next : base + suc i ≡ suc base + i = omega arith in
         ap (option_map (λ row. row.1)) (elsewhere m base (suc base + i) key s.ring (λ same. omega (arith, same)))
-        ∙ subst (λ (j : ℕ). option_map (λ row. row.1) (table.get m (j, key)) ≡ expiry_at key (at_place states i)) next (has.own (suc i) key));
+        ∙ rw next at (has.own (suc i) key));
     before = λ id key below. elim (cases_lt id base) [
       | inl less ↦ elsewhere m base id key s.ring (λ same. omega (arith, same, less)) ∙ has.before id key less
-      | inr not_less ↦ (let same : base ≡ id = omega (arith, below, not_less) in
-          subst (λ (j : ℕ). table.get (cleared m base s.ring) (j, key) ≡ None) same
-          (none_left m base key s.ring (λ none. absent_by (table.get m (base, key)) (here key ∙ ap (option_map (λ (x : Item). x.expiry)) none))))
+      | inr not_less ↦ (let same : id ≡ base = omega (arith, below, not_less) in
+          rw same (none_left m base key s.ring (λ none. absent_by (table.get m (base, key)) (here key ∙ ap (option_map (λ (x : Item). x.expiry)) none))))
     ];
     distinct = λ i t at. has.distinct (suc i) t at;
   }
@@ -127,12 +103,10 @@ module _ (m : RowMap) (base : ℕ) (s : State) (states : List (Option State)) (h
 -- where no cache is, there are no rows
 past_none : (m : RowMap) (base : ℕ) (states : List (Option State)) → HasRows m base (None ∷ states) → HasRows m (suc base) states
 past_none m base states has = record {
-  own = λ i key. (let next : base + suc i ≡ suc base + i = omega arith in
-      subst (λ (j : ℕ). option_map (λ row. row.1) (table.get m (j, key)) ≡ expiry_at key (at_place states i)) next (has.own (suc i) key));
+  own = λ i key. (let next : base + suc i ≡ suc base + i = omega arith in rw next at (has.own (suc i) key));
   before = λ id key below. elim (cases_lt id base) [
     | inl less ↦ has.before id key less
-    | inr not_less ↦ (let same : base + 0 ≡ id = omega (arith, below, not_less) in
-        subst (λ (j : ℕ). table.get m (j, key) ≡ None) same (absent_by (table.get m (base + 0, key)) (has.own 0 key)))
+    | inr not_less ↦ (let same : base + 0 ≡ id = omega (arith, below, not_less) in rw same at (absent_by (table.get m (base + 0, key)) (has.own 0 key)))
   ];
   distinct = λ i t at. has.distinct (suc i) t at;
 }

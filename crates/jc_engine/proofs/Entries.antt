@@ -1,23 +1,11 @@
 -- The transcript, as events write it at the places of its entries.
-use Rattle.std.proofs.Common.{◌≡◌, ℕ, ◌<◌, zero, suc, Bool, true, false, eqb, List, [], ◌∷◌, ◌++◌, length, Option, Some, None, refl, sym, ap, subst, ◌∙◌, arith, append-nil}
-use Rattle.std.specs.Prelude.{slice_get, slice_set}
-use Rattle.std.proofs.lemmas.Bool.Decides.{nat_tests}
-use Rattle.jc_model.specs.declared.call.Notice.{Notice}
-use Rattle.jc_model.specs.declared.call.Request.{Request}
+use Rattle.std.proofs.Common.{◌≡◌, ℕ, ◌<◌, zero, suc, List, [], ◌∷◌, ◌++◌, length, Option, Some, None, inl, inr, refl, sym, ap, ◌∙◌, arith, append-nil, slice_get, slice_set, set-set}
+use Rattle.jc_engine.proofs.Names.{cases_eq, nat_tests, set_at, Notice, Request, Entry, Awaited, told_by, Status, Lives, live_at, fresh, Wait, there, at_place, History, on_open, Tells, with_outcome, Cache, HasEntry, Stepped}
+use Rattle.jc_engine.proofs.Names.{at_other}
 use Rattle.jc_model.specs.declared.event.Step.TheVariants.{Need}
-use Rattle.jc_model.specs.declared.event.Outcome.TheVariants as outcome
 use Rattle.jc_model.specs.declared.event.End.{End}
 use Rattle.jc_model.specs.declared.event.End.TheVariants.{Waiting}
-use Rattle.jc_model.specs.declared.event.Entry.{Entry}
-use Rattle.jc_model.specs.Run.{Awaited, told_by}
-use Rattle.jc_model.specs.Runs.{Status, Lives, live_at, fresh}
-use Rattle.jc_model.specs.Suspended.{Wait}
-use Rattle.jc_model.specs.Places.{there, at_place}
-use Rattle.jc_model.specs.Legal.{History, on_open, Tells, with_outcome}
-use Rattle.jc_model.proofs.Lives.{at_other}
 use Rattle.jc_model.proofs.Legal.{set_open}
-use Rattle.jc_engine.specs.Caches.{Cache}
-use Rattle.jc_engine.specs.Recording.{HasEntry}
 use Rattle.jc_engine.proofs.Places.{same_set}
 
 -- Lists.
@@ -27,23 +15,15 @@ get_last [] y = refl
 get_last (x ∷ xs) y = get_last xs y
 
 pub set_last : {A : Type 0} (xs : List A) (y z : A) → slice_set (xs ++ y ∷ []) (length xs) z ≡ xs ++ z ∷ []
-set_last [] y z = refl
-set_last (x ∷ xs) y z = ap (λ zs. x ∷ zs) (set_last xs y z)
+set_last xs y z = set_at xs y [] z (length xs) refl
 
-pub get_append : {A : Type 0} (xs ys : List A) (i : ℕ) (x : A) → slice_get xs i ≡ Some x → slice_get (xs ++ ys) i ≡ Some x
+get_append : {A : Type 0} (xs ys : List A) (i : ℕ) (x : A) → slice_get xs i ≡ Some x → slice_get (xs ++ ys) i ≡ Some x
 get_append [] ys i x at = absurd cc
 get_append (a ∷ xs) ys zero x at = at
 get_append (a ∷ xs) ys (suc i) x at = get_append xs ys i x at
 
 pub set_set : {A : Type 0} (xs : List A) (i : ℕ) (x y : A) → slice_set (slice_set xs i x) i y ≡ slice_set xs i y
-set_set [] i x y = refl
-set_set (a ∷ xs) zero x y = refl
-set_set (a ∷ xs) (suc i) x y = ap (λ zs. a ∷ zs) (set_set xs i x y)
-
-pub length_set : {A : Type 0} (xs : List A) (i : ℕ) (y : A) → length (slice_set xs i y) ≡ length xs
-length_set [] i y = refl
-length_set (x ∷ xs) zero y = refl
-length_set (x ∷ xs) (suc i) y = ap suc (length_set xs i y)
+set_set xs i x y = set-set xs i x y
 
 pub some_at : {A : Type 0} (xs : List A) (i : ℕ) → i < length xs → (x : A) × (slice_get xs i ≡ Some x)
 some_at [] i below = absurd (omega arith)
@@ -53,15 +33,12 @@ some_at (x ∷ xs) (suc i) below = some_at xs i (omega arith)
 -- One entry.
 
 -- while a call waits for its next request, its entry stays
-pub asked_same : (transcript : List Entry) (place : ℕ) (request : Request) (e : Entry) → slice_get transcript place ≡ Some e → e.end ≡ Waiting → told_by request ≡ [] → transcript ≡ slice_set transcript place (with_outcome (outcome.Step (Need request)) e)
+pub asked_same : (transcript : List Entry) (place : ℕ) (request : Request) (e : Entry) → slice_get transcript place ≡ Some e → e.end ≡ Waiting → told_by request ≡ [] → transcript ≡ slice_set transcript place (with_outcome (Stepped (Need request)) e)
 asked_same transcript place request e at waits untold =
-    sym (same_set transcript place (with_outcome (outcome.Step (Need request)) e) (at ∙ ap Some (sym same)))
+    sym (same_set transcript place (with_outcome (Stepped (Need request)) e) (at ∙ ap Some (sym same)))
   where
-    same : with_outcome (outcome.Step (Need request)) e ≡ e
-    same =
-        ap (λ (ns : List Notice). record e { told = e.told ++ ns; end = Waiting }) untold
-        ∙ (ap (λ (ns : List Notice). record e { told = ns; end = Waiting }) (append-nil e.told)
-        ∙ ap (λ (n : End). record e { end = n }) (sym waits))
+    same : with_outcome (Stepped (Need request)) e ≡ e
+    same = ap (λ (ns : List Notice). record e { told = ns; end = Waiting }) (ap (λ ns. e.told ++ ns) untold ∙ append-nil e.told) ∙ ap (λ (n : End). record e { end = n }) (sym waits)
 
 -- The entries of the other caches' open calls stay.
 
@@ -84,13 +61,8 @@ same_elsewhere id transcript = record { stays = λ place e differ at. at }
 has_elsewhere : (id other : ℕ) (transcript transcript' : List Entry) → StayElsewhere id transcript transcript' → (other ≡ id → ⊥) → (place : Option ℕ) (turn : Option (Awaited × Wait)) → HasEntry transcript other place turn → HasEntry transcript' other place turn
 has_elsewhere id other transcript transcript' stay differ place None has = tt
 has_elsewhere id other transcript transcript' stay differ None (Some w) has = has
-has_elsewhere id other transcript transcript' stay differ (Some place) (Some w) has = record {
-  entry = has.entry;
-  there = stay.stays place has.entry (λ same. differ (sym has.own ∙ same)) has.there;
-  own = has.own;
-  waits = has.waits;
-  untold = has.untold;
-}
+has_elsewhere id other transcript transcript' stay differ (Some place) (Some w) has =
+    record { entry = has.entry; there = stay.stays place has.entry (λ same. differ (sym has.own ∙ same)) has.there; own = has.own; waits = has.waits; untold = has.untold }
 
 abbrev pub AllOpened : List (Option Cache) → List Entry → (ℕ → Option ℕ) → Type 0
 AllOpened caches transcript places = (id : ℕ) (k : Cache) → at_place caches id ≡ Some k → HasEntry transcript id (places id) k.turn
@@ -103,17 +75,10 @@ module _ (id : ℕ) (caches caches' : List (Option Cache)) (transcript transcrip
       → ((other : ℕ) → (other ≡ id → ⊥) → places' other ≡ places other)
       → ((k : Cache) → at_place caches' id ≡ Some k → HasEntry transcript' id (places' id) k.turn)
       → AllOpened caches' transcript' places'
-  opened_after opened one stay same here = λ other k at. by other k (eqb other id) refl at
-    where
-      by : (other : ℕ) (k : Cache) (b : Bool) → eqb other id ≡ b → at_place caches' other ≡ Some k → HasEntry transcript' other (places' other) k.turn
-      by other k true h at =
-          let is : id ≡ other = grind (arith, nat_tests) in
-          subst (λ (i : ℕ). at_place caches' i ≡ Some k → HasEntry transcript' i (places' i) k.turn) is (here k) at
-      by other k false h at =
-          let differ : other ≡ id → ⊥ = λ e. grind (arith, nat_tests) in
-          let before : at_place caches other ≡ Some k = sym (one other differ) ∙ at in
-          has_elsewhere id other transcript transcript' stay differ (places' other) k.turn
-          (subst (λ (p : Option ℕ). HasEntry transcript other p k.turn) (sym (same other differ)) (opened other k before))
+  opened_after opened one stay same here other k at = elim (cases_eq other id) [
+    | inl is ↦ rw is (here k (rw is at at))
+    | inr differ ↦ rw (same other differ) (has_elsewhere id other transcript transcript' stay differ (places other) k.turn (opened other k (sym (one other differ) ∙ at)))
+  ]
 
 -- a write at the place of the open call's entry is one to the entry that waits
 pub written_open : (lives : Lives) (h : History) (id place : ℕ) (k : Status) (e : Entry) (f : Entry → Entry) → Tells h lives → live_at lives id ≡ Some k → slice_get h.entries place ≡ Some e → e.id ≡ id → e.end ≡ Waiting → slice_set h.entries place (f e) ≡ on_open id f h.entries

@@ -1,9 +1,6 @@
 -- What takes no memory is not refused for want of it.
-use Rattle.std.proofs.Common.{◌≡◌, true, false, List, [], ◌∷◌, ◌++◌, length, append_assoc, arith}
-use Rattle.std.proofs.lemmas.List.{append-nil}
-use Rattle.jc_model.specs.declared.event.Event.{Event}
-use Rattle.jc_model.specs.declared.event.Outcome.{Outcome}
-use Rattle.jc_model.specs.Runs.{for_memory}
+use Rattle.std.proofs.Common.{◌≡◌, true, false, List, [], ◌∷◌, ◌++◌, length, append_assoc, arith, append-nil}
+use Rattle.jc_engine.proofs.Names.{Event, Outcome, for_memory}
 use Rattle.jc_engine.specs.Free.{takes_none, FreeAreHeard}
 
 -- whatever the events that are left are answered, all that are free are heard if those are

@@ -1,11 +1,11 @@
+pub mod Names
 pub mod Tables
 pub mod Numbered
 pub mod Places
-pub mod Steps
 pub mod Hearing
 pub mod Moving
 pub mod GivingUp
-pub mod Names
+pub mod Positions
 pub mod Openings
 pub mod Untold
 pub mod Calls
@@ -14,6 +14,5 @@ pub mod Watching
 pub mod Vacant
 pub mod Coming
 pub mod Listed
-pub mod Leaving
 pub mod Entries
 pub mod Recordings

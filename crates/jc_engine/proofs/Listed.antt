@@ -1,29 +1,16 @@
 -- The live caches by name, and what creating one asks of them.
-use Rattle.std.proofs.Common.{◌≡◌, ◌<◌, ℕ, List, map, length, Option, None, sym, ap, subst, ◌∙◌}
-use Rattle.std.specs.Prelude.{option_map}
-use Rattle.jc_model.specs.declared.config.CacheConfig.{CacheConfig}
-use Rattle.jc_model.specs.Limits.{most_ids}
-use Rattle.jc_model.specs.Places.{all_there, named_from}
-use Rattle.jc_model.specs.Runs.{Status, create_refusal}
-use Rattle.jc_rows.specs.Rows.{RowMap}
-use Rattle.jc_roster.specs.Members.{Member, member_of, members_of, id_named, create_refusal_in}
-use Rattle.jc_roster.proofs.Members.{all_there_map, named_map, refused_by_members, allowed}
-use Rattle.jc_engine.specs.declared.cache.Managed.{Managed}
-use Rattle.jc_engine.specs.Caches.{Cache, status_of, lives_of, names_of, id_of}
-use Rattle.jc_engine.specs.Fresh.{MayCome}
-use Rattle.jc_engine.specs.Sound.{IsSound, caches_in}
-use Rattle.jc_engine.proofs.Places.{map_map, length_map, listed_seen}
+use Rattle.std.proofs.Common.{◌≡◌, ◌<◌, ℕ, List, [], ◌∷◌, map, option_map, Option, Some, None, refl, sym, ap, subst, ◌∙◌}
+use Rattle.jc_engine.proofs.Names.{CacheConfig, most_ids, all_there, Status, create_refusal, Member, member_of, members_of, id_named, create_refusal_in, Cache, status_of, lives_of, names_of, id_of, MayCome, named_map}
+use Rattle.jc_engine.proofs.Names.{refused_by_members, allowed}
+use Rattle.jc_engine.proofs.Places.{length_map, Within, listed_seen}
 
-pub named_there : (caches : List (Option Cache)) → map (λ (m : Member). m.name) (all_there (members_of (lives_of caches))) ≡ names_of caches
-named_there caches =
-    ap (map (λ (m : Member). m.name)) (all_there_map (λ (k : Status). member_of k.config) (lives_of caches) ∙ ap (map (λ (k : Status). member_of k.config)) (all_there_map status_of caches))
-    ∙ map_map (λ (m : Member). m.name) (λ (k : Status). member_of k.config) (map status_of (all_there caches))
-    ∙ map_map (λ (k : Status). k.config.name) status_of (all_there caches)
+named_there : (caches : List (Option Cache)) → map (λ (m : Member). m.name) (all_there (members_of (lives_of caches))) ≡ names_of caches
+named_there [] = refl
+named_there (None ∷ ks) = named_there ks
+named_there (Some k ∷ ks) = ap (λ l. k.config.name ∷ l) (named_there ks)
 
-pub id_there : (name : List ℕ) (caches : List (Option Cache)) → id_named name (members_of (lives_of caches)) ≡ id_of name caches
-id_there name caches =
-    named_map (λ (k : Status). member_of k.config) (λ (m : Member). m.name) name 0 (lives_of caches)
-    ∙ named_map status_of (λ (k : Status). k.config.name) name 0 caches
+id_there : (name : List ℕ) (caches : List (Option Cache)) → id_named name (members_of (lives_of caches)) ≡ id_of name caches
+id_there name caches = named_map (λ (k : Status). member_of k.config) (λ (m : Member). m.name) name 0 (lives_of caches) ∙ named_map status_of (λ (k : Status). k.config.name) name 0 caches
 
 -- where creating is not refused
 pub may_come : (caches : List (Option Cache)) (c : CacheConfig) → None ≡ create_refusal (lives_of caches) c → MayCome caches c
@@ -36,12 +23,12 @@ may_come caches c none =
       total = may.together;
     }
 
-module _ {G : Type 0} (m : RowMap) (f : ℕ → Option (Managed G)) (members : List (Option Member)) (seen : List (Option Cache)) (view_is : caches_in f (length members) ≡ seen) (sound : IsSound m f members) where
-  pub names_listed : map (λ (m : Member). m.name) (all_there members) ≡ names_of seen
-  names_listed = ap (λ (ms : List (Option Member)). map (λ (m : Member). m.name) (all_there ms)) (listed_seen m f members seen view_is sound) ∙ named_there seen
+module _ {G : Type 0} (w : Within G) where
+  pub names_listed : map (λ (m : Member). m.name) (all_there w.members) ≡ names_of w.seen
+  names_listed = ap (λ (ms : List (Option Member)). map (λ (m : Member). m.name) (all_there ms)) (listed_seen w) ∙ named_there w.seen
 
-  pub id_listed : (name : List ℕ) → id_named name members ≡ id_of name seen
-  id_listed name = ap (id_named name) (listed_seen m f members seen view_is sound) ∙ id_there name seen
+  pub id_listed : (name : List ℕ) → id_named name w.members ≡ id_of name w.seen
+  id_listed name = ap (id_named name) (listed_seen w) ∙ id_there name w.seen
 
-  pub refusal_listed : (c : CacheConfig) → create_refusal_in members c ≡ create_refusal (lives_of seen) c
-  refusal_listed c = ap (λ (ms : List (Option Member)). create_refusal_in ms c) (listed_seen m f members seen view_is sound) ∙ refused_by_members (lives_of seen) c
+  pub refusal_listed : (c : CacheConfig) → create_refusal_in w.members c ≡ create_refusal (lives_of w.seen) c
+  refusal_listed c = ap (λ (ms : List (Option Member)). create_refusal_in ms c) (listed_seen w) ∙ refused_by_members (lives_of w.seen) c

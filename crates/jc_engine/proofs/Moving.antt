@@ -1,99 +1,75 @@
--- The manager's fields before and after one event.
-use Rattle.std.proofs.Common.{◌≡◌, ℕ, Bool, true, false, List, map, length, Option, Some, None, Ok, Err, Result, refl, sym, ap, subst, ◌∙◌}
-use Rattle.std.specs.Prelude.{slice_set, option_map, OnErr, IfOk, MatchOption}
-use Rattle.jc_model.specs.declared.event.Cause.{Cause}
-use Rattle.jc_model.specs.declared.event.Cause.TheVariants.{NoSuchCache}
-use Rattle.jc_model.specs.declared.event.Outcome.{Outcome}
-use Rattle.jc_model.specs.declared.event.Outcome.TheVariants as outcome
-use Rattle.jc_model.specs.Places.{there, at_place}
-use Rattle.jc_model.specs.Runs.{Status, Lives, live_at, Said, says, reply_of, refuse_last, for_memory, answer_of, answer_in, lives_by}
-use Rattle.jc_model.proofs.Lives.{at_same}
-use Rattle.jc_rows.specs.Rows.{RowMap}
-use Rattle.jc_roster.specs.Members.{Member}
-use Rattle.jc_state.specs.Tied.{SameElsewhere}
-use Rattle.jc_engine.specs.declared.cache.Advance.{Advance}
-use Rattle.jc_engine.specs.declared.cache.Managed.{Managed}
-use Rattle.jc_engine.specs.Caches.{Cache, status_of, lives_of}
-use Rattle.jc_engine.specs.Managed.{cache_in, is_step, IsManaged, Moves}
-use Rattle.jc_engine.specs.Advances.{outcome_of, FitsAt, ChangesOne}
-use Rattle.jc_engine.specs.Sound.{IsSound, caches_in}
-use Rattle.jc_engine.proofs.Numbered.{Puts}
-use Rattle.jc_engine.proofs.Places.{map_set, same_set, place_of, live_here, none_live, managed_here, seen_here, seen_put, sound_moved}
-use Rattle.jc_engine.proofs.Steps.{kept_step, step_at, must_live, answer_is, leaves}
+-- One event of the manager, by what it did to its cache.
+use Rattle.std.proofs.Common.{◌≡◌, ℕ, Bool, true, false, if◌then◌else◌, List, length, option_map, slice_set, OnErr, IfOk, Option, Some, None, Ok, Err, Result, refl, sym, ap, ◌∙◌}
+use Rattle.jc_engine.proofs.Names.{map-set, Cause, NoSuchCache, OutOfMemory, Outcome, there, at_place, Status, live_at, Said, says, reply_of, refuse_last, is_refused, for_memory, answer_of, answer_in, moved, put_moved, lives_by}
+use Rattle.jc_engine.proofs.Names.{Advance, Managed, Cache, status_of, lives_of, cache_in, is_step, Moves, outcome_of, ChangesOne, caches_in, Refused, Stepped, at_same}
+use Rattle.jc_engine.proofs.Places.{same_set, place_of, Within, seen_is, live_is, Changes, seen_put}
+
+-- where memory suffices, a reply stays
+pub plain : (reply : Outcome) → refuse_last false reply ≡ reply
+plain (Stepped s) = refl
+plain _ = refl
+
+memory_refused : (reply : Outcome) → is_step reply ≡ true → Refused OutOfMemory ≡ refuse_last true reply
+memory_refused (Stepped s) is = refl
+memory_refused _ is = absurd cc
+
+last_of : (found : Option Status) (said : Said) (memory : Bool) → refuse_last memory (answer_of found said false) ≡ answer_of found said memory
+last_of None said memory = refl
+last_of (Some k) said memory = ap (refuse_last memory) (plain (reply_of k.config k.standing said))
 
 -- what is refused where memory suffices is refused so in any case
-pub refused_anyway : (found : Option Status) (said : Said) (cause : Cause) (memory : Bool) → answer_of found said false ≡ outcome.Refused cause → outcome.Refused cause ≡ answer_of found said memory
-refused_anyway found said cause memory is = by found is
-  where
-    by_reply : (reply : Outcome) → refuse_last false reply ≡ outcome.Refused cause → outcome.Refused cause ≡ refuse_last memory reply
-    by_reply (outcome.Step s) is = absurd cc
-    by_reply _ is = sym is
+pub refused_anyway : (found : Option Status) (said : Said) (cause : Cause) (memory : Bool) → answer_of found said false ≡ Refused cause → Refused cause ≡ answer_of found said memory
+refused_anyway found said cause memory is = ap (refuse_last memory) (sym is) ∙ last_of found said memory
 
-    by : (found : Option Status) → answer_of found said false ≡ outcome.Refused cause → outcome.Refused cause ≡ answer_of found said memory
-    by None is = sym is
-    by (Some k) is = by_reply (reply_of k.config k.standing said) is
+-- a step, while memory was refused
+pub memory_last : (found : Option Status) (said : Said) → is_step (answer_of found said false) ≡ true → Refused OutOfMemory ≡ answer_of found said true
+memory_last found said is = memory_refused (answer_of found said false) is ∙ last_of found said true
 
--- a refusal of the cache, as the manager's
-shown_by : (found : Option Status) (said : Said) (k : Status) (o : Option Cause) → found ≡ Some k
-    → MatchOption o (is_step (reply_of k.config k.standing said) ≡ true) (λ cause. reply_of k.config k.standing said ≡ outcome.Refused cause)
-    → MatchOption o (is_step (answer_of found said false) ≡ true) (λ cause. answer_of found said false ≡ outcome.Refused cause)
-shown_by found said k None at is = ap (λ (found : Option Status). is_step (answer_of found said false)) at ∙ kept_step (reply_of k.config k.standing said) is
-shown_by found said k (Some cause) at is = ap (λ (found : Option Status). answer_of found said false) at ∙ ap (refuse_last false) is
+-- what a cache replies is what its manager answers
+pub reply_here : {G : Type 0} (w : Within G) (id : ℕ) (said : Said) {cache : Managed G} → w.caches id ≡ Some cache → answer_in (lives_of w.seen) (says id said) false ≡ reply_of cache.state.config (status_of (cache_in cache)).standing said
+reply_here w id said {cache} at = ap (λ (found : Option Status). answer_of found said false) (live_is w id at) ∙ plain (reply_of cache.state.config (status_of (cache_in cache)).standing said)
 
--- The fields: the table's rows, the caches by id, and the names; and what is seen of them.
-module _ {G : Type 0} (m : RowMap) (f : ℕ → Option (Managed G)) (members : List (Option Member)) (seen : List (Option Cache)) (view_is : caches_in f (length members) ≡ seen) (sound : IsSound m f members) (id : ℕ) (said : Said) where
-  pub refusal_shown : (cache : Managed G) → f id ≡ Some cache → (o : Option Cause)
-      → MatchOption o (is_step (reply_of cache.state.config (status_of (cache_in cache)).standing said) ≡ true) (λ cause. reply_of cache.state.config (status_of (cache_in cache)).standing said ≡ outcome.Refused cause)
-      → MatchOption o (is_step (answer_in (lives_of seen) (says id said) false) ≡ true) (λ cause. answer_in (lives_of seen) (says id said) false ≡ outcome.Refused cause)
-  refusal_shown cache at o is = shown_by (live_at (lives_of seen) id) said (status_of (cache_in cache)) o (live_here m f members seen view_is sound id cache at) is
+pub unknown : {G : Type 0} (w : Within G) (id : ℕ) (said : Said) → w.caches id ≡ None → (memory : Bool) → answer_in (lives_of w.seen) (says id said) memory ≡ Refused NoSuchCache
+unknown w id said none memory = ap (λ (found : Option Status). answer_of found said memory) (live_is w id none)
 
-  pub unknown : f id ≡ None → (memory : Bool) → answer_in (lives_of seen) (says id said) memory ≡ outcome.Refused NoSuchCache
-  unknown at memory = ap (λ (found : Option Status). answer_of found said memory) (none_live m f members seen view_is sound id at)
+-- where the answer is a step, there is a cache
+pub must_be : {G : Type 0} (w : Within G) (id : ℕ) (said : Said) → w.caches id ≡ None → is_step (answer_in (lives_of w.seen) (says id said) false) ≡ true → ⊥
+must_be w id said none allowed = let no = ap is_step (unknown w id said none false) in cc
 
-  pub must_be : is_step (answer_in (lives_of seen) (says id said) false) ≡ true → f id ≡ None → ⊥
-  must_be allowed at = must_live (live_at (lives_of seen) id) said allowed (none_live m f members seen view_is sound id at)
+-- what an event did to its cache; memory says whether memory was refused
+pub record Did (k k' : Cache) (said : Said) (memory : Bool) (o : Outcome) : Type 0 where
+  pub shows : o ≡ refuse_last memory (reply_of k.config (status_of k).standing said)
+  pub moves : is_refused o ≡ false → status_of k' ≡ moved (status_of k) said
+  pub stays : is_refused o ≡ true → k' ≡ k
 
-  module _ (cache : Managed G) (at : f id ≡ Some cache) where
-    pub allowed_here : is_step (answer_in (lives_of seen) (says id said) false) ≡ true → is_step (reply_of cache.state.config (status_of (cache_in cache)).standing said) ≡ true
-    allowed_here allowed = step_at (live_at (lives_of seen) id) said (status_of (cache_in cache)) (live_here m f members seen view_is sound id cache at) allowed
+pub advanced : {T : Type 0} {k k' : Cache} {said : Said} (r : Result Advance T) → is_step (reply_of k.config (status_of k).standing said) ≡ true → IfOk r (λ advance. Moves k said advance k') → OnErr r (k' ≡ k) → Did k k' said (for_memory (outcome_of r)) (outcome_of r)
+advanced (Ok advance) allowed ok err = record { shows = ok.shows ∙ sym (plain _); moves = λ _. ok.moves; stays = λ e. absurd cc }
+advanced (Err back) allowed ok err = record { shows = memory_refused _ allowed; moves = λ e. absurd cc; stays = λ _. err }
 
-    module _ (g : ℕ → Option (Managed G)) (cache' : Managed G) (puts : Puts f id (Some cache') g) where
-      pub one_after : ChangesOne seen id (caches_in g (length members))
-      one_after = record { cache = cache_in cache'; is = seen_put m f members seen view_is sound id cache at g (Some cache') puts }
+-- the manager's fields after it
+module _ {G : Type 0} {w : Within G} {id : ℕ} {cache cache' : Managed G} {g : ℕ → Option (Managed G)} (c : Changes w id cache (Some cache') g) where
+  pub one_after : ChangesOne w.seen id (caches_in g (length w.members))
+  one_after = record { cache = cache_in cache'; is = seen_put c }
 
-      pub sound_after : (n : RowMap) → IsManaged n cache.state.id cache' → cache'.state.config ≡ cache.state.config → SameElsewhere cache.state.id m n → IsSound n g members
-      sound_after n managed same elsewhere =
-          let id_is : cache.state.id ≡ id = (managed_here m f members seen view_is sound id cache at).kept.id_is in
-          sound_moved m f members seen view_is sound id cache at g cache' puts n (subst (λ (i : ℕ). IsManaged n i cache') id_is managed) same (subst (λ (i : ℕ). SameElsewhere i m n) id_is elsewhere)
+  pub new_here : at_place (caches_in g (length w.members)) id ≡ Some (cache_in cache')
+  new_here = ap (λ (ks : List (Option Cache)). at_place ks id) (seen_put c) ∙ ap there (at_same w.seen id (Some (cache_in cache)) (Some (cache_in cache')) (place_of w.seen id (cache_in cache) (seen_is w id c.at)))
 
-      pub lives_put : lives_of (caches_in g (length members)) ≡ slice_set (lives_of seen) id (Some (status_of (cache_in cache')))
-      lives_put = ap lives_of (seen_put m f members seen view_is sound id cache at g (Some cache') puts) ∙ map_set (option_map status_of) seen id (Some (cache_in cache'))
+  pub unchanged : cache_in cache' ≡ cache_in cache → caches_in g (length w.members) ≡ w.seen
+  unchanged same =
+      seen_put c
+      ∙ ap (λ (k : Cache). slice_set w.seen id (Some k)) same
+      ∙ same_set w.seen id (Some (cache_in cache)) (place_of w.seen id (cache_in cache) (seen_is w id c.at))
 
-      pub new_here : at_place (caches_in g (length members)) id ≡ Some (cache_in cache')
-      new_here = ap (λ (ks : List (Option Cache)). at_place ks id) (seen_put m f members seen view_is sound id cache at g (Some cache') puts) ∙ ap there (at_same seen id (Some (cache_in cache)) (Some (cache_in cache')) (place_of seen id (cache_in cache) (seen_here m f members seen view_is sound id cache at)))
+  module _ {said : Said} {memory : Bool} {o : Outcome} (d : Did (cache_in cache) (cache_in cache') said memory o) where
+    pub outcome_after : o ≡ answer_in (lives_of w.seen) (says id said) memory
+    outcome_after = d.shows ∙ ap (λ (found : Option Status). answer_of found said memory) (sym (live_is w id c.at))
 
-      -- where the cache is as it was
-      pub unchanged : {T E : Type 0} (r : Result T E) → OnErr r (cache' ≡ cache) → OnErr r (caches_in g (length members) ≡ seen)
-      unchanged (Ok x) e = tt
-      unchanged (Err back) e =
-          seen_put m f members seen view_is sound id cache at g (Some cache') puts
-          ∙ ap (λ (k : Managed G). slice_set seen id (Some (cache_in k))) e
-          ∙ same_set seen id (Some (cache_in cache)) (place_of seen id (cache_in cache) (seen_here m f members seen view_is sound id cache at))
-
-      module _ {T : Type 0} (r : Result Advance T) (allowed : is_step (answer_in (lives_of seen) (says id said) false) ≡ true) (ok : IfOk r (λ advance. Moves (cache_in cache) said advance (cache_in cache'))) (err : OnErr r (cache' ≡ cache)) where
-        pub outcome_after : outcome_of r ≡ answer_in (lives_of seen) (says id said) (for_memory (outcome_of r))
-        outcome_after = answer_is (lives_of seen) id said (cache_in cache) (cache_in cache') (live_here m f members seen view_is sound id cache at) r (allowed_here allowed) ok
-
-        pub lives_later : lives_of (caches_in g (length members)) ≡ lives_by (lives_of seen) (says id said) (outcome_of r)
-        lives_later = leaves (lives_of seen) id said (cache_in cache) (cache_in cache') (live_here m f members seen view_is sound id cache at) r (lives_of (caches_in g (length members))) lives_put ok (same_on r err)
-          where
-            same_on : {T : Type 0} (r : Result Advance T) → OnErr r (cache' ≡ cache) → OnErr r (cache_in cache' ≡ cache_in cache)
-            same_on (Ok advance) e = tt
-            same_on (Err back) e = ap cache_in e
-
-        pub fits_after : IfOk r (λ advance. FitsAt advance (at_place (caches_in g (length members)) id))
-        fits_after = fits_by r ok
-          where
-            fits_by : {T : Type 0} (r : Result Advance T) → IfOk r (λ advance. Moves (cache_in cache) said advance (cache_in cache')) → IfOk r (λ advance. FitsAt advance (at_place (caches_in g (length members)) id))
-            fits_by (Ok advance) moves = subst (FitsAt advance) (sym new_here) moves.fits
-            fits_by (Err back) moves = tt
+    pub lives_later : lives_of (caches_in g (length w.members)) ≡ lives_by (lives_of w.seen) (says id said) o
+    lives_later = by (is_refused o) d.moves d.stays
+      where
+        by : (b : Bool) → (b ≡ false → status_of (cache_in cache') ≡ moved (status_of (cache_in cache)) said) → (b ≡ true → cache_in cache' ≡ cache_in cache)
+            → lives_of (caches_in g (length w.members)) ≡ (if b then lives_of w.seen else put_moved (lives_of w.seen) id said (live_at (lives_of w.seen) id))
+        by true moves stays = ap lives_of (unchanged (stays refl))
+        by false moves stays =
+            ap lives_of (seen_put c) ∙ map-set (option_map status_of) w.seen id (Some (cache_in cache'))
+            ∙ (ap (λ (s : Status). slice_set (lives_of w.seen) id (Some s)) (moves refl) ∙ ap (put_moved (lives_of w.seen) id said) (sym (live_is w id c.at)))

@@ -1,124 +1,60 @@
--- Names and their places.
-use Rattle.std.proofs.Common.{◌≡◌, ℕ, ◌<◌, ◌≤◌, ◌+◌, Bool, true, false, cond, eqb, List, [], ◌∷◌, ◌++◌, map, length, Option, Some, None, is_some, refl, sym, ap, subst, ◌∙◌, arith, length-append}
-use Rattle.std.specs.Prelude.{position, nat_lt, not, ◌||◌}
-use Rattle.std.specs.List.{position_or_len, list_any}
-use Rattle.std.specs.Str.{bytes_eq}
-use Rattle.std.specs.HashMap.{HashMap, get}
-use Rattle.std.specs.Map.{lookup}
-use Rattle.std.proofs.lemmas.List.Sums.{prefix_len-le-length}
-use Rattle.std.proofs.lemmas.Bool.Decides.{nat_tests}
-use Rattle.std.proofs.lemmas.List.Folds.{position_or_len_push}
-use Rattle.std.proofs.lemmas.Slice.Eq.{bytes_eq-Decides}
-use Rattle.jc_engine.specs.Opening.{is_taken}
-use Rattle.jc_engine.specs.Fresh.{AreIds}
-
-either : (b c : Bool) → (b || c) ≡ false → (b ≡ false) × (c ≡ false)
-either true c h = absurd cc
-either false c h = (refl, h)
-
--- where none passes, the search ends at the end
-none_first : {A : Type 0} (p : A → Bool) (x : A) (xs : List A) → p x ≡ false → position_or_len p xs ≡ length xs → position_or_len p (x ∷ xs) ≡ length (x ∷ xs)
-none_first p x xs h ends = rw h (omega (arith, ends))
-
-none_passes : {A : Type 0} (p : A → Bool) (xs : List A) → list_any p xs ≡ false → position_or_len p xs ≡ length xs
-none_passes p [] none = refl
-none_passes p (x ∷ xs) none = let h = either (p x) (list_any p xs) none in none_first p x xs h.0 (none_passes p xs h.1)
-
-pub position_none : {A : Type 0} (p : A → Bool) (xs : List A) → list_any p xs ≡ false → position p xs ≡ None
-position_none p xs none = by (position_or_len p xs) (none_passes p xs none)
-  where
-    by : (n : ℕ) → n ≡ length xs → cond (nat_lt n (length xs)) (Some n) None ≡ None
-    by n ends = let h : nat_lt n (length xs) ≡ false = grind (arith, nat_tests) in rw h refl
-
-after_first : {A : Type 0} (p : A → Bool) (x : A) (xs : List A) → p x ≡ false → is_some (position p xs) ≡ true → is_some (position p (x ∷ xs)) ≡ true
-after_first p x xs h there = by (position_or_len p xs) (length xs) (position_or_len p (x ∷ xs)) (length (x ∷ xs)) (rw h refl) (omega arith) there
-  where
-    by : (n l m k : ℕ) → m ≡ 1 + n → k ≡ l + 1 → is_some (cond (nat_lt n l) (Some n) None) ≡ true → is_some (cond (nat_lt m k) (Some m) None) ≡ true
-    by n l m k first grows there = inside (nat_lt n l) refl there
-      where
-        inside : (b : Bool) → nat_lt n l ≡ b → is_some (cond b (Some n) None) ≡ true → is_some (cond (nat_lt m k) (Some m) None) ≡ true
-        inside true h there = let before : nat_lt m k ≡ true = grind (arith, nat_tests) in rw before refl
-        inside false h there = absurd cc
-
-first_there : {A : Type 0} (p : A → Bool) (x : A) (xs : List A) → p x ≡ true → is_some (position p (x ∷ xs)) ≡ true
-first_there p x xs h = at (position_or_len p (x ∷ xs)) (length (x ∷ xs)) (rw h refl) (omega arith)
-  where
-    at : (m k : ℕ) → m ≡ 0 → 0 < k → is_some (cond (nat_lt m k) (Some m) None) ≡ true
-    at m k first some = let before : nat_lt m k ≡ true = grind (arith, nat_tests) in rw before refl
-
-some_there : {A : Type 0} (p : A → Bool) (xs : List A) → list_any p xs ≡ true → is_some (position p xs) ≡ true
-some_there p [] any = absurd cc
-some_there {A} p (x ∷ xs) any = by (p x) refl any (λ any. some_there p xs any)
-  where
-    by : (b : Bool) → p x ≡ b → (b || list_any p xs) ≡ true → (list_any p xs ≡ true → is_some (position p xs) ≡ true) → is_some (position p (x ∷ xs)) ≡ true
-    by true h any rest = first_there p x xs h
-    by false h any rest = after_first p x xs h (rest any)
-
-pub pushed_found : {A : Type 0} (p : A → Bool) (xs : List A) (y : A) → list_any p xs ≡ false → p y ≡ true → position p (xs ++ y ∷ []) ≡ Some (length xs)
-pushed_found {A} p xs y none found =
-    let ends : position_or_len p xs ≡ length xs = none_passes p xs none in
-    let grows : length (xs ++ y ∷ []) ≡ length xs + 1 = length-append xs (y ∷ []) in
-    let first : position_or_len p (xs ++ y ∷ []) ≡ length xs = position_or_len_push p xs y ∙ by (eqb (position_or_len p xs) (length xs)) ends in
-    at (position_or_len p (xs ++ y ∷ [])) (length (xs ++ y ∷ [])) first grows
-  where
-    by : (b : Bool) → position_or_len p xs ≡ length xs → cond b (length xs + cond (p y) 0 1) (position_or_len p xs) ≡ length xs
-    by true ends = rw found (omega arith)
-    by false ends = ends
-
-    at : (n m : ℕ) → n ≡ length xs → m ≡ length xs + 1 → cond (nat_lt n m) (Some n) None ≡ Some (length xs)
-    at n m first grows = let h : nat_lt n m ≡ true = grind (arith, nat_tests) in rw h (ap Some first)
-
--- the places of a list with one more at its end
-grown : (n l m k : ℕ) → n ≤ l → m ≡ cond (eqb n l) (l + 1) n → k ≡ l + 1 → cond (nat_lt m k) (Some m) None ≡ cond (nat_lt n l) (Some n) None
-grown n l m k le first grows = by (eqb n l) refl
-  where
-    by : (b : Bool) → eqb n l ≡ b → cond (nat_lt m k) (Some m) None ≡ cond (nat_lt n l) (Some n) None
-    by true h =
-        let is : m ≡ l + 1 = first ∙ ap (λ (b : Bool). cond b (l + 1) n) h in
-        let same : n ≡ l = grind (arith, nat_tests) in
-        let past : nat_lt m k ≡ false = grind (arith, nat_tests) in
-        let past' : nat_lt n l ≡ false = grind (arith, nat_tests) in
-        rw (past, past') refl
-    by false h =
-        let is : m ≡ n = first ∙ ap (λ (b : Bool). cond b (l + 1) n) h in
-        let differ : n ≡ l → ⊥ = λ e. grind (arith, nat_tests) in
-        let before : nat_lt m k ≡ true = grind (arith, nat_tests) in
-        let before' : nat_lt n l ≡ true = grind (arith, nat_tests) in
-        rw (before, before') (ap Some is)
-
-pub pushed_other : {A : Type 0} (p : A → Bool) (xs : List A) (y : A) → p y ≡ false → position p (xs ++ y ∷ []) ≡ position p xs
-pushed_other p xs y other =
-    grown (position_or_len p xs) (length xs) (position_or_len p (xs ++ y ∷ [])) (length (xs ++ y ∷ [])) (prefix_len-le-length (λ x. not (p x)) xs)
-    (position_or_len_push p xs y ∙ ap (λ (b : Bool). cond (eqb (position_or_len p xs) (length xs)) (length xs + cond b 0 1) (position_or_len p xs)) other)
-    (length-append xs (y ∷ []))
-
-pub found_any : {A : Type 0} (p : A → Bool) (xs : List A) → is_some (position p xs) ≡ list_any p xs
-found_any {A} p xs = by (list_any p xs) refl
-  where
-    by : (b : Bool) → list_any p xs ≡ b → is_some (position p xs) ≡ b
-    by false h = ap is_some (position_none p xs h)
-    by true h = some_there p xs h
-
-pub any_map : {A B : Type 0} (p : B → Bool) (f : A → B) (xs : List A) → list_any (λ x. p (f x)) xs ≡ list_any p (map f xs)
-any_map p f [] = refl
-any_map p f (x ∷ xs) = ap (λ (b : Bool). p (f x) || b) (any_map p f xs)
-
--- The ids by name.
-
-pub same_get : {X S : Type 0} (ids : HashMap (List ℕ) X S) (name : List ℕ) → lookup (bytes_eq name) ids.entries ≡ get bytes_eq ids name
-same_get ids name = refl
-
-pub ids_with : {S : Type 0} (ids ids' : HashMap (List ℕ) ℕ S) (names : List (List ℕ)) (name : List ℕ) (number : ℕ)
-    → ((q : List ℕ) → lookup (bytes_eq q) ids'.entries ≡ cond (bytes_eq name q) (Some number) (lookup (bytes_eq q) ids.entries))
-    → AreIds (Some ids) names → is_taken name names ≡ false → number ≡ length names → AreIds (Some ids') (names ++ name ∷ [])
-ids_with ids ids' names name number updates are absent counted = λ q.
-    sym (same_get ids' q) ∙ (updates q
-    ∙ (ap (λ (o : Option ℕ). cond (bytes_eq name q) (Some number) o) (same_get ids q ∙ are q)
-    ∙ by q (bytes_eq name q) refl))
-  where
-    by : (q : List ℕ) (b : Bool) → bytes_eq name q ≡ b → cond b (Some number) (position (λ n. bytes_eq n q) names) ≡ position (λ n. bytes_eq n q) (names ++ name ∷ [])
-    by q true h =
-        let same : name ≡ q = (bytes_eq-Decides name q).0 h in
-        let none : list_any (λ n. bytes_eq n q) names ≡ false = subst (λ (k : List ℕ). list_any (λ n. bytes_eq n k) names ≡ false) same absent in
-        ap Some counted ∙ sym (pushed_found (λ n. bytes_eq n q) names name none h)
-    by q false h = sym (pushed_other (λ n. bytes_eq n q) names name h)
+-- The names that most proofs here cite, passed on from one place. Declares nothing.
+pub use Rattle.std.specs.HashMap.{HashMap, get}
+pub use Rattle.std.specs.Map.{lookup}
+pub use Rattle.std.proofs.lemmas.Bool.{cases_eq, cases_lt}
+pub use Rattle.std.proofs.lemmas.Bool.Decides.{nat_tests}
+pub use Rattle.std.proofs.lemmas.Grind.{common_steps}
+pub use Rattle.std.proofs.lemmas.List.{length-map, length_push, map-append, map-set, nil_from_length, same_from_push, set-append_left, set-get_or, set_at}
+pub use Rattle.std.proofs.lemmas.List.Sums.{sum_by-append, sum_by-cons}
+pub use Rattle.std.proofs.lemmas.Option.{get_or_from_slice_get, slice_get_read, slice_get_within}
+pub use Rattle.std.proofs.lemmas.Result.{IfOk-weaker, on_err_weaker, on_ok_weaker}
+pub use Rattle.std.proofs.lemmas.Slice.Eq.{bytes_eq-Decides}
+pub use Rattle.jc_model.specs.declared.call.Answer.{Answer}
+pub use Rattle.jc_model.specs.declared.call.Call.{Call}
+pub use Rattle.jc_model.specs.declared.call.Notice.{Notice}
+pub use Rattle.jc_model.specs.declared.call.Request.{Request}
+pub use Rattle.jc_model.specs.declared.config.CacheConfig.{CacheConfig}
+pub use Rattle.jc_model.specs.declared.config.Expiry.{Expiry}
+pub use Rattle.jc_model.specs.declared.event.Cause.{Cause}
+pub use Rattle.jc_model.specs.declared.event.Cause.TheVariants.{NoSuchCache, NoSuchProcessor, OutOfMemory, WrongAnswer}
+pub use Rattle.jc_model.specs.declared.event.Entry.{Entry}
+pub use Rattle.jc_model.specs.declared.event.Event.{Event}
+pub use Rattle.jc_model.specs.declared.event.Event.TheVariants.{Answer as Answered, Begin, Create, Destroy, GiveUp}
+pub use Rattle.jc_model.specs.declared.event.Outcome.{Outcome}
+pub use Rattle.jc_model.specs.declared.event.Outcome.TheVariants.{Created, Destroyed, GivenUp, Refused, Step as Stepped}
+pub use Rattle.jc_model.specs.Changes.{Progress, begun}
+pub use Rattle.jc_model.specs.Legal.{History, Tells, at_first, numbered, on_open, recorded, with_answer, with_outcome}
+pub use Rattle.jc_model.specs.Limits.{most_caches, most_ids, most_rows, most_rows_together}
+pub use Rattle.jc_model.specs.Places.{all_there, at_place, named_from, none_before, there}
+pub use Rattle.jc_model.specs.Run.{Awaited, Run, and_then, answered, awaited_by, ended, fits, for_tell, resume, told_by, waiting}
+pub use Rattle.jc_model.specs.Runs.{Lives, Said, Standing, Status, answer_in, answer_of, answer_to, answer_to_destroy, answers, begins, busy, create_refusal, for_memory, fresh, gives_up, has_processor, idle, is_refused, live_at, lives_after, lives_by, moved, moved_by, opened, opened_from, put_moved, refuse_last, reply_of, says, shown, standing_of}
+pub use Rattle.jc_model.specs.Solo.{state_of}
+pub use Rattle.jc_model.specs.Sound.{HasDistinctKeys, IsSound as IsCacheSound, Lacks}
+pub use Rattle.jc_model.specs.State.{Item, State, row_of}
+pub use Rattle.jc_model.specs.Suspended.{Wait, key_run, many, many as many_keys, one, one as one_key, run_of, standing_by, telling}
+pub use Rattle.jc_model.specs.Whole.{Plan, asked_by, at_once, carried_out, each, plan, told_first, whole}
+pub use Rattle.jc_model.proofs.Leads.{IsRunTo, Leads, alone_in, leads_last}
+pub use Rattle.jc_model.proofs.Lives.{at_other, at_same}
+pub use Rattle.jc_rows.proofs.Laws.{get-empty, get-removed_absent, get-removed_other, get-removed_same, len-empty, len-removed, same_rows}
+pub use Rattle.jc_rows.specs.Rows.{RowMap}
+pub use Rattle.jc_roster.proofs.Members.{allowed, at_place_map, named_map, refused_by_members}
+pub use Rattle.jc_roster.specs.Members.{Member, create_refusal_in, id_named, member_of, members_of, rows_of}
+pub use Rattle.jc_state.specs.Kept.{IsTied, Kept, item_of, items_of, progress_of}
+pub use Rattle.jc_state.specs.Noted.{Noted}
+pub use Rattle.jc_state.specs.Tied.{SameElsewhere, Tied}
+pub use Rattle.jc_bulk.specs.Moved.{ComesTo, IsSuspended, WaitsOn, wait_run}
+pub use Rattle.jc_bulk.specs.Waits.{Waits}
+pub use Rattle.jc_engine.specs.declared.cache.Advance.{Advance}
+pub use Rattle.jc_engine.specs.declared.cache.Advance.TheVariants.{Asked, Replied, Told}
+pub use Rattle.jc_engine.specs.declared.cache.Managed.{Managed}
+pub use Rattle.jc_engine.specs.declared.cache.Turn.TheVariants.{Idle, Telling, Waiting}
+pub use Rattle.jc_engine.specs.declared.open.OpenRefusal.{OpenRefusal}
+pub use Rattle.jc_engine.specs.declared.open.OpenRefusal.TheVariants.{IdsSpent, TooManyCaches, TotalCapacity}
+pub use Rattle.jc_engine.specs.Advances.{ChangesOne, ClosedAt, FitsAt, is_open_in, of_abandon, outcome_of}
+pub use Rattle.jc_engine.specs.Caches.{Cache, expiry_in, fresh_cache, fresh_from, holds_in, id_of, lives_of, names_of, status_of}
+pub use Rattle.jc_engine.specs.Fresh.{AreIds, MayCome, fresh_fields}
+pub use Rattle.jc_engine.specs.Managed.{Abandons, FitsTurn, IsManaged, LeavesNotices, Moves, NeverTells, Settled, WaitsThere, cache_in, is_step, is_telling, notices_in, step_of, tells, turn_in}
+pub use Rattle.jc_engine.specs.Opening.{capacities, is_taken, limit_refusal, names_in, open_refusal, open_refusal_from, or_else, refusal_at, refusal_from}
+pub use Rattle.jc_engine.specs.Recording.{CanTell, HasEntry, IsOpenAt, IsRecorded, Recording, blank, left_in, with_entries, with_life}
+pub use Rattle.jc_engine.specs.Sound.{IsAt, IsSound, NoneFrom, caches_in, places_of}
+pub use Rattle.jc_engine.specs.Watching.{ShowsStates, expiry_at, states_of}

@@ -1,138 +1,113 @@
 -- The caches by id, and what is seen of them, before and after one of them has changed.
-use Rattle.std.proofs.Common.{◌≡◌, ℕ, ◌<◌, zero, suc, Bool, true, false, eqb, List, [], ◌∷◌, ◌++◌, map, length, Option, Some, None, refl, sym, ap, subst, ◌∙◌, arith}
-use Rattle.std.specs.Prelude.{slice_get, slice_set, option_map}
-use Rattle.std.proofs.lemmas.Bool.Decides.{nat_tests}
-use Rattle.std.proofs.lemmas.List.{map-append}
-use Rattle.jc_model.specs.declared.config.CacheConfig.{CacheConfig}
-use Rattle.jc_model.specs.Places.{there, at_place}
-use Rattle.jc_model.specs.Runs.{Status, live_at}
-use Rattle.jc_rows.specs.Rows.{RowMap}
-use Rattle.jc_roster.specs.Members.{Member, member_of, members_of}
-use Rattle.jc_roster.proofs.Members.{at_place_map}
-use Rattle.jc_state.specs.Tied.{SameElsewhere}
-use Rattle.jc_engine.specs.declared.cache.Managed.{Managed}
-use Rattle.jc_engine.specs.Managed.{IsManaged, cache_in}
-use Rattle.jc_engine.specs.Caches.{Cache, status_of, lives_of}
-use Rattle.jc_engine.specs.Sound.{IsAt, IsSound, places_of, caches_in}
+use Rattle.std.proofs.Common.{zero, suc, [], ◌∷◌, ◌≡◌, ◌≢◌, ℕ, ◌<◌, List, map, length, option_map, slice_get, slice_set, Option, Some, inl, inr, refl, sym, ap, subst, ◌∙◌, length-set}
+use Rattle.jc_engine.proofs.Names.{cases_eq, length-map, map-set, set-get_or, get_or_from_slice_get, CacheConfig, at_place, Status, live_at, RowMap, Member, member_of, members_of, SameElsewhere, Managed, IsManaged, cache_in}
+use Rattle.jc_engine.proofs.Names.{Cache, status_of, lives_of, IsAt, IsSound, NoneFrom, places_of, caches_in, at_place_map}
 use Rattle.jc_engine.proofs.Numbered.{Puts, length-places, at-places, below-places, put_here, put_other, places_put, none_put}
 use Rattle.jc_engine.proofs.Tables.{at_elsewhere}
 
-pub map_set : {A B : Type 0} (f : A → B) (xs : List A) (i : ℕ) (y : A) → map f (slice_set xs i y) ≡ slice_set (map f xs) i (f y)
-map_set f [] i y = refl
-map_set f (x ∷ xs) zero y = refl
-map_set f (x ∷ xs) (suc i) y = ap (λ zs. f x ∷ zs) (map_set f xs i y)
-
-pub map_map : {A B C : Type 0} (g : B → C) (f : A → B) (xs : List A) → map g (map f xs) ≡ map (λ x. g (f x)) xs
-map_map g f [] = refl
-map_map g f (x ∷ xs) = ap (λ zs. g (f x) ∷ zs) (map_map g f xs)
-
 pub length_map : {A B : Type 0} (f : A → B) (xs : List A) → length (map f xs) ≡ length xs
-length_map f [] = refl
-length_map f (x ∷ xs) = ap suc (length_map f xs)
+length_map f xs = length-map xs f
 
 pub same_set : {A : Type 0} (xs : List A) (i : ℕ) (x : A) → slice_get xs i ≡ Some x → slice_set xs i x ≡ xs
-same_set [] i x at = refl
-same_set (y ∷ ys) zero x at = let same : y ≡ x = cc in ap (λ z. z ∷ ys) (sym same)
-same_set (y ∷ ys) (suc i) x at = ap (λ zs. y ∷ zs) (same_set ys i x at)
+same_set xs i x at = ap (slice_set xs i) (sym (get_or_from_slice_get xs i x x at)) ∙ set-get_or xs i x
 
 -- what stands at a place
 pub place_of : {A : Type 0} (xs : List (Option A)) (i : ℕ) (x : A) → at_place xs i ≡ Some x → slice_get xs i ≡ Some (Some x)
-place_of {A} xs i x at = by (slice_get xs i) at
-  where
-    by : (o : Option (Option A)) → there o ≡ Some x → o ≡ Some (Some x)
-    by None e = absurd cc
-    by (Some place) e = ap Some e
+place_of [] i x at = absurd cc
+place_of (y ∷ xs) zero x at = ap Some at
+place_of (y ∷ xs) (suc i) x at = place_of xs i x at
 
-pub members_set : (caches : List (Option Cache)) (id : ℕ) (w : Option Cache) → members_of (lives_of (slice_set caches id w)) ≡ slice_set (members_of (lives_of caches)) id (option_map (λ k. member_of k.config) w)
-members_set caches id w =
-    ap members_of (map_set (option_map status_of) caches id w)
-    ∙ map_set (option_map (λ (k : Status). member_of k.config)) (lives_of caches) id (option_map status_of w)
-    ∙ ap (slice_set (members_of (lives_of caches)) id) (by w)
-  where
-    by : (w : Option Cache) → option_map (λ (k : Status). member_of k.config) (option_map status_of w) ≡ option_map (λ (k : Cache). member_of k.config) w
-    by None = refl
-    by (Some k) = refl
+-- what the roster knows of a live cache
+abbrev pub member_in : Option Cache → Option Member
+member_in o = option_map (λ (k : Status). member_of k.config) (option_map status_of o)
 
-pub members_more : (caches : List (Option Cache)) (k : Cache) → members_of (lives_of (caches ++ Some k ∷ [])) ≡ members_of (lives_of caches) ++ Some (member_of k.config) ∷ []
-members_more caches k =
-    ap members_of (map-append (option_map status_of) caches (Some k ∷ []))
-    ∙ map-append (option_map (λ (s : Status). member_of s.config)) (lives_of caches) (Some (status_of k) ∷ [])
+pub members_set : (caches : List (Option Cache)) (id : ℕ) (o : Option Cache) → members_of (lives_of (slice_set caches id o)) ≡ slice_set (members_of (lives_of caches)) id (member_in o)
+members_set caches id o = ap members_of (map-set (option_map status_of) caches id o) ∙ map-set (option_map (λ (k : Status). member_of k.config)) (lives_of caches) id (option_map status_of o)
 
-module _ {G : Type 0} (m : RowMap) (f : ℕ → Option (Managed G)) (members : List (Option Member)) (seen : List (Option Cache)) (view_is : caches_in f (length members) ≡ seen) (sound : IsSound m f members) where
-  pub seen_at : (id : ℕ) → at_place seen id ≡ option_map cache_in (f id)
-  seen_at id =
-      ap (λ (ks : List (Option Cache)). at_place ks id) (sym view_is)
-      ∙ at_place_map cache_in (places_of f (length members)) id
-      ∙ ap (option_map cache_in) (at-places f (length members) id sound.beyond)
+-- The fields: the table's rows, the caches by id, and the roster; and what is seen of them.
 
-  pub seen_here : (id : ℕ) (cache : Managed G) → f id ≡ Some cache → at_place seen id ≡ Some (cache_in cache)
-  seen_here id cache at = seen_at id ∙ ap (option_map cache_in) at
+pub record Within (G : Type 0) : Type 0 where
+  pub rows : RowMap
+  pub caches : ℕ → Option (Managed G)
+  pub members : List (Option Member)
+  pub seen : List (Option Cache)
+  pub view_is : caches_in caches (length members) ≡ seen
+  pub sound : IsSound rows caches members
 
-  pub live_here : (id : ℕ) (cache : Managed G) → f id ≡ Some cache → live_at (lives_of seen) id ≡ Some (status_of (cache_in cache))
-  live_here id cache at = at_place_map status_of seen id ∙ ap (option_map status_of) (seen_here id cache at)
+abbrev pub within : {G : Type 0} {m : RowMap} {f : ℕ → Option (Managed G)} {members : List (Option Member)} {seen : List (Option Cache)} → caches_in f (length members) ≡ seen → IsSound m f members → Within G
+within {G} {m} {f} {members} {seen} view_is sound = record { rows = m; caches = f; members = members; seen = seen; view_is = view_is; sound = sound }
 
-  pub none_live : (id : ℕ) → f id ≡ None → live_at (lives_of seen) id ≡ None
-  none_live id at = at_place_map status_of seen id ∙ ap (option_map status_of) (seen_at id ∙ ap (option_map cache_in) at)
+module _ {G : Type 0} (w : Within G) where
+  pub listed_seen : w.members ≡ members_of (lives_of w.seen)
+  listed_seen = w.sound.listed ∙ ap (λ (ks : List (Option Cache)). members_of (lives_of ks)) w.view_is
 
-  pub managed_here : (id : ℕ) (cache : Managed G) → f id ≡ Some cache → IsManaged m id cache
-  managed_here id cache at = subst (IsAt m id) at (sound.each id)
+  pub as_many : length w.seen ≡ length w.members
+  as_many = ap length (sym w.view_is) ∙ length_map (option_map cache_in) (places_of w.caches (length w.members)) ∙ length-places w.caches (length w.members)
 
-  -- a cache knows its id
-  pub managed_own : (id : ℕ) (cache : Managed G) → f id ≡ Some cache → IsManaged m cache.state.id cache
-  managed_own id cache at =
-      let is = managed_here id cache at in
-      record { kept = record { id_is = refl; tied = is.kept.tied; within = is.kept.within }; waits = is.waits }
+  -- what is at an id, a cache or none
+  module _ (id : ℕ) {o : Option (Managed G)} (at : w.caches id ≡ o) where
+    pub seen_is : at_place w.seen id ≡ option_map cache_in o
+    seen_is =
+        ap (λ (ks : List (Option Cache)). at_place ks id) (sym w.view_is)
+        ∙ at_place_map cache_in (places_of w.caches (length w.members)) id
+        ∙ ap (option_map cache_in) (at-places w.caches (length w.members) id w.sound.beyond ∙ at)
 
-  pub listed_seen : members ≡ members_of (lives_of seen)
-  listed_seen = sound.listed ∙ ap (λ (ks : List (Option Cache)). members_of (lives_of ks)) view_is
+    pub live_is : live_at (lives_of w.seen) id ≡ option_map status_of (option_map cache_in o)
+    live_is = at_place_map status_of w.seen id ∙ ap (option_map status_of) seen_is
 
-  pub as_many : length seen ≡ length members
-  as_many = ap length (sym view_is) ∙ length_map (option_map cache_in) (places_of f (length members)) ∙ length-places f (length members)
+    pub stands : IsAt w.rows id o
+    stands = subst (IsAt w.rows id) at (w.sound.each id)
 
-  module _ (id : ℕ) (cache : Managed G) (at : f id ≡ Some cache) where
-    pub given : id < length members
-    given = below-places f (length members) id cache sound.beyond at
-
-    pub member_at : at_place members id ≡ Some (member_of cache.state.config)
+    pub member_at : at_place w.members id ≡ member_in (option_map cache_in o)
     member_at =
         ap (λ (ms : List (Option Member)). at_place ms id) listed_seen
-        ∙ at_place_map (λ (k : Status). member_of k.config) (lives_of seen) id
-        ∙ ap (option_map (λ (k : Status). member_of k.config)) (live_here id cache at)
+        ∙ at_place_map (λ (k : Status). member_of k.config) (lives_of w.seen) id
+        ∙ ap (option_map (λ (k : Status). member_of k.config)) live_is
 
-    module _ (g : ℕ → Option (Managed G)) (w : Option (Managed G)) (puts : Puts f id w g) where
-      pub caches_put : caches_in g (length members) ≡ slice_set (caches_in f (length members)) id (option_map cache_in w)
-      caches_put = ap (map (option_map cache_in)) (places_put f g id w puts (length members) given) ∙ map_set (option_map cache_in) (places_of f (length members)) id w
+  -- a cache knows its id
+  pub managed_own : (id : ℕ) {cache : Managed G} → w.caches id ≡ Some cache → IsManaged w.rows cache.state.id cache
+  managed_own id at = let is = stands id at in record { kept = record { id_is = refl; tied = is.kept.tied; within = is.kept.within }; waits = is.waits }
 
-      pub seen_put : caches_in g (length members) ≡ slice_set seen id (option_map cache_in w)
-      seen_put = caches_put ∙ ap (λ (ks : List (Option Cache)). slice_set ks id (option_map cache_in w)) view_is
+-- the rows at each id, where something was put at one
+pub each_put : {G : Type 0} (n : RowMap) (f g : ℕ → Option (Managed G)) (id : ℕ) (o : Option (Managed G)) → Puts f id o g → IsAt n id o → ((other : ℕ) → other ≢ id → IsAt n other (f other)) → (other : ℕ) → IsAt n other (g other)
+each_put n f g id o puts is rest other = elim (cases_eq other id) [
+  | inl same ↦ subst (λ (i : ℕ). IsAt n i (g i)) (sym same) (subst (IsAt n id) (sym (put_here f g id o puts)) is)
+  | inr differ ↦ subst (IsAt n other) (sym (put_other f g id o puts other differ)) (rest other differ)
+]
 
-      pub each_put : (n : RowMap) → IsAt n id w → SameElsewhere id m n → (other : ℕ) → IsAt n other (g other)
-      each_put n is elsewhere other = by (eqb other id) refl
-        where
-          by : (b : Bool) → eqb other id ≡ b → IsAt n other (g other)
-          by true h =
-              let here : other ≡ id = grind (arith, nat_tests) in
-              subst (λ (o : ℕ). IsAt n o (g o)) (sym here) (subst (IsAt n id) (sym (put_here f g id w puts)) is)
-          by false h =
-              let differ : other ≡ id → ⊥ = λ e. grind (arith, nat_tests) in
-              subst (IsAt n other) (sym (put_other f g id w puts other differ)) (at_elsewhere m n id other (f other) elsewhere h (sound.each other))
+-- in the place of a cache something was put, or none
+pub record Changes {G : Type 0} (w : Within G) (id : ℕ) (cache : Managed G) (o : Option (Managed G)) (g : ℕ → Option (Managed G)) : Type 0 where
+  pub at : w.caches id ≡ Some cache
+  pub puts : Puts w.caches id o g
 
-    -- the manager stays sound where one cache has moved
-    module _ (g : ℕ → Option (Managed G)) (cache' : Managed G) (puts : Puts f id (Some cache') g) where
-      member_here : slice_get (members_of (lives_of seen)) id ≡ Some (Some (member_of cache.state.config))
-      member_here = place_of (members_of (lives_of seen)) id (member_of cache.state.config) (ap (λ (ms : List (Option Member)). at_place ms id) (sym listed_seen) ∙ member_at)
+module _ {G : Type 0} {w : Within G} {id : ℕ} {cache : Managed G} {o : Option (Managed G)} {g : ℕ → Option (Managed G)} (c : Changes w id cache o g) where
+  given : id < length w.members
+  given = below-places w.caches (length w.members) id cache w.sound.beyond c.at
 
-      still_listed : cache'.state.config ≡ cache.state.config → members ≡ members_of (lives_of (caches_in g (length members)))
-      still_listed same =
-          listed_seen
-          ∙ sym (same_set (members_of (lives_of seen)) id (Some (member_of cache.state.config)) member_here)
-          ∙ ap (λ (c : CacheConfig). slice_set (members_of (lives_of seen)) id (Some (member_of c))) (sym same)
-          ∙ sym (members_set seen id (Some (cache_in cache')))
-          ∙ ap (λ (ks : List (Option Cache)). members_of (lives_of ks)) (sym (seen_put g (Some cache') puts))
+  pub seen_put : caches_in g (length w.members) ≡ slice_set w.seen id (option_map cache_in o)
+  seen_put =
+      ap (map (option_map cache_in)) (places_put w.caches g id o c.puts (length w.members) given)
+      ∙ map-set (option_map cache_in) (places_of w.caches (length w.members)) id o
+      ∙ ap (λ (ks : List (Option Cache)). slice_set ks id (option_map cache_in o)) w.view_is
 
-      pub sound_moved : (n : RowMap) → IsManaged n id cache' → cache'.state.config ≡ cache.state.config → SameElsewhere id m n → IsSound n g members
-      sound_moved n is same elsewhere = record {
-        each = each_put g (Some cache') puts n is elsewhere;
-        beyond = none_put f g id (Some cache') puts (length members) given sound.beyond;
-        listed = still_listed same;
+  pub seen_after : caches_in g (length (slice_set w.members id (member_in (option_map cache_in o)))) ≡ slice_set w.seen id (option_map cache_in o)
+  seen_after = ap (caches_in g) (length-set w.members id (member_in (option_map cache_in o))) ∙ seen_put
+
+  pub sound_after : (n : RowMap) → IsAt n cache.state.id o → SameElsewhere cache.state.id w.rows n → IsSound n g (slice_set w.members id (member_in (option_map cache_in o)))
+  sound_after n is elsewhere =
+      let id_is : cache.state.id ≡ id = (stands w id c.at).kept.id_is in
+      record {
+        each = each_put n w.caches g id o c.puts (subst (λ (i : ℕ). IsAt n i o) id_is is) (λ other differ. at_elsewhere w.rows n id other (w.caches other) (subst (λ (i : ℕ). SameElsewhere i w.rows n) id_is elsewhere) differ (w.sound.each other));
+        beyond = subst (λ (k : ℕ). NoneFrom k g) (sym (length-set w.members id (member_in (option_map cache_in o)))) (none_put w.caches g id o c.puts (length w.members) given w.sound.beyond);
+        listed =
+            ap (λ (ms : List (Option Member)). slice_set ms id (member_in (option_map cache_in o))) (listed_seen w)
+            ∙ sym (members_set w.seen id (option_map cache_in o))
+            ∙ ap (λ (ks : List (Option Cache)). members_of (lives_of ks)) (sym seen_after);
       }
+
+-- the manager stays sound where one cache has moved
+pub sound_moved : {G : Type 0} {w : Within G} {id : ℕ} {cache cache' : Managed G} {g : ℕ → Option (Managed G)} → Changes w id cache (Some cache') g
+    → (n : RowMap) → IsManaged n cache.state.id cache' → cache'.state.config ≡ cache.state.config → SameElsewhere cache.state.id w.rows n → IsSound n g w.members
+sound_moved {G} {w} {id} {cache} {cache'} {g} c n is same elsewhere =
+    let stays : slice_set w.members id (Some (member_of cache'.state.config)) ≡ w.members = ap (λ (d : CacheConfig). slice_set w.members id (Some (member_of d))) same ∙ same_set w.members id _ (place_of w.members id _ (member_at w id c.at)) in
+    subst (IsSound n g) stays (sound_after c n is elsewhere)

@@ -1,22 +1,15 @@
 -- No request of a step tells notices: they are told after the last step.
 use Rattle.std.proofs.Common.{◌≡◌, ℕ, ◌*◌, true, false, List, [], length, refl, sym, ap, subst, ◌∙◌, true≢false}
-use Rattle.jc_model.specs.declared.call.Answer.{Answer}
+use Rattle.jc_engine.proofs.Names.{Answer, Request, CacheConfig, Progress, Run, waiting, resume, answered, told_by, Awaited, for_tell, awaited_by, fits, Plan, at_once, each, asked_by, carried_out, Wait, telling, key_run, Waits}
+use Rattle.jc_engine.proofs.Names.{wait_run, IsSuspended, NeverTells, one_key, many_keys}
 use Rattle.jc_model.specs.declared.call.Answer.TheVariants.{Loaded, LoadFailed, Written, WriteFailed, Processed, Told}
 use Rattle.jc_model.specs.declared.call.KeyCall.{KeyCall}
-use Rattle.jc_model.specs.declared.call.Request.{Request}
 use Rattle.jc_model.specs.declared.call.Request.TheVariants.{Load, Write, Delete, Process, Tell}
-use Rattle.jc_model.specs.declared.config.CacheConfig.{CacheConfig}
-use Rattle.jc_model.specs.Changes.{Progress}
-use Rattle.jc_model.specs.Run.{Run, waiting, resume, answered, told_by, Awaited, for_tell, awaited_by, fits}
 use Rattle.jc_model.specs.Step.{step}
-use Rattle.jc_model.specs.Whole.{Plan, one, many, at_once, each, asked_by, carried_out}
-use Rattle.jc_model.specs.Suspended.{Wait, one as one_key, many as many_keys, telling, key_run}
+use Rattle.jc_model.specs.Whole.{one, many}
 use Rattle.jc_model.specs.Everywhere.{AtEach, IsOf}
 use Rattle.jc_model.proofs.Everywhere.{at_each-resume, at_each-answered, at_each-and_then, goes-at_each}
 use Rattle.jc_model.proofs.Law.{Steps, Planned, step-goes, after_key-goes, each-goes, carried_out-goes}
-use Rattle.jc_bulk.specs.Waits.{Waits}
-use Rattle.jc_bulk.specs.Moved.{wait_run, IsSuspended}
-use Rattle.jc_engine.specs.Managed.{NeverTells}
 
 -- what holds of each request of a step, holds throughout a call until its notices are told
 module _ (W : Request → Progress → Type 0) (asks : (call : KeyCall) (q : Request) (p : Progress) → IsOf call q → W q p) where

@@ -1,25 +1,11 @@
 -- A manager of which no call has changed a cache is sound over any empty table.
-use Rattle.std.proofs.Common.{◌≡◌, ℕ, zero, suc, List, [], ◌∷◌, map, length, Option, Some, None, refl, sym, ap, subst, ◌∙◌}
+use Rattle.std.proofs.Common.{length, ◌≡◌, ℕ, List, [], Option, Some, None, refl, sym, ap, subst, ◌∙◌}
 use Rattle.std.specs.FinMap as table
-use Rattle.jc_model.specs.declared.config.CacheConfig.{CacheConfig}
-use Rattle.jc_model.specs.Runs.{Status, Lives, live_at, opened, opened_from}
-use Rattle.jc_model.specs.Solo.{state_of}
-use Rattle.jc_rows.specs.Rows.{RowMap}
-use Rattle.jc_rows.proofs.Laws.{get-empty}
-use Rattle.jc_state.specs.Kept.{items_of}
-use Rattle.jc_state.specs.Shelf.{Cell}
-use Rattle.jc_state.specs.Tied.{Tied}
-use Rattle.jc_engine.specs.declared.cache.Managed.{Managed}
-use Rattle.jc_engine.specs.Managed.{IsManaged, cache_in}
-use Rattle.jc_roster.specs.Members.{Member}
-use Rattle.jc_engine.specs.Caches.{Cache, status_of, lives_of}
-use Rattle.jc_engine.specs.Sound.{IsAt, IsSound, caches_in}
-use Rattle.jc_engine.proofs.Places.{live_here}
+use Rattle.jc_engine.proofs.Names.{CacheConfig, Status, Lives, live_at, opened, opened_from, state_of, RowMap, items_of, item_of, Tied, Managed, IsManaged, cache_in, status_of, lives_of, IsAt, IsSound, get-empty, nil_from_length}
+use Rattle.jc_engine.proofs.Names.{length-map}
+use Rattle.jc_engine.proofs.Places.{Within, stands, live_is}
+use Rattle.jc_engine.proofs.Openings.{made_there}
 use Rattle.jc_engine.proofs.Watching.{state_is}
-
-no_cells : (cs : List Cell) → items_of cs ≡ [] → cs ≡ []
-no_cells [] e = refl
-no_cells (c ∷ cs) e = absurd cc
 
 tied_empty : (id : ℕ) → Tied table.empty id []
 tied_empty id = record { distinct = tt; placed = tt; found = λ k r e at. (let none = get-empty (id, k) in absurd cc) }
@@ -28,32 +14,15 @@ vacant : {G : Type 0} (m : RowMap) (id : ℕ) (cache : Managed G) (c : CacheConf
 vacant m id cache c is fresh =
     let k = cache_in cache in
     let ring : items_of cache.state.cells ≡ [] = ap (λ s. s.ring) (sym (state_is k.config k.progress k.turn)) ∙ ap (λ (s : Status). (state_of s.standing).ring) fresh in
-    record {
-      kept = record {
-        id_is = is.kept.id_is;
-        tied = subst (Tied table.empty cache.state.id) (sym (no_cells cache.state.cells ring)) (tied_empty cache.state.id);
-        within = is.kept.within;
-      };
-      waits = is.waits;
-    }
+    let none : cache.state.cells ≡ [] = nil_from_length cache.state.cells (sym (length-map cache.state.cells item_of) ∙ ap length ring) in
+    record { kept = record { id_is = is.kept.id_is; tied = subst (Tied table.empty cache.state.id) (sym none) (tied_empty cache.state.id); within = is.kept.within }; waits = is.waits }
 
--- where caches are as they are opened, each is
-new_there : (configs : List CacheConfig) (id : ℕ) (k : Status) → live_at (map (λ c. Some (opened c)) configs) id ≡ Some k → k ≡ opened k.config
-new_there [] id k at = absurd cc
-new_there (c ∷ configs) zero k at = let same : opened c ≡ k = cc in subst (λ (j : Status). j ≡ opened j.config) same refl
-new_there (c ∷ configs) (suc id) k at = new_there configs id k at
-
-opened_there : (first : ℕ) (configs : List CacheConfig) (id : ℕ) (k : Status) → live_at (opened_from first configs) id ≡ Some k → k ≡ opened k.config
-opened_there zero configs id k at = new_there configs id k at
-opened_there (suc first) configs zero k at = absurd cc
-opened_there (suc first) configs (suc id) k at = opened_there first configs id k at
-
-module _ {G : Type 0} (m : RowMap) (f : ℕ → Option (Managed G)) (members : List (Option Member)) (seen : List (Option Cache)) (view_is : caches_in f (length members) ≡ seen) (sound : IsSound m f members) where
-  pub sound_over : (n : RowMap) (first : ℕ) (configs : List CacheConfig) → n ≡ table.empty → lives_of seen ≡ opened_from first configs → IsSound n f members
-  sound_over n first configs empty fresh = subst (λ (z : RowMap). IsSound z f members) (sym empty) record { each = λ id. by id (f id) refl (sound.each id); beyond = sound.beyond; listed = sound.listed }
+module _ {G : Type 0} (w : Within G) where
+  pub sound_over : (n : RowMap) (first : ℕ) (configs : List CacheConfig) → n ≡ table.empty → lives_of w.seen ≡ opened_from first configs → IsSound n w.caches w.members
+  sound_over n first configs empty fresh = rw empty record { each = λ id. by id (w.caches id) refl; beyond = w.sound.beyond; listed = w.sound.listed }
     where
-      by : (id : ℕ) (found : Option (Managed G)) → f id ≡ found → IsAt m id found → IsAt table.empty id found
-      by id None at is = λ key. get-empty (id, key)
-      by id (Some cache) at is =
-          vacant m id cache cache.state.config is
-          (opened_there first configs id (status_of (cache_in cache)) (ap (λ (ks : Lives). live_at ks id) (sym fresh) ∙ live_here m f members seen view_is sound id cache at))
+      by : (id : ℕ) (found : Option (Managed G)) → w.caches id ≡ found → IsAt table.empty id found
+      by id None at = λ key. get-empty (id, key)
+      by id (Some cache) at =
+          let new = made_there opened first configs id (status_of (cache_in cache)) (ap (λ (ks : Lives). live_at ks id) (sym fresh) ∙ live_is w id at) in
+          vacant w.rows id cache new.0 (stands w id at) new.1

@@ -1,26 +1,10 @@
 -- An image that shows the table shows the caches.
-use Rattle.std.proofs.Common.{◌≡◌, ℕ, List, length, Option, Some, None, refl, sym, ap, subst, ◌∙◌}
-use Rattle.std.specs.Prelude.{option_map}
+use Rattle.std.proofs.Common.{◌≡◌, ℕ, List, Option, Some, None, refl, sym, ap, ◌∙◌, option_map}
 use Rattle.std.specs.FinMap as table
-use Rattle.jc_model.specs.declared.config.CacheConfig.{CacheConfig}
-use Rattle.jc_model.specs.declared.config.Expiry.{Expiry}
-use Rattle.jc_model.specs.State.{State, row_of}
-use Rattle.jc_model.specs.Changes.{Progress}
-use Rattle.jc_model.specs.Run.{Awaited}
-use Rattle.jc_model.specs.Places.{at_place}
-use Rattle.jc_model.specs.Runs.{Status}
-use Rattle.jc_model.specs.Solo.{state_of}
-use Rattle.jc_model.specs.Sound.{HasDistinctKeys, IsSound as IsCacheSound}
-use Rattle.jc_model.specs.Suspended.{Wait, standing_by}
-use Rattle.jc_rows.specs.Rows.{RowMap}
+use Rattle.jc_engine.proofs.Names.{CacheConfig, Expiry, State, Progress, Awaited, at_place, Status, state_of, HasDistinctKeys, Wait, standing_by, Cache, status_of, lives_of, expiry_in, ShowsStates, expiry_at, states_of}
+use Rattle.jc_engine.proofs.Names.{IsCacheSound, at_place_map}
 use Rattle.jc_rows.specs.Images.{Image, Shows, slot}
-use Rattle.jc_engine.specs.declared.cache.Managed.{Managed}
-use Rattle.jc_roster.specs.Members.{Member}
-use Rattle.jc_roster.proofs.Members.{at_place_map}
-use Rattle.jc_engine.specs.Sound.{IsSound, caches_in}
-use Rattle.jc_engine.specs.Caches.{Cache, status_of, lives_of, expiry_in}
-use Rattle.jc_engine.specs.Watching.{ShowsStates, expiry_at, states_of}
-use Rattle.jc_engine.proofs.Places.{seen_at}
+use Rattle.jc_engine.proofs.Places.{Within, seen_is}
 use Rattle.jc_engine.proofs.Tables.{expiry_shown, sound_there}
 use Rattle.jc_engine.proofs.Counted.{count}
 
@@ -42,39 +26,37 @@ expiry_is : (key : List ℕ) (o : Option Cache) → expiry_in key o ≡ expiry_a
 expiry_is key None = refl
 expiry_is key (Some k) = refl
 
-module _ {G : Type 0} (m : RowMap) (f : ℕ → Option (Managed G)) (members : List (Option Member)) (seen : List (Option Cache)) (view_is : caches_in f (length members) ≡ seen) (sound : IsSound m f members) where
+module _ {G : Type 0} (w : Within G) where
   -- the table's rows are those of the caches
-  pub expiry_seen : (id : ℕ) (key : List ℕ) → option_map (λ row. row.1) (table.get m (id, key)) ≡ expiry_in key (at_place seen id)
-  expiry_seen id key = expiry_shown m id (f id) key (sound.each id) ∙ ap (expiry_in key) (sym (seen_at m f members seen view_is sound id))
+  pub expiry_seen : (id : ℕ) (key : List ℕ) → option_map (λ row. row.1) (table.get w.rows (id, key)) ≡ expiry_in key (at_place w.seen id)
+  expiry_seen id key = expiry_shown w.rows id (w.caches id) key (w.sound.each id) ∙ ap (expiry_in key) (sym (seen_is w id refl))
 
-  pub sound_seen : (id : ℕ) (k : Cache) → at_place seen id ≡ Some k → IsCacheSound k.config k.progress.state
-  sound_seen id k at = sound_there m id (f id) k (sound.each id) (sym (seen_at m f members seen view_is sound id) ∙ at)
+  pub sound_seen : (id : ℕ) (k : Cache) → at_place w.seen id ≡ Some k → IsCacheSound k.config k.progress.state
+  sound_seen id k at = sound_there w.rows id (w.caches id) k (w.sound.each id) (sym (seen_is w id refl) ∙ at)
 
-  expiry : (id : ℕ) (key : List ℕ) → option_map (λ row. row.1) (table.get m (id, key)) ≡ expiry_at key (at_place (states_of (lives_of seen)) id)
-  expiry id key = expiry_seen id key ∙ (expiry_is key (at_place seen id) ∙ ap (expiry_at key) (sym (state_at seen id)))
+  expiry : (id : ℕ) (key : List ℕ) → option_map (λ row. row.1) (table.get w.rows (id, key)) ≡ expiry_at key (at_place (states_of (lives_of w.seen)) id)
+  expiry id key = expiry_seen id key ∙ (expiry_is key (at_place w.seen id) ∙ ap (expiry_at key) (sym (state_at w.seen id)))
 
-  distinct : (id : ℕ) (s : State) → at_place (states_of (lives_of seen)) id ≡ Some s → HasDistinctKeys s.ring
-  distinct id s at = by (at_place seen id) refl (sym (state_at seen id) ∙ at)
+  distinct : (id : ℕ) (s : State) → at_place (states_of (lives_of w.seen)) id ≡ Some s → HasDistinctKeys s.ring
+  distinct id s at = by (at_place w.seen id) refl (sym (state_at w.seen id) ∙ at)
     where
-      by : (found : Option Cache) → at_place seen id ≡ found → option_map (λ (k : Cache). k.progress.state) found ≡ Some s → HasDistinctKeys s.ring
+      by : (found : Option Cache) → at_place w.seen id ≡ found → option_map (λ (k : Cache). k.progress.state) found ≡ Some s → HasDistinctKeys s.ring
       by None is e = absurd cc
-      by (Some k) is e =
-          let same : k.progress.state ≡ s = cc in
-          subst (λ (t : State). HasDistinctKeys t.ring) same (sound_seen id k is).0
+      by (Some k) is e = let same : k.progress.state ≡ s = cc in rw same at (sound_seen id k is).0
 
-  placed_there : (image : Image) → Shows m image → image.stash ≡ 0 → (id : ℕ) (key : List ℕ) (e : Expiry) → expiry_at key (at_place (states_of (lives_of seen)) id) ≡ Some e → (i : ℕ) × (slot image i ≡ Some ((id, key), e))
-  placed_there image shows none id key e at = by (table.get m (id, key)) refl (expiry id key ∙ at)
+  placed_there : (image : Image) → Shows w.rows image → image.stash ≡ 0 → (id : ℕ) (key : List ℕ) (e : Expiry) → expiry_at key (at_place (states_of (lives_of w.seen)) id) ≡ Some e → (i : ℕ) × (slot image i ≡ Some ((id, key), e))
+  placed_there image shows none id key e at = by (table.get w.rows (id, key)) refl (expiry id key ∙ at)
     where
-      by : (o : Option (ℕ × Expiry)) → table.get m (id, key) ≡ o → option_map (λ row. row.1) o ≡ Some e → (i : ℕ) × (slot image i ≡ Some ((id, key), e))
+      by : (o : Option (ℕ × Expiry)) → table.get w.rows (id, key) ≡ o → option_map (λ row. row.1) o ≡ Some e → (i : ℕ) × (slot image i ≡ Some ((id, key), e))
       by None here is = absurd cc
       by (Some row) here is =
           let there = shows.whole none (id, key) row here in
           let same : row.1 ≡ e = cc in
           (there.0, there.1 ∙ ap (λ (x : Expiry). Some ((id, key), x)) same)
 
-  pub states_shown : (image : Image) → Shows m image → ShowsStates (states_of (lives_of seen)) image
+  pub states_shown : (image : Image) → Shows w.rows image → ShowsStates (states_of (lives_of w.seen)) image
   states_shown image shows = record {
     placed = λ i s at. (let row = shows.placed i s at in sym (expiry s.0.0 s.0.1) ∙ ap (option_map (λ (r : ℕ × _). r.1)) row.1);
-    others = shows.others ∙ count m (states_of (lives_of seen)) expiry distinct;
+    others = shows.others ∙ count w.rows (states_of (lives_of w.seen)) expiry distinct;
     whole = placed_there image shows;
   }

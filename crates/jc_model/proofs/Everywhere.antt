@@ -1,16 +1,10 @@
 -- What holds everywhere in a run, holds after each answer; and in two runs, one after the other.
-use Rattle.std.proofs.Common.{ℕ, ◌+◌, ◌-◌, ◌≤◌, arith, List, [], ◌∷◌}
-use Rattle.jc_model.specs.declared.call.Answer.{Answer}
-use Rattle.jc_model.specs.declared.call.Reply.{Reply}
-use Rattle.jc_model.specs.declared.call.Request.{Request}
-use Rattle.jc_model.specs.Changes.{Progress}
-use Rattle.jc_model.specs.Run.{Run, ended, waiting, and_then, resume, answered}
-use Rattle.jc_model.specs.Everywhere.{AtEach, Within, Goes}
+use Rattle.std.proofs.lemmas.Grind.{common_steps}
+use Rattle.jc_model.proofs.Names.{ℕ, ◌+◌, ◌-◌, ◌≤◌, arith, List, [], ◌∷◌, Answer, Reply, Request, Progress, Run, ended, waiting, and_then, resume, answered, AtEach, Within, Goes}
 
 module _ (W : Request → Progress → Type 0) (E : Progress → Reply → Type 0) where
   pub at_each-resume : (run : Run) (a : Answer) → AtEach W E run → AtEach W E (resume run a)
-  at_each-resume (ended p r) a h = h
-  at_each-resume (waiting q p resumed) a h = h.1 a
+  at_each-resume run a h = grind (arith, common_steps)
 
   pub at_each-answered : (run : Run) (given : List Answer) → AtEach W E run → AtEach W E (answered run given)
   at_each-answered run [] h = h

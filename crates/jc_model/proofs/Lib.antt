@@ -1,3 +1,4 @@
+pub mod Names
 pub mod Ring
 pub mod Everywhere
 pub mod Law
@@ -22,8 +23,5 @@ pub mod Histories
 pub mod Recording
 pub mod Legal
 pub mod Bare
-pub mod Worked
-pub mod Places
-pub mod Suspended
 pub mod Distinct
 pub mod Tests

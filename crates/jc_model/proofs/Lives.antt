@@ -1,8 +1,6 @@
 -- The list of lives: what stands at an id after each change.
-use Rattle.std.proofs.Common.{◌≡◌, ◌≢◌, ℕ, ◌<◌, zero, suc, List, [], ◌∷◌, ◌++◌, length, Option, Some, refl, ap, arith}
-use Rattle.std.specs.Prelude.{slice_get, slice_set}
-use Rattle.jc_model.specs.Runs.{Status, Lives, live_at}
-use Rattle.jc_model.specs.Places.{there}
+use Rattle.std.proofs.lemmas.Grind.{common_steps}
+use Rattle.jc_model.proofs.Names.{◌≡◌, ◌≢◌, ℕ, ◌<◌, zero, suc, List, [], ◌∷◌, ◌++◌, length, Option, Some, refl, ap, arith, slice_get, slice_set, Status, Lives, live_at, there}
 
 pub at_same : {A : Type 0} (xs : List A) (i : ℕ) (x y : A) → slice_get xs i ≡ Some x → slice_get (slice_set xs i y) i ≡ Some y
 at_same [] i x y e = absurd (cc)
@@ -17,13 +15,10 @@ at_other (a ∷ xs) (suc i) zero y differ = refl
 at_other (a ∷ xs) (suc i) (suc j) y differ = at_other xs i j y (λ e. differ (ap suc e))
 
 pub same_length : {A : Type 0} (xs : List A) (i : ℕ) (y : A) → length (slice_set xs i y) ≡ length xs
-same_length [] i y = refl
-same_length (x ∷ xs) zero y = refl
-same_length (x ∷ xs) (suc i) y = ap suc (same_length xs i y)
+same_length xs i y = grind (arith, common_steps)
 
 pub length_one_more : {A : Type 0} (xs : List A) (y : A) → length (xs ++ y ∷ []) ≡ suc (length xs)
-length_one_more [] y = refl
-length_one_more (x ∷ xs) y = ap suc (length_one_more xs y)
+length_one_more xs y = grind (arith, common_steps)
 
 pub live_within : (lives : Lives) (i : ℕ) (k : Status) → live_at lives i ≡ Some k → i < length lives
 live_within [] i k at = absurd (cc)

@@ -1,13 +1,7 @@
 -- Every call keeps the keys distinct and the ring within its capacity, also while it waits.
-use Rattle.std.proofs.Common.{◌≡◌, ℕ, ◌+◌, ◌≤◌, ◌<◌, Bool, true, false, if◌then◌else◌, not, leb, List, [], ◌∷◌, ◌++◌, length, drop, refl, sym, subst, arith, length-append, leb-true, leb-false, zero-le}
-use Rattle.std.specs.List.{filter}
-use Rattle.std.specs.Str.{bytes_eq}
-use Rattle.jc_model.specs.declared.call.Call.{Call}
-use Rattle.jc_model.specs.declared.config.CacheConfig.{CacheConfig}
-use Rattle.jc_model.specs.State.{Item, State, turned}
-use Rattle.jc_model.specs.Whole.{whole}
-use Rattle.jc_model.specs.Sound.{Lacks, HasDistinctKeys, IsSound, Throughout}
-use Rattle.jc_model.proofs.Sound.{filter-shorter, distinct-filter, distinct-map, length-mapped, with_row-same, distinct-append, apart-nil, apart-cons, distinct-turned, lacks-turned, length-turned}
+use Rattle.jc_model.proofs.Names.{Bool, List, [], arith, if◌then◌else◌, length, length-append, not, subst, sym, zero-le, ℕ, ◌++◌, ◌+◌, ◌<◌, ◌∷◌, ◌≡◌, ◌≤◌, nat_tests, common_steps, filter}
+use Rattle.jc_model.proofs.Names.{bytes_eq, Call, CacheConfig, HasDistinctKeys, IsSound, Lacks, Throughout, Item, State, whole}
+use Rattle.jc_model.proofs.Sound.{filter-shorter, distinct-filter, distinct-map, length-mapped, with_row-same, distinct-push, distinct-turned, lacks-turned, length-turned}
 use Rattle.jc_model.proofs.Rings.{KeepsRing, room_in}
 use Rattle.jc_model.proofs.Keeps.{whole-keeps}
 
@@ -20,15 +14,7 @@ module _ (c : CacheConfig) (now : ℕ) (roomy : 1 ≤ c.capacity) where
   HasRoom k ring = HasDistinctKeys ring × Lacks k ring × (length ring < c.capacity)
 
   room_in-room : (k : List ℕ) (ring : List Item) → IsSoundRing ring → Lacks k ring → HasRoom k (room_in c now ring)
-  room_in-room k ring h l = go (leb c.capacity (length ring)) refl
-    where
-      full : (t : List Item) → HasDistinctKeys t → Lacks k t → length t ≡ length ring → c.capacity ≤ length ring → HasRoom k (drop 1 t)
-      full [] d m e f = absurd (omega (arith, e, f, roomy))
-      full (x ∷ rest) d m e f = (d.1, m.1, omega (arith, e, h.1))
-
-      go : (b : Bool) → leb c.capacity (length ring) ≡ b → HasRoom k (if b then drop 1 (turned now ring) else ring)
-      go true e = full (turned now ring) (distinct-turned now ring h.0) (lacks-turned now k ring l) (length-turned now ring) (leb-true c.capacity (length ring) e)
-      go false e = (h.0, l, leb-false c.capacity (length ring) e)
+  room_in-room k ring h l = grind (arith, distinct-turned, lacks-turned, length-turned, common_steps, nat_tests)
 
   sound-keeps : (k : List ℕ) → KeepsRing c now k IsSoundRing
   sound-keeps k = record {
@@ -43,9 +29,8 @@ module _ (c : CacheConfig) (now : ℕ) (roomy : 1 ≤ c.capacity) where
     pushed = λ x ring is l h.
         let roomy : List Item = room_in c now ring in
         let room : HasRoom k roomy = room_in-room k ring h l in
-        let lacks : Lacks x.key roomy = subst (λ q. Lacks q roomy) (sym is) room.1 in
         let longer : length (roomy ++ x ∷ []) ≡ length roomy + 1 = length-append roomy (x ∷ []) in
-        (distinct-append roomy (x ∷ []) room.0 (tt, tt) (apart-cons x [] roomy lacks (apart-nil roomy)), omega (arith, longer, room.2));
+        (distinct-push x roomy room.0 (rw is room.1), omega (arith, longer, room.2));
   }
 
   -- a sound cache is sound throughout each call

@@ -2,41 +2,39 @@
 use Rattle.std.specs.Prelude.{◌≡◌, ℕ, List, [], ◌∷◌, map, Option, Some, None, ⊤}
 use Rattle.std.specs.List.{Contains}
 use Rattle.jc_model.specs.declared.call.Call.{Call}
-use Rattle.jc_model.specs.declared.call.Call.TheVariants.{Get, GetAll, Contains as ContainsKey, Put, GetAndPut, PutIfAbsent, Replace, ReplaceIf, GetAndReplace, Remove, RemoveIf, GetAndRemove, Invoke, InvokeAll, PutAll, RemoveKeys, LoadAll}
+use Rattle.jc_model.specs.declared.call.Call.TheVariants.{GetAll, Contains as ContainsKey, InvokeAll, PutAll, RemoveKeys, LoadAll}
 use Rattle.jc_model.specs.declared.call.Request.{Request}
 use Rattle.jc_model.specs.declared.call.Request.TheVariants.{Load, Process}
 use Rattle.jc_model.specs.declared.event.Step.{Step}
 use Rattle.jc_model.specs.declared.event.Step.TheVariants.{Done, Need}
+use Rattle.jc_model.specs.Table as table
+use Rattle.jc_model.specs.Whole.{key_call}
+
+-- the keys that a call on many keys names, or one that asks for its key alone
+abbrev other_keys : Call → List (List ℕ)
+other_keys (GetAll ks) = ks
+other_keys (ContainsKey k) = k ∷ []
+other_keys (InvokeAll ks processor argument) = ks
+other_keys (PutAll given) = map (λ q. q.0) given
+other_keys (RemoveKeys ks) = ks
+other_keys (LoadAll ks replace) = ks
+other_keys _ = []
 
 -- the keys that a call names
 abbrev pub keys_of : Call → List (List ℕ)
-keys_of (Get k) = k ∷ []
-keys_of (GetAll ks) = ks
-keys_of (ContainsKey k) = k ∷ []
-keys_of (Put k v) = k ∷ []
-keys_of (GetAndPut k v) = k ∷ []
-keys_of (PutIfAbsent k v) = k ∷ []
-keys_of (Replace k v) = k ∷ []
-keys_of (ReplaceIf k expected v) = k ∷ []
-keys_of (GetAndReplace k v) = k ∷ []
-keys_of (Remove k) = k ∷ []
-keys_of (RemoveIf k expected) = k ∷ []
-keys_of (GetAndRemove k) = k ∷ []
-keys_of (Invoke k processor argument) = k ∷ []
-keys_of (InvokeAll ks processor argument) = ks
-keys_of (PutAll given) = map (λ q. q.0) given
-keys_of (RemoveKeys ks) = ks
-keys_of (LoadAll ks replace) = ks
-keys_of _ = []
+keys_of call = elim (key_call call) [ Some s ↦ s.key ∷ [] | None ↦ other_keys call ]
 
 abbrev pub IsKeyOf : List ℕ → Call → Type 0
 IsKeyOf key call = Contains (keys_of call) key
 
+-- the processor that a call on many keys names, with its argument
+abbrev other_invoked : Call → Option (ℕ × List ℕ)
+other_invoked (InvokeAll ks processor argument) = Some (processor, argument)
+other_invoked _ = None
+
 -- the processor that a call names, with its argument
 abbrev pub invoked_by : Call → Option (ℕ × List ℕ)
-invoked_by (Invoke k processor argument) = Some (processor, argument)
-invoked_by (InvokeAll ks processor argument) = Some (processor, argument)
-invoked_by _ = None
+invoked_by call = elim (key_call call) [ Some s ↦ table.invoked_by s.op | None ↦ other_invoked call ]
 
 -- a call asks the loader for its keys alone, and its processor alone, with its argument
 abbrev pub AsksOf : Call → Request → Type 0

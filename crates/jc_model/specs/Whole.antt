@@ -17,6 +17,21 @@ use Rattle.jc_model.specs.Run.{Run, ended, waiting, and_then}
 use Rattle.jc_model.specs.Step.{step}
 use Rattle.jc_model.specs.Bulk.{Gathered, nothing, pairs, results, Sum, empty_sum, with_key, gathered_reply, ends_call, same_op, put_each, remove_each}
 
+-- a call on one key: its key and its operation
+abbrev pub key_call : Call → Option KeyCall
+key_call (Get k) = Some (record { key = k; op = op.Get })
+key_call (Put k v) = Some (record { key = k; op = op.Put v })
+key_call (GetAndPut k v) = Some (record { key = k; op = op.GetAndPut v })
+key_call (PutIfAbsent k v) = Some (record { key = k; op = op.PutIfAbsent v })
+key_call (Replace k v) = Some (record { key = k; op = op.Replace v })
+key_call (ReplaceIf k expected v) = Some (record { key = k; op = op.ReplaceIf expected v })
+key_call (GetAndReplace k v) = Some (record { key = k; op = op.GetAndReplace v })
+key_call (Remove k) = Some (record { key = k; op = op.Remove })
+key_call (RemoveIf k expected) = Some (record { key = k; op = op.RemoveIf expected })
+key_call (GetAndRemove k) = Some (record { key = k; op = op.GetAndRemove })
+key_call (Invoke k processor argument) = Some (record { key = k; op = op.Invoke processor argument })
+key_call _ = None
+
 -- A call is one key's step, the steps of many keys with what is gathered of them, or a change and a reply at once.
 pub data Plan : Type 0 where
   one : List ℕ → Op → Plan
@@ -74,30 +89,24 @@ module _ (c : CacheConfig) (now : ℕ) where
   abbrev pub holds : List ℕ → State → Bool
   holds k s = elim (row_of k s.ring) [ None ↦ false | Some x ↦ is_live now x ]
 
+  -- what a call does that is not on one key; of others nothing is read here
+  abbrev pub other_plan : Call → Progress → Plan
+  other_plan (GetAll ks) p = many (same_op op.Get ks) (pairs [])
+  other_plan (Contains k) p = at_once p (Truth (holds k p.state))
+  other_plan (InvokeAll ks processor argument) p = many (same_op (op.Invoke processor argument) ks) (results [])
+  other_plan (PutAll given) p = many (put_each given) nothing
+  other_plan (RemoveKeys ks) p = many (same_op op.Remove ks) nothing
+  other_plan RemoveAll p = many (remove_each now p.state.ring) nothing
+  other_plan Clear p = at_once (with_ring [] p) Done
+  other_plan (LoadAll ks replace) p = many (same_op (op.Load replace) ks) nothing
+  other_plan Entries p = at_once (touch_each p.state.ring p) (Listed (contents p.state.ring))
+  other_plan Stats p = at_once p (Counted p.state.counts)
+  other_plan ClearStats p = at_once (with_counts zeros p) Done
+  other_plan _ p = at_once p Done
+
   -- what each call does
   abbrev pub plan : Call → Progress → Plan
-  plan (Get k) p = one k op.Get
-  plan (GetAll ks) p = many (same_op op.Get ks) (pairs [])
-  plan (Contains k) p = at_once p (Truth (holds k p.state))
-  plan (Put k v) p = one k (op.Put v)
-  plan (GetAndPut k v) p = one k (op.GetAndPut v)
-  plan (PutIfAbsent k v) p = one k (op.PutIfAbsent v)
-  plan (Replace k v) p = one k (op.Replace v)
-  plan (ReplaceIf k expected v) p = one k (op.ReplaceIf expected v)
-  plan (GetAndReplace k v) p = one k (op.GetAndReplace v)
-  plan (Remove k) p = one k op.Remove
-  plan (RemoveIf k expected) p = one k (op.RemoveIf expected)
-  plan (GetAndRemove k) p = one k op.GetAndRemove
-  plan (Invoke k processor argument) p = one k (op.Invoke processor argument)
-  plan (InvokeAll ks processor argument) p = many (same_op (op.Invoke processor argument) ks) (results [])
-  plan (PutAll given) p = many (put_each given) nothing
-  plan (RemoveKeys ks) p = many (same_op op.Remove ks) nothing
-  plan RemoveAll p = many (remove_each now p.state.ring) nothing
-  plan Clear p = at_once (with_ring [] p) Done
-  plan (LoadAll ks replace) p = many (same_op (op.Load replace) ks) nothing
-  plan Entries p = at_once (touch_each p.state.ring p) (Listed (contents p.state.ring))
-  plan Stats p = at_once p (Counted p.state.counts)
-  plan ClearStats p = at_once (with_counts zeros p) Done
+  plan call p = elim (key_call call) [ Some s ↦ one s.key s.op | None ↦ other_plan call p ]
 
   abbrev pub carried_out : Plan → Progress → Run
   carried_out (one k o) p = step c now (record { key = k; op = o }) p

@@ -1,7 +1,5 @@
-mod Asked
+mod Names
 mod Lined
 pub mod Goes
-mod Answered
 mod Judged
-mod Made
 pub mod Told

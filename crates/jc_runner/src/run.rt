@@ -2,7 +2,6 @@
 ghost use Rattle.std.specs.Prelude.{◌≡◌, ◌<◌, ◌≢◌, true, IfOk, IfErr, IfSome, IsSome, OnOk, IsOk, Ok, Err, length, string_bytes};
 ghost use Rattle.std.specs.FinMap as finite;
 ghost use Rattle.std.specs.Io.KnownBytes.{Appends, IsAtEnd, Keeps};
-ghost use Rattle.jc_cuckoo.specs.Cells.{rows_in};
 ghost use Rattle.jc_script.specs.Script.{lines};
 ghost use Rattle.jc_script.specs.declared.fault.ScriptFault.{ScriptFault as TextFault};
 ghost use Rattle.jc_script.specs.Named.{AllName};
@@ -24,15 +23,13 @@ use crate::running::run_all;
 use crate::watched::{Watched, WatchedWriter};
 use crate::writing::write_text;
 use jc_config::Settings;
-use jc_cuckoo::cuckoo::{Cuckoo, TableRefusal};
-use jc_cuckoo::mirror::NoMirror;
 use jc_engine::open::OpenRefusal;
 use jc_engine::recorded::Recorded;
 use jc_hooks::{CacheHooks, Listener, Loader, Processor, Writer};
-use jc_place::seeded::SeededPlacer;
 use jc_ring::link_ring::LinkRing;
 use jc_rows::rows::Rows;
 use jc_script::{Line, ScriptFault, read_script, report};
+use jc_shared::table;
 use std::alloc::Global;
 use std::io::{Read, Write};
 
@@ -51,21 +48,6 @@ pub(crate) fn lines_of(
         Ok(lines) => Ok(lines),
         Err(ScriptFault::OutOfMemory) => Err(RunFault::Memory),
         Err(fault) => Err(RunFault::Script(fault)),
-    }
-}
-
-/// How many buckets a table has at first.
-const BUCKETS: u32 = 16;
-
-/// The table that all caches of a run share.
-fn table(alloc: Global, seed: u64) -> Result<Cuckoo<SeededPlacer, NoMirror>, RunFault>
-    ensures empty { IfOk result (λ table. rows_in table.cells ≡ finite.empty) }
-    ensures faults { IfErr result (λ e. e ≡ faults.Memory) }
-{
-    match Cuckoo::new(alloc, SeededPlacer::new(seed), NoMirror, BUCKETS) {
-        Ok(table) => Ok(table),
-        Err(TableRefusal::OutOfMemory) => Err(RunFault::Memory),
-        Err(TableRefusal::BadBuckets) => unreachable!(),
     }
 }
 

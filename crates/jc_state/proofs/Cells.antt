@@ -1,11 +1,8 @@
 -- Rows in a list of cells: looking one up, taking one out, storing one anew.
-use Rattle.std.proofs.Common.{◌≡◌, ℕ, true, false, eqb, ◌||◌, ◌&&◌, not, cond, List, [], ◌∷◌, ◌++◌, length, Some, is_some, refl, sym, ap, ◌∙◌, arith, inl, inr}
+use Rattle.std.proofs.Common.{◌≡◌, ℕ, true, false, eqb, ◌||◌, ◌&&◌, not, cond, List, [], ◌∷◌, ◌++◌, length, None, option_map, is_some, refl, arith}
 use Rattle.std.proofs.lemmas.Grind.{common_steps}
-use Rattle.std.proofs.lemmas.Bool.{ne_eqb, eqb-false}
-use Rattle.std.proofs.lemmas.Bool.Decides.{eqb_tells, nat_tests}
-use Rattle.jc_state.specs.declared.slots.Record.{Record}
-use Rattle.jc_state.specs.Shelf.{Cell, seek, has_row, without_row, cleared, turned_cells, stored, stored_cell}
-use Rattle.jc_state.specs.Tied.{Distinct}
+use Rattle.std.proofs.lemmas.Bool.Decides.{nat_tests}
+use Rattle.jc_state.proofs.Names.{Record, Cell, seek, has_row, without_row, cleared, turned_cells, stored, Distinct}
 
 pub has_row-seek : (r : ℕ) (cs : List Cell) → has_row r cs ≡ is_some (seek r cs)
 has_row-seek r [] = refl
@@ -29,7 +26,7 @@ pub without_row-off : (r : ℕ) (xs : List Cell) → has_row r xs ≡ false → 
 without_row-off r [] e = refl
 without_row-off r (x ∷ xs) e = grind (arith, common_steps, without_row-off r xs)
 
-pub has_row-without : (s r : ℕ) (cs : List Cell) → has_row s (without_row r cs) ≡ (not (eqb s r) && has_row s cs)
+has_row-without : (s r : ℕ) (cs : List Cell) → has_row s (without_row r cs) ≡ (not (eqb s r) && has_row s cs)
 has_row-without s r [] = grind (arith, common_steps)
 has_row-without s r (c ∷ cs) = grind (arith, common_steps, nat_tests, has_row-without s r cs)
 
@@ -40,17 +37,14 @@ Distinct-without r (c ∷ cs) d = elim (eqb c.row r) as (λ b. Distinct (cond (n
   | false ↦ (grind (arith, common_steps, has_row-without c.row r cs, d.0), Distinct-without r cs d.1)
 ]
 
-pub seek-without : (s r : ℕ) (cs : List Cell) → eqb s r ≡ false → seek s (without_row r cs) ≡ seek s cs
-seek-without s r [] e = refl
-seek-without s r (c ∷ cs) e = grind (arith, common_steps, nat_tests, seek-without s r cs e)
+pub seek-without : (s r : ℕ) (cs : List Cell) → seek s (without_row r cs) ≡ cond (eqb s r) None (seek s cs)
+seek-without s r [] = grind (arith, common_steps)
+seek-without s r (c ∷ cs) = grind (arith, common_steps, nat_tests, seek-without s r cs)
 
 -- With the first row last.
 
 pub seek-turned : (r : ℕ) (c : Cell) (cs : List Cell) → has_row c.row cs ≡ false → seek r (cs ++ cleared c ∷ []) ≡ seek r (c ∷ cs)
-seek-turned r c cs d = seek-append r cs (cleared c ∷ []) ∙ elim (eqb_tells c.row r) [
-  | inl q ↦ (let off : has_row r cs ≡ false = ap (λ n. has_row n cs) (sym q.1) ∙ d in grind (arith, common_steps, q.0, off))
-  | inr q ↦ grind (arith, common_steps, q.0, has_row-seek r cs)
-]
+seek-turned r c cs d = grind (arith, common_steps, nat_tests, seek-append r cs (cleared c ∷ []), has_row-seek r cs)
 
 pub length-turned_cells : (cs : List Cell) → length (turned_cells cs) ≡ length cs
 length-turned_cells [] = refl
@@ -58,31 +52,14 @@ length-turned_cells (c ∷ cs) = grind (arith, common_steps)
 
 -- With a row stored anew.
 
-row-stored : (r : ℕ) (it : Record) (c : Cell) → (stored_cell r it c).row ≡ c.row
-row-stored r it c = grind (arith, common_steps)
-
-pub has_row-stored : (s r : ℕ) (it : Record) (cs : List Cell) → has_row s (stored r it cs) ≡ has_row s cs
+has_row-stored : (s r : ℕ) (it : Record) (cs : List Cell) → has_row s (stored r it cs) ≡ has_row s cs
 has_row-stored s r it [] = refl
-has_row-stored s r it (c ∷ cs) = grind (arith, common_steps, row-stored r it c, has_row-stored s r it cs)
+has_row-stored s r it (c ∷ cs) = grind (arith, common_steps, nat_tests, has_row-stored s r it cs)
 
 pub Distinct-stored : (r : ℕ) (it : Record) (cs : List Cell) → Distinct cs → Distinct (stored r it cs)
 Distinct-stored r it [] d = tt
-Distinct-stored r it (c ∷ cs) d = (has_row-stored (stored_cell r it c).row r it cs ∙ (ap (λ n. has_row n cs) (row-stored r it c) ∙ d.0), Distinct-stored r it cs d.1)
+Distinct-stored r it (c ∷ cs) d = (grind (arith, common_steps, nat_tests, has_row-stored c.row r it cs, d.0), Distinct-stored r it cs d.1)
 
-pub seek-stored_same : (r : ℕ) (it : Record) (cs : List Cell) → has_row r cs ≡ true → seek r (stored r it cs) ≡ Some it
-seek-stored_same r it [] on = cc
-seek-stored_same r it (c ∷ cs) on = elim (eqb_tells c.row r) [
-  | inl q ↦ grind (arith, common_steps, q.0)
-  | inr q ↦ grind (arith, common_steps, q.0, seek-stored_same r it cs (grind (arith, common_steps, q.0, on)))
-]
-
-pub seek-stored_other : (s r : ℕ) (it : Record) (cs : List Cell) → eqb s r ≡ false → seek s (stored r it cs) ≡ seek s cs
-seek-stored_other s r it [] e = refl
-seek-stored_other s r it (c ∷ cs) e = elim (eqb_tells c.row r) [
-  | inl q ↦ (let apart : eqb c.row s ≡ false = ne_eqb c.row s (λ h. eqb-false s r e (sym h ∙ q.1)) in grind (arith, common_steps, q.0, apart, seek-stored_other s r it cs e))
-  | inr q ↦ grind (arith, common_steps, q.0, seek-stored_other s r it cs e)
-]
-
-pub length-stored : (r : ℕ) (it : Record) (cs : List Cell) → length (stored r it cs) ≡ length cs
-length-stored r it [] = refl
-length-stored r it (c ∷ cs) = grind (arith, common_steps, length-stored r it cs)
+pub seek-stored : (s r : ℕ) (it : Record) (cs : List Cell) → seek s (stored r it cs) ≡ cond (eqb s r) (option_map (λ h. it) (seek s cs)) (seek s cs)
+seek-stored s r it [] = grind (arith, common_steps)
+seek-stored s r it (c ∷ cs) = grind (arith, common_steps, nat_tests, seek-stored s r it cs)

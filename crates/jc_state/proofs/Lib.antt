@@ -1,4 +1,4 @@
-mod Counts
+pub mod Names
 mod Vacancies
 mod Shelves
 mod Cells

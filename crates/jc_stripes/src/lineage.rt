@@ -32,17 +32,8 @@ fn hear_at<L: Law + Drop>(writers: &mut Vec<Retired<L>>, generation: usize, read
 }
 
 impl<L: Law + Drop> Lineage<L> {
-    /// One table. The words that follow its versions are all of the front.
-    pub fn new(alloc: Global, law: &L, words: &Vec<u64>) -> Result<Lineage<L>, AllocError>
-        requires versions { words.now.items ≡ replicate many 0 ++ drop many words.now.items }
-        requires sized { length words.now.items < 2 ^ 63 }
-        requires lawful { L.admits law.now (drop many words.now.items) }
-        ensures { IfOk result (λ l. (l.writer.seat.me.0.law ≡ Some law.now) × (l.writer.seat.me.0.front ≡ drop many words.now.items ∷ [])) }
-    {
-        Lineage::starting_at(alloc, law, words, 0)
-    }
-
-    /// The same, but all versions of the table begin at this number. Those of the tables that follow begin at 0.
+    /// One table, whose versions all begin at this number; those of the tables that follow begin at 0. The words behind
+    /// the versions are all of the front.
     pub fn starting_at(
         alloc: Global,
         law: &L,

@@ -43,17 +43,7 @@ impl<L: Law> Writer<L> {
         })
     }
 
-    /// The words that follow the versions are all of the front.
-    pub fn new(alloc: Global, law: &L, words: &Vec<u64>) -> Result<Writer<L>, AllocError>
-        requires versions { words.now.items ≡ replicate many 0 ++ drop many words.now.items }
-        requires sized { length words.now.items < 2 ^ 63 }
-        requires lawful { L.admits law.now (drop many words.now.items) }
-        ensures { IfOk result (λ w. (w.seat.me.0.law ≡ Some law.now) × (w.seat.me.0.front ≡ drop many words.now.items ∷ [])) }
-    {
-        Writer::starting_at(alloc, law, words, 0)
-    }
-
-    /// The same, but all versions begin at this number.
+    /// All versions begin at this number. The words behind them are all of the front.
     pub fn starting_at(
         alloc: Global,
         law: &L,

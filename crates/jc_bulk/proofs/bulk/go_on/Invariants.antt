@@ -1,8 +1,5 @@
 use Rattle.std.proofs.Common.{◌≡◌, length}
-use Rattle.jc_model.specs.Whole.{each}
-use Rattle.jc_state.specs.Kept.{items_of, progress_of, Remains}
-use Rattle.jc_bulk.specs.Provided.{calls_in, IsReady}
-use Rattle.jc_bulk.specs.Tallied.{sum_of}
+use Rattle.jc_bulk.proofs.Names.{each, items_of, progress_of, Remains, calls_in, IsReady, sum_of}
 use Rattle.jc_bulk.proofs.bulk.go_on.Given as goal
 
 -- the steps that are left, from here, make the run of all

@@ -1,8 +1,5 @@
 use Rattle.std.proofs.Common.{List, subst, ◌∙◌}
-use Rattle.jc_model.specs.declared.call.Notice.{Notice}
-use Rattle.jc_model.specs.Step.{step}
-use Rattle.jc_state.specs.Kept.{progress_of}
-use Rattle.jc_ops.specs.Stepped.{StepsTo}
+use Rattle.jc_bulk.proofs.Names.{Notice, step, progress_of, StepsTo}
 use Rattle.jc_bulk.proofs.call.start_key.Goals as goal
 
 pub returns-clause-ok : goal.returns-clause-ok

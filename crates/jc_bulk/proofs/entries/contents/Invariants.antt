@@ -1,6 +1,5 @@
 use Rattle.std.proofs.Common.{◌≡◌, ◌≤◌, ◌+◌, ◌++◌, drop, length}
-use Rattle.jc_model.specs.Whole.{contents}
-use Rattle.jc_state.specs.Kept.{items_of}
+use Rattle.jc_bulk.proofs.Names.{contents, items_of}
 use Rattle.jc_bulk.proofs.entries.contents.Given as goal
 
 abbrev pub invariant-loop-key : goal.invariant-loop-key

@@ -1,8 +1,6 @@
 use Rattle.std.proofs.Common.{◌≡◌, drop}
-use Rattle.jc_model.specs.Changes.{begun}
-use Rattle.jc_model.specs.Whole.{touch_each}
-use Rattle.jc_state.specs.Kept.{items_of, state_of, Remains}
-use Rattle.jc_bulk.proofs.Touched.{AreLeft}
+use Rattle.jc_bulk.proofs.Names.{begun, touch_each, items_of, state_of, Remains}
+use Rattle.jc_bulk.proofs.Rows.{AreLeft}
 use Rattle.jc_bulk.proofs.entries.touch_each.Given as goal
 
 abbrev pub invariant-loop-key : goal.invariant-loop-key

@@ -1,6 +1,5 @@
 use Rattle.std.proofs.Common.{◌≡◌}
-use Rattle.jc_state.specs.Kept.{items_of}
-use Rattle.jc_bulk.specs.Provided.{calls_in, AreCovered}
+use Rattle.jc_bulk.proofs.Names.{items_of, calls_in, AreCovered}
 use Rattle.jc_bulk.proofs.provide.with_values.Given as goal
 
 abbrev pub invariant-loop-call : goal.invariant-loop-call

@@ -1,5 +1,5 @@
 use Rattle.std.proofs.Common.{◌≡◌, take}
-use Rattle.jc_model.specs.Bulk.{same_op}
+use Rattle.jc_bulk.proofs.Names.{same_op}
 use Rattle.jc_bulk.specs.Each.{op_on_each}
 use Rattle.jc_bulk.proofs.steps.each_key.Given as goal
 

@@ -1,5 +1,5 @@
 use Rattle.std.proofs.Common.{◌≡◌, take}
-use Rattle.jc_model.specs.Bulk.{put_each}
+use Rattle.jc_bulk.proofs.Names.{put_each}
 use Rattle.jc_bulk.proofs.steps.each_put.Given as goal
 
 abbrev pub invariant-loop-key : goal.invariant-loop-key

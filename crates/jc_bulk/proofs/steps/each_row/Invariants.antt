@@ -1,6 +1,5 @@
 use Rattle.std.proofs.Common.{◌≡◌, ◌++◌, drop}
-use Rattle.jc_model.specs.Bulk.{remove_each}
-use Rattle.jc_state.specs.Kept.{items_of}
+use Rattle.jc_bulk.proofs.Names.{remove_each, items_of}
 use Rattle.jc_bulk.proofs.steps.each_row.Given as goal
 
 abbrev pub invariant-loop-key : goal.invariant-loop-key

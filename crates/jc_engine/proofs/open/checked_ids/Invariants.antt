@@ -1,6 +1,5 @@
 use Rattle.std.proofs.Common.{◌≡◌, [], take, drop}
-use Rattle.jc_engine.specs.Opening.{refusal_from, names_in}
-use Rattle.jc_engine.specs.Fresh.{AreIds}
+use Rattle.jc_engine.proofs.Names.{refusal_from, names_in, AreIds}
 use Rattle.jc_engine.proofs.open.checked_ids.Given as goal
 
 -- no cache so far is refused, and the names so far have their ids

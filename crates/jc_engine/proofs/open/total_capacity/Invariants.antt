@@ -1,5 +1,5 @@
 use Rattle.std.proofs.Common.{◌≡◌, ◌≤◌, ◌*◌, take, sum}
-use Rattle.jc_engine.specs.Opening.{capacities}
+use Rattle.jc_engine.proofs.Names.{capacities}
 use Rattle.jc_engine.proofs.open.total_capacity.Given as goal
 
 abbrev pub invariant-loop-config : goal.invariant-loop-config

@@ -1,6 +1,6 @@
 use Rattle.std.proofs.Common.{subst}
-use Rattle.jc_engine.specs.Fresh.{AreIds}
-use Rattle.jc_engine.proofs.Names.{ids_with}
+use Rattle.jc_engine.proofs.Names.{AreIds}
+use Rattle.jc_engine.proofs.Positions.{ids_with}
 use Rattle.jc_engine.proofs.open.with_id.Goals as goal
 
 pub returns-in-Ok : goal.returns-in-Ok

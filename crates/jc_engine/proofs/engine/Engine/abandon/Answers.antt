@@ -1,59 +1,35 @@
-use Rattle.std.proofs.Common.{◌≡◌, Some, None, refl, false, ap, sym, ◌∙◌, rules}
-use Rattle.std.specs.Prelude.{nat_eq}
-use Rattle.std.specs.HashMap.{get}
-use Rattle.jc_model.specs.Runs.{gives_up}
-use Rattle.jc_engine.specs.Caches.{lives_of}
-use Rattle.jc_engine.proofs.Numbered.{Puts, puts_for}
-use Rattle.jc_engine.proofs.Places.{managed_own, live_here, seen_here}
-use Rattle.jc_engine.proofs.Moving.{unknown, sound_after, one_after, lives_put, new_here, unchanged}
-use Rattle.jc_engine.proofs.GivingUp.{abandoned, abandoned_leaves, left_here, closed_here, same_on_err, managed_after, config_after, always}
+use Rattle.std.proofs.Common.{Some, refl, sym, false, rules, nat_eq}
+use Rattle.jc_engine.proofs.Names.{get, gives_up, cache_in, of_abandon, IfOk-weaker, on_ok_weaker, on_err_weaker}
+use Rattle.jc_engine.proofs.Numbered.{puts_for}
+use Rattle.jc_engine.proofs.Places.{within, managed_own, seen_is, Changes, sound_moved}
+use Rattle.jc_engine.proofs.Moving.{Did, unknown, one_after, new_here, unchanged, outcome_after, lives_later}
+use Rattle.jc_engine.proofs.GivingUp.{abandoned, ends, managed_after}
+use Rattle.jc_engine.proofs.engine.Engine.abandon.Given as given
 use Rattle.jc_engine.proofs.engine.Engine.abandon.Goals as goal
+
+module _ (g : given.Over) (c : goal.After-self-2-1 g) where
+  changes : Changes (within c.self.view_is c.self.invariant) c.args.id c.in-Some.cache.now (Some c.abandon.new.self) (get nat_eq (c.get_mut.follows.lender c.abandon.new.self))
+  changes = record { at = sym (rw c.number-number.ensures at c.in-Some.ensures.value); puts = puts_for _ _ _ c.number-number.ensures ((c.get_mut.follows.holds c.abandon.new.self).3 (search rules)).0 }
+
+  did : Did (cache_in c.in-Some.cache.now) (cache_in c.abandon.new.self) gives_up false (of_abandon c.abandon.result)
+  did = abandoned c.in-Some.cache.now c.abandon.new.self c.abandon.result c.abandon.ensures
 
 pub invariant_of-self-2 : goal.invariant_of-self-2
 invariant_of-self-2 g c =
-    let at : get nat_eq c.self.inside.caches c.args.id ≡ Some c.in-Some.cache.now = sym (c.in-Some.ensures.value ∙ ap (get nat_eq c.self.inside.caches) c.number-number.ensures) in
-    let puts : Puts (get nat_eq c.self.inside.caches) c.args.id (Some c.abandon.new.self) (get nat_eq (c.get_mut.follows.lender c.abandon.new.self)) = puts_for (get nat_eq c.self.inside.caches) (get nat_eq (c.get_mut.follows.lender c.abandon.new.self)) c.number-number.result c.args.id (Some c.abandon.new.self) c.number-number.ensures ((c.get_mut.follows.holds c.abandon.new.self).3 (search rules)).0 in
-    sound_after (g.R.Rows.contents c.self.inside.rows) (get nat_eq c.self.inside.caches) c.self.inside.roster c.args.self.now c.self.view_is c.self.invariant c.args.id gives_up c.in-Some.cache.now at (get nat_eq (c.get_mut.follows.lender c.abandon.new.self)) c.abandon.new.self puts (g.R.Rows.contents c.self.inside.rows)
-    (managed_after (g.R.Rows.contents c.self.inside.rows) c.in-Some.cache.now.state.id c.in-Some.cache.now c.abandon.new.self c.abandon.result (managed_own (g.R.Rows.contents c.self.inside.rows) (get nat_eq c.self.inside.caches) c.self.inside.roster c.args.self.now c.self.view_is c.self.invariant c.args.id c.in-Some.cache.now at) c.abandon.ensures)
-    (config_after c.in-Some.cache.now c.abandon.new.self c.abandon.result c.abandon.ensures)
-    (λ other k differ. refl)
+    let after = managed_after c.in-Some.cache.now c.abandon.new.self _ _ c.abandon.result (managed_own (within c.self.view_is c.self.invariant) c.args.id (changes g c).at) c.abandon.ensures in
+    sound_moved (changes g c) _ after.0 after.1 (λ other k differ. refl)
 
-pub returns-clause-outcome : goal.returns-clause-outcome
-returns-clause-outcome g c =
-    let at : get nat_eq c.self.inside.caches c.args.id ≡ Some c.in-Some.cache.now = sym (c.in-Some.ensures.value ∙ ap (get nat_eq c.self.inside.caches) c.number-number.ensures) in
-    abandoned c.in-Some.cache.now c.abandon.new.self (lives_of c.args.self.now) c.args.id (live_here (g.R.Rows.contents c.self.inside.rows) (get nat_eq c.self.inside.caches) c.self.inside.roster c.args.self.now c.self.view_is c.self.invariant c.args.id c.in-Some.cache.now at) c.abandon.result c.abandon.ensures
-
-pub returns-clause-lives : goal.returns-clause-lives
-returns-clause-lives g c =
-    let at : get nat_eq c.self.inside.caches c.args.id ≡ Some c.in-Some.cache.now = sym (c.in-Some.ensures.value ∙ ap (get nat_eq c.self.inside.caches) c.number-number.ensures) in
-    let puts : Puts (get nat_eq c.self.inside.caches) c.args.id (Some c.abandon.new.self) (get nat_eq (c.get_mut.follows.lender c.abandon.new.self)) = puts_for (get nat_eq c.self.inside.caches) (get nat_eq (c.get_mut.follows.lender c.abandon.new.self)) c.number-number.result c.args.id (Some c.abandon.new.self) c.number-number.ensures ((c.get_mut.follows.holds c.abandon.new.self).3 (search rules)).0 in
-    abandoned_leaves c.in-Some.cache.now c.abandon.new.self (lives_of c.args.self.now) c.args.id (live_here (g.R.Rows.contents c.self.inside.rows) (get nat_eq c.self.inside.caches) c.self.inside.roster c.args.self.now c.self.view_is c.self.invariant c.args.id c.in-Some.cache.now at) c.abandon.result _
-    (lives_put (g.R.Rows.contents c.self.inside.rows) (get nat_eq c.self.inside.caches) c.self.inside.roster c.args.self.now c.self.view_is c.self.invariant c.args.id gives_up c.in-Some.cache.now at (get nat_eq (c.get_mut.follows.lender c.abandon.new.self)) c.abandon.new.self puts) c.abandon.ensures
-
-pub returns-clause-one : goal.returns-clause-one
-returns-clause-one g c =
-    let at : get nat_eq c.self.inside.caches c.args.id ≡ Some c.in-Some.cache.now = sym (c.in-Some.ensures.value ∙ ap (get nat_eq c.self.inside.caches) c.number-number.ensures) in
-    let puts : Puts (get nat_eq c.self.inside.caches) c.args.id (Some c.abandon.new.self) (get nat_eq (c.get_mut.follows.lender c.abandon.new.self)) = puts_for (get nat_eq c.self.inside.caches) (get nat_eq (c.get_mut.follows.lender c.abandon.new.self)) c.number-number.result c.args.id (Some c.abandon.new.self) c.number-number.ensures ((c.get_mut.follows.holds c.abandon.new.self).3 (search rules)).0 in
-    always c.abandon.result (one_after (g.R.Rows.contents c.self.inside.rows) (get nat_eq c.self.inside.caches) c.self.inside.roster c.args.self.now c.self.view_is c.self.invariant c.args.id gives_up c.in-Some.cache.now at (get nat_eq (c.get_mut.follows.lender c.abandon.new.self)) c.abandon.new.self puts)
-
-pub returns-clause-closed : goal.returns-clause-closed
-returns-clause-closed g c =
-    let at : get nat_eq c.self.inside.caches c.args.id ≡ Some c.in-Some.cache.now = sym (c.in-Some.ensures.value ∙ ap (get nat_eq c.self.inside.caches) c.number-number.ensures) in
-    let puts : Puts (get nat_eq c.self.inside.caches) c.args.id (Some c.abandon.new.self) (get nat_eq (c.get_mut.follows.lender c.abandon.new.self)) = puts_for (get nat_eq c.self.inside.caches) (get nat_eq (c.get_mut.follows.lender c.abandon.new.self)) c.number-number.result c.args.id (Some c.abandon.new.self) c.number-number.ensures ((c.get_mut.follows.holds c.abandon.new.self).3 (search rules)).0 in
-    closed_here c.in-Some.cache.now c.abandon.new.self c.args.id _ c.abandon.result (new_here (g.R.Rows.contents c.self.inside.rows) (get nat_eq c.self.inside.caches) c.self.inside.roster c.args.self.now c.self.view_is c.self.invariant c.args.id gives_up c.in-Some.cache.now at (get nat_eq (c.get_mut.follows.lender c.abandon.new.self)) c.abandon.new.self puts) c.abandon.ensures
-
-pub returns-clause-left : goal.returns-clause-left
-returns-clause-left g c =
-    let at : get nat_eq c.self.inside.caches c.args.id ≡ Some c.in-Some.cache.now = sym (c.in-Some.ensures.value ∙ ap (get nat_eq c.self.inside.caches) c.number-number.ensures) in
-    left_here c.in-Some.cache.now c.abandon.new.self c.args.id c.args.self.now c.abandon.result (seen_here (g.R.Rows.contents c.self.inside.rows) (get nat_eq c.self.inside.caches) c.self.inside.roster c.args.self.now c.self.view_is c.self.invariant c.args.id c.in-Some.cache.now at) c.abandon.ensures
-
-pub returns-clause-refused : goal.returns-clause-refused
-returns-clause-refused g c =
-    let at : get nat_eq c.self.inside.caches c.args.id ≡ Some c.in-Some.cache.now = sym (c.in-Some.ensures.value ∙ ap (get nat_eq c.self.inside.caches) c.number-number.ensures) in
-    let puts : Puts (get nat_eq c.self.inside.caches) c.args.id (Some c.abandon.new.self) (get nat_eq (c.get_mut.follows.lender c.abandon.new.self)) = puts_for (get nat_eq c.self.inside.caches) (get nat_eq (c.get_mut.follows.lender c.abandon.new.self)) c.number-number.result c.args.id (Some c.abandon.new.self) c.number-number.ensures ((c.get_mut.follows.holds c.abandon.new.self).3 (search rules)).0 in
-    unchanged (g.R.Rows.contents c.self.inside.rows) (get nat_eq c.self.inside.caches) c.self.inside.roster c.args.self.now c.self.view_is c.self.invariant c.args.id gives_up c.in-Some.cache.now at (get nat_eq (c.get_mut.follows.lender c.abandon.new.self)) c.abandon.new.self puts c.abandon.result (same_on_err c.in-Some.cache.now c.abandon.new.self c.args.id c.abandon.result c.abandon.ensures)
+pub returns : goal.returns
+returns g c =
+    let e = ends c.in-Some.cache.now c.abandon.new.self c.abandon.result c.abandon.ensures in
+    record {
+      outcome = outcome_after (changes g c) (did g c);
+      lives = lives_later (changes g c) (did g c);
+      one = on_ok_weaker c.abandon.result (λ _. one_after (changes g c)) e.1;
+      closed = on_ok_weaker c.abandon.result (λ closed. rw (new_here (changes g c)) closed) e.1;
+      left = IfOk-weaker c.abandon.result _ _ (λ left leaves. rw (seen_is (within c.self.view_is c.self.invariant) c.args.id (changes g c).at) leaves) e.0;
+      refused = on_err_weaker c.abandon.result (unchanged (changes g c)) e.2;
+    }
 
 pub returns-in_default-clause-outcome : goal.returns-in_default-clause-outcome
-returns-in_default-clause-outcome g c =
-    let none : get nat_eq c.self.inside.caches c.args.id ≡ None = sym (c.in_default.ensures.value ∙ ap (get nat_eq c.self.inside.caches) c.number-number.ensures) in
-    sym (unknown (g.R.Rows.contents c.self.inside.rows) (get nat_eq c.self.inside.caches) c.self.inside.roster c.args.self.now c.self.view_is c.self.invariant c.args.id gives_up none false)
+returns-in_default-clause-outcome g c = sym (unknown (within c.self.view_is c.self.invariant) c.args.id gives_up (sym (rw c.number-number.ensures at c.in_default.ensures.value)) false)

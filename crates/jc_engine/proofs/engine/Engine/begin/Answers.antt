@@ -1,6 +1,4 @@
-use Rattle.jc_model.specs.declared.event.Outcome.TheVariants.{Refused}
-use Rattle.jc_model.specs.Runs.{live_at, begins, for_memory}
-use Rattle.jc_engine.specs.Caches.{lives_of}
+use Rattle.jc_engine.proofs.Names.{Refused, live_at, begins, for_memory, lives_of}
 use Rattle.jc_engine.proofs.Moving.{refused_anyway}
 use Rattle.jc_engine.proofs.engine.Engine.begin.Goals as goal
 

@@ -1,43 +1,31 @@
-use Rattle.std.proofs.Common.{◌≡◌, ℕ, List, length, Option, Some, None, ap, sym, subst, ◌∙◌}
-use Rattle.std.specs.Prelude.{option_map, slice_set, nat_eq}
-use Rattle.std.specs.HashMap.{get}
-use Rattle.jc_roster.specs.Members.{Member, member_of}
-use Rattle.jc_model.specs.Places.{at_place}
-use Rattle.jc_engine.specs.Managed.{cache_in}
-use Rattle.jc_engine.specs.Sound.{IsSound, caches_in}
-use Rattle.jc_engine.proofs.Numbered.{Puts, puts_for}
-use Rattle.jc_engine.proofs.Places.{seen_at, managed_own, member_at}
-use Rattle.jc_engine.proofs.Coming.{seen_less, sound_less}
+use Rattle.std.proofs.Common.{◌≡◌, None, sym, slice_set, nat_eq}
+use Rattle.jc_engine.proofs.Names.{get, member_of}
+use Rattle.jc_engine.proofs.Numbered.{puts_for}
+use Rattle.jc_engine.proofs.Places.{within, seen_is, managed_own, member_at, Changes, seen_after, sound_after}
+use Rattle.jc_engine.proofs.engine.Engine.dismiss.Given as given
 use Rattle.jc_engine.proofs.engine.Engine.dismiss.Goals as goal
 
 pub unreachable-requires : goal.unreachable-requires
 unreachable-requires g c =
-    let none : get nat_eq c.self.inside.caches c.args.id ≡ None = sym (c.in-None.ensures.value ∙ ap (get nat_eq c.self.inside.caches) c.number-number.ensures) in
-    let nothing : at_place c.args.self.now c.args.id ≡ None = seen_at (g.R.Rows.contents c.self.inside.rows) (get nat_eq c.self.inside.caches) c.self.inside.roster c.args.self.now c.self.view_is c.self.invariant c.args.id ∙ ap (option_map cache_in) none in
+    let none = seen_is (within c.self.view_is c.self.invariant) c.args.id (sym (rw c.number-number.ensures at c.in-None.ensures.value)) in
     let some = c.requires.1 in
     absurd cc
 
 pub leave-requires : goal.leave-requires
-leave-requires g c =
-    let at : get nat_eq c.self.inside.caches c.args.id ≡ Some c.in-Some.cache = sym (c.in-Some.ensures.value ∙ ap (get nat_eq c.self.inside.caches) c.number-number.ensures) in
-    managed_own (g.R.Rows.contents c.self.inside.rows) (get nat_eq c.self.inside.caches) c.self.inside.roster c.args.self.now c.self.view_is c.self.invariant c.args.id c.in-Some.cache at
+leave-requires g c = managed_own (within c.self.view_is c.self.invariant) c.args.id (sym (rw c.number-number.ensures at c.in-Some.ensures.value))
 
 pub remove-requires-in-Some : goal.remove-requires-in-Some
-remove-requires-in-Some g c =
-    let at : get nat_eq c.self.inside.caches c.args.id ≡ Some c.in-Some.cache = sym (c.in-Some.ensures.value ∙ ap (get nat_eq c.self.inside.caches) c.number-number.ensures) in
-    (member_of c.in-Some.cache.state.config, ap (at_place c.self.inside.roster) c.number-number.ensures ∙ member_at (g.R.Rows.contents c.self.inside.rows) (get nat_eq c.self.inside.caches) c.self.inside.roster c.args.self.now c.self.view_is c.self.invariant c.args.id c.in-Some.cache at)
+remove-requires-in-Some g c = (member_of c.in-Some.cache.state.config, rw c.number-number.ensures (member_at (within c.self.view_is c.self.invariant) c.args.id (sym (rw c.number-number.ensures at c.in-Some.ensures.value))))
+
+module _ (g : given.Over) (c : goal.After-remove-in-Some g) where
+  changes : Changes (within c.self.view_is c.self.invariant) c.args.id c.in-Some.cache None (get nat_eq c.remove.new.self)
+  changes = record { at = sym (rw c.number-number.ensures at c.in-Some.ensures.value); puts = puts_for _ _ _ c.number-number.ensures c.remove.ensures.updates.0 }
+
+  removed : c.remove-in-Some.new.self ≡ slice_set c.self.inside.roster c.args.id None
+  removed = rw c.number-number.ensures at c.remove-in-Some.ensures
 
 pub invariant_of-self : goal.invariant_of-self
-invariant_of-self g c =
-    let at : get nat_eq c.self.inside.caches c.args.id ≡ Some c.in-Some.cache = sym (c.in-Some.ensures.value ∙ ap (get nat_eq c.self.inside.caches) c.number-number.ensures) in
-    let puts : Puts (get nat_eq c.self.inside.caches) c.args.id None (get nat_eq c.remove.new.self) = puts_for (get nat_eq c.self.inside.caches) (get nat_eq c.remove.new.self) c.number-number.result c.args.id None c.number-number.ensures c.remove.ensures.updates.0 in
-    let removed : c.remove-in-Some.new.self ≡ slice_set c.self.inside.roster c.args.id None = c.remove-in-Some.ensures ∙ ap (λ (i : ℕ). slice_set {A = Option Member} c.self.inside.roster i None) c.number-number.ensures in
-    subst (λ (ms : List (Option Member)). IsSound (g.R.Rows.contents c.leave.new.rows) (get nat_eq c.remove.new.self) ms) (sym removed)
-    (sound_less (g.R.Rows.contents c.self.inside.rows) (get nat_eq c.self.inside.caches) c.self.inside.roster c.args.self.now c.self.view_is c.self.invariant c.args.id c.in-Some.cache at (get nat_eq c.remove.new.self) puts (g.R.Rows.contents c.leave.new.rows) c.leave.ensures.gone c.leave.ensures.elsewhere)
+invariant_of-self g c = rw (removed g c) (sound_after (changes g c) (g.R.Rows.contents c.leave.new.rows) c.leave.ensures.gone c.leave.ensures.elsewhere)
 
 pub returns : goal.returns
-returns g c =
-    let at : get nat_eq c.self.inside.caches c.args.id ≡ Some c.in-Some.cache = sym (c.in-Some.ensures.value ∙ ap (get nat_eq c.self.inside.caches) c.number-number.ensures) in
-    let puts : Puts (get nat_eq c.self.inside.caches) c.args.id None (get nat_eq c.remove.new.self) = puts_for (get nat_eq c.self.inside.caches) (get nat_eq c.remove.new.self) c.number-number.result c.args.id None c.number-number.ensures c.remove.ensures.updates.0 in
-    let removed : c.remove-in-Some.new.self ≡ slice_set c.self.inside.roster c.args.id None = c.remove-in-Some.ensures ∙ ap (λ (i : ℕ). slice_set {A = Option Member} c.self.inside.roster i None) c.number-number.ensures in
-    ap (λ (ms : List (Option Member)). caches_in (get nat_eq c.remove.new.self) (length ms)) removed ∙ seen_less (g.R.Rows.contents c.self.inside.rows) (get nat_eq c.self.inside.caches) c.self.inside.roster c.args.self.now c.self.view_is c.self.invariant c.args.id c.in-Some.cache at (get nat_eq c.remove.new.self) puts
+returns g c = rw (removed g c) (seen_after (changes g c))

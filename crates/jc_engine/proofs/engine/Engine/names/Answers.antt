@@ -1,8 +1,7 @@
 use Rattle.std.proofs.Common.{◌∙◌}
-use Rattle.std.specs.Prelude.{nat_eq}
-use Rattle.std.specs.HashMap.{get}
+use Rattle.jc_engine.proofs.Places.{within}
 use Rattle.jc_engine.proofs.Listed.{names_listed}
 use Rattle.jc_engine.proofs.engine.Engine.names.Goals as goal
 
 pub returns : goal.returns
-returns g c = c.names.ensures ∙ names_listed (g.R.Rows.contents c.self.inside.rows) (get nat_eq c.self.inside.caches) c.self.inside.roster c.args.self.now c.self.view_is c.self.invariant
+returns g c = c.names.ensures ∙ names_listed (within c.self.view_is c.self.invariant)

@@ -1,8 +1,5 @@
-use Rattle.std.proofs.Common.{◌≡◌, List, [], ◌∷◌, ◌++◌, Option, Some, None, sym, ap, subst, ◌∙◌, append_assoc}
-use Rattle.jc_model.specs.declared.config.CacheConfig.{CacheConfig}
-use Rattle.jc_engine.specs.Caches.{Cache, fresh_cache}
-use Rattle.jc_engine.specs.Fresh.{MayCome}
-use Rattle.jc_engine.specs.Opening.{open_refusal_from}
+use Rattle.std.proofs.Common.{◌≡◌, List, ◌∷◌, ◌++◌, Option, None, sym, ap, subst, ◌∙◌, append_assoc, arith}
+use Rattle.jc_engine.proofs.Names.{CacheConfig, Cache, MayCome, open_refusal_from}
 use Rattle.jc_engine.proofs.Openings.{may_come, fresh_more}
 use Rattle.jc_engine.proofs.engine.Engine.open_from.Goals as goal
 
@@ -14,9 +11,4 @@ admit-requires g c =
     (may_come c.args.first c.args.configs.items c.loop-config.yielded c.next.new.self.rest.items c.in-Some.config none here)
 
 pub loop-config-preserved : goal.loop-config-preserved
-loop-config-preserved g c =
-    let here : c.loop-config.yielded ++ c.in-Some.config ∷ c.next.new.self.rest.items ≡ c.args.configs.items = ap (λ (l : List CacheConfig). c.loop-config.yielded ++ l) (sym c.in-Some.ensures.steps.0) ∙ c.loop-config.invariant.all in
-    record {
-      made = c.in-Ok.ensures.added ∙ ap (λ (ks : List (Option Cache)). ks ++ Some (fresh_cache c.in-Some.config) ∷ []) c.loop-config.invariant.made ∙ fresh_more c.args.first c.loop-config.yielded c.in-Some.config;
-      all = append_assoc c.loop-config.yielded (c.in-Some.config ∷ []) c.next.new.self.rest.items ∙ here;
-    }
+loop-config-preserved g c = grind (arith, fresh_more, append_assoc)

@@ -1,5 +1,5 @@
 use Rattle.std.proofs.Common.{◌≡◌, ◌++◌}
-use Rattle.jc_engine.specs.Caches.{fresh_from}
+use Rattle.jc_engine.proofs.Names.{fresh_from}
 use Rattle.jc_engine.proofs.engine.Engine.open_from.Given as goal
 
 abbrev pub invariant-loop-config : goal.invariant-loop-config

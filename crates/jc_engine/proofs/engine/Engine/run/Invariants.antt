@@ -1,8 +1,7 @@
 use Rattle.std.proofs.Common.{◌≡◌, ◌≤◌, ◌+◌, length, vec_len}
 use Rattle.std.specs.Vec.{vec_capacity}
 use Rattle.std.specs.Vec.Iter.{into_iter_items, into_iter_len}
-use Rattle.jc_model.proofs.Leads.{Leads}
-use Rattle.jc_engine.specs.Caches.{lives_of}
+use Rattle.jc_engine.proofs.Names.{Leads, lives_of}
 use Rattle.jc_engine.proofs.Hearing.{HeardSoFar}
 use Rattle.jc_engine.proofs.engine.Engine.run.Given as goal
 

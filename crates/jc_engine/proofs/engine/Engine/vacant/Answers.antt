@@ -1,9 +1,6 @@
-use Rattle.std.proofs.Common.{◌≡◌, ℕ, None, length, ap}
-use Rattle.std.specs.Prelude.{nat_eq}
-use Rattle.std.specs.HashMap.{get}
-use Rattle.std.specs.Map.{lookup}
+use Rattle.std.proofs.Common.{ap, nat_eq}
+use Rattle.jc_engine.proofs.Names.{get, lookup}
 use Rattle.jc_engine.proofs.Coming.{vacant_seen, vacant_sound}
-use Rattle.jc_engine.proofs.engine.Engine.vacant.Given as given
 use Rattle.jc_engine.proofs.engine.Engine.vacant.Goals as goal
 
 pub invariant_of-result : goal.invariant_of-result

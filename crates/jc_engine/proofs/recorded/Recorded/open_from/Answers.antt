@@ -1,8 +1,5 @@
-use Rattle.std.proofs.Common.{ap, ◌∙◌}
-use Rattle.std.specs.Prelude.{nat_eq}
-use Rattle.std.specs.HashMap.{get}
-use Rattle.jc_model.specs.Legal.{at_first}
-use Rattle.jc_engine.specs.Caches.{lives_of}
+use Rattle.std.proofs.Common.{ap, ◌∙◌, nat_eq}
+use Rattle.jc_engine.proofs.Names.{get, at_first, lives_of}
 use Rattle.jc_engine.proofs.Openings.{fresh_lives}
 use Rattle.jc_engine.proofs.Recordings.{first_recorded}
 use Rattle.jc_engine.proofs.recorded.Recorded.open_from.Goals as goal

@@ -1,6 +1,5 @@
 use Rattle.std.proofs.Common.{ap, ◌∙◌}
-use Rattle.jc_model.specs.Places.{at_place}
-use Rattle.jc_engine.specs.Recording.{Recording}
+use Rattle.jc_engine.proofs.Names.{at_place, Recording}
 use Rattle.jc_engine.proofs.recorded.Recorded.rows.Goals as goal
 
 pub returns-clause-sound : goal.returns-clause-sound

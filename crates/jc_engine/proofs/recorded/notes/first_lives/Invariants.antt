@@ -1,5 +1,5 @@
 use Rattle.std.proofs.Common.{◌≡◌, take}
-use Rattle.jc_model.specs.Legal.{at_first}
+use Rattle.jc_engine.proofs.Names.{at_first}
 use Rattle.jc_engine.proofs.recorded.notes.first_lives.Given as goal
 
 abbrev pub invariant-loop-place : goal.invariant-loop-place

@@ -1,6 +1,4 @@
-use Rattle.std.proofs.Common.{◌≡◌, ℕ, List, take, length}
-use Rattle.jc_model.specs.Limits.{key_words}
-use Rattle.jc_model.specs.Key.{bytes_of, first_words}
+use Rattle.jc_model.proofs.Names.{◌≡◌, ℕ, List, take, length, key_words, bytes_of, first_words}
 use Rattle.jc_model.proofs.key.Key.words.Given as goal
 
 pub record Made (text words : List ℕ) (n : ℕ) : Type 0 where

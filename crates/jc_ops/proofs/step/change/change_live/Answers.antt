@@ -1,6 +1,4 @@
-use Rattle.std.proofs.Common.{ap, ◌∙◌}
-use Rattle.jc_model.specs.Changes.{removal}
-use Rattle.jc_state.specs.Kept.{Kept, progress_of}
+use Rattle.jc_ops.proofs.Names.{ap, ◌∙◌, removal, Kept, progress_of}
 use Rattle.jc_ops.proofs.step.change.change_live.Goals as goal
 
 pub returns-in-Access-clause-progress : goal.returns-in-Access-clause-progress

@@ -1,6 +1,5 @@
-use Rattle.std.proofs.Common.{ap}
-use Rattle.jc_model.specs.Run.{loaded_by}
-use Rattle.jc_ops.proofs.Answered.{room_loaded}
+use Rattle.jc_ops.proofs.Names.{ap, loaded_by}
+use Rattle.jc_ops.proofs.Lined.{room_loaded}
 use Rattle.jc_ops.proofs.step.line.answer_loaded.Goals as goal
 
 pub end-requires-clause-room : goal.end-requires-clause-room

@@ -1,8 +1,5 @@
 use Rattle.std.proofs.Common.{◌≡◌, ℕ, length, count_by}
-use Rattle.jc_model.specs.State.{turned}
-use Rattle.jc_rows.specs.Rows.{RowMap}
-use Rattle.jc_state.specs.Tied.{Tied}
-use Rattle.jc_state.specs.Kept.{items_of}
+use Rattle.jc_state.proofs.Names.{turned, RowMap, Tied, items_of}
 use Rattle.jc_state.proofs.shelf.Shelf.turn_to_victim.Given as goal
 
 -- a turn changes nothing in what the hand leaves

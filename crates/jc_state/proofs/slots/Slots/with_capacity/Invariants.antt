@@ -1,5 +1,5 @@
 use Rattle.std.proofs.Common.{◌≡◌, None, length, replicate, vec_capacity}
-use Rattle.jc_state.specs.Slots.{AreVacant}
+use Rattle.jc_state.proofs.Names.{AreVacant}
 use Rattle.jc_state.proofs.slots.Slots.with_capacity.Given as goal
 
 -- the rows so far are vacant

@@ -1,5 +1,5 @@
 use Rattle.std.proofs.Common.{◌≡◌, length}
-use Rattle.jc_state.specs.Kept.{Keeps}
+use Rattle.jc_state.proofs.Names.{Keeps}
 use Rattle.jc_state.proofs.state.CacheState.clear.Given as goal
 
 abbrev pub invariant-rows : goal.invariant-rows

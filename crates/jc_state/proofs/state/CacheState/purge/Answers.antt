@@ -1,27 +1,45 @@
-use Rattle.std.proofs.Common.{◌∙◌, sym}
-use Rattle.jc_state.proofs.Purges.{where_expired, stayed_absent, not_held, held_is, stayed, gone, found_gone}
+use Rattle.std.proofs.Common.{◌∙◌, sym, [], arith}
+use Rattle.std.proofs.lemmas.Grind.{common_steps}
+use Rattle.jc_state.proofs.Names.{expired, record_of}
+use Rattle.jc_state.proofs.Found.{row_of-absent}
+use Rattle.jc_state.proofs.Progress.{removed}
+use Rattle.jc_state.proofs.Purges.{held_there, held_is, purge-live, purge-expired}
 use Rattle.jc_state.proofs.state.CacheState.purge.Goals as goal
 
 pub returns-in-None-clause-progress : goal.returns-in-None-clause-progress
-returns-in-None-clause-progress g c = λ key found. stayed_absent c.args.self.now.config c.args.now key c.args.self.now _ c.args.row c.in-None.is found
+returns-in-None-clause-progress g c = λ key found. grind (arith, common_steps, rw c.in-None.is at found)
 
 pub returns-then-is_live-clause-progress : goal.returns-then-is_live-clause-progress
-returns-then-is_live-clause-progress g c = λ key found. stayed c.args.self.now.config c.args.now key c.args.self.now _ c.args.row c.in-Some.row c.in-Some.is found c.is_live.result c.is_live.ensures c.if-is_live.true
+returns-then-is_live-clause-progress g c = λ key found.
+    let x = rw c.in-Some.is at found in
+    purge-live c.args.self.now.config c.args.now key c.args.self.now _ x.0 x.1.found (sym (c.is_live.ensures (record_of x.0) x.1.there) ∙ c.if-is_live.true)
 
 pub returns-else-is_live-clause-progress : goal.returns-else-is_live-clause-progress
-returns-else-is_live-clause-progress g c = λ key found. gone c.args.self.now.config c.args.now key c.args.self.now _ c.args.row c.in-Some.row c.in-Some.is found c.is_live.result c.is_live.ensures c.if-is_live.false _ c.requires.tied c.remove_row.new.self _ c.remove_row.ensures.kept c.remove_row.ensures.told
+returns-else-is_live-clause-progress g c = λ key found.
+    let x = rw c.in-Some.is at found in
+    rw (c.remove_row.ensures.kept, c.remove_row.ensures.told (record_of x.0) x.1.there)
+    (removed _ key c.args.self.now c.in-Some.row x.0 c.requires.tied x.1 c.args.self.now.config c.args.now (expired x.0) c.args.notices.now.told
+    ∙ purge-expired c.args.self.now.config c.args.now key c.args.self.now _ x.0 x.1.found (sym (c.is_live.ensures (record_of x.0) x.1.there) ∙ c.if-is_live.false))
 
 pub returns-else-is_live-clause-found : goal.returns-else-is_live-clause-found
-returns-else-is_live-clause-found g c = λ key found. found_gone key c.args.self.now c.args.row c.in-Some.row c.in-Some.is found _ c.remove_row.new.self c.remove_row.ensures.stays.keeps.id c.remove_row.ensures.stays.keeps.tied c.remove_row.ensures.gone
+returns-else-is_live-clause-found g c = λ key found.
+    let x = rw c.in-Some.is at found in
+    row_of-absent _ _ key _ c.remove_row.ensures.stays.keeps.tied.placed (rw (c.remove_row.ensures.stays.keeps.id, ← x.1.key_is) (c.remove_row.ensures.gone (record_of x.0) x.1.there))
 
 pub returns-in-None-clause-live : goal.returns-in-None-clause-live
-returns-in-None-clause-live g c = λ key found. not_held c.args.self.now.config c.args.now key c.args.self.now c.args.notices.now.told c.args.row c.in-None.is found
+returns-in-None-clause-live g c = λ key found. grind (arith, common_steps, rw c.in-None.is at found)
 
 pub returns-then-is_live-clause-live : goal.returns-then-is_live-clause-live
-returns-then-is_live-clause-live g c = λ key found. sym c.if-is_live.true ∙ held_is c.args.self.now.config c.args.now key c.args.self.now c.args.notices.now.told c.args.row c.in-Some.row c.in-Some.is found c.is_live.result c.is_live.ensures
+returns-then-is_live-clause-live g c = λ key found.
+    let x = rw c.in-Some.is at found in
+    sym c.if-is_live.true ∙ c.is_live.ensures (record_of x.0) x.1.there ∙ held_is c.args.self.now.config c.args.now key c.args.self.now [] x.0 x.1.found
 
 pub returns-else-is_live-clause-live : goal.returns-else-is_live-clause-live
-returns-else-is_live-clause-live g c = λ key found. sym c.if-is_live.false ∙ held_is c.args.self.now.config c.args.now key c.args.self.now c.args.notices.now.told c.args.row c.in-Some.row c.in-Some.is found c.is_live.result c.is_live.ensures
+returns-else-is_live-clause-live g c = λ key found.
+    let x = rw c.in-Some.is at found in
+    sym c.if-is_live.false ∙ c.is_live.ensures (record_of x.0) x.1.there ∙ held_is c.args.self.now.config c.args.now key c.args.self.now [] x.0 x.1.found
 
 pub remove_row-requires-clause-places : goal.remove_row-requires-clause-places
-remove_row-requires-clause-places g c = where_expired c.args.now c.in-Some.row c.args.self.now.cells c.is_live.result (c.requires.there c.in-Some.row c.in-Some.is) c.is_live.ensures c.if-is_live.false (λ held is gone. c.requires.places c.in-Some.row held c.in-Some.is is gone)
+remove_row-requires-clause-places g c =
+    let h = held_there c.in-Some.row c.args.self.now.cells (c.requires.there _ c.in-Some.is) in
+    c.requires.places _ h.0 c.in-Some.is h.1 (sym (c.is_live.ensures h.0 h.1) ∙ c.if-is_live.false)

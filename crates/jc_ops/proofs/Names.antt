@@ -1,0 +1,24 @@
+-- The names of other crates and of this crate's specs that many proofs need.
+pub use Rattle.std.proofs.Common.{◌≡◌, ℕ, arith, Bool, true, false, List, ◌<◌, ◌≤◌, ◌+◌, if◌then◌else◌, [], sym, ◌∙◌, ap, subst, refl, rules}
+pub use Rattle.std.proofs.lemmas.Grind.{common_steps}
+pub use Rattle.std.specs.Prelude.{Option, Some, None, is_some, option_map}
+pub use Rattle.jc_model.specs.declared.call.Answer.{Answer}
+pub use Rattle.jc_model.specs.declared.call.KeyCall.{KeyCall}
+pub use Rattle.jc_model.specs.declared.call.Op.{Op}
+pub use Rattle.jc_model.specs.declared.call.Request.{Request}
+pub use Rattle.jc_model.specs.declared.config.CacheConfig.{CacheConfig}
+pub use Rattle.jc_model.specs.declared.table.Change.TheVariants.{Put}
+pub use Rattle.jc_model.specs.declared.table.Line.{Line}
+pub use Rattle.jc_model.specs.Changes.{Progress, find_row, purge, removal}
+pub use Rattle.jc_model.specs.Run.{Run, waiting, resume, is_written, loaded_by, ended}
+pub use Rattle.jc_model.specs.State.{Item, row_of}
+pub use Rattle.jc_model.specs.Step.{live_in, ended_by, step}
+pub use Rattle.jc_model.specs.Suspended.{KeyWait, key_run}
+pub use Rattle.jc_model.specs.Table.{decided, value_of, absent_line}
+pub use Rattle.jc_rows.specs.Rows.{RowMap}
+pub use Rattle.jc_state.specs.Kept.{Kept, items_of, FoundRow, Stays, progress_of, has_live}
+pub use Rattle.jc_state.specs.Noted.{Noted, HasPlaces}
+pub use Rattle.jc_ops.specs.Given.{given_by, value_in}
+pub use Rattle.jc_ops.specs.Lines.{asks_writer, is_shown, line_at, is_invoke, is_load, shows, told_of, told_on, first_request, told_by, most_told}
+pub use Rattle.jc_ops.specs.Stepped.{StepWaits, IsWaiting, invoked, waits_first}
+pub use Rattle.jc_ops.specs.Verdicts.{stores_by, hands_by, verdict_line, awaits_load, act_on, done_on, processed_on, loaded_on, agreed_on}
