@@ -1,4 +1,6 @@
 //! Why a run on threads comes to no transcript.
+ghost use Rattle.std.specs.Prelude.{◌≡◌, ◌≢◌};
+ghost use Rattle.jc_threads.specs.declared.fault.WorkFault.TheVariants.{OutOfMemory};
 
 use jc_shared::{CallFault, CloseFault, CreateFault, DestroyFault, SessionRefusal};
 use std::alloc::{AllocError, AllocFailed};
@@ -14,39 +16,55 @@ pub enum WorkFault {
 }
 
 impl From<AllocError> for WorkFault {
+    ghost from_gives = { λ _ e. e ≡ OutOfMemory };
+
     fn from(_e: AllocError) -> WorkFault {
         WorkFault::OutOfMemory
     }
 }
 
 impl<T: Drop> From<AllocFailed<T>> for WorkFault {
+    ghost from_gives = { λ _ e. e ≡ OutOfMemory };
+
     fn from(_e: AllocFailed<T>) -> WorkFault {
         WorkFault::OutOfMemory
     }
 }
 
-pub(crate) fn of_session(refusal: SessionRefusal) -> WorkFault {
+pub(crate) fn of_session(refusal: SessionRefusal) -> WorkFault
+    ensures memory { refusal ≡ SessionRefusal.OutOfMemory → result ≡ WorkFault.OutOfMemory }
+    ensures others { refusal ≢ SessionRefusal.OutOfMemory → result ≡ WorkFault.Close }
+{
     match refusal {
         SessionRefusal::OutOfMemory => WorkFault::OutOfMemory,
         SessionRefusal::Closed | SessionRefusal::TooManySessions => WorkFault::Close,
     }
 }
 
-pub(crate) fn of_call(fault: CallFault) -> WorkFault {
+pub(crate) fn of_call(fault: CallFault) -> WorkFault
+    ensures memory { fault ≡ CallFault.OutOfMemory → result ≡ WorkFault.OutOfMemory }
+    ensures others { fault ≢ CallFault.OutOfMemory → result ≡ WorkFault.Close }
+{
     match fault {
         CallFault::OutOfMemory => WorkFault::OutOfMemory,
         _ => WorkFault::Close,
     }
 }
 
-pub(crate) fn of_destroy(fault: DestroyFault) -> WorkFault {
+pub(crate) fn of_destroy(fault: DestroyFault) -> WorkFault
+    ensures memory { fault ≡ DestroyFault.OutOfMemory → result ≡ WorkFault.OutOfMemory }
+    ensures others { fault ≢ DestroyFault.OutOfMemory → result ≡ WorkFault.Close }
+{
     match fault {
         DestroyFault::OutOfMemory => WorkFault::OutOfMemory,
         DestroyFault::NoSuchCache | DestroyFault::Busy => WorkFault::Close,
     }
 }
 
-pub(crate) fn of_close(fault: CloseFault) -> WorkFault {
+pub(crate) fn of_close(fault: CloseFault) -> WorkFault
+    ensures memory { fault ≡ CloseFault.OutOfMemory → result ≡ WorkFault.OutOfMemory }
+    ensures others { fault ≢ CloseFault.OutOfMemory → result ≡ WorkFault.Close }
+{
     match fault {
         CloseFault::OutOfMemory => WorkFault::OutOfMemory,
         _ => WorkFault::Close,
