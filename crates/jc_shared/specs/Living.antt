@@ -1,13 +1,18 @@
 -- What a session is told of caches that are created and destroyed.
 use Rattle.std.specs.Prelude.{◌≡◌, ℕ, List, [], ◌∷◌, ◌++◌, Option, Some, None, IsSome}
 use Rattle.jc_model.specs.declared.config.CacheConfig.{CacheConfig}
+use Rattle.jc_model.specs.declared.event.Cause.{Cause}
+use Rattle.jc_model.specs.declared.event.Cause.TheVariants as cause
 use Rattle.jc_model.specs.declared.event.CreateRefusal.{CreateRefusal}
 use Rattle.jc_model.specs.declared.event.Life.{Life}
 use Rattle.jc_model.specs.Places.{named_from}
-use Rattle.jc_model.specs.Runs.{Lives, live_at, create_refusal}
+use Rattle.jc_model.specs.declared.event.Outcome.TheVariants.{Refused}
+use Rattle.jc_model.specs.Runs.{Lives, live_at, create_refusal, answer_to_destroy}
 use Rattle.jc_model.specs.Legal.{History, IsLegal, Tells, config_of}
 use Rattle.jc_shared.specs.declared.fault.CreateFault.{CreateFault}
 use Rattle.jc_shared.specs.declared.fault.CreateFault.TheVariants.{Cache, HooksDiffer, OutOfMemory}
+use Rattle.jc_shared.specs.declared.fault.DestroyFault.{DestroyFault}
+use Rattle.jc_shared.specs.declared.fault.DestroyFault.TheVariants as destroying
 use Rattle.jc_shared.specs.Sessions.{Sight, BeginsWith, Sees}
 
 -- these caches are live, and stand as a legal transcript leaves them, which begins with the caches of the opening
@@ -53,3 +58,16 @@ pub record HasGone (configs : List CacheConfig) (id : ℕ) (pass : Sight) : Type
   pub sees : Sees transcript lives pass
   pub lived : IsSome (config_of id transcript.lives)
   pub gone : live_at lives id ≡ None
+
+-- what the engine says to the destroying of a cache
+pub record Refuses (configs : List CacheConfig) (id : ℕ) (why : Cause) : Type 0 where
+  pub transcript : History
+  pub lives : Lives
+  pub told : AreTold configs transcript lives
+  pub refusal : answer_to_destroy (live_at lives id) ≡ Refused why
+
+-- why the engine destroys no cache; it takes no memory
+abbrev pub IsDestroyFault : List CacheConfig → ℕ → DestroyFault → Type 0
+IsDestroyFault configs id destroying.NoSuchCache = Refuses configs id cause.NoSuchCache
+IsDestroyFault configs id destroying.Busy = Refuses configs id cause.Busy
+IsDestroyFault configs id destroying.OutOfMemory = ⊥

@@ -1,7 +1,7 @@
 //! Tenures in which caches are found, created and destroyed.
 ghost use Rattle.std.specs.Prelude.{◌≡◌, ◌≢◌, true, IfOk, IfErr, OnOk};
 ghost use mathlib.Core.List.{IsPrefix};
-ghost use Rattle.jc_shared.specs.Living.{IsNamed, IsCreated, IsCreateFault, HasGone};
+ghost use Rattle.jc_shared.specs.Living.{IsNamed, IsCreated, IsCreateFault, IsDestroyFault, HasGone};
 
 use super::Locked;
 use crate::fault::{CreateFault, DestroyFault};
@@ -59,6 +59,7 @@ impl<N: Name> Locked<N> {
     ) -> Result<(), DestroyFault>
         ensures gone { OnOk result (HasGone N.configs id pass.new) }
         ensures front { IsPrefix pass.old.images pass.new.images }
+        ensures refused { IfErr result (λ fault. IsDestroyFault N.configs id fault) }
         ensures err { IfErr result (λ fault. (fault ≢ DestroyFault.OutOfMemory) × (pass.new ≡ pass.old)) }
     {
         let _legal = self.recorded.transcript();
