@@ -5,4 +5,5 @@ pub mod Processors
 pub mod Stated
 pub mod Tallies
 pub mod Asking
+pub mod Turns
 pub mod Suits

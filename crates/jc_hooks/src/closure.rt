@@ -31,6 +31,7 @@ pub struct ClosureLoader {
 }
 
 impl ClosureLoader {
+    /// A loader that answers as the closure does, by the one function that the closure answers by.
     pub fn new(closure: LoadClosure) -> ClosureLoader
         requires callable { LoadClosure.IsAlwaysCallable closure }
         requires answers { AnswersBy (MayLoad (λ a k l. LoadClosure.post closure a k (Ok l))) }
@@ -73,6 +74,8 @@ pub struct ClosureProcessor {
 }
 
 impl ClosureProcessor {
+    /// A processor that answers as the closure does, by the one function that the closure answers by. `wants_value` says
+    /// whether it is to be given the entry's value.
     pub fn new(wants_value: bool, closure: ProcessClosure) -> ClosureProcessor
         requires callable { ProcessClosure.IsAlwaysCallable closure }
         requires answers { AnswersBy (MayProcess (λ a v p r. ProcessClosure.post closure a v p (Ok r))) }

@@ -16,6 +16,7 @@ pub mod program;
 mod suiting;
 mod tally;
 mod telling;
+mod turn;
 mod writer;
 
 pub use answer::{load_answer, process_answer, write_answer};
@@ -28,4 +29,5 @@ pub use processor::Processor;
 pub use suiting::suits;
 pub use tally::{Tally, TallyListener};
 pub use telling::tell_all;
+pub use turn::Turn;
 pub use writer::Writer;

@@ -2,7 +2,7 @@
 
 use jc_model::call::Notice;
 
-/// Is told of each change of an entry, in order. It takes no memory and cannot fail.
+/// Is told of each change of an entry, in order (JSR 107, `CacheEntryListener`). It takes no memory and cannot fail.
 ///
 /// A listener states, for each list of notices, the state that they lead to, as a list of numbers that it reads
 /// in its own way. After it was told a notice it states for a list what it stated before for that notice and
@@ -13,6 +13,7 @@ pub trait Listener: Drop + Send {
 
     ghost state_after: { Self → List Notice → List ℕ };
 
+    /// Tells it of one change.
     fn tell(&mut self, notice: &Notice)
         ensures stated { (rest : List Notice) → state_after self.new rest ≡ state_after self.old (notice.now ∷ rest) };
 }

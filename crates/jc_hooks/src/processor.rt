@@ -7,7 +7,7 @@ use jc_model::call::{ProcessorFault, Verdict};
 use jc_model::value::Value;
 use std::alloc::Global;
 
-/// Works on one entry. Sessions share it, so it is asked by `&self`.
+/// Works on one entry (JSR 107, `EntryProcessor`). Sessions share it, so it is asked by `&self`.
 ///
 /// `value` is the entry's value, or nothing where there is no entry, or where the processor does not want it.
 /// Where memory suffices it answers by a function of value and argument.
@@ -24,6 +24,7 @@ pub trait Processor: Drop + Send + Sync {
     fn wants_value(&self) -> bool
         ensures stated { result ≡ wants self.now };
 
+    /// What becomes of the entry and what the call is answered; its own fault; or that there was no memory.
     fn process(
         &self,
         alloc: Global,

@@ -10,9 +10,13 @@ use std::marker::Model;
 /// How many notices of each kind there were. A count stays at `u64::MAX` once it is there.
 #[derive(Clone, Copy, Debug, PartialEq, Eq)]
 pub struct Tally {
+    /// Rows that came in.
     pub created: u64,
+    /// Rows whose value was replaced.
     pub updated: u64,
+    /// Rows that were removed by a call.
     pub removed: u64,
+    /// Rows that went because they had expired.
     pub expired: u64,
 }
 
@@ -31,6 +35,7 @@ impl Model for TallyListener {
 }
 
 impl TallyListener {
+    /// A listener that was told nothing so far.
     pub fn new() -> TallyListener
         ensures { result ≡ no_notices }
     {
@@ -44,6 +49,7 @@ impl TallyListener {
         }
     }
 
+    /// What it has counted so far.
     pub fn tally(&self) -> Tally
         ensures { result ≡ self.now }
     {

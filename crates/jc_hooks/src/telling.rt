@@ -1,54 +1,36 @@
 //! Telling the listeners of a cache, each notice in the order in which they were registered.
-ghost use Rattle.std.specs.Prelude.{◌≡◌, ◌<◌, ◌+◌, ◌++◌, ◌∷◌, List, length};
+ghost use Rattle.std.specs.Prelude.{◌≡◌, ◌<◌, ◌+◌, ◌^◌, ◌++◌, ◌∷◌, List, length};
 ghost use Rattle.jc_model.specs.declared.call.Notice.{Notice as Told};
-ghost use Rattle.jc_hooks.specs.Asking.{states_after, TellsAt};
+ghost use Rattle.jc_hooks.specs.Asking.{states_after};
+ghost use Rattle.jc_hooks.specs.Turns.{HasTold};
 
 use crate::listener::Listener;
+use crate::turn::{Turn, tell_next};
 use jc_model::call::Notice;
 
-/// How many of the listeners were told a notice. Only `tell_next` goes on, past the one that it has told.
-#[derive(Drop)]
-pub struct Turn {
-    told: usize,
-}
-
-impl Turn {
-    fn first() -> Turn
-        ensures { result.told ≡ 0 }
-    {
-        Turn { told: 0 }
-    }
-}
-
-/// Tells the listener whose turn it is, and no other.
-fn tell_next<K: Listener>(listeners: &mut [K], turn: Turn, notice: &Notice) -> Turn
-    requires there { turn.told < length listeners.old }
-    ensures next { result.told ≡ turn.told + 1 }
-    ensures told { TellsAt K.state_after listeners.old listeners.new turn.told notice.now }
-{
-    let place = turn.told;
-    let listener = &mut listeners[place];
-    listener.tell(notice);
-    Turn { told: place + 1 }
-}
-
 /// Tells a notice to the listeners, from the first registered to the last.
-pub fn tell<K: Listener>(listeners: &mut [K], notice: &Notice) -> Turn
+fn tell<K: Listener>(listeners: &mut [K], turn: Turn<K>, notice: &Notice) -> Turn<K>
+    requires starts { HasTold turn (length listeners.old) turn.notices }
+    requires fits { turn.notices + 1 < 2 ^ 64 }
     ensures told { (rest : List Told) → states_after K.state_after listeners.new rest ≡ states_after K.state_after listeners.old (notice.now ∷ rest) }
-    ensures order { result.told ≡ length listeners.old }
+    ensures order { HasTold result (length listeners.old) (turn.notices + 1) }
 {
-    let mut turn = Turn::first();
-    while turn.told < listeners.len() {
+    let mut turn = turn;
+    while turn.has_listener() {
         turn = tell_next(listeners, turn, notice);
     }
-    turn
+    turn.next_notice()
 }
 
-/// Tells each notice to all listeners before the next one.
-pub fn tell_all<K: Listener>(listeners: &mut [K], notices: &[Notice])
-    ensures { (rest : List Told) → states_after K.state_after listeners.new rest ≡ states_after K.state_after listeners.old (notices.now ++ rest) }
+/// Tells each notice to all listeners before the next one, in the order in which they were registered. It hands out the
+/// turn that it came to, which says so.
+pub fn tell_all<K: Listener>(listeners: &mut [K], notices: &[Notice]) -> Turn<K>
+    ensures told { (rest : List Told) → states_after K.state_after listeners.new rest ≡ states_after K.state_after listeners.old (notices.now ++ rest) }
+    ensures order { HasTold result (length listeners.old) (length notices.now) }
 {
+    let mut turn = Turn::first(listeners.len());
     for notice in notices {
-        tell(listeners, notice);
+        turn = tell(listeners, turn, notice);
     }
+    turn
 }

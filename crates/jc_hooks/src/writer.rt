@@ -5,7 +5,7 @@ use jc_model::key::Key;
 use jc_model::value::Value;
 use std::alloc::Global;
 
-/// Writes a cache's changes outside it. An answer of `false` says that the write failed.
+/// Writes a cache's changes outside it (JSR 107, `CacheWriter`). An answer of `false` says that the write failed.
 ///
 /// A writer states which lists of requests and answers it may give from now on; that no request comes is always
 /// among them. A list that it states after a call, put behind that call's request and answer, was stated before
@@ -20,10 +20,12 @@ pub trait Writer: Drop + Send {
     // Of a list with at least one request.
     ghost may: { Self → List (Request × Answer) → Type 0 };
 
+    /// Writes a pair: whether it was written, or that there was no memory.
     fn write(&mut self, alloc: Global, key: &Key, value: &Value) -> Result<bool, OutOfMemory>
         ensures stated { IfOk result (λ done. (rest : List (Request × Answer)) → MayGive (may self.new) rest
             → MayGive (may self.old) ((Write key.now value.now, write_answer_of done) ∷ rest)) };
 
+    /// Deletes a key: whether it was deleted, or that there was no memory.
     fn delete(&mut self, alloc: Global, key: &Key) -> Result<bool, OutOfMemory>
         ensures stated { IfOk result (λ done. (rest : List (Request × Answer)) → MayGive (may self.new) rest
             → MayGive (may self.old) ((Delete key.now, write_answer_of done) ∷ rest)) };

@@ -1,15 +1,17 @@
 -- How the program ends: the status, and what standard error says.
 use Rattle.std.specs.Bool.{OnTrue}
-use Rattle.std.specs.Prelude.{Bool, true, ◌≡◌, ◌≢◌, ◌⊎◌, ℕ, Option, List, Result, Ok, Err, codes}
-use Rattle.std.specs.Io.KnownBytes.{Appends, Keeps}
+use Rattle.std.specs.Prelude.{Bool, true, not, ◌≡◌, ◌≢◌, ◌⊎◌, ℕ, Option, List, Result, Ok, Err, codes}
+use Rattle.std.specs.Io.KnownBytes.{Appends}
 use Rattle.clap.specs.Words.{kind_of}
 use Rattle.clap.specs.declared.error.kind.ErrorKind.TheVariants as kinds
 use Rattle.jc_runner.specs.Faults.{fault_line}
+use Rattle.jc_runner.specs.Meters.{next_if}
 use Rattle.jc_runner.specs.declared.ending.Ending.{Ending}
 use Rattle.jc_runner.specs.declared.ending.Ending.TheVariants.{Printed, Faulty, Refused, NotText}
 use Rattle.jc_runner.specs.declared.fault.ProgramFault.{ProgramFault}
 use Rattle.jc_runner.specs.declared.fault.ProgramFault.TheVariants.{Run}
 use Rattle.jc_runner.specs.declared.fault.RunFault.TheVariants.{Memory}
+use Rattle.jc_runner.specs.declared.watched.WatchedWriter.{WatchedWriter}
 
 abbrev pub ending_of : {T : Type 0} → Result T ProgramFault → Ending
 ending_of (Ok done) = Printed
@@ -26,14 +28,21 @@ HasStatus (Refused e) status =
     ((kind_of e ≡ kinds.DisplayHelp) ⊎ (kind_of e ≡ kinds.DisplayVersion) → status ≡ 0) × (kind_of e ≢ kinds.DisplayHelp → kind_of e ≢ kinds.DisplayVersion → status ≡ 2)
 HasStatus NotText status = status ≡ 2
 
--- what standard error says where it takes all of it, and nothing where there is nothing to say; what a refusal says is `clap`'s
-abbrev pub SaysSo : Ending → Bool → Option (List ℕ) → Option (List ℕ) → Type 0
-SaysSo Printed told old new = (told ≡ true) × Keeps old new
-SaysSo (Faulty fault) told old new = OnTrue told (Appends old new (fault_line fault))
-SaysSo (Refused e) told old new = (kind_of e ≡ kinds.DisplayHelp) ⊎ (kind_of e ≡ kinds.DisplayVersion) → Keeps old new
-SaysSo NotText told old new = OnTrue told (Appends old new (codes "error: a word is not UTF-8\n"))
+-- What standard error says, or that its writer failed; what a refusal says is `clap`'s.
+module _ {E : Type 0} (said : E → Option (List ℕ)) where
+  abbrev pub TellsLine : List ℕ → Bool → WatchedWriter E → WatchedWriter E → Type 0
+  TellsLine line told old new = OnTrue told (Appends (said old.inner) (said new.inner) line) × (new.failures ≡ next_if (not told) old.failures)
+
+  -- nothing where there is nothing to say
+  abbrev pub SaysSo : Ending → Bool → WatchedWriter E → WatchedWriter E → Type 0
+  SaysSo Printed told old new = (told ≡ true) × (new ≡ old)
+  SaysSo (Faulty fault) told old new = TellsLine (fault_line fault) told old new
+  SaysSo (Refused e) told old new =
+      ((kind_of e ≡ kinds.DisplayHelp) ⊎ (kind_of e ≡ kinds.DisplayVersion) → new ≡ old) × (kind_of e ≢ kinds.DisplayHelp → kind_of e ≢ kinds.DisplayVersion → new.failures ≡ next_if (not told) old.failures)
+  SaysSo NotText told old new = TellsLine (codes "error: a word is not UTF-8\n") told old new
 
 -- only help and the version go to standard output
-abbrev pub Leaves : {W : Type 0} → Ending → W → W → Type 0
-Leaves (Refused e) old new = kind_of e ≢ kinds.DisplayHelp → kind_of e ≢ kinds.DisplayVersion → new ≡ old
-Leaves _ old new = new ≡ old
+abbrev pub Leaves : {O : Type 0} → Ending → Bool → WatchedWriter O → WatchedWriter O → Type 0
+Leaves (Refused e) told old new =
+    ((kind_of e ≡ kinds.DisplayHelp) ⊎ (kind_of e ≡ kinds.DisplayVersion) → new.failures ≡ next_if (not told) old.failures) × (kind_of e ≢ kinds.DisplayHelp → kind_of e ≢ kinds.DisplayVersion → new ≡ old)
+Leaves _ told old new = new ≡ old

@@ -32,6 +32,7 @@ use Rattle.jc_runner.specs.declared.fault.ProgramFault.{ProgramFault}
 use Rattle.jc_runner.specs.declared.fault.ProgramFault.TheVariants as program
 use Rattle.jc_runner.specs.declared.fault.RunFault.{RunFault}
 use Rattle.jc_runner.specs.declared.fault.RunFault.TheVariants as run
+use Rattle.jc_runner.specs.declared.streams.Opened.{Opened}
 use Rattle.jc_runner.specs.declared.streams.Standard.{Standard}
 use Rattle.jc_runner.specs.declared.watched.Watched.{Watched}
 use Rattle.jc_runner.specs.declared.watched.WatchedWriter.{WatchedWriter}
@@ -122,27 +123,35 @@ abbrev pub demonstration : Configuration
 demonstration = record { settings = demonstration_caches; hooks = no_kinds ∷ no_kinds ∷ [] }
 
 module _ {F I O : Type 0} (of_file : F → Option (List ℕ)) (of_input : I → Option (List ℕ)) (contents : O → Option (List ℕ)) (holds : List ℕ → Option (Option (List ℕ))) (asked asked' : Option (List (List ℕ)))
-    (config script : Option (Watched F)) (input input' : Watched I) (writer writer' : WatchedWriter O) where
+    (opened opened' : Opened F) (input input' : Watched I) (writer writer' : WatchedWriter O) where
+  -- no file is asked for
+  abbrev pub OpensNone : Type 0
+  OpensNone = (asked' ≡ asked) × (opened' ≡ opened)
+
+  -- nor is a stream used
+  abbrev pub RunsNone : Type 0
+  RunsNone = OpensNone × (input' ≡ input) × (writer' ≡ writer)
+
   -- What words ask for, and how that ends. Where they are mistaken, or memory is wanting, nothing is run.
   module _ (words : List Text) (ending : Ending) where
     pub data WordsEnd : Type 0 where
-      plays : words ≡ [] → (ran : Result (Unit {0}) RunFault) → RunEnds of_input contents true demonstration input input' writer writer' ran → ending ≡ ending_of (as_program ran) → WordsEnd
-      runs : (run : Run) → AsksFor words run → (ran : Result (Unit {0}) ProgramFault) → FilesEnd of_file contents holds asked asked' run config script writer writer' ran → ending ≡ ending_of ran → WordsEnd
-      refuses : (e : Error) → MayRefuse words e → kind_of e ≢ OutOfMemory → ending ≡ Refused e → writer' ≡ writer → WordsEnd
-      lacks_memory : ending ≡ no_memory → writer' ≡ writer → WordsEnd
+      plays : words ≡ [] → (ran : Result (Unit {0}) RunFault) → RunEnds of_input contents true demonstration input input' writer writer' ran → AddsAtMost most_reads input.reads input'.reads → OpensNone → ending ≡ ending_of (as_program ran) → WordsEnd
+      runs : (run : Run) → AsksFor words run → (ran : Result (Unit {0}) ProgramFault) → FilesEnd of_file contents holds asked asked' run opened'.config opened'.script writer writer' ran → input' ≡ input → ending ≡ ending_of ran → WordsEnd
+      refuses : (e : Error) → MayRefuse words e → kind_of e ≢ OutOfMemory → ending ≡ Refused e → RunsNone → WordsEnd
+      lacks_memory : ending ≡ no_memory → RunsNone → WordsEnd
 
   abbrev pub Obeys : Result (List Text) WordsFault → Ending → Type 0
   Obeys (Ok words) ending = WordsEnd words ending
-  Obeys (Err fault.NotText) ending = (ending ≡ NotText) × (writer' ≡ writer)
-  Obeys (Err fault.OutOfMemory) ending = (ending ≡ no_memory) × (writer' ≡ writer)
+  Obeys (Err fault.NotText) ending = (ending ≡ NotText) × RunsNone
+  Obeys (Err fault.OutOfMemory) ending = (ending ≡ no_memory) × RunsNone
 
 module _ {F I O E : Type 0} (of_file : F → Option (List ℕ)) (of_input : I → Option (List ℕ)) (contents : O → Option (List ℕ)) (said : E → Option (List ℕ)) (holds : List ℕ → Option (Option (List ℕ))) (asked asked' : Option (List (List ℕ)))
-    (config script : Option (Watched F)) (standard standard' : Standard I O E) where
+    (opened opened' : Opened F) (standard standard' : Standard I O E) where
   -- the program has obeyed the words, and then said how that ended
   pub record Ends (words : Result (List Text) WordsFault) (result : Ended) : Type 0 where
     pub ending : Ending
     pub written : WatchedWriter O
-    pub obeys : Obeys of_file of_input contents holds asked asked' config script standard.input standard'.input standard.output written words ending
+    pub obeys : Obeys of_file of_input contents holds asked asked' opened opened' standard.input standard'.input standard.output written words ending
     pub status : HasStatus ending result.status
-    pub says : SaysSo ending result.told (said standard.errors) (said standard'.errors)
-    pub leaves : Leaves ending written standard'.output
+    pub says : SaysSo said ending result.told standard.errors standard'.errors
+    pub leaves : Leaves ending result.told written standard'.output

@@ -16,7 +16,7 @@ pub enum Ending {
     NotText,
 }
 
-/// The status, and whether all was written that is to be said.
+/// The status, and whether all was written that is to be said; if not, its writer failed.
 #[derive(Clone, Copy, Debug, PartialEq, Eq)]
 pub struct Ended {
     pub status: u8,

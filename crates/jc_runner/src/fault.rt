@@ -1,10 +1,12 @@
 //! Why a run ends, and the line that says so.
-ghost use Rattle.std.specs.Prelude.{◌≡◌, OnOk};
+ghost use Rattle.std.specs.Prelude.{◌≡◌, not, is_err, OnOk};
 ghost use Rattle.std.specs.Bool.{OnTrue};
 ghost use Rattle.std.specs.Io.KnownBytes.{Appends};
 ghost use Rattle.jc_runner.specs.declared.fault.RunFault.TheVariants.{Memory};
 ghost use Rattle.jc_runner.specs.Faults.{bad_line, bad_cache_line, script_line, config_line, run_line, fault_line};
+ghost use Rattle.jc_runner.specs.Meters.{next_if};
 
+use crate::watched::WatchedWriter;
 use jc_config::ConfigFault;
 use jc_script::ScriptFault;
 use std::alloc::{AllocError, AllocFailed};
@@ -58,14 +60,16 @@ pub enum ProgramFault {
     Run(RunFault),
 }
 
-fn write_bad<W: Write>(line: usize, member: &str, writer: &mut W) -> io::Result<()>
-    ensures { OnOk result (Appends (W.contents writer.old) (W.contents writer.new) (bad_line line member.now)) }
+fn write_bad<W: Write>(line: usize, member: &str, writer: &mut WatchedWriter<W>) -> io::Result<()>
+    ensures bytes { OnOk result (Appends (W.contents writer.old.inner) (W.contents writer.new.inner) (bad_line line member.now)) }
+    ensures failures { writer.new.failures ≡ next_if (is_err result) writer.old.failures }
 {
     writeln!(writer, "script line {line}: bad {member}")
 }
 
-fn write_script_fault<W: Write>(fault: ScriptFault, writer: &mut W) -> io::Result<()>
-    ensures { OnOk result (Appends (W.contents writer.old) (W.contents writer.new) (script_line fault)) }
+fn write_script_fault<W: Write>(fault: ScriptFault, writer: &mut WatchedWriter<W>) -> io::Result<()>
+    ensures bytes { OnOk result (Appends (W.contents writer.old.inner) (W.contents writer.new.inner) (script_line fault)) }
+    ensures failures { writer.new.failures ≡ next_if (is_err result) writer.old.failures }
 {
     match fault {
         ScriptFault::TooLong => writeln!(writer, "script: too long"),
@@ -76,14 +80,20 @@ fn write_script_fault<W: Write>(fault: ScriptFault, writer: &mut W) -> io::Resul
     }
 }
 
-fn write_bad_cache<W: Write>(cache: usize, member: &str, writer: &mut W) -> io::Result<()>
-    ensures { OnOk result (Appends (W.contents writer.old) (W.contents writer.new) (bad_cache_line cache member.now)) }
+fn write_bad_cache<W: Write>(
+    cache: usize,
+    member: &str,
+    writer: &mut WatchedWriter<W>,
+) -> io::Result<()>
+    ensures bytes { OnOk result (Appends (W.contents writer.old.inner) (W.contents writer.new.inner) (bad_cache_line cache member.now)) }
+    ensures failures { writer.new.failures ≡ next_if (is_err result) writer.old.failures }
 {
     writeln!(writer, "config cache {cache}: bad {member}")
 }
 
-fn write_config_fault<W: Write>(fault: ConfigFault, writer: &mut W) -> io::Result<()>
-    ensures { OnOk result (Appends (W.contents writer.old) (W.contents writer.new) (config_line fault)) }
+fn write_config_fault<W: Write>(fault: ConfigFault, writer: &mut WatchedWriter<W>) -> io::Result<()>
+    ensures bytes { OnOk result (Appends (W.contents writer.old.inner) (W.contents writer.new.inner) (config_line fault)) }
+    ensures failures { writer.new.failures ≡ next_if (is_err result) writer.old.failures }
 {
     match fault {
         ConfigFault::TooLong => writeln!(writer, "config: too long"),
@@ -99,8 +109,9 @@ fn write_config_fault<W: Write>(fault: ConfigFault, writer: &mut W) -> io::Resul
     }
 }
 
-fn write_run_fault<W: Write>(fault: &RunFault, writer: &mut W) -> io::Result<()>
-    ensures { OnOk result (Appends (W.contents writer.old) (W.contents writer.new) (run_line fault.now)) }
+fn write_run_fault<W: Write>(fault: &RunFault, writer: &mut WatchedWriter<W>) -> io::Result<()>
+    ensures bytes { OnOk result (Appends (W.contents writer.old.inner) (W.contents writer.new.inner) (run_line fault.now)) }
+    ensures failures { writer.new.failures ≡ next_if (is_err result) writer.old.failures }
 {
     match fault {
         RunFault::Read => writeln!(writer, "script: cannot be read"),
@@ -114,8 +125,9 @@ fn write_run_fault<W: Write>(fault: &RunFault, writer: &mut W) -> io::Result<()>
 }
 
 /// Writes the line of a fault; false where the writer failed.
-pub fn write_fault<W: Write>(fault: &ProgramFault, writer: &mut W) -> bool
-    ensures { OnTrue result (Appends (W.contents writer.old) (W.contents writer.new) (fault_line fault.now)) }
+pub fn write_fault<W: Write>(fault: &ProgramFault, writer: &mut WatchedWriter<W>) -> bool
+    ensures told { OnTrue result (Appends (W.contents writer.old.inner) (W.contents writer.new.inner) (fault_line fault.now)) }
+    ensures failures { writer.new.failures ≡ next_if (not result) writer.old.failures }
 {
     let result = match fault {
         ProgramFault::ConfigRead => writeln!(writer, "config: cannot be read"),

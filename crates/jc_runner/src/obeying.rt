@@ -1,6 +1,7 @@
 //! The program over its words, a disk and the standard streams.
 ghost use Rattle.std.specs.Prelude.{◌≡◌, ◌↔◌, true, IsTrue, IfOk, IfErr, Ok, Err, map, string_bytes};
 ghost use Rattle.clap.specs.Words.{kind_of};
+ghost use Rattle.jc_runner.specs.Meters.{most_reads, AddsAtMost};
 ghost use Rattle.jc_runner.specs.Program.{RunEnds, WordsEnd, Obeys, Ends, no_kinds, demonstration as demonstration_read};
 
 use crate::disk::Disk;
@@ -52,7 +53,8 @@ fn demonstrate<I: Read, O: Write>(
     input: &mut Watched<I>,
     output: &mut WatchedWriter<O>,
 ) -> Result<(), RunFault>
-    ensures { RunEnds I.remaining O.contents true demonstration_read input.old input.new output.old output.new result }
+    ensures ends { RunEnds I.remaining O.contents true demonstration_read input.old input.new output.old output.new result }
+    ensures reads { AddsAtMost most_reads input.old.reads input.new.reads }
 {
     let configuration = demonstrated(alloc)?;
     play(alloc, configuration, 0, input, output)
@@ -85,7 +87,7 @@ fn obey<D: Disk, I: Read, O: Write, R: Threads + Wait + Sync>(
     input: &mut Watched<I>,
     output: &mut WatchedWriter<O>,
 ) -> Ending
-    ensures { WordsEnd D.File.remaining I.remaining O.contents (D.holds disk.old) (D.asked disk.old) (D.asked disk.new) opened.new.config opened.new.script input.old input.new output.old output.new (map string_bytes words.now) result }
+    ensures { WordsEnd D.File.remaining I.remaining O.contents (D.holds disk.old) (D.asked disk.old) (D.asked disk.new) opened.old opened.new input.old input.new output.old output.new (map string_bytes words.now) result }
 {
     let Ok(texts) = texts_of(alloc, words) else {
         return Ending::Faulty(ProgramFault::Run(RunFault::Memory));
@@ -115,8 +117,8 @@ fn heed<D: Disk, I: Read, O: Write, R: Threads + Wait + Sync>(
     input: &mut Watched<I>,
     output: &mut WatchedWriter<O>,
 ) -> Ending
-    ensures obeys { IfOk words (λ v. Obeys D.File.remaining I.remaining O.contents (D.holds disk.old) (D.asked disk.old) (D.asked disk.new) opened.new.config opened.new.script input.old input.new output.old output.new (Ok (map string_bytes v.items)) result) }
-    ensures wordless { IfErr words (λ fault. Obeys D.File.remaining I.remaining O.contents (D.holds disk.old) (D.asked disk.old) (D.asked disk.new) opened.new.config opened.new.script input.old input.new output.old output.new (Err fault) result) }
+    ensures obeys { IfOk words (λ v. Obeys D.File.remaining I.remaining O.contents (D.holds disk.old) (D.asked disk.old) (D.asked disk.new) opened.old opened.new input.old input.new output.old output.new (Ok (map string_bytes v.items)) result) }
+    ensures wordless { IfErr words (λ fault. Obeys D.File.remaining I.remaining O.contents (D.holds disk.old) (D.asked disk.old) (D.asked disk.new) opened.old opened.new input.old input.new output.old output.new (Err fault) result) }
 {
     match words {
         Ok(words) => obey(rt, alloc, words.as_slice(), disk, opened, input, output),
@@ -139,8 +141,8 @@ pub fn program<D: Disk, I: Read, O: Write, E: Write, R: Threads + Wait + Sync>(
     opened: &mut Opened<D::File>,
     standard: &mut Standard<I, O, E>,
 ) -> Ended
-    ensures ends { IfOk words (λ v. Ends D.File.remaining I.remaining O.contents E.contents (D.holds disk.old) (D.asked disk.old) (D.asked disk.new) opened.new.config opened.new.script standard.old standard.new (Ok (map string_bytes v.items)) result) }
-    ensures wordless { IfErr words (λ fault. Ends D.File.remaining I.remaining O.contents E.contents (D.holds disk.old) (D.asked disk.old) (D.asked disk.new) opened.new.config opened.new.script standard.old standard.new (Err fault) result) }
+    ensures ends { IfOk words (λ v. Ends D.File.remaining I.remaining O.contents E.contents (D.holds disk.old) (D.asked disk.old) (D.asked disk.new) opened.old opened.new standard.old standard.new (Ok (map string_bytes v.items)) result) }
+    ensures wordless { IfErr words (λ fault. Ends D.File.remaining I.remaining O.contents E.contents (D.holds disk.old) (D.asked disk.old) (D.asked disk.new) opened.old opened.new standard.old standard.new (Err fault) result) }
 {
     let input = &mut standard.input;
     let ending = heed(rt, alloc, words, disk, opened, input, &mut standard.output);

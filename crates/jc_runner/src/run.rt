@@ -1,5 +1,5 @@
 //! One run: a script in, a report out.
-ghost use Rattle.std.specs.Prelude.{◌≡◌, ◌<◌, ◌≢◌, true, IfOk, IfErr, IfSome, IsSome, OnOk, IsOk, Ok, Err, length, string_bytes};
+ghost use Rattle.std.specs.Prelude.{◌≡◌, ◌<◌, ◌≢◌, true, IfOk, IfErr, IfSome, IsSome, Some, OnOk, IsOk, Ok, Err, length, string_bytes};
 ghost use Rattle.std.specs.FinMap as finite;
 ghost use Rattle.std.specs.Io.KnownBytes.{Appends, IsAtEnd, Keeps};
 ghost use Rattle.jc_script.specs.Script.{lines};
@@ -61,6 +61,7 @@ fn opened<T: Rows>(
     ensures unrecorded { IfOk result (λ r. r.transcript ≡ at_first 0 settings) }
     ensures faults { IfErr result IsOfRunning }
     ensures refused { result ≡ Err faults.Open → IsSome (open_refusal settings) }
+    ensures memory { result ≡ Err faults.Memory → IsSome (open_refusal settings) → open_refusal settings ≡ Some OpenRefusal.OutOfMemory }
 {
     match Recorded::open(alloc, rows, settings.into_caches()) {
         Ok(recorded) => Ok(recorded),

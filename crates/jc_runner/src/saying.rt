@@ -1,7 +1,8 @@
 //! What the program says in the end.
-ghost use Rattle.std.specs.Prelude.{◌≡◌, OnOk, codes};
+ghost use Rattle.std.specs.Prelude.{◌≡◌, is_err, OnOk, codes};
 ghost use Rattle.std.specs.Io.KnownBytes.{Appends};
 ghost use Rattle.jc_runner.specs.Endings.{HasStatus, SaysSo, Leaves, ending_of};
+ghost use Rattle.jc_runner.specs.Meters.{next_if};
 
 use crate::ending::{Ended, Ending};
 use crate::fault::{ProgramFault, write_fault};
@@ -20,17 +21,22 @@ pub fn ending_of(ran: Result<(), ProgramFault>) -> Ending
     }
 }
 
-fn write_no_text<E: Write>(errors: &mut E) -> io::Result<()>
-    ensures { OnOk result (Appends (E.contents errors.old) (E.contents errors.new) (codes "error: a word is not UTF-8\n")) }
+fn write_no_text<E: Write>(errors: &mut WatchedWriter<E>) -> io::Result<()>
+    ensures bytes { OnOk result (Appends (E.contents errors.old.inner) (E.contents errors.new.inner) (codes "error: a word is not UTF-8\n")) }
+    ensures failures { errors.new.failures ≡ next_if (is_err result) errors.old.failures }
 {
     writeln!(errors, "error: a word is not UTF-8")
 }
 
 /// Prints help, or tells a mistake on standard error.
-fn refuse<O: Write, E: Write>(error: &Error, output: &mut WatchedWriter<O>, errors: &mut E) -> Ended
+fn refuse<O: Write, E: Write>(
+    error: &Error,
+    output: &mut WatchedWriter<O>,
+    errors: &mut WatchedWriter<E>,
+) -> Ended
     ensures status { HasStatus (Ending.Refused error.now) result.status }
-    ensures says { SaysSo (Ending.Refused error.now) result.told (E.contents errors.old) (E.contents errors.new) }
-    ensures leaves { Leaves (Ending.Refused error.now) output.old output.new }
+    ensures says { SaysSo E.contents (Ending.Refused error.now) result.told errors.old errors.new }
+    ensures leaves { Leaves (Ending.Refused error.now) result.told output.old output.new }
 {
     if error.use_stderr() {
         Ended {
@@ -40,7 +46,7 @@ fn refuse<O: Write, E: Write>(error: &Error, output: &mut WatchedWriter<O>, erro
     } else {
         Ended {
             status: 0,
-            told: output.print(error),
+            told: write!(output, "{error}").is_ok(),
         }
     }
 }
@@ -49,11 +55,11 @@ fn refuse<O: Write, E: Write>(error: &Error, output: &mut WatchedWriter<O>, erro
 pub fn say<O: Write, E: Write>(
     ending: &Ending,
     output: &mut WatchedWriter<O>,
-    errors: &mut E,
+    errors: &mut WatchedWriter<E>,
 ) -> Ended
     ensures status { HasStatus ending.now result.status }
-    ensures says { SaysSo ending.now result.told (E.contents errors.old) (E.contents errors.new) }
-    ensures leaves { Leaves ending.now output.old output.new }
+    ensures says { SaysSo E.contents ending.now result.told errors.old errors.new }
+    ensures leaves { Leaves ending.now result.told output.old output.new }
 {
     match ending {
         Ending::Printed => Ended {

@@ -17,7 +17,7 @@ pub struct Opened<F> {
 pub struct Standard<I, O, E> {
     pub input: Watched<I>,
     pub output: WatchedWriter<O>,
-    pub errors: E,
+    pub errors: WatchedWriter<E>,
 }
 
 impl<F> Opened<F> {
@@ -32,15 +32,15 @@ impl<F> Opened<F> {
     }
 }
 
-impl<I: Read, O: Write, E> Standard<I, O, E> {
+impl<I: Read, O: Write, E: Write> Standard<I, O, E> {
     /// Streams that were not used yet.
     pub fn new(input: I, output: O, errors: E) -> Standard<I, O, E>
-        ensures { result ≡ record { input = record { inner = input; reads = 0; failures = 0 }; output = record { inner = output; failures = 0; flushed = false }; errors = errors } }
+        ensures { result ≡ record { input = record { inner = input; reads = 0; failures = 0 }; output = record { inner = output; failures = 0; flushed = false }; errors = record { inner = errors; failures = 0; flushed = false } } }
     {
         Standard {
             input: Watched::new(input),
             output: WatchedWriter::new(output),
-            errors,
+            errors: WatchedWriter::new(errors),
         }
     }
 }

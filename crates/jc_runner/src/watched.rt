@@ -1,7 +1,7 @@
 //! A reader and a writer that keep account of how they were used. Nothing else reads from them or writes to them.
-ghost use Rattle.std.specs.Prelude.{◌≡◌, false, not, is_err, is_ok};
+ghost use Rattle.std.specs.Prelude.{◌≡◌, false, is_err, is_ok, IfSome, OnOk};
 ghost use Rattle.std.specs.Io.{ReadsAtMost, WritesAtMost};
-ghost use Rattle.std.specs.Io.KnownBytes.{ReadConsumes, WriteAppends, Keeps};
+ghost use Rattle.std.specs.Io.KnownBytes.{ReadConsumes, WriteAppends, Appends, Keeps};
 ghost use Rattle.jc_runner.specs.Meters.{next, next_if};
 ghost use Rattle.jc_runner.specs.Streams.{takes_nothing};
 
@@ -98,15 +98,16 @@ impl<W: Write> WatchedWriter<W> {
         inner
     }
 
-    /// Writes what is shown so; false where the writer failed.
-    pub(crate) fn print<T: Display>(&mut self, shown: &T) -> bool
-        ensures failures { self.new.failures ≡ next_if (not result) self.old.failures }
+    /// What `write!` and `writeln!` call: writes all of a text.
+    pub(crate) fn write_fmt<T: Display + Drop>(&mut self, text: T) -> io::Result<()>
+        ensures bytes { OnOk result (IfSome (T.output text) (Appends (W.contents self.old.inner) (W.contents self.new.inner))) }
+        ensures failures { self.new.failures ≡ next_if (is_err result) self.old.failures }
         ensures flushed { self.new.flushed ≡ false }
     {
-        let printed = write!(self.inner, "{shown}").is_ok();
-        self.failures = next_if(!printed, self.failures);
+        let result = self.inner.write_fmt(text);
+        self.failures = next_if(result.is_err(), self.failures);
         self.flushed = false;
-        printed
+        result
     }
 
     pub(crate) fn write(&mut self, buf: &[u8]) -> io::Result<usize>

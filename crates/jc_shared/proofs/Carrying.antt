@@ -1,5 +1,5 @@
 -- A call from its begin to its entry in the session's list.
-use Rattle.std.proofs.Common.{◌≡◌, ℕ, List, [], ◌∷◌, ◌++◌, true, Option, Result, Ok, Err, inl, inr, refl, sym, ◌∙◌, ap, subst}
+use Rattle.std.proofs.Common.{◌≡◌, ℕ, Bool, List, [], ◌∷◌, ◌++◌, true, false, Option, Result, Ok, Err, inl, inr, refl, sym, ◌∙◌, ap, subst}
 use Rattle.std.specs.Prelude.{slice_get, is_err, OnErr, MatchResult, IfOk, IfErr}
 use Rattle.std.proofs.lemmas.List.Elements.{All-nil, All-push}
 use Rattle.jc_model.specs.declared.call.Answer.{Answer}
@@ -22,6 +22,7 @@ use Rattle.jc_hooks.specs.Asking.{states_after}
 use Rattle.jc_shared.specs.declared.hooks.LockedHooks.{LockedHooks}
 use Rattle.jc_shared.specs.Serving.{told_behind, TellsOnce, Tells, TellsOn, Serves}
 use Rattle.jc_shared.specs.Stated.{Stated, AreStated, IsStatedBy}
+use Rattle.jc_shared.specs.Finding.{accepted}
 use Rattle.jc_shared.specs.Sessions.{Sitting, Sight}
 use Rattle.jc_shared.specs.Calls.{Stands, called, IsSameCall, HasEnded, Stays, EndsFaulty, GoesOn, Adds, AddsWaiting, Fails, MayLack, IsBeginFault}
 
@@ -140,3 +141,11 @@ begin_fails configs stated old new id at call draft faults.NoSuchProcessor is sa
 begin_fails configs stated old new id at call draft faults.Busy is same h = same
 begin_fails configs stated old new id at call draft faults.Overtaken is same h = absurd h
 begin_fails configs stated old new id at call draft faults.OutOfMemory is same h = inl same
+
+-- it was not accepted
+pub not_accepted : (b : Bool) (fault : CallFault) → Err fault ≡ accepted b → b ≡ false
+not_accepted true fault is = absurd cc
+not_accepted false fault is = refl
+
+pub unaccepted_fails : (configs : List CacheConfig) (stated : List Stated) (old new : Sitting) (id at : ℕ) (call : Call) (fault : CallFault) → fault ≡ faults.NoSuchProcessor → new.calls ≡ old.calls → MayLack configs id call → Fails configs stated old new id at call fault
+unaccepted_fails configs stated old new id at call fault is same lacks = subst (λ (f : CallFault). Fails configs stated old new id at call f) (sym is) (same, lacks)

@@ -1,10 +1,16 @@
 -- Where a call's entry stands in the transcript.
-use Rattle.std.specs.Prelude.{◌≡◌, ℕ, List, Some, slice_get, ⊤}
+use Rattle.std.specs.Prelude.{◌≡◌, ℕ, Bool, true, false, List, Option, Some, None, Result, Ok, Err, slice_get, ⊤}
 use Rattle.jc_model.specs.declared.config.CacheConfig.{CacheConfig}
 use Rattle.jc_model.specs.declared.event.Cause.{Cause}
 use Rattle.jc_model.specs.declared.event.Cause.TheVariants as causes
 use Rattle.jc_shared.specs.declared.fault.CallFault.{CallFault}
 use Rattle.jc_shared.specs.declared.fault.CallFault.TheVariants.{NoSuchCache, NoSuchProcessor, Busy, Overtaken, OutOfMemory}
+use Rattle.jc_shared.specs.declared.fault.DestroyFault.{DestroyFault}
+use Rattle.jc_shared.specs.declared.fault.DestroyFault.TheVariants as destroying
+use Rattle.jc_shared.specs.declared.fault.Halt.{Halt}
+use Rattle.jc_shared.specs.declared.fault.Halt.TheVariants as halts
+use Rattle.jc_shared.specs.declared.fault.Unfound.{Unfound}
+use Rattle.jc_shared.specs.declared.fault.Unfound.TheVariants as unfound
 use Rattle.jc_model.specs.declared.event.Entry.{Entry}
 use Rattle.jc_model.specs.declared.event.End.TheVariants as end
 use Rattle.jc_model.specs.declared.event.Step.{Step}
@@ -25,6 +31,29 @@ fault_of causes.NoTurn = Overtaken
 fault_of causes.WrongAnswer = Overtaken
 fault_of causes.OutOfMemory = OutOfMemory
 
+-- why no further answer is taken, by why the engine refuses it
+abbrev pub halt_of : Cause → Halt
+halt_of causes.OutOfMemory = halts.OutOfMemory
+halt_of _ = halts.Overtaken
+
+-- a hooks lock that is there is refused for memory alone
+abbrev pub unfound_at : {A : Type 0} → Option A → Unfound
+unfound_at None = unfound.NoSuchCache
+unfound_at (Some lock) = unfound.OutOfMemory
+
+abbrev pub call_fault_of : Unfound → CallFault
+call_fault_of unfound.NoSuchCache = NoSuchCache
+call_fault_of unfound.OutOfMemory = OutOfMemory
+
+abbrev pub destroy_fault_of : Unfound → DestroyFault
+destroy_fault_of unfound.NoSuchCache = destroying.NoSuchCache
+destroy_fault_of unfound.OutOfMemory = destroying.OutOfMemory
+
+-- a call is accepted where its processor is there
+abbrev pub accepted : Bool → Result ⊤ CallFault
+accepted true = Ok tt
+accepted false = Err NoSuchProcessor
+
 -- the entry is of the draft's call
 pub record IsOfCall (e draft : Entry) : Type 0 where
   pub session : e.session ≡ draft.session
@@ -36,6 +65,11 @@ pub record IsOpenFor (lives : Lives) (transcript : History) (draft : Entry) (pla
   pub tells : Tells transcript lives
   pub opened : HasOpen transcript.entries draft.id place
   pub own : IsOfCall opened.entry draft
+
+-- the open call of the draft's cache is the draft's
+pub record IsOpen (lives : Lives) (transcript : History) (draft : Entry) : Type 0 where
+  pub place : ℕ
+  pub here : IsOpenFor lives transcript draft place
 
 -- the draft stands at this place of a legal transcript that begins with these caches, just as it is
 pub record StandsAt (configs : List CacheConfig) (transcript : History) (draft : Entry) (place : ℕ) : Type 0 where

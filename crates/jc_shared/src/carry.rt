@@ -10,7 +10,7 @@ ghost use Rattle.jc_shared.specs.Serving.{Serves, TellsOn, TellsOnce, told_behin
 ghost use Rattle.jc_shared.specs.declared.turned.Turned.TheVariants.{Asked, Replied};
 ghost use Rattle.jc_shared.specs.Stated.{AreOf, IsStatedBy, AreStated};
 
-use crate::fault::CallFault;
+use crate::fault::{CallFault, Halt};
 use crate::hooks::{LockedHooks, SharedHooks};
 use crate::manager::Manager;
 use crate::name::Name;
@@ -102,7 +102,7 @@ impl<N: Name, L: Loader, W: Writer, P: Processor, K: Listener> Manager<N, L, W, 
         }
     }
 
-    /// Brings the draft's call on by the answer to a request.
+    /// Brings the draft's call on by the answer to a request. An answer that was not taken is not kept.
     fn advance<R: Wait>(
         &self,
         rt: &R,
@@ -115,6 +115,7 @@ impl<N: Name, L: Loader, W: Writer, P: Processor, K: Listener> Manager<N, L, W, 
         requires shared { AreOf L.load_of P.verdict_of N.stated draft.old.id asked.now }
         requires asked { Stays N.configs N.stated (Asked request) draft.old pass.old }
         ensures same { IsSameCall draft.old draft.new }
+        ensures kept { OnErr result (draft.new.answers ≡ draft.old.answers) }
         ensures brought { MatchResult result (λ turned. Stays N.configs N.stated turned draft.new pass.new) (λ fault. EndsFaulty N.configs N.stated fault draft.new pass.new) }
         ensures front { IsPrefix pass.old.images pass.new.images }
         ensures told { TellsOn K.state_after hooks.old hooks.new draft.old.told draft.new.told }
@@ -132,11 +133,14 @@ impl<N: Name, L: Loader, W: Writer, P: Processor, K: Listener> Manager<N, L, W, 
         let resumed = self.locked.lock(rt).resume(draft, answer, pass);
         match resumed {
             Ok(turned) => Ok(turned),
-            Err(CallFault::OutOfMemory) => {
+            Err(Halt::OutOfMemory) => {
                 take_back(draft);
                 Err(self.give_up(rt, hooks, draft, pass))
             }
-            Err(_) => Err(CallFault::Overtaken),
+            Err(Halt::Overtaken) => {
+                take_back(draft);
+                Err(CallFault::Overtaken)
+            }
         }
     }
 
@@ -180,6 +184,7 @@ impl<N: Name, L: Loader, W: Writer, P: Processor, K: Listener> Manager<N, L, W, 
         requires waits { draft.old.end ≡ Waiting }
         requires answered { AreStated (slice_get N.stated draft.old.id) draft.old.call draft.old.answers }
         ensures same { IsSameCall draft.old draft.new }
+        ensures kept { draft.new.answers ≡ draft.old.answers }
         ensures ends { EndsFaulty N.configs N.stated result draft.new pass.new }
         ensures front { IsPrefix pass.old.images pass.new.images }
         ensures told { TellsOn K.state_after hooks.old hooks.new draft.old.told draft.new.told }

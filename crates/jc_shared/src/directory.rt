@@ -1,7 +1,9 @@
 //! The hooks locks of the live caches, by id.
-ghost use Rattle.std.specs.Prelude.{◌≤◌, OnOk, IfOk};
-ghost use Rattle.std.specs.HashMap.{spare};
+ghost use Rattle.std.specs.Prelude.{◌≡◌, ◌≤◌, OnOk, IfErr, nat_eq};
+ghost use Rattle.std.specs.HashMap.{get, spare};
+ghost use Rattle.jc_shared.specs.Finding.{unfound_at};
 
+use crate::fault::Unfound;
 use crate::hooks::OwnHooks;
 use jc_model::OutOfMemory;
 use jc_model::event::CacheId;
@@ -24,12 +26,17 @@ impl<L: Drop, W: Drop, P: Drop, K: Drop> Directory<L, W, P, K> {
         }
     }
 
-    /// The hooks lock of a cache, if it has one.
-    pub(crate) fn find(&self, id: CacheId) -> Result<Option<HooksLock<L, W, P, K>>, OutOfMemory> {
+    /// The hooks lock of a cache.
+    pub(crate) fn find(&self, id: CacheId) -> Result<HooksLock<L, W, P, K>, Unfound>
+        ensures { IfErr result (λ why. why ≡ unfound_at (get nat_eq self.now.locks id)) }
+    {
         let number = id.number();
-        match self.locks.get(&number) {
-            Some(lock) => Ok(Some(Arc::try_clone(lock)?)),
-            None => Ok(None),
+        let Some(lock) = self.locks.get(&number) else {
+            return Err(Unfound::NoSuchCache);
+        };
+        match Arc::try_clone(lock) {
+            Ok(lock) => Ok(lock),
+            Err(_) => Err(Unfound::OutOfMemory),
         }
     }
 

@@ -1,4 +1,7 @@
 //! Why the calls of a shared manager are refused.
+ghost use Rattle.std.specs.Prelude.{◌≡◌};
+ghost use Rattle.jc_shared.specs.Finding.{call_fault_of, destroy_fault_of};
+
 use jc_engine::open::OpenRefusal;
 use jc_model::event::CreateRefusal;
 
@@ -52,6 +55,44 @@ pub enum DestroyFault {
     NoSuchCache,
     /// A call on the cache is open.
     Busy,
+    OutOfMemory,
+}
+
+/// Why a cache's hooks lock is not handed out.
+#[derive(Clone, Copy)]
+pub(crate) enum Unfound {
+    NoSuchCache,
+    /// Memory was refused to sharing it.
+    OutOfMemory,
+}
+
+impl From<Unfound> for CallFault {
+    ghost from_gives = { λ why fault. fault ≡ call_fault_of why };
+
+    fn from(why: Unfound) -> CallFault {
+        match why {
+            Unfound::NoSuchCache => CallFault::NoSuchCache,
+            Unfound::OutOfMemory => CallFault::OutOfMemory,
+        }
+    }
+}
+
+impl From<Unfound> for DestroyFault {
+    ghost from_gives = { λ why fault. fault ≡ destroy_fault_of why };
+
+    fn from(why: Unfound) -> DestroyFault {
+        match why {
+            Unfound::NoSuchCache => DestroyFault::NoSuchCache,
+            Unfound::OutOfMemory => DestroyFault::OutOfMemory,
+        }
+    }
+}
+
+/// Why a tenure of the lock brings an open call no further.
+#[derive(Clone, Copy)]
+pub(crate) enum Halt {
+    /// The entry under the lock is not that of this call.
+    Overtaken,
     OutOfMemory,
 }
 

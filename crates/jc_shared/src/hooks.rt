@@ -1,13 +1,15 @@
 //! A cache's callbacks, apart by who uses them: loader and processors are asked by all sessions side by side, writer
 //! and listeners by the one call that holds the cache's hooks lock.
-ghost use Rattle.std.specs.Prelude.{◌≡◌, ◌≤◌, length, map, IfOk, MatchOption};
+ghost use Rattle.std.specs.Prelude.{◌≡◌, ◌≤◌, length, map, IfOk, IfErr, MatchOption};
 ghost use Rattle.jc_model.specs.declared.config.CacheConfig.{CacheConfig as Configured};
 ghost use Rattle.jc_model.specs.Runs.{has_processor};
 ghost use Rattle.jc_model.specs.Limits.{most_caches};
+ghost use Rattle.jc_shared.specs.Finding.{accepted};
 ghost use Rattle.jc_shared.specs.Opening.{AllSuit, DifferFirst};
 ghost use Rattle.jc_shared.specs.Stated.{shared_of};
 
 use crate::directory::Directory;
+use crate::fault::CallFault;
 use jc_hooks::{CacheHooks, Listener, Loader, Processor, Writer, suits};
 use jc_model::OutOfMemory;
 use jc_model::call::Call;
@@ -53,7 +55,7 @@ impl<L, P> SharedHooks<L, P> {
     }
 
     /// Whether the processor that a call names, if any, is there.
-    pub(crate) fn has_processor(&self, call: &Call) -> bool
+    fn has_processor(&self, call: &Call) -> bool
         ensures { (c : Configured) → length c.processors ≡ length self.now.processors.items → result ≡ has_processor c call.now }
     {
         match call {
@@ -61,6 +63,18 @@ impl<L, P> SharedHooks<L, P> {
                 (*processor as usize) < self.processors.len()
             }
             _ => true,
+        }
+    }
+
+    /// Refuses a call that names a processor which is not there.
+    pub(crate) fn accept(&self, call: &Call) -> Result<(), CallFault>
+        ensures agrees { (c : Configured) → length c.processors ≡ length self.now.processors.items → result ≡ accepted (has_processor c call.now) }
+        ensures err { IfErr result (λ fault. fault ≡ CallFault.NoSuchProcessor) }
+    {
+        if self.has_processor(call) {
+            Ok(())
+        } else {
+            Err(CallFault::NoSuchProcessor)
         }
     }
 }

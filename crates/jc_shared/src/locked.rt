@@ -13,12 +13,12 @@ ghost use Rattle.jc_shared.specs.Accounts.{Accounts, IsCloseFault};
 ghost use Rattle.jc_shared.specs.Admitting.{Admits};
 ghost use Rattle.jc_shared.specs.Calls.{Stands, GoesOn, IsBeginFault};
 ghost use Rattle.jc_shared.specs.Sessions.{BeginsWith, Sees, SeesSome};
-ghost use Rattle.jc_shared.specs.Finding.{fault_of, IsOfCall, IsOpenFor, StandsAt, Turns, IsReplied};
+ghost use Rattle.jc_shared.specs.Finding.{fault_of, halt_of, IsOfCall, IsOpenFor, IsOpen, StandsAt, Turns, IsReplied};
 
 mod living;
 
 use crate::auditing::{Logged, audit};
-use crate::fault::{CallFault, CloseFault, SessionRefusal};
+use crate::fault::{CallFault, CloseFault, Halt, SessionRefusal};
 use crate::name::Name;
 use crate::tables::{ShownTable, TablePass};
 use crate::turned::Turned;
@@ -55,6 +55,15 @@ fn fault_of(cause: Cause) -> CallFault
         Cause::Busy => CallFault::Busy,
         Cause::NoTurn | Cause::WrongAnswer => CallFault::Overtaken,
         Cause::OutOfMemory => CallFault::OutOfMemory,
+    }
+}
+
+fn halt_of(cause: Cause) -> Halt
+    ensures { result ≡ halt_of cause }
+{
+    match cause {
+        Cause::OutOfMemory => Halt::OutOfMemory,
+        _ => Halt::Overtaken,
     }
 }
 
@@ -147,11 +156,11 @@ impl<N: Name> Locked<N> {
         draft: &mut Entry,
         step: Step,
         copy: Option<Reply>,
-    ) -> Result<Turned, CallFault>
+    ) -> Result<Turned, Halt>
         requires waits { draft.old.end ≡ Waiting }
         requires copy { copy ≡ reply_in step }
         ensures ok { IfOk result (λ t. Turns draft.old step t draft.new × (IsReplied t → StandsAt N.configs self.now.recorded.transcript draft.new place)) }
-        ensures err { IfErr result (λ fault. (fault ≡ CallFault.Overtaken) × (draft.new ≡ draft.old)) }
+        ensures err { IfErr result (λ halt. (halt ≡ Halt.Overtaken) × (draft.new ≡ draft.old)) }
     {
         match turned(step, copy, draft) {
             Turned::Asked(request) => Ok(Turned::Asked(request)),
@@ -160,7 +169,7 @@ impl<N: Name> Locked<N> {
                     Ok(Turned::Replied(reply))
                 } else {
                     end_with(draft, End::Waiting);
-                    Err(CallFault::Overtaken)
+                    Err(Halt::Overtaken)
                 }
             }
         }
@@ -220,15 +229,15 @@ impl<N: Name> Locked<N> {
         draft: &mut Entry,
         answer: Answer,
         pass: &mut TablePass<N>,
-    ) -> Result<Turned, CallFault>
+    ) -> Result<Turned, Halt>
         requires { draft.old.end ≡ Waiting }
         ensures ok { IfOk result (λ turned. GoesOn N.configs draft.old turned draft.new pass.new) }
         ensures front { IsPrefix pass.old.images pass.new.images }
-        ensures err { IfErr result (λ fault. (fault ≡ CallFault.Overtaken) ⊎ (fault ≡ CallFault.OutOfMemory)) }
+        ensures err { IfErr result (λ halt. halt ≡ Halt.OutOfMemory → IsOpen (lives_of self.old.recorded.caches) self.old.recorded.transcript draft.old) }
         ensures same { OnErr result (draft.new ≡ draft.old) }
     {
         let Some(place) = self.open_place(draft) else {
-            return Err(CallFault::Overtaken);
+            return Err(Halt::Overtaken);
         };
         match self.recorded.resume(draft.id, answer) {
             Ok(pair) => {
@@ -237,8 +246,7 @@ impl<N: Name> Locked<N> {
                 self.show_reply(&turned, pass);
                 Ok(turned)
             }
-            Err((Cause::OutOfMemory, _)) => Err(CallFault::OutOfMemory),
-            Err(_) => Err(CallFault::Overtaken),
+            Err((cause, _)) => Err(halt_of(cause)),
         }
     }
 

@@ -8,13 +8,12 @@ ghost use Rattle.jc_shared.specs.Sessions.{BeginsWith, SeesSome, log_of};
 ghost use Rattle.jc_shared.specs.Stated.{stated_by, AreOf, processor_counts, wanted_counts};
 
 use crate::directory::{Directory, HooksLock};
-use crate::fault::{CloseFault, SessionRefusal};
+use crate::fault::{CloseFault, SessionRefusal, Unfound};
 use crate::hooks::SharedHooks;
 use crate::locked::Locked;
 use crate::name::Name;
 use crate::session::Session;
 use jc_hooks::{Listener, Loader, Processor, Writer};
-use jc_model::OutOfMemory;
 use jc_model::event::CacheId;
 use jc_model::key::Key;
 use jc_model::transcript::Transcript;
@@ -82,12 +81,12 @@ impl<N: Name, L: Loader, W: Writer, P: Processor, K: Listener> Manager<N, L, W, 
         }
     }
 
-    /// The hooks lock of a cache, if it has one.
+    /// The hooks lock of a cache.
     pub(crate) fn hooks_lock<R: Wait>(
         &self,
         rt: &R,
         id: CacheId,
-    ) -> Result<Option<HooksLock<L, W, P, K>>, OutOfMemory> {
+    ) -> Result<HooksLock<L, W, P, K>, Unfound> {
         self.directory.lock(rt).find(id)
     }
 

@@ -135,16 +135,13 @@ impl<'a, N: Name, L: Loader, W: Writer, P: Processor, K: Listener> Session<'a, N
         ensures front { IsPrefix self.old.pass.images self.new.pass.images }
     {
         let manager = self.manager;
-        let lock = match manager.hooks_lock(rt, id) {
-            Ok(Some(lock)) => lock,
-            Ok(None) => return Err(CallFault::NoSuchCache),
-            Err(_) => return Err(CallFault::OutOfMemory),
-        };
+        let lock = manager.hooks_lock(rt, id)?;
         let mut hooks = lock.lock(rt);
         let OwnHooks { asked, locked } = &mut *hooks;
         let asked = manager.asked(id, asked);
-        if !asked.has_processor(&call) {
-            return Err(CallFault::NoSuchProcessor);
+        let accepted = asked.accept(&call);
+        if let Err(fault) = accepted {
+            return Err(fault);
         }
         if self.own.reserve(1).is_err() {
             return Err(CallFault::OutOfMemory);
@@ -206,11 +203,7 @@ impl<'a, N: Name, L: Loader, W: Writer, P: Processor, K: Listener> Session<'a, N
         ensures same { log_of self.new ≡ log_of self.old }
     {
         let manager = self.manager;
-        let lock = match manager.hooks_lock(rt, id) {
-            Ok(Some(lock)) => lock,
-            Ok(None) => return Err(DestroyFault::NoSuchCache),
-            Err(_) => return Err(DestroyFault::OutOfMemory),
-        };
+        let lock = manager.hooks_lock(rt, id)?;
         let _hooks = lock.lock(rt);
         manager.locked.lock(rt).destroy(id, &mut self.pass)?;
         manager.directory.lock(rt).remove(id);

@@ -1,8 +1,10 @@
-use Rattle.std.proofs.Common.{◌≡◌, ◌++◌, ◌∷◌, [], ◌∙◌, ap, List}
+use Rattle.std.proofs.Common.{◌≡◌, ◌++◌, ◌∷◌, [], ◌∙◌, ap, refl, List}
 use Rattle.jc_model.specs.declared.event.Entry.{Entry}
 use Rattle.jc_stripes.proofs.Lists.{prefix_trans}
+use Rattle.jc_model.specs.Runs.{has_processor}
 use Rattle.jc_shared.specs.Calls.{IsSameCall}
-use Rattle.jc_shared.proofs.Carrying.{begun_same, same_call, added_ok, added_err, begin_fails}
+use Rattle.jc_shared.specs.Sessions.{Sitting}
+use Rattle.jc_shared.proofs.Carrying.{begun_same, same_call, added_ok, added_err, begin_fails, not_accepted, unaccepted_fails}
 use Rattle.jc_shared.proofs.session.Session.call.Goals as goal
 
 pub returns-clause-ok : goal.returns-clause-ok
@@ -31,3 +33,10 @@ returns-in-Err-begun-clause-err g c =
     rw (← c.self.view_is)
     (begin_fails g.N.Name.configs g.N.Name.stated (record { number = c.self.inside.number; calls = c.self.inside.own.items; pass = c.self.inside.pass }) (record { number = c.self.inside.number; calls = c.reserve.new.self.items; pass = c.begin-begun.new.pass }) c.args.id c.args.now c.args.call
     c.in-Ok.draft c.in-Err-begun.fault c.in-Ok.ensures c.reserve.ensures.items c.in-Err-begun.ensures.err)
+
+pub returns-in-Err-clause-err : goal.returns-in-Err-clause-err
+returns-in-Err-clause-err g c =
+    let own : Sitting = record { number = c.self.inside.number; calls = c.self.inside.own.items; pass = c.self.inside.pass } in
+    let refused = c.in-Err.ensures in
+    rw (← c.self.view_is)
+    (unaccepted_fails g.N.Name.configs g.N.Name.stated own own c.args.id c.args.now c.args.call c.in-Err.fault refused.err refl (λ k at. not_accepted (has_processor k c.args.call) c.in-Err.fault (refused.agrees k (c.asked-asked.ensures.counted k at))))
