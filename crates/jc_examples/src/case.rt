@@ -9,27 +9,62 @@ use std::io;
 use std::sync::Wait;
 use std::thread::Threads;
 
+/// What an example runs.
+enum Example<'a> {
+    /// The configuration and the script of its name.
+    Files,
+    /// A script on standard input, without words.
+    Demonstration { script: &'a str },
+    /// Each line of a file as a script of its own.
+    EachScript { scripts: &'a str, config: &'a str },
+    /// An empty script on each line of a file as a configuration of its own.
+    EachConfiguration { configs: &'a str },
+    /// Calls whose requests the file answers.
+    Events { events: &'a str, config: &'a str },
+    /// The words of a command line.
+    Words,
+}
+
+/// The example that is asked for by the words behind its name.
+fn example_of<'a>(words: &[&'a str]) -> Example<'a> {
+    match words {
+        [] => Example::Files,
+        [first, script] if *first == "<" => Example::Demonstration { script },
+        [first, _, _, scripts, _, config] if *first == "each" => {
+            Example::EachScript { scripts, config }
+        }
+        [first, _, _, configs] if *first == "each" => Example::EachConfiguration { configs },
+        [first, _, events, _, config] if *first == "events" => Example::Events { events, config },
+        _ => Example::Words,
+    }
+}
+
+/// Runs the configuration and the script of a name.
+fn run_named<R: Files + Print + Threads + Wait + Sync + AllocGlobal>(
+    rt: &R,
+    name: &str,
+) -> io::Result<()> {
+    let config = format!(in rt.alloc(); "{name}.toml")?;
+    let script = format!(in rt.alloc(); "{name}.jsonl")?;
+    run_files(rt, config.as_str(), script.as_str())
+}
+
 /// Prints an example's name, and then what the program prints; last its status, where that is not 0.
 pub fn play_case<R: Files + Print + Threads + Wait + Sync + AllocGlobal>(
     rt: &R,
     line: &str,
 ) -> io::Result<()> {
-    let alloc = rt.alloc();
-    let words: Vec<&str> = line.split_whitespace().collect(alloc)?;
+    let words: Vec<&str> = line.split_whitespace().collect(rt.alloc())?;
     let Some((name, words)) = words.split_first() else {
         return Ok(());
     };
     println!(rt; "# {name}")?;
-    match words {
-        [] => {
-            let config = format!(in alloc; "{name}.toml")?;
-            let script = format!(in alloc; "{name}.jsonl")?;
-            run_files(rt, config.as_str(), script.as_str())
-        }
-        ["<", script] => run_demonstration(rt, script),
-        ["each", "script", "of", scripts, "on", config] => run_each_script(rt, scripts, config),
-        ["each", "configuration", "of", configs] => run_each_configuration(rt, configs),
-        ["events", "of", events, "on", config] => play_events(rt, config, events),
-        words => run_words(rt, words),
+    match example_of(words) {
+        Example::Files => run_named(rt, name),
+        Example::Demonstration { script } => run_demonstration(rt, script),
+        Example::EachScript { scripts, config } => run_each_script(rt, scripts, config),
+        Example::EachConfiguration { configs } => run_each_configuration(rt, configs),
+        Example::Events { events, config } => play_events(rt, config, events),
+        Example::Words => run_words(rt, words),
     }
 }

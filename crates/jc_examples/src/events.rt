@@ -6,7 +6,7 @@ use jc_config::{Settings, read_config};
 use jc_cuckoo::cuckoo::Cuckoo;
 use jc_cuckoo::mirror::NoMirror;
 use jc_engine::recorded::Recorded;
-use jc_model::call::{Action, Answer, ProcessorFault, Verdict};
+use jc_model::call::{Action, Answer, ProcessorFault, Reply, Verdict};
 use jc_model::event::{CacheId, Cause, Step};
 use jc_model::key::Key;
 use jc_model::value::Value;
@@ -16,7 +16,7 @@ use jc_ring::ring::Ring;
 use jc_rows::list_rows::ListRows;
 use jc_rows::rows::Rows;
 use jc_script::{Line, read_script, reply_text, report};
-use jc_trials::ConstantPlacer;
+use jc_trials::{ConstantPlacer, RefusingRows};
 use std::alloc::{AllocError, Global};
 use std::fs::Files;
 use std::{fs, io};
@@ -32,24 +32,60 @@ fn verdict(action: Action, answer: Option<Value>) -> Answer {
     Answer::Processed(Ok(Verdict { action, answer }))
 }
 
+/// The answer of a callback that failed to do what is said.
+fn failure(what: &str) -> Option<Answer> {
+    if what == "loaded" {
+        Some(Answer::LoadFailed)
+    } else if what == "written" {
+        Some(Answer::WriteFailed)
+    } else if what == "processed" {
+        Some(Answer::Processed(Err(ProcessorFault {})))
+    } else {
+        None
+    }
+}
+
+/// The answer that a word gives.
+fn answer_of_word(word: &str) -> Option<Answer> {
+    if word == "written" {
+        Some(Answer::Written)
+    } else if word == "told" {
+        Some(Answer::Told)
+    } else if word == "kept" {
+        Some(verdict(Action::Keep, None))
+    } else if word == "removed" {
+        Some(verdict(Action::Remove, None))
+    } else {
+        None
+    }
+}
+
+/// The answer of a loader that found a value, or nothing.
+fn loaded(alloc: Global, text: &str) -> Result<Answer, AllocError> {
+    if text == "nothing" {
+        Ok(Answer::Loaded(None))
+    } else {
+        Ok(Answer::Loaded(value_of(alloc, text)?))
+    }
+}
+
+/// The answer of a processor that sets a value, and hands it back.
+fn set(alloc: Global, text: &str) -> Result<Option<Answer>, AllocError> {
+    match value_of(alloc, text)? {
+        Some(value) => Ok(Some(verdict(Action::Set(value), value_of(alloc, text)?))),
+        None => Ok(None),
+    }
+}
+
 /// The answer that these words give.
 fn answer_of(alloc: Global, words: &[&str]) -> Result<Option<Answer>, AllocError> {
-    Ok(match words {
-        ["loaded", "nothing"] => Some(Answer::Loaded(None)),
-        ["loaded", text] => Some(Answer::Loaded(value_of(alloc, text)?)),
-        ["not", "loaded"] => Some(Answer::LoadFailed),
-        ["written"] => Some(Answer::Written),
-        ["not", "written"] => Some(Answer::WriteFailed),
-        ["told"] => Some(Answer::Told),
-        ["kept"] => Some(verdict(Action::Keep, None)),
-        ["set", text] => match value_of(alloc, text)? {
-            Some(value) => Some(verdict(Action::Set(value), value_of(alloc, text)?)),
-            None => None,
-        },
-        ["removed"] => Some(verdict(Action::Remove, None)),
-        ["not", "processed"] => Some(Answer::Processed(Err(ProcessorFault {}))),
-        _ => None,
-    })
+    match words {
+        [word] => Ok(answer_of_word(word)),
+        [first, text] if *first == "loaded" => Ok(Some(loaded(alloc, text)?)),
+        [first, text] if *first == "set" => set(alloc, text),
+        [first, what] if *first == "not" => Ok(failure(what)),
+        _ => Ok(None),
+    }
 }
 
 /// The id of the cache with this name, else one that no cache has.
@@ -73,7 +109,18 @@ fn refused_text(alloc: Global, cause: Cause) -> Result<String, AllocError> {
     format!(in alloc; "refused: {cause:?}")
 }
 
-/// What becomes of what a line asks for.
+/// What becomes of a call or an answer.
+fn taken_text<T: Drop>(
+    alloc: Global,
+    taken: Result<(Step, Option<Reply>), (Cause, T)>,
+) -> Result<String, AllocError> {
+    match taken {
+        Ok((step, _)) => step_text(alloc, &step),
+        Err((cause, _)) => refused_text(alloc, cause),
+    }
+}
+
+/// What becomes of what a line asks for. A call that is refused for want of memory is made again.
 fn done<R: Rows, G: Ring>(
     alloc: Global,
     manager: &mut Recorded<R, G>,
@@ -85,10 +132,13 @@ fn done<R: Rows, G: Ring>(
             id,
             at,
             call,
-        } => match manager.begin(session, id, at, call) {
-            Ok((step, _)) => step_text(alloc, &step),
-            Err((cause, _)) => refused_text(alloc, cause),
-        },
+        } => {
+            let begun = match manager.begin(session, id, at, call) {
+                Err((Cause::OutOfMemory, call)) => manager.begin(session, id, at, call),
+                begun => begun,
+            };
+            taken_text(alloc, begun)
+        }
         Line::Create { config, .. } => match manager.create(config) {
             Ok(id) => format!(in alloc; "created {}", id.number()),
             Err((refusal, _)) => format!(in alloc; "refused: {refusal:?}"),
@@ -117,7 +167,7 @@ fn begun<R: Rows, G: Ring>(
     }
 }
 
-/// What becomes of an open call.
+/// What becomes of an open call. An answer that is refused for want of memory is given again.
 fn resumed<R: Rows, G: Ring>(
     alloc: Global,
     manager: &mut Recorded<R, G>,
@@ -125,15 +175,18 @@ fn resumed<R: Rows, G: Ring>(
     words: &[&str],
 ) -> Result<String, AllocError> {
     match words {
-        ["given", "up"] => match manager.give_up(id) {
+        [first, second] if *first == "given" && *second == "up" => match manager.give_up(id) {
             Ok(left) => format!(in alloc; "gave up{}", notices_text(alloc, left.items())?),
             Err(cause) => refused_text(alloc, cause),
         },
         words => match answer_of(alloc, words)? {
-            Some(answer) => match manager.resume(id, answer) {
-                Ok((step, _)) => step_text(alloc, &step),
-                Err((cause, _)) => refused_text(alloc, cause),
-            },
+            Some(answer) => {
+                let resumed = match manager.resume(id, answer) {
+                    Err((Cause::OutOfMemory, answer)) => manager.resume(id, answer),
+                    resumed => resumed,
+                };
+                taken_text(alloc, resumed)
+            }
             None => format!(in alloc; "no answer"),
         },
     }
@@ -183,8 +236,41 @@ fn settings_of(alloc: Global, config: &[u8]) -> Option<Settings> {
     }
 }
 
-/// Prints what each event of a file comes to, and the report. Over the cuckoo table and the linked ring it is the same,
-/// also where all keys share two buckets.
+/// What events come to over the plain table and ring; nothing where the manager does not open.
+fn plain_text(
+    alloc: Global,
+    settings: &Settings,
+    own: Settings,
+    events: &str,
+) -> Result<Option<String>, AllocError> {
+    match Recorded::<_, ListRing>::open(alloc, ListRows::new(alloc), own.into_caches()) {
+        Ok(mut manager) => Ok(Some(played(alloc, &mut manager, settings, events)?)),
+        Err(_) => Ok(None),
+    }
+}
+
+/// The same over the linked ring and a cuckoo table where all keys share two buckets and room for new rows is refused at
+/// first, and how often it was refused.
+fn poor_text(
+    alloc: Global,
+    settings: &Settings,
+    own: Settings,
+    events: &str,
+) -> Result<Option<(String, u32)>, AllocError> {
+    let Ok(table) = Cuckoo::new(alloc, ConstantPlacer, NoMirror, 16) else {
+        return Ok(None);
+    };
+    match Recorded::<_, LinkRing>::open(alloc, RefusingRows::new(table), own.into_caches()) {
+        Ok(mut manager) => {
+            let text = played(alloc, &mut manager, settings, events)?;
+            Ok(Some((text, manager.rows().refusals())))
+        }
+        Err(_) => Ok(None),
+    }
+}
+
+/// Prints what each event of a file comes to, and the report. Over another table and ring it is the same, also where each
+/// call and answer is made again that was refused for want of room.
 pub fn play_events<R: Files + Print + AllocGlobal>(
     rt: &R,
     config: &str,
@@ -197,22 +283,12 @@ pub fn play_events<R: Files + Print + AllocGlobal>(
     let (Some(settings), Some(first), Some(second)) = (all(), all(), all()) else {
         return println!(rt; "a faulty configuration");
     };
-    let Ok(table) = Cuckoo::new(alloc, ConstantPlacer, NoMirror, 16) else {
-        return println!(rt; "no table");
-    };
-    let plain = Recorded::<ListRows, ListRing>::open(
-        alloc,
-        ListRows::new(alloc),
-        first.into_caches(),
-    );
-    let crowded = Recorded::<_, LinkRing>::open(alloc, table, second.into_caches());
-    let (Ok(mut plain), Ok(mut crowded)) = (plain, crowded) else {
+    let Some(text) = plain_text(alloc, &settings, first, events.as_str())? else {
         return println!(rt; "the manager does not open");
     };
-    let text = played(alloc, &mut plain, &settings, events.as_str())?;
     print!(rt; "{text}")?;
-    if played(alloc, &mut crowded, &settings, events.as_str())? == text {
-        return Ok(());
+    match poor_text(alloc, &settings, second, events.as_str())? {
+        Some((other, refusals)) if other == text && refusals > 0 => Ok(()),
+        _ => println!(rt; "another text over the cuckoo table, or no room was refused"),
     }
-    println!(rt; "another text over the cuckoo table")
 }

@@ -39,10 +39,12 @@ impl<'a> Disk for Texts<'a> {
     ghost asked = { λ _. None };
 
     fn open(&mut self, path: &str) -> Result<&'a [u8], OpenFault> {
-        match path {
-            "config" => Ok(self.config),
-            "script" => Ok(self.script),
-            _ => Err(OpenFault::Unreadable),
+        if path == "config" {
+            Ok(self.config)
+        } else if path == "script" {
+            Ok(self.script)
+        } else {
+            Err(OpenFault::Unreadable)
         }
     }
 }
@@ -64,7 +66,7 @@ fn printed<D: Disk, R: Threads + Wait + Sync + AllocGlobal>(
     let ended = program(rt, alloc, Ok(given), disk, &mut opened, &mut standard);
     Ok(Written {
         output: standard.output.into_inner(),
-        errors: standard.errors,
+        errors: standard.errors.into_inner(),
         status: ended.status,
     })
 }

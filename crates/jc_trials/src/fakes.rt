@@ -130,6 +130,7 @@ pub struct OncePoor<T> {
 }
 
 impl<T> OncePoor<T> {
+    /// Question number `poor`, from 0, is refused; all others go on to `inner`.
     pub fn new(inner: T, poor: u64) -> OncePoor<T> {
         OncePoor {
             inner,

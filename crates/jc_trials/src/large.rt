@@ -3,7 +3,8 @@
 use crate::trouble::{Trouble, no_hooks};
 use jc_config::{Configuration, read_config};
 use jc_hooks::program::{ProgramHooks, ProgramProcessor};
-use jc_runner::{Watched, WatchedWriter, serial};
+use jc_runner::{RunFault, Watched, WatchedWriter, serial};
+use jc_script::{Member, ScriptFault};
 use std::alloc::Global;
 
 /// Two caches, the first with the greatest capacity and a processor.
@@ -44,6 +45,20 @@ fn the_longest_value_is_stored_and_replied(rt: HostRuntime) -> Result<(), Troubl
         "cache a\n0 put ok\n0 get some \"{value}\"\n0 invoke some \"{value}\"\n0 invoke fault processor\ncache b\n"
     )?;
     assert!(rt; reported(alloc, script.as_str())?.as_slice() == report.as_bytes());
+    Ok(())
+}
+
+#[test]
+fn a_longer_value_is_a_fault(rt: HostRuntime) -> Result<(), Trouble> {
+    let alloc = rt.alloc();
+    let value = "v".repeat(alloc, 65_536)?;
+    let script = format!(in alloc; r#"{{"s":0,"c":"a","at":0,"op":"put","k":"x","v":"{value}"}}"#)?;
+    let fault = ScriptFault::Bad {
+        line: 1,
+        member: Member::Value,
+    };
+    let wanted = Trouble::Running(RunFault::Script(fault));
+    assert!(rt; reported(alloc, script.as_str()).err() == Some(wanted));
     Ok(())
 }
 

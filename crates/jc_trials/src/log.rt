@@ -12,6 +12,7 @@ pub struct Text {
 }
 
 impl Text {
+    /// Of more than eight bytes the last eight.
     pub fn of(bytes: &[u8]) -> Text {
         Text { word: 0 }.and(bytes)
     }
@@ -52,6 +53,7 @@ impl Log {
         Ok(Log { words, count })
     }
 
+    /// Adds a text, from any thread. Beyond the room it is counted, and not kept.
     pub fn note(&self, text: Text) {
         let place = self.count.fetch_add(1, Ordering::SeqCst);
         if let Some(word) = self.words.get(place as usize) {

@@ -59,30 +59,34 @@ impl Mirror for CountingMirror {
     }
 }
 
-/// Another table, which refuses once to make room, after it did so this often.
+/// Another table, which refuses room that it has not made, and makes it when it is asked again.
 #[derive(Drop)]
 pub struct RefusingRows<R> {
     rows: R,
     room: usize,
-    refuses_after: Option<u32>,
+    /// Whether it refused when it was last asked for more.
+    has_refused: bool,
+    refusals: u32,
 }
 
 impl<R: Rows> RefusingRows<R> {
     ghost use Rattle.std.specs.Prelude.{◌≡◌};
 
-    pub fn new(rows: R, refuses_after: u32) -> RefusingRows<R>
+    /// A table that has made no room yet.
+    pub fn new(rows: R) -> RefusingRows<R>
         ensures { R.contents result.rows ≡ R.contents rows }
     {
         RefusingRows {
             rows,
             room: 0,
-            refuses_after: Some(refuses_after),
+            has_refused: false,
+            refusals: 0,
         }
     }
 
-    /// Whether it has refused.
-    pub fn has_refused(&self) -> bool {
-        self.refuses_after.is_none()
+    /// How often it has refused.
+    pub fn refusals(&self) -> u32 {
+        self.refusals
     }
 }
 
@@ -99,17 +103,13 @@ impl<R: Rows> Rows for RefusingRows<R> {
 
     fn make_room(&mut self, n: usize) -> Result<(), OutOfMemory> {
         let more = n.saturating_sub(self.rows.len());
-        if more > self.room {
-            match self.refuses_after {
-                Some(0) => {
-                    self.refuses_after = None;
-                    return Err(AllocError);
-                }
-                Some(left) => self.refuses_after = Some(left - 1),
-                None => {}
-            }
+        if more > self.room && !self.has_refused {
+            self.has_refused = true;
+            self.refusals = self.refusals.saturating_add(1);
+            return Err(AllocError);
         }
         self.rows.make_room(n)?;
+        self.has_refused = false;
         self.room = self.room.max(more);
         Ok(())
     }

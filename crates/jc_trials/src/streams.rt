@@ -275,9 +275,12 @@ fn faults_have_their_lines(rt: HostRuntime) -> Result<(), Trouble> {
     ];
     for (fault, line) in &faults {
         for left in 0..=line.len() {
-            let mut writer = failing(alloc, left);
+            let mut writer = WatchedWriter::new(failing(alloc, left));
             assert_eq!(rt; write_fault(fault, &mut writer), left == line.len());
-            assert_eq!(rt; writer.taken.as_slice(), &line.as_bytes()[..left]);
+            assert_eq!(rt;
+                writer.into_inner().taken.as_slice(),
+                &line.as_bytes()[..left]
+            );
         }
     }
     Ok(())

@@ -13,11 +13,10 @@ use jc_runner::{ProgramFault, RunFault};
 use jc_shared::{CloseFault, SessionRefusal, SharedRefusal};
 use std::alloc::{AllocFailed, Global};
 
+/// What stopped a trial: want of memory, a line that makes no call, or what the part that was called refused.
 #[derive(Debug, Drop, PartialEq, Eq)]
 pub enum Trouble {
     Memory,
-    /// A line that makes no call stands where one is wanted.
-    NoCall,
     Opening(OpenRefusal),
     NoConfig(ConfigFault),
     NoKey(KeyFault),

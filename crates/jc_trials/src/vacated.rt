@@ -1,6 +1,5 @@
 //! What is left of caches that were destroyed: nothing in the table, also where creating found no memory at first.
 
-use crate::lives::named;
 use crate::placers::ConstantPlacer;
 use crate::shapes::NAMES;
 use crate::trouble::{Trouble, key, plain_cache, value_of};
@@ -9,6 +8,7 @@ use jc_cuckoo::mirror::NoMirror;
 use jc_engine::engine::Engine;
 use jc_engine::recorded::Recorded;
 use jc_model::call::Call;
+use jc_model::config::CacheConfig;
 use jc_model::event::{CacheId, Cause, CreateRefusal};
 use jc_ring::link_ring::LinkRing;
 use jc_ring::list_ring::ListRing;
@@ -92,14 +92,19 @@ fn first_other_rows<R: Rows, G: Ring>(
     Ok(None)
 }
 
+fn two_caches(alloc: Global) -> Result<Vec<CacheConfig>, Trouble> {
+    let caches = [plain_cache(alloc, "a", 64)?, plain_cache(alloc, "b", 64)?];
+    Ok(Vec::from_array(alloc, caches)?)
+}
+
 #[test]
 fn rows_go_with_their_cache_alone(rt: HostRuntime) -> Result<(), Trouble> {
     let alloc = rt.alloc();
-    let configs = named(alloc, &["a", "b"])?;
+    let configs = two_caches(alloc)?;
     let plain = Engine::<ListRows, ListRing>::open(alloc, ListRows::new(alloc), configs)?;
     assert_eq!(rt; first_other_rows(alloc, plain)?, None);
     let table = Cuckoo::new(alloc, ConstantPlacer, NoMirror, 16)?;
-    let configs = named(alloc, &["a", "b"])?;
+    let configs = two_caches(alloc)?;
     let crowded = Engine::<Cuckoo<ConstantPlacer, NoMirror>, LinkRing>::open(
         alloc, table, configs,
     )?;
