@@ -93,6 +93,7 @@ impl ProcessorKind {
     }
 }
 
+/// Needed: 1 to 31 ASCII letters, digits, `-` or `_`, else `Bad`. That no other cache has it is checked later.
 pub fn name(table: &Value, cache: usize) -> Result<Key, ConfigFault>
     ensures { Gives (λ x. x) result (needed name_text cache Member.Name (view table.now)) }
 {
@@ -107,6 +108,7 @@ pub fn name(table: &Value, cache: usize) -> Result<Key, ConfigFault>
     }
 }
 
+/// Needed: rows, a TOML integer from 1 to 65,536, else `Bad`.
 pub fn capacity(table: &Value, cache: usize) -> Result<u32, ConfigFault>
     ensures { Gives (λ x. x) result (needed (number 1 most_rows) cache Member.Capacity (view table.now)) }
 {
@@ -164,6 +166,7 @@ pub fn policy(table: &Value, cache: usize) -> Result<Policy, ConfigFault>
     Ok(kind.with_duration(duration))
 }
 
+/// `"echo"`, or none where the member is missing; anything else is `Bad`.
 pub fn loader(table: &Value, cache: usize) -> Result<Option<LoaderKind>, ConfigFault>
     ensures { Gives (λ x. x) result (optional (text_kind loader_of) cache Member.Loader (view table.now)) }
 {
@@ -177,6 +180,7 @@ pub fn loader(table: &Value, cache: usize) -> Result<Option<LoaderKind>, ConfigF
     }
 }
 
+/// `"check"`, or none where the member is missing; anything else is `Bad`.
 pub fn writer(table: &Value, cache: usize) -> Result<Option<WriterKind>, ConfigFault>
     ensures { Gives (λ x. x) result (optional (text_kind writer_of) cache Member.Writer (view table.now)) }
 {
@@ -190,6 +194,7 @@ pub fn writer(table: &Value, cache: usize) -> Result<Option<WriterKind>, ConfigF
     }
 }
 
+/// How many listeners: a TOML integer from 0 to 8, else `Bad`; 0 where the member is missing.
 pub fn listeners(table: &Value, cache: usize) -> Result<u8, ConfigFault>
     ensures { Gives (λ x. x) result (found_or 0 (number 0 most_listeners) cache Member.Listeners (get (name_of Member.Listeners) (view table.now))) }
 {

@@ -45,6 +45,8 @@ fn processor_list(alloc: Global, value: &Value) -> Result<Option<Vec<ProcessorKi
     }
 }
 
+/// The kinds by place, at most 16; none where the member is missing. Too many, or an unknown word, is `Bad`.
+/// `OutOfMemory` where the list finds no memory.
 pub fn processors(
     alloc: Global,
     table: &Value,

@@ -1,4 +1,4 @@
-//! The shared index: images of the table of rows in shared words, and lookups that never wait (MemC3, section 4).
+//! The shared index: images of the table of rows in shared words, and lookups that never wait (MemC3, section 3).
 #![tactic(auto)]
 
 mod batch;

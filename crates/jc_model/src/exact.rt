@@ -5,6 +5,7 @@ ghost use Rattle.std.specs.Bool.{Decides};
 use crate::call::{Answer, Call, Notice, Reply};
 use crate::event::Entry;
 
+/// Types of which `==` compares all that contracts see. A derived `==` promises no more than those of its parts.
 pub trait Exact: Eq {
     /// Whether both are the same, by `==`.
     fn same(&self, other: &Self) -> bool

@@ -13,6 +13,7 @@ use crate::transcript::Transcript;
 use crate::value::Value;
 use std::alloc::Global;
 
+/// Copying that may find no memory. Shared bytes are not copied: they get an owner more, which may be refused too.
 pub trait Share: Sized {
     /// An equal second value.
     fn share(&self) -> Result<Self, OutOfMemory>

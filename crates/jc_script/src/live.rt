@@ -118,6 +118,7 @@ impl Live {
         }
     }
 
+    /// Adds a cache under the next id. Where the manager would refuse it, nothing changes, and that is no error here.
     pub fn create(self, config: &CacheConfig) -> Result<Live, OutOfMemory>
         ensures { IfOk result (λ live. lives_in live ≡ lives_by (lives_in self) (creates config.now) (answer_in (lives_in self) (creates config.now) false)) }
     {
@@ -133,6 +134,7 @@ impl Live {
         Ok(Live { caches, roster })
     }
 
+    /// Frees the cache's name and capacity, and never its id. Where no cache is live at the id, nothing changes.
     pub fn destroy(self, id: CacheId) -> Live
         ensures { lives_in result ≡ lives_by (lives_in self) (destroys id) (answer_in (lives_in self) (destroys id) false) }
     {

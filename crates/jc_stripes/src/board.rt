@@ -36,6 +36,7 @@ pub struct Glance {
     pub settled: bool,
 }
 
+/// Who sits there: the one writer, with the words, or a reader, with what its lookup has read (MemC3, section 3).
 pub enum Role {
     Writing(Desk),
     Looking(Glance),
@@ -53,6 +54,7 @@ pub struct View<L> {
     pub lookups: u64,
 }
 
+/// A seat of the writer or of a reader. It holds no slot, only what its owner knows.
 pub type StripesSeat<L> = Seat<(), View<L>>;
 
 /// What a table follows: the writer's seat at the table before it; the words that it begins with, the versions among
@@ -65,6 +67,7 @@ pub struct Origin<L> {
     pub start: u64,
 }
 
+/// The rule of the table: what a lookup has read under a version holds while that version is even and unchanged.
 pub struct Versions;
 
 impl<L: Law> TableRule<(), View<L>, Origin<L>> for Versions {
@@ -75,6 +78,7 @@ impl<L: Law> TableRule<(), View<L>, Origin<L>> for Versions {
     ghost first = { opening_view };
 }
 
+/// The shared words: the 65 versions, then the content that `L` speaks of. It has no slots.
 pub type Board<L> = Table<(), View<L>, Origin<L>, Versions, Global>;
 
 /// The writer opens or shuts a version.

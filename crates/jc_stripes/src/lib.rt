@@ -1,5 +1,5 @@
 //! Words in stripes, each stripe under a version of its own, that one thread writes and many read with no lock and no
-//! wait (MemC3, section 4); the list of what they have been; and tables of words that follow one another.
+//! wait (MemC3, section 3); the list of what they have been; and tables of words that follow one another.
 #![tactic(auto)]
 
 pub mod board;

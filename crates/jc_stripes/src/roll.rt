@@ -12,8 +12,10 @@ pub struct Known<T> {
     pub told: LinkedList<T>,
 }
 
+/// A seat at the roll: the keeper's or a follower's.
 pub type RollSeat<T> = Seat<T, Known<T>>;
 
+/// The rule of the roll: only the keeper adds, and only at the end, so a beginning once known stays one.
 pub struct Growing;
 
 impl<T> TableRule<T, Known<T>, ()> for Growing {
@@ -24,6 +26,7 @@ impl<T> TableRule<T, Known<T>, ()> for Growing {
     ghost first = { λ _. first_known };
 }
 
+/// The roll's table. Its one word says nothing: the table is there for its seats alone.
 pub type Roll<T> = Table<T, Known<T>, (), Growing, Global>;
 
 pub(crate) struct Add;

@@ -1,5 +1,6 @@
 //! The texts of help.
 
+/// What `--version` prints behind the program's name.
 pub const VERSION: &str = "0.1.0";
 
 /// What the program does, in a line.
@@ -13,15 +14,20 @@ pub const USAGE: &str = "\
 jcache run [OPTIONS] <CONFIG> <SCRIPT>
        jcache < SCRIPT";
 
+/// The first argument, in a line.
 pub const CONFIG: &str = "Path of the configuration, a TOML file";
 
+/// The second argument, in a line.
 pub const SCRIPT: &str = "Path of the script, one JSON object a line";
 
+/// The option `--workers`, in a line; `jc_words::command` has the limits.
 pub const WORKERS: &str = "From 1 to 8; session s makes its calls on worker s mod N";
 
+/// The option `--seed`, in a line. Its greatest number is `i64::MAX`.
 pub const SEED: &str =
     "From 0 to 9223372036854775807; picks places in the table, and changes no report";
 
+/// The option `--serial`, in a line.
 pub const SERIAL: &str = "No workers: one thread makes all calls, in the script's order";
 
 /// What stands below the arguments.
