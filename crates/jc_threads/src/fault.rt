@@ -1,7 +1,8 @@
 //! Why a run on threads comes to no transcript.
-ghost use Rattle.std.specs.Prelude.{◌≡◌, ◌≢◌};
+ghost use Rattle.std.specs.Prelude.{◌≡◌, ◌≢◌, Err, IfOk};
 ghost use Rattle.jc_threads.specs.declared.fault.WorkFault.TheVariants.{OutOfMemory};
 
+use jc_model::event::CreateRefusal;
 use jc_shared::{CallFault, CloseFault, CreateFault, DestroyFault, SessionRefusal};
 use std::alloc::{AllocError, AllocFailed};
 
@@ -48,6 +49,19 @@ pub(crate) fn of_call(fault: CallFault) -> WorkFault
     match fault {
         CallFault::OutOfMemory => WorkFault::OutOfMemory,
         _ => WorkFault::Close,
+    }
+}
+
+/// The engine's refusal. Other faults end the run.
+pub(crate) fn of_create(fault: CreateFault) -> Result<CreateRefusal, WorkFault>
+    ensures refused { IfOk result (λ refusal. fault ≡ CreateFault.Cache refusal) }
+    ensures memory { fault ≡ CreateFault.OutOfMemory → result ≡ Err WorkFault.OutOfMemory }
+    ensures differ { fault ≡ CreateFault.HooksDiffer → result ≡ Err WorkFault.Close }
+{
+    match fault {
+        CreateFault::Cache(refusal) => Ok(refusal),
+        CreateFault::HooksDiffer => Err(WorkFault::Close),
+        CreateFault::OutOfMemory => Err(WorkFault::OutOfMemory),
     }
 }
 

@@ -1,16 +1,16 @@
 //! Caches created and destroyed by a worker's session.
-ghost use Rattle.std.specs.Prelude.{◌≡◌, ◌<◌, List, IfOk, OnOk, length, map};
+ghost use Rattle.std.specs.Prelude.{◌≡◌, ◌<◌, List, IfOk, IfErr, OnOk, length, map};
 ghost use Rattle.jc_script.specs.declared.line.LineCall.{LineCall as CallValue};
 ghost use Rattle.jc_shared.specs.Sessions.{log_of};
 ghost use Rattle.jc_threads.specs.Dealing.{AreAtRest, HaveRested};
 ghost use Rattle.jc_threads.specs.Managing.{IsCreating, IsDestroying};
 
-use crate::fault::{WorkFault, of_destroy};
+use crate::fault::{WorkFault, of_create, of_destroy};
 use crate::worker::Worker;
 use jc_hooks::{CacheHooks, Listener, Loader, Processor, Writer};
 use jc_model::config::CacheConfig;
 use jc_model::event::{CacheId, CreateRefusal};
-use jc_shared::{CreateFault, Name, Session};
+use jc_shared::{Name, Session};
 use std::alloc::Global;
 use std::sync::Wait;
 
@@ -31,9 +31,24 @@ fn create_by<'a, N: Name, L: Loader, W: Writer, P: Processor, K: Listener, R: Wa
     };
     match session.create(rt, config, hooks) {
         Ok(_) => Ok(None),
-        Err((CreateFault::Cache(refusal), _, _)) => Ok(Some(refusal)),
-        Err((CreateFault::HooksDiffer, _, _)) => Err(WorkFault::Close),
-        Err((CreateFault::OutOfMemory, _, _)) => Err(WorkFault::OutOfMemory),
+        Err((fault, _, _)) => Ok(Some(of_create(fault)?)),
+    }
+}
+
+/// The session of this number, where it stands at its place in the crew.
+fn own_session<'s, 'a, N: Name, L: Loader, W: Writer, P: Processor, K: Listener>(
+    crew: &'s [Worker<'a, N, L, W, P, K>],
+    session: u32,
+) -> Result<&'s Session<'a, N, L, W, P, K>, WorkFault>
+    requires some { 0 < length crew.now }
+    requires rest { AreAtRest crew.now }
+    ensures { IfErr result (λ fault. fault ≡ WorkFault.Close) }
+{
+    let workers = crew.len();
+    let number = session as usize;
+    match crew[number % workers].sessions().get(number / workers) {
+        Some(own) if own.number() == session => Ok(own),
+        _ => Err(WorkFault::Close),
     }
 }
 
@@ -49,12 +64,7 @@ pub(crate) fn create<'a, N: Name, L: Loader, W: Writer, P: Processor, K: Listene
     requires rest { AreAtRest crew.now }
     ensures { IfOk result (λ refusal. IsCreating N.configs config refusal) }
 {
-    let workers = crew.len();
-    let number = session as usize;
-    match crew[number % workers].sessions().get(number / workers) {
-        Some(own) if own.number() == session => create_by(rt, alloc, own, config),
-        _ => Err(WorkFault::Close),
-    }
+    create_by(rt, alloc, own_session(crew, session)?, config)
 }
 
 /// Destroys a cache by the session at a place, if it has this number.
