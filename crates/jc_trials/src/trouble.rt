@@ -13,7 +13,7 @@ use jc_runner::{ProgramFault, RunFault};
 use jc_shared::{CloseFault, SessionRefusal, SharedRefusal};
 use std::alloc::{AllocFailed, Global};
 
-/// What stopped a trial: want of memory, a line that makes no call, or what the part that was called refused.
+/// What stopped a trial: want of memory, or what the part that was called refused.
 #[derive(Debug, Drop, PartialEq, Eq)]
 pub enum Trouble {
     Memory,
