@@ -15,7 +15,7 @@ use crate::kinds::CacheSettings;
 use std::alloc::{AllocError, Global};
 use toml::{Table, Value};
 
-/// The document of a text, or nothing where the bytes are none.
+/// The TOML document that these bytes are; `None` where they are not UTF-8 or no TOML.
 pub fn parse(alloc: Global, bytes: &[u8]) -> Result<Option<Table>, AllocError>
     ensures { IfOk result (λ o. option_map table_view o ≡ document_of bytes.now) }
 {

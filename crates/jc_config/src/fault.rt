@@ -6,7 +6,7 @@ ghost use Rattle.jc_config.specs.declared.fault.ConfigFault.TheVariants.{OutOfMe
 
 use std::alloc::{AllocError, AllocFailed};
 
-/// A member of a cache's table; `Entry` stands for one that no table has.
+/// A member of a cache's table. `Entry` is one of any other name, which no table may have.
 #[derive(Clone, Copy, Debug, PartialEq, Eq)]
 pub enum Member {
     Name,
@@ -25,7 +25,7 @@ pub enum Member {
 pub enum ConfigFault {
     /// More than 8,388,608 bytes.
     TooLong,
-    /// No TOML document, bytes that are not UTF-8 among them.
+    /// Bytes that are no TOML document, or not UTF-8.
     NotToml,
     /// An entry other than `cache`, or a `cache` that is not a list of tables.
     UnknownEntry,

@@ -13,21 +13,27 @@ use std::alloc::Global;
 /// The loader of a cache.
 #[derive(Clone, Copy, Debug, PartialEq, Eq)]
 pub enum LoaderKind {
+    /// `EchoLoader` of `jc_hooks`.
     Echo,
 }
 
 /// The writer of a cache.
 #[derive(Clone, Copy, Debug, PartialEq, Eq)]
 pub enum WriterKind {
+    /// `CheckWriter` of `jc_hooks`.
     Check,
 }
 
 /// One of a cache's entry processors.
 #[derive(Clone, Copy, Debug, PartialEq, Eq)]
 pub enum ProcessorKind {
+    /// `ProgramProcessor::Append` of `jc_hooks`.
     Append,
+    /// `ProgramProcessor::Fail` of `jc_hooks`.
     Fail,
+    /// `ProgramProcessor::Drop` of `jc_hooks`.
     Drop,
+    /// `ProgramProcessor::Peek` of `jc_hooks`.
     Peek,
 }
 

@@ -13,7 +13,7 @@ fn is_name_byte(byte: u8) -> bool
     matches!(byte, b'a'..=b'z' | b'A'..=b'Z' | b'0'..=b'9' | b'-' | b'_')
 }
 
-/// Whether a text is 1 to 31 of the ASCII letters, digits, `-` and `_`.
+/// Whether a text is a cache's name.
 fn is_name(text: &str) -> bool
     ensures { result ≡ is_name text.now }
 {

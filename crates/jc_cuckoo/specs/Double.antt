@@ -27,7 +27,7 @@ pub record IsAdded {P M : Type 0} (before after : Table P M) (held : Held) : Typ
   pub longer : length after.cells ≤ length before.cells + 1
   pub covers : Covers (image_of before.buckets before.cells) (image_of after.buckets after.cells)
 
--- of a table of 2n buckets: from a slot of a table of n on, both buckets of that slot's bucket are empty from that slot on
+-- of 2n buckets: from a slot of a table of n on, both buckets of that slot's bucket are empty from that slot on
 pub record IsBlank (n : ℕ) (cells : List (Option Held)) (at : ℕ) : Type 0 where
   pub blank : (j : ℕ) → at ≤ j → j < 4 * n → (cell cells j ≡ None) × (cell cells (4 * n + j) ≡ None)
 

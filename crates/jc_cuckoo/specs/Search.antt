@@ -86,7 +86,7 @@ pub record IsWide (p : ℕ → List ℕ → Place) (n : ℕ) (cells : List (Opti
   pub full : (b : ℕ) → IsAmong bs b → IsFull cells b
   pub nearest : (b a k : ℕ) → IsAmong bs b → Reaches p n cells one two k a → (Reaches p n cells one two k b → ⊥) → IsAmong bs a
 
--- no empty slot is near two buckets: both are full, and so is every bucket within five moves, or sixty-four of the nearest
+-- no empty slot is near two buckets: both are full, and so is every bucket within five moves, or 64 of the nearest
 pub record IsExhausted (p : ℕ → List ℕ → Place) (n : ℕ) (cells : List (Option Held)) (one two : ℕ) : Type 0 where
   pub first : IsFull cells one
   pub second : IsFull cells two
@@ -100,12 +100,14 @@ IsLastResort p n cells place = IsExhausted p n cells (first_bucket p n place) (s
 abbrev pub IsIn : Queue → ℕ → ℕ → Type 0
 IsIn q b d = (m : ℕ) × (m < q.count) × (bucket_at q m ≡ b) × (depth_at q m ≤ d)
 
--- of each slot looked at, the row's other bucket was reached by one move more at most, or 64 buckets were reached that are no farther
+-- of each slot looked at, the row's other bucket was reached by one move more at most, or 64 buckets were reached that
+-- are no farther
 pub record IsClosed (p : ℕ → List ℕ → Place) (n : ℕ) (cells : List (Option Held)) (q : Queue) (looked : ℕ) : Type 0 where
   pub closed : (j : ℕ) (h : Held) → j < looked → depth_at q (j / 4) < 5 → cell cells (looked_slot q j) ≡ Some h
       → IsIn q (alternate_of n (p h.id h.key).tag (bucket_at q (j / 4))) (depth_at q (j / 4) + 1) ⊎ ((q.count ≡ 64) × ((m : ℕ) → m < q.count → depth_at q m ≤ depth_at q (j / 4) + 1))
 
--- how far a search is: depths do not fall along the queue, and no bucket is farther than a move from the one that is looked at, or from a later one
+-- how far a search is: depths do not fall along the queue, and no bucket is farther than a move from the one that is
+-- looked at, or from a later one
 pub record IsSearched (p : ℕ → List ℕ → Place) (n : ℕ) (cells : List (Option Held)) (q : Queue) (looked : ℕ) : Type 0 where
   pub sorted : (i j : ℕ) → i ≤ j → j < q.count → depth_at q i ≤ depth_at q j
   pub ahead : (m k : ℕ) → m < q.count → k < q.count → looked ≤ 4 * k + 3 → depth_at q m ≤ depth_at q k + 1

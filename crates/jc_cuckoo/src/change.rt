@@ -12,7 +12,7 @@ use crate::mirror::Mirror;
 use jc_model::config::Expiry;
 use jc_place::place::Placer;
 
-/// How many cells stand behind the slots.
+/// How many cells stand after the slots.
 pub(crate) fn stashed(tags: &[u8], cells: &[Option<Held>]) -> u32
     requires { (length tags.now ≤ length cells.now) × (length cells.now ≤ longest) }
     ensures { result ≡ length cells.now - length tags.now }

@@ -25,7 +25,7 @@ pub struct Cuckoo<P: Placer + Drop, M: Mirror> {
     pub(crate) buckets: u32,
     /// Of each slot that holds a row the key's tag, else 0.
     pub(crate) tags: Vec<u8>,
-    /// The slots, four to a bucket, and behind them the stash.
+    /// The slots, four to a bucket, and after them the stash.
     pub(crate) cells: Vec<Option<Held>>,
     pub(crate) held: usize,
     pub(crate) work: Work,

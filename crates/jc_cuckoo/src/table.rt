@@ -64,8 +64,8 @@ impl<P: Placer + Drop, M: Mirror> Rows for Cuckoo<P, M> {
         ensures put { rows_in self.new.cells ≡ map.insert (rows_in self.old.cells) (id, key) (row, expiry) }
         ensures kept { self.old.room ≤ self.new.room + 1 }
 
-        // As many images on the way as rows were moved, and one more where the buckets doubled; none of them has the new
-        // row. Then the last one.
+        // As many images on the way as rows were moved, and one more where the buckets doubled; none of them has the
+        // new row. Then the last one.
         ensures images { ((self.new.buckets ≡ self.old.buckets) × (self.new.work.searches ≡ 1) × Tells M.images self.old self.new self.new.work.moves) ⊎ (Doubles self.old self.new × (self.new.work.searches ≡ 2) × Tells M.images self.old self.new (1 + self.new.work.moves)) }
         ensures work { (self.new.work.searches ≤ self.new.work.looked) × (self.new.work.looked ≤ 256 * self.new.work.searches) × (self.new.work.moves ≤ 5) }
         ensures stash { IsPlaced self.new.buckets self.new.cells (id, key) ⊎ IsLastResort (P.placing self.new.placer) self.new.buckets self.new.cells (id, key) }

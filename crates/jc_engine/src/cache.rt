@@ -56,6 +56,7 @@ impl Advance {
     }
 }
 
+/// One live cache: its state, and whether a call is open.
 #[derive(Drop)]
 pub(crate) struct Managed<G: Ring> {
     pub(crate) state: CacheState<G>,

@@ -65,8 +65,8 @@ impl<R: Rows, G: Ring> Engine<R, G> {
         self.roster.names()
     }
 
-    /// The table: exactly the rows of all live caches, with their expiries. At each moment, also while a call is open, the
-    /// keys of a cache are distinct, and its rows are no more than its capacity.
+    /// The table: exactly the rows of all live caches, with their expiries. At each moment, also while a call is open,
+    /// the keys of a cache are distinct, and its rows are no more than its capacity.
     pub fn rows(&self) -> &R
         ensures sound { AreSound self.now }
         ensures table { (id : ℕ) (key : List ℕ) → option_map (λ row. row.1) (table.get (R.contents result.now) (id, key)) ≡ expiry_in key (at_place self.now id) }
@@ -107,8 +107,8 @@ impl<R: Rows, G: Ring> Engine<R, G> {
 
     /// Hands the open call the answer to its request: the step is its reply, or its next request.
     ///
-    /// Refused as `NoSuchCache`, `NoTurn` (no call is open), `WrongAnswer` (not of the awaited kind), `OutOfMemory`, in this order.
-    /// `Told` takes no memory.
+    /// Refused as `NoSuchCache`, `NoTurn` (no call is open), `WrongAnswer` (not of the awaited kind), `OutOfMemory`, in
+    /// this order. `Told` takes no memory.
     pub fn resume(&mut self, id: CacheId, answer: Answer) -> Result<Step, (Cause, Answer)>
         ensures outcome { of_resume result ≡ answer_to (lives_of self.old) (Answered id answer) (for_memory (of_resume result)) }
         ensures lives { lives_of self.new ≡ lives_after (lives_of self.old) (Answered id answer) (of_resume result) }

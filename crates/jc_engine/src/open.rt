@@ -71,8 +71,8 @@ impl<R: Rows, G: Ring> Engine<R, G> {
         Engine::open_from(alloc, rows, configs, 0)
     }
 
-    /// The same, where the first cache gets this id and each further one the next. Behind `TotalCapacity` it is
-    /// refused as `IdsSpent` where an id would be 4,294,967,295 or more.
+    /// The same, where the first cache gets this id and each further one the next. After `TotalCapacity` comes
+    /// `IdsSpent`, where an id would be 4,294,967,295 or more.
     pub fn open_from(
         alloc: Global,
         rows: R,

@@ -196,8 +196,8 @@ impl<R: Rows, G: Ring> Recorded<R, G> {
         }
     }
 
-    /// Hands the open call the answer to its request; the answer goes into the call's entry. At `Done` the second
-    /// part is an equal copy of the reply. Refused as the manager's `resume`; room and copies are made before any change.
+    /// Hands the open call the answer to its request; the answer goes into the call's entry. At `Done` the second part
+    /// is an equal copy of the reply. Refused as the manager's `resume`; room and copies are made before any change.
     pub fn resume(
         &mut self,
         id: CacheId,

@@ -14,10 +14,10 @@ use jc_rows::rows::Rows;
 impl<R: Rows, G: Ring> Engine<R, G> {
     /// The events one after the other, each with its outcome. What is seen of a cache that was not yet used at first,
     /// or that one of the events creates, is what its own calls alone give for its configuration, each in one stroke,
-    /// up to its destroying if there is one, however other caches come, go and use the table.
+    /// up to its destruction if there is one, however other caches come, go and use the table.
     ///
-    /// An event that takes no memory is not refused for want of it. The run is
-    /// refused only for want of room for the outcomes, before the first event; the events are then handed back.
+    /// An event that takes no memory is not refused for want of it. The run is refused only for want of room for the
+    /// outcomes, before the first event; the events are then handed back.
     pub fn run(&mut self, events: Vec<Event>) -> Result<Vec<Outcome>, Vec<Event>>
         ensures outcomes { IfOk result (λ outcomes. IsRun (lives_of self.old) events.items outcomes.items) }
         ensures lives { IfOk result (λ outcomes. lives_of self.new ≡ lives_in_end (lives_of self.old) events.items outcomes.items) }

@@ -25,7 +25,7 @@ enum Example<'a> {
     Words,
 }
 
-/// The example that is asked for by the words behind its name.
+/// The example that is asked for by the words after its name.
 fn example_of<'a>(words: &[&'a str]) -> Example<'a> {
     match words {
         [] => Example::Files,

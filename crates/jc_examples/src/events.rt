@@ -228,7 +228,7 @@ fn played<R: Rows, G: Ring>(
     Ok(text)
 }
 
-/// The settings of a configuration; those of no caches where it is faulty.
+/// The settings of a configuration; `None` where it is faulty.
 fn settings_of(alloc: Global, config: &[u8]) -> Option<Settings> {
     match read_config(alloc, config) {
         Ok(configuration) => Some(configuration.settings),
@@ -249,8 +249,8 @@ fn plain_text(
     }
 }
 
-/// The same over the linked ring and a cuckoo table where all keys share two buckets and room for new rows is refused at
-/// first, and how often it was refused.
+/// The same over the linked ring and a cuckoo table where all keys share two buckets and room for new rows is refused
+/// at first, and how often it was refused.
 fn poor_text(
     alloc: Global,
     settings: &Settings,
@@ -269,8 +269,8 @@ fn poor_text(
     }
 }
 
-/// Prints what each event of a file comes to, and the report. Over another table and ring it is the same, also where each
-/// call and answer is made again that was refused for want of room.
+/// Prints what each event of a file comes to, and the report. Over another table and ring it is the same, also where
+/// each call and answer is made again that was refused for want of room.
 pub fn play_events<R: Files + Print + AllocGlobal>(
     rt: &R,
     config: &str,

@@ -21,8 +21,8 @@ use std::alloc::Global;
 /// A boxed closure that loads.
 pub type LoadClosure = Box<dyn Fn(Global, &Key) -> Result<Loaded, OutOfMemory> + Send + Sync>;
 
-/// A stored closure that answers by one function of the key. It is used as it
-/// is, unboxed: an object that holds a box has no proof in a box of its own.
+/// A stored closure that answers by one function of the key. It is used as it is, unboxed: an object that holds a box
+/// has no proof in a box of its own.
 #[derive(Drop)]
 pub struct ClosureLoader {
     closure: LoadClosure,
@@ -74,8 +74,8 @@ pub struct ClosureProcessor {
 }
 
 impl ClosureProcessor {
-    /// A processor that answers as the closure does, by the one function that the closure answers by. `wants_value` says
-    /// whether it is to be given the entry's value.
+    /// A processor that answers as the closure does, by the one function that the closure answers by. `wants_value`
+    /// says whether it is to be given the entry's value.
     pub fn new(wants_value: bool, closure: ProcessClosure) -> ClosureProcessor
         requires callable { ProcessClosure.IsAlwaysCallable closure }
         requires answers { AnswersBy (MayProcess (λ a v p r. ProcessClosure.post closure a v p (Ok r))) }

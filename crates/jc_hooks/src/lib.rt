@@ -1,8 +1,8 @@
 //! The callbacks of a cache: loaders, writers, entry processors and listeners.
 //!
-//! Each trait states, as a ghost member, what its object answers, so that the code that asks it can say what it
-//! was told. The traits are implemented for their own boxes: everything above is generic in the objects'
-//! types, and only a program, a test or another caller names the boxed types.
+//! Each trait states, as a ghost member, what its object answers, so that the code that asks it can say what it was
+//! told. The traits are implemented for their own boxes: everything above is generic in the objects' types, and only a
+//! program, a test or another caller names the boxed types.
 #![tactic(auto)]
 
 mod answer;

@@ -4,9 +4,9 @@ use jc_model::call::Notice;
 
 /// Is told of each change of an entry, in order (JSR 107, `CacheEntryListener`). It takes no memory and cannot fail.
 ///
-/// A listener states, for each list of notices, the state that they lead to, as a list of numbers that it reads
-/// in its own way. After it was told a notice it states for a list what it stated before for that notice and
-/// then the list.
+/// `state_after` says what state a list of notices would lead to from now on, as numbers that the listener reads in its
+/// own way. To be told a notice moves it on by that notice: what it then states for a list is what it stated before for
+/// the notice followed by the list.
 pub trait Listener: Drop + Send {
     ghost use Rattle.std.specs.Prelude.{◌≡◌, ℕ, List, ◌∷◌};
     ghost use Rattle.jc_model.specs.declared.call.Notice.{Notice};

@@ -87,7 +87,7 @@ fn bytes_of<'a>(value: Option<&'a Value>) -> &'a [u8]
     }
 }
 
-/// The verdict that sets the value to the value, or nothing, followed by the argument, and answers the new value.
+/// The verdict of `ProgramProcessor::Append`.
 fn append(
     alloc: Global,
     value: Option<&Value>,
@@ -113,8 +113,8 @@ fn append(
 /// One of the program's entry processors.
 #[derive(Drop)]
 pub enum ProgramProcessor {
-    /// Wants the value: sets it to the value, or nothing, followed by the argument, and answers the new value. It
-    /// fails where that would be longer than a value may be.
+    /// Wants the value: appends the argument to it, an absent value being empty, stores the result and answers it. It
+    /// fails where the result would be longer than a value may be.
     Append,
     /// Fails on every entry.
     Fail,

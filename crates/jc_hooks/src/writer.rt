@@ -7,9 +7,9 @@ use std::alloc::Global;
 
 /// Writes a cache's changes outside it (JSR 107, `CacheWriter`). An answer of `false` says that the write failed.
 ///
-/// A writer states which lists of requests and answers it may give from now on; that no request comes is always
-/// among them. A list that it states after a call, put behind that call's request and answer, was stated before
-/// the call. A writer whose answers nobody knows states all lists.
+/// `may` says which lists of requests and answers it may give from now on; the empty list is always one. What it may
+/// give after a call, with that call's request and answer put first, it might have given before the call. A writer of
+/// which nothing is known states all lists.
 pub trait Writer: Drop + Send {
     ghost use Rattle.std.specs.Prelude.{List, ◌∷◌, IfOk};
     ghost use Rattle.jc_model.specs.declared.call.Request.{Request};

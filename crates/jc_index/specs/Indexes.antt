@@ -9,7 +9,7 @@ use Rattle.jc_rows.specs.Images.{Image}
 use Rattle.jc_index.specs.declared.placed.Placed.{Placed}
 use Rattle.jc_index.specs.Spelling.{IsSpelt, image_in}
 
--- the images that were committed, the last one last; the versions of the newest table; and its name, which its passes carry
+-- the committed images, the last one last; the versions of the newest table; and its name, which its passes carry
 pub record Index (P : Type 0) : Type 0 where
   pub placer : P
   pub buckets : ℕ
@@ -17,7 +17,8 @@ pub record Index (P : Type 0) : Type 0 where
   pub versions : List ℕ
   pub name : TableId
 
--- the images that a pass has seen, whether its last meeting succeeded, and the versions that its last lookup read, each with its stripe and the last one first
+-- the images that a pass has seen, whether its last meeting succeeded, and the versions that its last lookup read, each
+-- with its stripe and the last one first
 pub record Passing (P : Type 0) : Type 0 where
   pub placer : P
   pub buckets : ℕ

@@ -9,7 +9,8 @@ use Rattle.jc_cuckoo.specs.Cells.{first_bucket, second_bucket}
 use Rattle.jc_rows.specs.Images.{Image, Shown}
 use Rattle.jc_cuckoo.specs.Images.{IsImage}
 
--- The place of the stash's count is 0, and six words follow for each slot. Bucket b is under the version b mod 64, and the count under the version 64.
+-- The place of the stash's count is 0, and six words follow for each slot. Bucket b is under the version b mod 64, and
+-- the count under the version 64.
 unfoldable pub group_of : ℕ → ℕ
 group_of zero = 64
 group_of (suc n) = n / 24 % 64
@@ -22,7 +23,7 @@ abbrev pub moment_of : Expiry → ℕ
 moment_of Never = 0
 moment_of (At m) = m
 
--- the words of a slot: zeros where it is empty, else the cache and whether the row never expires, the key, and the moment
+-- a slot's words: zeros where it is empty, else the cache and whether the row never expires, the key, and the moment
 abbrev pub slot_words : Option Shown → List ℕ
 slot_words None = 0 ∷ 0 ∷ 0 ∷ 0 ∷ 0 ∷ 0 ∷ []
 slot_words (Some s) = (never_bit s.1 + (s.0.0 + 1)) ∷ words_of s.0.1 ++ moment_of s.1 ∷ []

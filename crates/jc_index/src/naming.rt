@@ -53,8 +53,8 @@ impl<P: Placer + Drop> Unnamed<P> {
         Unnamed::starting_at(alloc, placer, buckets, 0)
     }
 
-    /// The same, but all versions of the first table begin at this even number; those of tables that follow begin at 0. It
-    /// is there for tests: near 2^64 a few commits exhaust a version, and from 0 no test could.
+    /// The same, but all versions of the first table begin at this even number; those of tables that follow begin at 0.
+    /// It is there for tests: near 2^64 a few commits exhaust a version, and from 0 no test could.
     pub fn starting_at(
         alloc: Global,
         placer: P,

@@ -70,7 +70,7 @@ value_of (op.ReplaceIf expected v) = Some v
 value_of (op.GetAndReplace v) = Some v
 value_of _ = None
 
--- the processor that it asks, and his argument
+-- the processor that it asks, and its argument
 abbrev pub invoked_by : Op → Option (ℕ × List ℕ)
 invoked_by (op.Invoke processor argument) = Some (processor, argument)
 invoked_by _ = None

@@ -1,4 +1,4 @@
-//! Equality by `==` is exact: it holds only of what contracts see as the same.
+//! Equality by `==` is exact: it holds of two values exactly where contracts see the same.
 ghost use Rattle.std.specs.Prelude.{◌≡◌};
 ghost use Rattle.std.specs.Bool.{Decides};
 

@@ -21,7 +21,7 @@ pub enum Ask {
     Write,
     /// The writer, to delete the key.
     Delete,
-    /// The processor, before him the loader where he wants a value and there is none. His verdict has a line of its own.
+    /// The processor, and before it the loader where it wants a value and there is none. The verdict has its own line.
     Process,
 }
 

@@ -17,7 +17,7 @@ use Rattle.jc_ops.specs.Lines.{handed, shows, shows_loaded, creates, is_invoke}
 use Rattle.jc_ops.specs.Verdicts.{stores_by, hands_by}
 
 -- The supply has the values for the step of this call, in a cache with these items.
--- Where the writer is asked first, it is a copy for the writer; what is stored comes with his answer.
+-- Where the writer is asked first, it is a copy for the writer; what is stored comes with the writer's answer.
 pub record Covers (writer : Bool) (c : CacheConfig) (call : KeyCall) (items : List Item) (s : Supply) : Type 0 where
   pub stored : option_map (λ t. t.value) s.stored ≡ (if writer then None else value_of call.op)
   pub told : StoredIsTold c s.stored

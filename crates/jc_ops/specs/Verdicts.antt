@@ -1,4 +1,4 @@
--- What a processor's verdict asks the writer, and what it does once he has agreed.
+-- What a processor's verdict asks the writer, and what it does once the writer has agreed.
 use Rattle.std.specs.Prelude.{ℕ, Bool, true, false, if◌then◌else◌, List, Option, Some, None, is_some}
 use Rattle.jc_model.specs.declared.call.Action.{Action}
 use Rattle.jc_model.specs.declared.call.Action.TheVariants.{Keep, Set, Remove}
@@ -14,7 +14,7 @@ use Rattle.jc_model.specs.Step.{counted, act_live, act_absent, ended_by}
 use Rattle.jc_model.specs.Table.{live_verdict, absent_verdict, decided}
 use Rattle.jc_ops.specs.Lines.{loads_for}
 
--- the value that is stored at once; where the writer is asked, it is stored when he has agreed
+-- the value that is stored at once; where the writer is asked, it is stored when the writer has agreed
 abbrev pub stores_by : Bool → Option (List ℕ) → Action → Option (List ℕ)
 stores_by writer loaded Keep = loaded
 stores_by writer loaded (Set v) = if writer then None else Some v

@@ -122,8 +122,8 @@ impl Supply {
         }
     }
 
-    /// The values of a step that stores at once, or that asks its writer before: then he alone is given a copy. The key's
-    /// row is wanted only where a value of it is taken.
+    /// The values of a step that stores at once, or that asks its writer first: then the writer alone is given a copy.
+    /// The key's row is wanted only where a value of it is taken.
     pub fn values_for<G: Ring>(
         state: &CacheState<G>,
         row: Option<u32>,
@@ -145,7 +145,7 @@ impl Supply {
         })
     }
 
-    /// All that such a step may need: its values, the places for its notices, and room in the table where it adds a row.
+    /// All that such a step may need: its values, places for its notices, and room in the table where it adds a row.
     pub fn for_step<R: Rows, G: Ring>(
         state: &CacheState<G>,
         rows: &mut R,
@@ -169,7 +169,7 @@ impl Supply {
         Supply::values_for(state, row, call, writer)
     }
 
-    /// The values for a loader's answer: for a line that loads to store and to reply, for a processor's step to hand on.
+    /// The values for a loader's answer: to store and reply for a line that loads, to hand on for a processor's step.
     fn values_loaded(
         config: &CacheConfig,
         op: &Op,
@@ -197,7 +197,7 @@ impl Supply {
         })
     }
 
-    /// The values for a verdict, where the loader gave `loaded`. Where the writer is asked before, he alone is given a
+    /// The values for a verdict, where the loader gave `loaded`. Where the writer is asked first, it alone is given a
     /// copy.
     fn values_judged(
         config: &CacheConfig,

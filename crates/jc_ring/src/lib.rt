@@ -1,5 +1,4 @@
-//! The ring by which a cache chooses what makes room (MemC3, CLOCK-based replacement): linked, and as a plain
-//! reference body.
+//! The ring by which a cache chooses what makes room (CLOCK; MemC3, section 4): linked, and as a plain reference body.
 #![tactic(auto)]
 
 pub mod link_ring;

@@ -7,7 +7,7 @@ use std::alloc::Global;
 
 /// A clock (MemC3, section 4) whose rows are linked both ways, since a row may leave it from any place.
 /// Each table has a place for each row, and one place more, at the limit, which closes the ring: it stands just
-/// before the hand and behind the last row, so that no change has a special case.
+/// before the hand and after the last row, so that no change has a special case.
 #[derive(Drop)]
 pub struct LinkRing {
     next: Vec<u32>,

@@ -20,11 +20,17 @@ use std::marker::Model;
 /// was removed. Memory is kept for the live ones alone.
 #[derive(Drop)]
 pub struct Roster {
+    /// The number that the next cache gets.
     next: u32,
+    /// The numbers of the live caches, rising.
     order: Vec<u32>,
+    /// Their names, in the same order.
     names: Vec<Key>,
+    /// Their capacities, in the same order.
     capacities: Vec<u32>,
+    /// The number of each name.
     ids: HashMap<Key, u32>,
+    /// The sum of the capacities.
     total: u64,
 }
 
@@ -139,8 +145,8 @@ impl Roster {
     }
 }
 
-/// Why no cache of this configuration is created, where so many are live, one has its name or none, they may have so
-/// many rows together, and the next gets this number.
+/// Why a cache of this configuration is refused, if it is. `live` caches are there, `taken` says whether one has its
+/// name, `rows` is what they may hold together, and `next` is the number that it would get.
 fn refusal_among(
     config: &CacheConfig,
     live: usize,

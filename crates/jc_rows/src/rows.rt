@@ -21,8 +21,8 @@ pub trait Rows: Drop {
     fn len(&self) -> usize
         ensures { result ≡ map.len (contents self.now) };
 
-    /// Makes room for `n` rows in all. Nothing is done where that room is there. Where memory runs out, the rows and the
-    /// room stay as they were.
+    /// Makes room for `n` rows in all. Nothing is done where that room is there. Where memory runs out, the rows and
+    /// the room stay as they were.
     fn make_room(&mut self, n: usize) -> Result<(), OutOfMemory>
         ensures same { contents self.new ≡ contents self.old }
         ensures ok { OnOk result (n ≤ map.len (contents self.new) + spare self.new) }

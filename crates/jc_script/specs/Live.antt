@@ -1,4 +1,5 @@
--- The caches that are live while a script's lines are read or run: creating and destroying follow the manager's rules, memory sufficing.
+-- The caches that are live while a script's lines are read or run: creating and destroying follow the manager's rules,
+-- memory sufficing.
 use Rattle.std.specs.Prelude.{◌≡◌, ℕ, ◌≤◌, false, List, [], ◌∷◌, length, map, ⊤}
 use Rattle.std.specs.Prelude.{Option, Some, None}
 use Rattle.std.specs.Option.{option_map}

@@ -109,6 +109,7 @@ pub fn read_create(reader: &Reader<'_>, session: u32) -> Result<Line, ScriptFaul
     ensures { Gives (λ x. x) result (creating session reader.now.line (view reader.now.object.now)) }
 {
     let name = reader.cache_name()?;
+    // Each line has a moment; a creation has no other use of it.
     let _at = reader.moment()?;
     let capacity = reader.capacity()?;
     let policy = reader.policy()?;

@@ -43,7 +43,7 @@ fn first_lives(alloc: Global, settings: &Settings) -> Result<Vec<Life>, OutOfMem
     Ok(lives)
 }
 
-/// Notes the life that a creating line begins, and what becomes of the line.
+/// Notes the life that a line which creates begins, and what becomes of the line.
 fn follow_create(
     live: Live,
     session: u32,
@@ -72,7 +72,7 @@ fn follow_create(
     live.create(config)
 }
 
-/// Notes what becomes of a destroying line.
+/// Notes what becomes of a line that destroys.
 fn follow_destroy(
     live: Live,
     session: u32,

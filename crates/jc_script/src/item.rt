@@ -21,7 +21,7 @@ pub trait Item: Sized + Drop {
 
     ghost reading: { Data → Option Self };
 
-    /// It, or nothing where the value is none.
+    /// What the JSON value stands for; `None` where it stands for no such item.
     fn from_json(alloc: Global, item: &Value) -> Result<Option<Self>, AllocError>
         ensures { IfOk result (λ o. o ≡ reading (view item.now)) };
 }

@@ -76,7 +76,7 @@ fn is_blank(piece: &[u8]) -> bool
         .all(|b| *b == b' ' || *b == b'\t' || *b == b'\r')
 }
 
-/// The bytes before the first line feed, and those behind it if there is one.
+/// The bytes before the first line feed, and those after it if there is one.
 fn first_piece(bytes: &[u8]) -> (&[u8], Option<&[u8]>)
     ensures cut { slice_split is_feed bytes.now ≡ result.0.now ∷ pieces_after result.1 }
     ensures shorter { IfSome result.1 (λ rest. length rest.now < length bytes.now) }

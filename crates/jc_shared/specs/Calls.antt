@@ -36,7 +36,8 @@ IsBeginFault configs id call Busy = ⊤
 IsBeginFault configs id call Overtaken = ⊥
 IsBeginFault configs id call OutOfMemory = ⊤
 
--- the entry is the last of its cache in a legal transcript that begins with these caches, and of which the pass has seen all
+-- the entry is the last of its cache in a legal transcript that begins with these caches, and of which the pass has
+-- seen all
 pub record Stands (configs : List CacheConfig) (e : Entry) (pass : Sight) : Type 0 where
   pub transcript : History
   pub legal : IsLegal transcript

@@ -30,7 +30,8 @@ log_of s = record { number = s.number; calls = s.calls }
 abbrev pub BeginsWith : List CacheConfig → History → Type 0
 BeginsWith configs transcript = take (length configs) transcript.lives ≡ numbered 0 configs
 
--- where the pass's last meeting succeeded, the last image that it has seen shows these live caches, as the transcript leaves them
+-- where the pass's last meeting succeeded, the last image that it has seen shows these live caches, as the transcript
+-- leaves them
 pub record Sees (transcript : History) (lives : Lives) (pass : Sight) : Type 0 where
   pub tells : Tells transcript lives
   pub shows : pass.met ≡ true → ShowsStates (states_of lives) (last_image pass.images)

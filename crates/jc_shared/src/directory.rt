@@ -14,6 +14,7 @@ use std::sync::{Arc, Mutex};
 /// The hooks lock of one cache, shared by the directory and by the calls on the cache.
 pub(crate) type HooksLock<L, W, P, K> = Arc<Mutex<OwnHooks<L, W, P, K>>>;
 
+/// The hooks locks of all live caches.
 #[derive(Drop)]
 pub(crate) struct Directory<L, W, P, K> {
     locks: HashMap<u32, HooksLock<L, W, P, K>>,

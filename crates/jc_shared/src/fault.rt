@@ -103,8 +103,8 @@ pub enum CloseFault {
     Missing,
     /// A call is still open.
     StillOpen,
-    /// The transcript's entries of this session, the least such one, are not its own list. `place`, from 0, is the
-    /// first at which the two part.
+    /// `session` is the least whose entries in the transcript are not its own list; `place`, from 0, is the first at
+    /// which the two part.
     Differs { session: u32, place: usize },
     OutOfMemory,
 }

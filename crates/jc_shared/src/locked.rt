@@ -209,6 +209,7 @@ impl<N: Name> Locked<N> {
         ensures err { IfErr result (λ fault. IsBeginFault N.configs draft.old.id call fault) }
         ensures same { OnErr result (draft.new ≡ draft.old) }
     {
+        // Read for its clauses: the transcript is legal.
         let _told = self.recorded.transcript();
         match self.recorded.begin(draft.session, draft.id, draft.at, call) {
             Ok(pair) => {
@@ -316,6 +317,7 @@ impl<N: Name> Locked<N> {
         ensures refused { IfErr result (λ fault. fault ≢ SessionRefusal.OutOfMemory → Admits self.old.closed self.old.given room (Err fault) self.new.given) }
         ensures kept { self.new.closed ≡ self.old.closed }
     {
+        // Read for its clauses: the transcript is legal.
         let _legal = self.recorded.transcript();
         let pass = self.recorded.watch();
         let number = self.admit(room && pass.is_ok())?;

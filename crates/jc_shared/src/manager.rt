@@ -43,8 +43,8 @@ impl<N: Name, L: Loader, W: Writer, P: Processor, K: Listener> Manager<N, L, W, 
         self.locked.lock(rt).cache(name)
     }
 
-    /// A new session, which has made no call, and whose pass has seen the table as it is. Sessions have the numbers from
-    /// 0 upward.
+    /// A new session, which has made no call, and whose pass has seen the table as it is. Sessions have the numbers
+    /// from 0 upward.
     ///
     /// Refused as `Closed`, `TooManySessions`, `OutOfMemory`, in this order.
     pub fn session<R: Wait>(&self, rt: &R) -> Result<Session<'_, N, L, W, P, K>, SessionRefusal>

@@ -3,8 +3,8 @@ use jc_index::naming::Naming;
 use std::marker::{Brand, PhantomData};
 
 /// With which configurations a manager was opened, what its loaders and processors state, by cache, and which index its
-/// sessions look keys up in. It has no functions: each caller of `Shared::named` picks one, by calling a function of its
-/// own that is generic in it.
+/// sessions look keys up in. It has no functions: each caller of `Shared::named` picks one, by calling a function of
+/// its own that is generic in it.
 pub trait Name {
     ghost use Rattle.std.specs.Prelude.{List};
     ghost use Rattle.atomic_table.specs.Seated.{TableId};

@@ -117,10 +117,10 @@ impl<'a, N: Name, L: Loader, W: Writer, P: Processor, K: Listener> Session<'a, N
     /// Makes a call on a cache at a moment. The cache's callbacks answer its requests, one call on the cache at a time.
     /// Its entry is added to the session's own.
     ///
-    /// Refused as `NoSuchCache`, `NoSuchProcessor`, then as `OutOfMemory`, `Busy` or `Overtaken`; also as
-    /// `NoSuchCache` where the cache is destroyed meanwhile, and as `OutOfMemory` at once where its callbacks can't be
-    /// shared. Where memory is refused in the midst of the call it is given up, and its listeners are told what it has
-    /// changed; its entry says so. No use of a manager comes to `Busy` or `Overtaken`.
+    /// Refused as `NoSuchCache`, `NoSuchProcessor`, then as `OutOfMemory`, `Busy` or `Overtaken`; also as `NoSuchCache`
+    /// where the cache is destroyed meanwhile, and as `OutOfMemory` at once where its callbacks can't be shared. Where
+    /// memory is refused in the midst of the call it is given up, and its listeners are told what it has changed; its
+    /// entry says so. By the locks no use of a manager should come to `Busy` or `Overtaken`; no clause says so.
     pub fn call<R: Wait>(
         &mut self,
         rt: &R,
@@ -192,11 +192,11 @@ impl<'a, N: Name, L: Loader, W: Writer, P: Processor, K: Listener> Session<'a, N
         Ok(id)
     }
 
-    /// Destroys a cache, with its rows, its counters and its callbacks. No one is told. It waits for a call on the cache
-    /// that is under way. Where memory allows it the session's lookups know of it at once.
+    /// Destroys a cache, with its rows, its counters and its callbacks. No one is told. It waits for a call on the
+    /// cache that is under way. Where memory allows it the session's lookups know of it at once.
     ///
-    /// Refused as `NoSuchCache`, `Busy`; as `OutOfMemory` at once where the callbacks can't be shared. No use of a
-    /// manager comes to `Busy`.
+    /// Refused as `NoSuchCache`, `Busy`; as `OutOfMemory` at once where the callbacks can't be shared. By the locks
+    /// none should come to `Busy`; no clause says so.
     pub fn destroy<R: Wait>(&mut self, rt: &R, id: CacheId) -> Result<(), DestroyFault>
         ensures gone { OnOk result (HasGone N.configs id self.new.pass) }
         ensures front { IsPrefix self.old.pass.images self.new.pass.images }

@@ -76,7 +76,7 @@ impl<G: Ring> Shelf<G> {
         }
     }
 
-    /// The number of the row behind a row.
+    /// The number of the row after a row.
     pub fn after(&self, row: u32) -> Option<u32>
         requires { has_row row self.now.cells ≡ true }
         ensures { result ≡ row_after row self.now.cells }

@@ -1,4 +1,5 @@
--- The rule of words in stripes. First come the versions, and then the content; `group` says which version a place of the content is under.
+-- The rule of words in stripes. First come the versions, and then the content; `group` says which version a place of
+-- the content is under.
 use Rattle.std.specs.Prelude.{◌≡◌, ℕ, suc, ◌+◌, ◌-◌, ◌%◌, ◌<◌, ◌≤◌, ◌^◌, ◌⊎◌, Bool, true, false, List, [], ◌∷◌, ◌++◌, length, drop, replicate, map, slice_index, slice_set, if◌then◌else◌, Option, Some, None}
 use mathlib.Core.Option.{some}
 use mathlib.Core.List.{IsPrefix}
@@ -184,7 +185,7 @@ module _ (group : ℕ → ℕ) where
   Shows j n base notes [] = Unit {0}
   Shows j n base notes (b ∷ bs) = (b.0 ≡ j → b.1 % 2 ≡ 0 → b.1 ≡ n → Reads j base notes) × Shows j n base notes bs
 
-  -- before the first check what was read is compared with the words, and then with the content that was last at that check
+  -- before the first check what was read is compared with the words, then with the content that was last at that check
   abbrev pub base_of : List ℕ → Front → Bool → List ℕ
   base_of words mine true = last_of mine
   base_of words mine false = words

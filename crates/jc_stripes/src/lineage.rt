@@ -32,7 +32,7 @@ fn hear_at<L: Law + Drop>(writers: &mut Vec<Retired<L>>, generation: usize, read
 }
 
 impl<L: Law + Drop> Lineage<L> {
-    /// One table, whose versions all begin at this number; those of the tables that follow begin at 0. The words behind
+    /// One table, whose versions all begin at this number; those of the tables that follow begin at 0. The words after
     /// the versions are all of the front.
     pub fn starting_at(
         alloc: Global,

@@ -43,7 +43,7 @@ impl<L: Law> Writer<L> {
         })
     }
 
-    /// All versions begin at this number. The words behind them are all of the front.
+    /// All versions begin at this number. The words after them are all of the front.
     pub fn starting_at(
         alloc: Global,
         law: &L,
@@ -82,8 +82,8 @@ impl<L: Law> Writer<L> {
         Writer::over(alloc, origin, words)
     }
 
-    /// Opens the versions of these stripes, sets words one by one, and shuts the versions. A version that is the greatest
-    /// even number is opened and never shut.
+    /// Opens the versions of these stripes, sets words one by one, and shuts the versions. A version that is the
+    /// greatest even number is opened and never shut.
     pub fn commit(&mut self, stripes: &[usize], writes: &[(usize, u64)])
         requires some { 0 < length writes.now }
         requires inside { All (λ w. many + w.0 < self.old.seat.table_id.words) writes.now }

@@ -54,7 +54,7 @@ fn hooks_but(alloc: Global, left_out: u32) -> Result<Hooks, Trouble> {
     Ok(hooks)
 }
 
-/// The capacity of two caches, the callback that each lacks (4: none), how many have callbacks, and why they do not open.
+/// The capacity of two caches, which callback each lacks (4: none), how many have callbacks, and why they do not open.
 static OPENINGS: [(u32, (u32, u32), usize, Option<SharedRefusal>); 9] = [
     (4, (4, 4), 2, None),
     (
@@ -117,8 +117,8 @@ fn answers<N: Name, L: Loader, W: Writer, P: Processor, K: Listener, R: Wait>(
     ])
 }
 
-/// A manager gives out 64 sessions and no more; is not closed without all of them, which are handed back; is closed with
-/// them, once; and gives out no session then.
+/// A manager gives out 64 sessions and no more; is not closed without all of them, which are handed back; is closed
+/// with them, once; and gives out no session then.
 fn closes<'a, N: Name, L: Loader, W: Writer, P: Processor, K: Listener, R: Wait>(
     rt: &R,
     alloc: Global,

@@ -1,5 +1,5 @@
-//! Runs on worker threads: callbacks of one cache go on beside those of another, a worker asks as its sessions do, and many
-//! sessions share one cache.
+//! Runs on worker threads: callbacks of one cache go on beside those of another, a worker asks as its sessions do, and
+//! many sessions share one cache.
 ghost use Rattle.std.specs.Prelude.{◌<◌};
 
 use crate::log::{Log, Text};
@@ -227,7 +227,7 @@ fn callbacks_of_two_caches_run_side_by_side(rt: HostRuntime) -> Result<(), Troub
     Ok(())
 }
 
-/// Notes a point behind each call.
+/// Notes a point after each call.
 #[derive(Drop)]
 struct PointGate {
     log: Log,

@@ -17,7 +17,7 @@ impl Text {
         Text { word: 0 }.and(bytes)
     }
 
-    /// The text with these bytes behind it.
+    /// The text with these bytes after it.
     pub fn and(self, bytes: &[u8]) -> Text {
         let mut word = self.word;
         for byte in bytes {
@@ -61,7 +61,7 @@ impl Log {
         }
     }
 
-    /// The texts that were noted, each with a space behind it.
+    /// The texts that were noted, each with a space after it.
     pub fn text(&self, alloc: Global) -> Result<Vec<u8>, OutOfMemory> {
         let mut text = Vec::new(alloc);
         let count = self.count.load(Ordering::SeqCst);

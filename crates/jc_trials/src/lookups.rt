@@ -19,7 +19,7 @@ use jc_rows::list_rows::ListRows;
 use std::alloc::Global;
 use std::marker::Brand;
 
-/// The first letters are keys that were put, and all have the same eight slots.
+/// Keys, put in this order. All share two buckets, so eight slots.
 const LETTERS: [&str; 34] = [
     "a", "b", "c", "d", "e", "f", "g", "h", "i", "j", "k", "l", "m", "n", "o", "p", "q", "r", "s",
     "t", "u", "v", "w", "x", "y", "z", "A", "B", "C", "D", "E", "F", "G", "H",

@@ -1,6 +1,6 @@
-//! Memory that the table is refused: a row that finds no slot is then in the stash, and the buckets double with the next
-//! put. As they stand these trials meet a mirror that refuses. `rt try --test --fail-alloc N` refuses the Nth allocation of
-//! each trial, and the one whose name ends with `again` ends well then too.
+//! Memory that the table is refused: a row that finds no slot is then in the stash, and the next put doubles the
+//! buckets. As the trials stand it is a mirror that refuses; under `rt try --test --fail-alloc N`, which refuses the
+//! Nth allocation of each trial, `rows_are_put_again` has to end well too.
 
 use crate::placers::ConstantPlacer;
 use crate::refusing::RefusingMirror;
@@ -14,8 +14,8 @@ use jc_model::key::Key;
 use jc_rows::rows::Rows;
 use std::alloc::Global;
 
-/// The put of so many rows is the first that finds at least half as many as there are slots, 32 of 64, and so doubles the
-/// buckets.
+/// The put of so many rows is the first that finds at least half as many as there are slots, 32 of 64, and so doubles
+/// the buckets.
 const DOUBLING: u32 = 33;
 
 /// A table of 16 buckets where all keys share two, asked for again where it is refused. So often it does not double.
@@ -55,7 +55,7 @@ fn holds_first<R: Rows>(rows: &R, count: u32) -> Result<bool, Trouble> {
     Ok(true)
 }
 
-/// The shape of so many rows whose keys share two buckets, before the buckets doubled or behind that.
+/// The shape of so many rows whose keys share two buckets, before the buckets doubled or after that.
 fn shape_of(count: u32, doubled: bool) -> Shape {
     let in_buckets = (count as usize).min(8);
     Shape {

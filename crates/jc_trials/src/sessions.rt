@@ -16,7 +16,7 @@ use std::marker::Brand;
 use std::sync::Wait;
 
 /// A configuration, whose callbacks each find no memory for one of their questions; a script; what the callbacks are
-/// asked, with a point behind each call; and the report.
+/// asked, with a point after each call; and the report.
 pub(crate) struct Scene {
     pub(crate) caches: &'static str,
     poor: u64,

@@ -73,7 +73,7 @@ fn held<R: Rows, G: Ring>(manager: &Engine<R, G>, number: u32) -> Result<(usize,
     Ok((own, in_table))
 }
 
-/// The number of the first change behind which there are other rows, if there is one.
+/// The number of the first change after which there are other rows, if there is one.
 fn first_other_rows<R: Rows, G: Ring>(
     alloc: Global,
     mut manager: Engine<R, G>,

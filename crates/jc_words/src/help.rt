@@ -1,6 +1,6 @@
 //! The texts of help.
 
-/// What `--version` prints behind the program's name.
+/// What `--version` prints after the program's name.
 pub const VERSION: &str = "0.1.0";
 
 /// What the program does, in a line.

@@ -1,6 +1,6 @@
 //! What words ask for.
 
-/// One run of the program: two paths, how many workers there are, the seed of the table, and whether the script is run by one thread.
+/// One run of the program: two paths, the number of workers, the table's seed, and whether one thread makes all calls.
 #[derive(Drop)]
 pub struct Run {
     pub config: String,

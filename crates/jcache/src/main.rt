@@ -7,7 +7,7 @@ use jc_runner::{HostDisk, Opened, Standard, WordsFault, program, words_fault};
 use std::env;
 use std::process::ExitCode;
 
-/// The words behind the program's name.
+/// The words after the program's name.
 fn words_of(rt: &HostRuntime) -> Result<Vec<String>, WordsFault> {
     match env::args(rt) {
         Ok(words) => match words.skip(1).collect(rt.alloc()) {

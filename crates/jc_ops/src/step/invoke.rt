@@ -32,7 +32,7 @@ use jc_rows::rows::Rows;
 use jc_state::notices::Notices;
 use jc_state::state::CacheState;
 
-/// A step of a processor that waits, before his verdict.
+/// A step of a processor that waits, before the verdict.
 #[derive(Drop)]
 pub(super) struct Invocation {
     pub(super) at: At,
@@ -78,7 +78,7 @@ fn loaded_by(answer: Answer) -> Option<Option<Value>>
     }
 }
 
-/// What the processor decided; `None` where he failed.
+/// What the processor decided; `None` where it failed.
 fn verdict_of(answer: Answer) -> Option<Verdict>
     ensures { result ≡ verdict_of answer }
 {

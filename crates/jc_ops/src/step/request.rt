@@ -71,7 +71,7 @@ pub(crate) fn process(
     }
 }
 
-/// The processor is asked for the key's live value, or before him the loader.
+/// The processor is asked, with the key's live value; where it needs a loaded one, the loader is asked first.
 fn ask_processor(
     config: &CacheConfig,
     key: &Key,

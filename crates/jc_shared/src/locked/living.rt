@@ -16,6 +16,7 @@ impl<N: Name> Locked<N> {
     pub(crate) fn cache(&self, name: &Key) -> Option<CacheId>
         ensures { IsNamed N.configs name.now result }
     {
+        // Read for its clauses: the transcript is legal.
         let _legal = self.recorded.transcript();
         self.recorded.cache(name)
     }
@@ -32,6 +33,7 @@ impl<N: Name> Locked<N> {
         ensures may { OnOk result ((suited ≡ true) × (room ≡ true)) }
         ensures back { IfErr result (λ e. e.1 ≡ config) }
     {
+        // Read for its clauses: the transcript is legal.
         let _legal = self.recorded.transcript();
         if let Some(refusal) = self.recorded.create_refusal(&config) {
             return Err((CreateFault::Cache(refusal), config));
@@ -62,6 +64,7 @@ impl<N: Name> Locked<N> {
         ensures refused { IfErr result (λ fault. IsDestroyFault N.configs id fault) }
         ensures err { IfErr result (λ fault. (fault ≢ DestroyFault.OutOfMemory) × (pass.new ≡ pass.old)) }
     {
+        // Read for its clauses: the transcript is legal.
         let _legal = self.recorded.transcript();
         match self.recorded.destroy(id) {
             Ok(()) => {

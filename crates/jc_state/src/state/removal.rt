@@ -38,8 +38,8 @@ impl<G: Ring> CacheState<G> {
         notices.note_for(self.config(), kind, gone.key, None, Some(gone.value));
     }
 
-    /// Of a key's row, if it has one, the number where it is live. An expired row is removed here, with its notice; a live
-    /// one tells nothing.
+    /// Of a key's row, if it has one, the number where it is live. An expired row is removed here, with its notice; a
+    /// live one tells nothing.
     pub fn purge<R: Rows>(
         &mut self,
         rows: &mut R,
