@@ -1,4 +1,5 @@
--- Each life of a cache alone: the calls of its lines in their order, as its solo run takes them under the answers of its callbacks.
+-- Each life of a cache alone: the calls of its lines in their order, as its solo run takes them under the answers of
+-- its callbacks.
 use Rattle.std.specs.Prelude.{◌≡◌, ℕ, false, List, [], ◌∷◌, ◌++◌, map, ⊤}
 use Rattle.std.specs.List.{flat_map}
 use Rattle.jc_model.specs.declared.call.Answer.{Answer}

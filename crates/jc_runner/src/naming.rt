@@ -77,7 +77,7 @@ fn hooks_of(
     })
 }
 
-/// The callbacks of all caches.
+/// Fresh callbacks for each cache, of the kinds at its place; further kinds are ignored.
 pub fn all_hooks(
     alloc: Global,
     caches: &[CacheConfig],

@@ -77,7 +77,7 @@ fn lacks_memory(error: &Error) -> bool
     matches!(error.kind(), ErrorKind::OutOfMemory)
 }
 
-/// Does what the words behind the program's name ask for.
+/// Does what the words after the program's name ask for.
 fn obey<D: Disk, I: Read, O: Write, R: Threads + Wait + Sync>(
     rt: &R,
     alloc: Global,
@@ -127,11 +127,11 @@ fn heed<D: Disk, I: Read, O: Write, R: Threads + Wait + Sync>(
     }
 }
 
-/// The program: it does what the words behind its name ask for, and says how that ended.
+/// The program: it does what the words after its name ask for, and says how that ended.
 ///
 /// Without words the script on standard input is run on the demonstration's caches. Faults come in this order: the
 /// words, reading the configuration, its text, reading the script, its text, the run, the writing of the report.
-/// Standard output has the report and nothing else, and nothing at all after a fault, save a front of the report
+/// Standard output has the report and nothing else, and nothing at all after a fault, save a prefix of the report
 /// where it could not be written whole; help goes there too. The texts of help and of mistaken words are `clap`'s.
 pub fn program<D: Disk, I: Read, O: Write, E: Write, R: Threads + Wait + Sync>(
     rt: &R,

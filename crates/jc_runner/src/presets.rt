@@ -21,7 +21,8 @@ fn key_of(text: &str) -> Key
     }
 }
 
-/// Two caches without hooks: `a` has 2 rows and never expires, `b` has 1 row, which expires 100 milliseconds after its creation.
+/// Two caches without callbacks: `a` has 2 rows that never expire, `b` has 1 row, which expires 100 milliseconds after
+/// its creation.
 pub fn demonstration(alloc: Global) -> Result<Settings, OutOfMemory>
     ensures { IfOk result (λ s. s ≡ demonstration_caches) }
 {

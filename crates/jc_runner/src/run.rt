@@ -100,8 +100,7 @@ pub fn report_on<T: Rows, L: Loader, W: Writer, P: Processor, K: Listener>(
 ///
 /// `Read`, `TooLong`; `Script` with the first fault; `Open` where the callbacks are not those that the settings name,
 /// or where the manager does not open; `Memory`, also where a callback finds none; `Write`. Only after `Write` may a
-/// part of the report have been written. The seed picks the places in the
-/// table and changes nothing of the report.
+/// part of the report have been written. The seed picks the places in the table and changes nothing of the report.
 pub fn serial<L: Loader, W: Writer, P: Processor, K: Listener, R: Read, O: Write>(
     alloc: Global,
     settings: Settings,

@@ -11,7 +11,7 @@ use clap::Error;
 use std::io;
 use std::io::Write;
 
-/// A run ends by its result.
+/// How a run ended: `Printed`, or with its fault.
 pub fn ending_of(ran: Result<(), ProgramFault>) -> Ending
     ensures { result ≡ ending_of ran }
 {

@@ -9,7 +9,7 @@ use crate::fault::RunFault;
 use crate::watched::WatchedWriter;
 use std::io::Write;
 
-/// Writes all of a text and flushes it. Where the writer fails, at the flush too, a front of it was written.
+/// Writes all of a text and flushes it. Where the writer fails, at the flush too, a prefix of it was written.
 pub fn write_text<W: Write>(writer: &mut WatchedWriter<W>, text: &[u8]) -> Result<(), RunFault>
     ensures all { OnOk result (Appends (W.contents writer.old.inner) (W.contents writer.new.inner) text.now) }
     ensures flushed { OnOk result (writer.new.flushed ≡ true) }

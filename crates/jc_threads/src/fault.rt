@@ -9,8 +9,8 @@ use std::alloc::{AllocError, AllocFailed};
 /// The fault of a run on threads.
 #[derive(Clone, Copy, Debug, PartialEq, Eq)]
 pub enum WorkFault {
-    /// A session was refused, or had another number than the next one; a call or a destroying was refused, or a creating
-    /// for its callbacks; or what the sessions saw is not what the manager recorded.
+    /// A session was refused or did not get the next number; a call or a destruction was refused, or a creation for its
+    /// callbacks; a line met another session than its own; or the sessions and the manager's transcript differ.
     Close,
     /// Memory was refused, to a callback too.
     OutOfMemory,
