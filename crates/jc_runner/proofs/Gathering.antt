@@ -3,6 +3,7 @@ use Rattle.std.proofs.Common.{◌≡◌, ℕ, zero, suc, ◌+◌, ◌<◌, ◌�
 use Rattle.std.specs.Prelude.{slice_get, is_some}
 use Rattle.std.specs.Result.{result_err}
 use Rattle.std.proofs.lemmas.List.{take_all, take_more, map_push}
+use Rattle.std.proofs.lemmas.Bool.{false≢true}
 use Rattle.std.proofs.lemmas.Option.{same_Some}
 use Rattle.jc_hooks.specs.declared.cache_hooks.CacheHooks.{CacheHooks}
 use Rattle.jc_hooks.specs.declared.loader.Loaded.{Loaded}
@@ -25,7 +26,7 @@ use mathlib.Core.Logic.{inl, inr}
 use Rattle.jc_engine.specs.Opening.{open_refusal}
 use Rattle.jc_engine.specs.declared.open.OpenRefusal.{OpenRefusal}
 use Rattle.jc_shared.specs.declared.fault.SharedRefusal.{SharedRefusal}
-use Rattle.jc_shared.specs.declared.fault.SharedRefusal.TheVariants.{Caches, HooksDiffer}
+use Rattle.jc_shared.specs.declared.fault.SharedRefusal.TheVariants.{Caches, HooksDiffer, OutOfMemory}
 use Rattle.jc_shared.specs.Opening.{SuitAt, AllSuit as AllSuitByPlace, CanOpen, IsRefusal}
 use Rattle.jc_runner.specs.Hooks.{AllSuit, CannotOpen}
 use Rattle.jc_runner.specs.Together.{stated_of, Gathers, GathersSo}
@@ -59,6 +60,14 @@ module _ {L W P K : Type 0} (wants : P → Bool) where
 
   pub opened_suits : (caches caches' : List CacheConfig) (hooks : List (CacheHooks L W P K)) → caches' ≡ caches → CanOpen wants caches' hooks → AllSuit wants caches hooks
   opened_suits caches caches' hooks same opens = subst (λ (cs : List CacheConfig). AllSuit wants cs hooks) same (all_suit caches' hooks opens.1)
+
+  pub opens_in_memory : (caches caches' : List CacheConfig) (hooks : List (CacheHooks L W P K)) (f : SharedRefusal) → caches' ≡ caches → f ≡ OutOfMemory → IsRefusal wants caches' hooks f → CannotOpen wants caches hooks → ⊥
+  opens_in_memory caches caches' hooks f same is refused cannot =
+      let opens : CanOpen wants caches' hooks = subst (IsRefusal wants caches' hooks) is refused in
+      elim cannot [
+        | inl differ ↦ differ (opened_suits caches caches' hooks same opens)
+        | inr closed ↦ absurd (false≢true (ap is_some (sym opens.0 ∙ ap open_refusal same) ∙ closed))
+      ]
 
 -- What was refused, line by line.
 

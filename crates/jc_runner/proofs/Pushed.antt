@@ -1,5 +1,5 @@
 -- Lists that are made by one push after the other.
-use Rattle.std.proofs.Common.{◌≡◌, ℕ, ◌+◌, ◌<◌, ◌≤◌, List, [], ◌∷◌, ◌++◌, length, map, take, drop, get_or, replicate, sym, ap, ◌∙◌, subst, append_assoc, append-nil, Option, Some, Result, Ok, Err}
+use Rattle.std.proofs.Common.{◌≡◌, ℕ, ◌+◌, ◌<◌, ◌≤◌, List, [], ◌∷◌, ◌++◌, length, map, take, drop, get_or, replicate, sym, ap, ◌∙◌, subst, refl, append_assoc, append-nil, Option, Some, Result, Ok, Err}
 use Rattle.std.specs.Prelude.{IfSome, IfOk, IfErr}
 use Rattle.std.proofs.lemmas.List.{take_all, take_more, drop_all, drop_more, map_push, replicate_more}
 use Rattle.jc_config.specs.declared.kinds.HookKinds.{HookKinds}
@@ -33,6 +33,10 @@ pub all_named : (caches : List CacheConfig) (kinds : List HookKinds) (i : ℕ) (
 all_named caches kinds i hooks le so_far =
     subst (AllNamed caches kinds) (append-nil hooks) (so_far [] (subst (λ (cs : List CacheConfig). AllNamed cs (drop i kinds) []) (sym (drop_all i caches le)) tt))
 
+pub none_of : {A B : Type 0} (f : A → B) (xs : List A) → map f xs ≡ [] → xs ≡ []
+none_of f [] none = refl
+none_of f (x ∷ xs) none = cc
+
 -- What is known of an option or a result.
 
 pub of_some : {A : Type 0} (o : Option A) (x : A) (P : A → Type 0) → o ≡ Some x → IfSome o P → P x
@@ -45,3 +49,6 @@ if_ok_weaker (Err e) P Q f p = tt
 pub if_err_weaker : {A E : Type 0} (r : Result A E) (P Q : E → Type 0) → ((e : E) → P e → Q e) → IfErr r P → IfErr r Q
 if_err_weaker (Ok a) P Q f p = tt
 if_err_weaker (Err e) P Q f p = f e p
+
+pub if_not_so : {A E : Type 0} (r : Result A E) (a : A) (e : E) → r ≡ Err e → r ≡ Ok a → ⊥
+if_not_so r a e failed well = cc

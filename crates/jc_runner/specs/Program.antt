@@ -64,6 +64,10 @@ failed_once old new = new.failures ≡ next old.failures
 abbrev pub unread : {F : Type 0} → F → Watched F
 unread file = record { inner = file; reads = 0; failures = 0 }
 
+-- what is not told as a failed reading came without one
+abbrev pub HasNotFailed : {T E F : Type 0} → E → Result T E → Watched F → Watched F → Type 0
+HasNotFailed fault result old new = result ≢ Err fault → new.failures ≡ old.failures
+
 -- A script that is read and run, by one thread or by workers: how that ends.
 module _ {I O : Type 0} (remaining : I → Option (List ℕ)) (contents : O → Option (List ℕ)) (serial : Bool) (c : Configuration) (reader reader' : Watched I) (writer writer' : WatchedWriter O) where
   abbrev pub RunEnds : Result (Unit {0}) RunFault → Type 0
@@ -87,13 +91,13 @@ module _ {F : Type 0} (remaining : F → Option (List ℕ)) (held : Option (Opti
   -- the file does not open, or it is read to its end or its fault
   abbrev pub ConfigEnds : Option (Watched F) → Result Configuration ProgramFault → Type 0
   ConfigEnds None result = ((result ≡ Err program.ConfigRead) × MayBeMissing held) ⊎ (result ≡ Err (program.Run run.Memory))
-  ConfigEnds (Some reader) result = (file : F) × IsFound held (remaining file) × AddsAtMost most_reads 0 reader.reads × ConfigRead file reader result
+  ConfigEnds (Some reader) result = (file : F) × IsFound held (remaining file) × AddsAtMost most_reads 0 reader.reads × HasNotFailed program.ConfigRead result (unread file) reader × ConfigRead file reader result
 
   -- the same of the script
   module _ {O : Type 0} (contents : O → Option (List ℕ)) (serial : Bool) (c : Configuration) (writer writer' : WatchedWriter O) where
     abbrev pub ScriptEnds : Option (Watched F) → Result (Unit {0}) RunFault → Type 0
     ScriptEnds None result = (((result ≡ Err run.Read) × MayBeMissing held) ⊎ (result ≡ Err run.Memory)) × Keeps (contents writer.inner) (contents writer'.inner)
-    ScriptEnds (Some reader) result = (file : F) × IsFound held (remaining file) × AddsAtMost most_reads 0 reader.reads × RunEnds remaining contents serial c (unread file) reader writer writer' result
+    ScriptEnds (Some reader) result = (file : F) × IsFound held (remaining file) × AddsAtMost most_reads 0 reader.reads × HasNotFailed run.Read result (unread file) reader × RunEnds remaining contents serial c (unread file) reader writer writer' result
 
 abbrev pub as_program : Result (Unit {0}) RunFault → Result (Unit {0}) ProgramFault
 as_program (Ok done) = Ok done
@@ -135,9 +139,9 @@ module _ {F I O : Type 0} (of_file : F → Option (List ℕ)) (of_input : I → 
   -- What words ask for, and how that ends. Where they are mistaken, or memory is wanting, nothing is run.
   module _ (words : List Text) (ending : Ending) where
     pub data WordsEnd : Type 0 where
-      plays : words ≡ [] → (ran : Result (Unit {0}) RunFault) → RunEnds of_input contents true demonstration input input' writer writer' ran → AddsAtMost most_reads input.reads input'.reads → OpensNone → ending ≡ ending_of (as_program ran) → WordsEnd
+      plays : words ≡ [] → (ran : Result (Unit {0}) RunFault) → RunEnds of_input contents true demonstration input input' writer writer' ran → AddsAtMost most_reads input.reads input'.reads → HasNotFailed run.Read ran input input' → OpensNone → ending ≡ ending_of (as_program ran) → WordsEnd
       runs : (run : Run) → AsksFor words run → (ran : Result (Unit {0}) ProgramFault) → FilesEnd of_file contents holds asked asked' run opened'.config opened'.script writer writer' ran → input' ≡ input → ending ≡ ending_of ran → WordsEnd
-      refuses : (e : Error) → MayRefuse words e → kind_of e ≢ OutOfMemory → ending ≡ Refused e → RunsNone → WordsEnd
+      refuses : (e : Error) → words ≢ [] → MayRefuse words e → kind_of e ≢ OutOfMemory → ending ≡ Refused e → RunsNone → WordsEnd
       lacks_memory : ending ≡ no_memory → RunsNone → WordsEnd
 
   abbrev pub Obeys : Result (List Text) WordsFault → Ending → Type 0

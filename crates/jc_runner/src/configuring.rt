@@ -1,5 +1,5 @@
 //! Reading the configuration.
-ghost use Rattle.std.specs.Prelude.{◌≡◌, ◌<◌, length, IfOk, IfErr, IfSome, OnOk, Ok, Err};
+ghost use Rattle.std.specs.Prelude.{◌≡◌, ◌≢◌, ◌<◌, length, IfOk, IfErr, IfSome, OnOk, Ok, Err};
 ghost use Rattle.std.specs.Io.KnownBytes.{IsAtEnd};
 ghost use Rattle.jc_config.specs.Config.{configuration_of};
 ghost use Rattle.jc_config.specs.declared.fault.ConfigFault.{ConfigFault as TextFault};
@@ -21,6 +21,7 @@ fn text_of<R: Read>(alloc: Global, reader: &mut Watched<R>) -> Result<Vec<u8>, P
     ensures all { IfOk result (λ v. IsAll (R.remaining reader.old.inner) (R.remaining reader.new.inner) v.items) }
     ensures long { IfErr result (λ e. (f : TextFault) → e ≡ Config f → (f ≡ TooLong) × IfSome (R.remaining reader.old.inner) (λ input. text_bytes < length input)) }
     ensures failed { result ≡ Err ConfigRead → reader.new.failures ≡ next reader.old.failures }
+    ensures unfailed { result ≢ Err ConfigRead → reader.new.failures ≡ reader.old.failures }
     ensures others { IfErr result IsOfConfiguring }
     ensures reads { AddsAtMost most_reads reader.old.reads reader.new.reads }
 {
@@ -57,6 +58,7 @@ pub fn read_configuration<R: Read>(
     ensures end { OnOk result (IsAtEnd (R.remaining reader.new.inner)) }
     ensures config { (f : TextFault) → result ≡ Err (Config f) → IfSome (R.remaining reader.old.inner) (λ input. configuration_of input ≡ Err f) }
     ensures failed { result ≡ Err ConfigRead → reader.new.failures ≡ next reader.old.failures }
+    ensures unfailed { result ≢ Err ConfigRead → reader.new.failures ≡ reader.old.failures }
     ensures others { IfErr result IsOfConfiguring }
     ensures reads { AddsAtMost most_reads reader.old.reads reader.new.reads }
 {

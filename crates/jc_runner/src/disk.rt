@@ -1,8 +1,11 @@
 //! Files by their paths, and what the machine hands over.
-ghost use Rattle.std.specs.Prelude.{◌≡◌, ◌≢◌, ◌↔◌, IsTrue};
+ghost use Rattle.std.specs.Prelude.{◌≡◌, ◌≢◌, ◌↔◌, IsTrue, IfOk, IfErr, drop};
 ghost use Rattle.std.specs.IoError.{error_kind};
 
 use crate::ending::WordsFault;
+use std::alloc::Global;
+use std::env;
+use std::env::{Args, Env};
 use std::fs;
 use std::fs::Files;
 use std::io::{Error, ErrorKind, Read};
@@ -44,7 +47,7 @@ fn is_of_memory(error: &Error) -> bool
 }
 
 /// The fault of words that the machine does not hand over.
-pub fn words_fault(error: &Error) -> WordsFault
+fn words_fault(error: &Error) -> WordsFault
     ensures memory { error_kind error.now ≡ ErrorKind.OutOfMemory → result ≡ WordsFault.OutOfMemory }
     ensures others { error_kind error.now ≢ ErrorKind.OutOfMemory → result ≡ WordsFault.NotText }
 {
@@ -52,6 +55,25 @@ pub fn words_fault(error: &Error) -> WordsFault
         WordsFault::OutOfMemory
     } else {
         WordsFault::NotText
+    }
+}
+
+/// The arguments without the first, which is the program's name.
+fn behind_name(alloc: Global, arguments: Args) -> Result<Vec<String>, WordsFault>
+    ensures words { IfOk result (λ words. words.items ≡ drop 1 arguments.rest.items) }
+    ensures memory { IfErr result (λ fault. fault ≡ WordsFault.OutOfMemory) }
+{
+    match arguments.skip(1).collect(alloc) {
+        Ok(words) => Ok(words),
+        Err(_) => Err(WordsFault::OutOfMemory),
+    }
+}
+
+/// The words behind the program's name. No contract says what the machine hands over.
+pub fn words_of<R: Env + AllocGlobal>(rt: &R) -> Result<Vec<String>, WordsFault> {
+    match env::args(rt) {
+        Ok(arguments) => behind_name(rt.alloc(), arguments),
+        Err(fault) => Err(words_fault(&fault)),
     }
 }
 

@@ -1,9 +1,10 @@
 //! The two files of a run, and playing a script with the callbacks that a configuration names.
-ghost use Rattle.std.specs.Prelude.{◌≡◌, ◌<◌, ℕ, true, false, List, IfOk, string_bytes};
+ghost use Rattle.std.specs.Prelude.{◌≡◌, ◌≢◌, ◌<◌, ℕ, true, false, List, IfOk, Err, string_bytes};
 ghost use Rattle.jc_runner.specs.Disks.{Asks};
 ghost use Rattle.jc_runner.specs.Meters.{most_reads, AddsAtMost};
 ghost use Rattle.jc_runner.specs.Opens.{Opens};
 ghost use Rattle.jc_runner.specs.Program.{RunEnds, ConfigEnds, ScriptEnds, FilesEnd};
+ghost use Rattle.jc_runner.specs.declared.fault.RunFault.TheVariants.{Read};
 
 use crate::configuring::read_configuration;
 use crate::disk::{Disk, OpenFault};
@@ -56,6 +57,7 @@ pub fn play<I: Read, O: Write>(
 ) -> Result<(), RunFault>
     requires { Opens configuration }
     ensures ends { RunEnds I.remaining O.contents true configuration reader.old reader.new writer.old writer.new result }
+    ensures unfailed { result ≢ Err Read → reader.new.failures ≡ reader.old.failures }
     ensures reads { AddsAtMost most_reads reader.old.reads reader.new.reads }
 {
     let Configuration { settings, hooks } = configuration;
@@ -75,6 +77,7 @@ fn play_together<I: Read, O: Write, R: Threads + Wait + Sync>(
     requires opens { Opens configuration }
     requires workers { 0 < run.now.workers }
     ensures ends { RunEnds I.remaining O.contents false configuration reader.old reader.new writer.old writer.new result }
+    ensures unfailed { result ≢ Err Read → reader.new.failures ≡ reader.old.failures }
     ensures reads { AddsAtMost most_reads reader.old.reads reader.new.reads }
 {
     let Configuration { settings, hooks } = configuration;
@@ -105,6 +108,7 @@ fn play_so<I: Read, O: Write, R: Threads + Wait + Sync>(
     requires opens { Opens configuration }
     requires workers { 0 < run.now.workers }
     ensures ends { RunEnds I.remaining O.contents run.now.serial configuration reader.old reader.new writer.old writer.new result }
+    ensures unfailed { result ≢ Err Read → reader.new.failures ≡ reader.old.failures }
     ensures reads { AddsAtMost most_reads reader.old.reads reader.new.reads }
 {
     if run.serial {

@@ -1,4 +1,5 @@
-//! The program over a reader and a writer: it reads a script, runs its lines in order and writes the report.
+//! The program over words, a disk and the standard streams; below it a script over a reader and a writer, in its lines'
+//! order or by workers.
 #![tactic(auto)]
 
 mod calls;
@@ -23,7 +24,7 @@ mod watched;
 mod writing;
 
 pub use configuring::read_configuration;
-pub use disk::{Disk, HostDisk, OpenFault, words_fault};
+pub use disk::{Disk, HostDisk, OpenFault, words_of};
 pub use ending::{Ended, Ending, WordsFault};
 pub use fault::{ProgramFault, RunFault, write_fault};
 pub use files::run_files;

@@ -1,5 +1,5 @@
 //! Caches that a script creates and destroys.
-ghost use Rattle.std.specs.Prelude.{◌≡◌, ◌++◌, ◌<◌, ℕ, false, Some, IfOk, IfErr, OnOk, length, slice_get};
+ghost use Rattle.std.specs.Prelude.{◌≡◌, ◌++◌, ◌<◌, ℕ, false, Some, IfOk, IfErr, OnOk, None, length, slice_get};
 ghost use Rattle.jc_model.specs.declared.event.Event.TheVariants.{Create, Destroy};
 ghost use Rattle.jc_model.specs.declared.event.Life.{Life as Lived};
 ghost use Rattle.jc_model.specs.declared.event.Outcome.TheVariants.{Destroyed};
@@ -26,7 +26,7 @@ fn create<R: Rows, G: Ring>(
 ) -> Result<Option<CreateRefusal>, RunFault>
     ensures moves { OnOk result ((session : ℕ) → Moves recorded.old recorded.new session (Create config) (answer_to (lives_now recorded.old) (Create config) false)) }
     ensures refusal { IfOk result (λ refusal. refusal ≡ create_refusal (lives_now recorded.old) config) }
-    ensures faults { IfErr result (λ e. e ≡ faults.Memory) }
+    ensures faults { IfErr result (λ e. (e ≡ faults.Memory) × (create_refusal (lives_now recorded.old) config ≡ None)) }
 {
     match recorded.create(config) {
         Ok(_) => Ok(None),

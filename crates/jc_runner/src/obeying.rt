@@ -1,8 +1,9 @@
 //! The program over its words, a disk and the standard streams.
-ghost use Rattle.std.specs.Prelude.{◌≡◌, ◌↔◌, true, IsTrue, IfOk, IfErr, Ok, Err, map, string_bytes};
+ghost use Rattle.std.specs.Prelude.{◌≡◌, ◌≢◌, ◌↔◌, true, IsTrue, IfOk, IfErr, Ok, Err, map, string_bytes};
 ghost use Rattle.clap.specs.Words.{kind_of};
 ghost use Rattle.jc_runner.specs.Meters.{most_reads, AddsAtMost};
 ghost use Rattle.jc_runner.specs.Program.{RunEnds, WordsEnd, Obeys, Ends, no_kinds, demonstration as demonstration_read};
+ghost use Rattle.jc_runner.specs.declared.fault.RunFault.TheVariants.{Read};
 
 use crate::disk::Disk;
 use crate::ending::{Ended, Ending, WordsFault};
@@ -54,6 +55,7 @@ fn demonstrate<I: Read, O: Write>(
     output: &mut WatchedWriter<O>,
 ) -> Result<(), RunFault>
     ensures ends { RunEnds I.remaining O.contents true demonstration_read input.old input.new output.old output.new result }
+    ensures unfailed { result ≢ Err Read → input.new.failures ≡ input.old.failures }
     ensures reads { AddsAtMost most_reads input.old.reads input.new.reads }
 {
     let configuration = demonstrated(alloc)?;

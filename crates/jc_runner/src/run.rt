@@ -122,6 +122,7 @@ pub fn serial<L: Loader, W: Writer, P: Processor, K: Listener, R: Read, O: Write
     ensures front { result ≡ Err faults.Write → IfSome (R.remaining reader.old.inner) (λ input. ReportsOf L.load_of W.may P.verdict_of K.state_after settings input hooks.old hooks.new (λ text. WritesFront (O.contents writer.old.inner) (O.contents writer.new.inner) text)) }
     ensures nothing { IfErr result (λ e. e ≢ faults.Write → Keeps (O.contents writer.old.inner) (O.contents writer.new.inner)) }
     ensures read_failed { result ≡ Err faults.Read → reader.new.failures ≡ next reader.old.failures }
+    ensures unfailed { result ≢ Err faults.Read → reader.new.failures ≡ reader.old.failures }
     ensures write_failed { result ≡ Err faults.Write → writer.new.failures ≡ next writer.old.failures }
     ensures reads { AddsAtMost most_reads reader.old.reads reader.new.reads }
 {

@@ -54,6 +54,7 @@ fn unnamed<L: Loader, W: Writer, P: Processor, K: Listener>(
     ensures shared { IfOk result (λ s. s.shared ≡ map shared_of setup.hooks.items) }
     ensures suit { OnOk result (AllSuit P.wants setup.settings setup.hooks.items) }
     ensures refused { result ≡ Err faults.Open → CannotOpen P.wants setup.settings setup.hooks.items }
+    ensures memory { result ≡ Err faults.Memory → CannotOpen P.wants setup.settings setup.hooks.items → ⊥ }
     ensures faults { IfErr result IsOfThreads }
 {
     let Setup {

@@ -54,3 +54,5 @@ mod tables;
 mod vacated;
 #[cfg(test)]
 mod wearing;
+#[cfg(test)]
+mod words;

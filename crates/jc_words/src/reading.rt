@@ -1,6 +1,6 @@
 //! The words after the program's name, as `clap` reads them.
 
-ghost use Rattle.std.specs.Prelude.{◌≡◌, ◌≤◌, ◌<◌, ◌^◌, ◌↔◌, [], IfOk, IfErr, IfSome, None, map, string_bytes};
+ghost use Rattle.std.specs.Prelude.{◌≡◌, ◌≤◌, ◌<◌, ◌^◌, ◌↔◌, [], IfOk, IfErr, IfSome, None, Ok, map, string_bytes};
 ghost use Rattle.clap.specs.Words.{found_of, rows_of};
 ghost use Rattle.jc_words.specs.Program.{Asks, AsksFor, AsksOptions, HaveNoOptions, HaveNoRun, MayRefuse};
 
@@ -68,6 +68,7 @@ fn asked(alloc: Global, matches: &ArgMatches<'_>) -> Result<Option<Run>, AllocEr
 /// mistakes is told, and the texts of mistakes and of help.
 pub fn read_words<'a>(alloc: Global, words: &'a [&'a str]) -> Result<Option<Run>, Error>
     ensures none { IfOk result (λ run. (run ≡ None) ↔ (words.entry.now ≡ [])) }
+    ensures wordless { words.entry.now ≡ [] → result ≡ Ok None }
     ensures exact { IfOk result (λ run. IfSome run (AsksFor (map (λ word. word.now) words.entry.now))) }
     ensures workers { IfOk result (λ run. IfSome run (λ r. (1 ≤ r.workers) × (r.workers ≤ 8))) }
     ensures seed { IfOk result (λ run. IfSome run (λ r. r.seed < 2 ^ 63)) }

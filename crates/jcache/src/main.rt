@@ -3,20 +3,8 @@
 //! Without words the script is read from standard input and run on the demonstration's caches.
 #![tactic(auto)]
 
-use jc_runner::{HostDisk, Opened, Standard, WordsFault, program, words_fault};
-use std::env;
+use jc_runner::{HostDisk, Opened, Standard, program, words_of};
 use std::process::ExitCode;
-
-/// The words after the program's name.
-fn words_of(rt: &HostRuntime) -> Result<Vec<String>, WordsFault> {
-    match env::args(rt) {
-        Ok(words) => match words.skip(1).collect(rt.alloc()) {
-            Ok(words) => Ok(words),
-            Err(_) => Err(WordsFault::OutOfMemory),
-        },
-        Err(fault) => Err(words_fault(&fault)),
-    }
-}
 
 fn main(rt: HostRuntime) -> ExitCode {
     let mut disk = HostDisk { files: &rt };

@@ -1,4 +1,4 @@
-use Rattle.jc_runner.proofs.Gathering.{opened_suits, refused_caches, refused_hooks}
+use Rattle.jc_runner.proofs.Gathering.{opened_suits, opens_in_memory, refused_caches, refused_hooks}
 use Rattle.jc_runner.proofs.together.unnamed.Goals as goal
 
 pub returns-in-Ok-clause-suit : goal.returns-in-Ok-clause-suit
@@ -11,3 +11,7 @@ returns-in-Err-Caches-clause-refused g c = λ e.
 pub returns-in-Err-HooksDiffer-clause-refused : goal.returns-in-Err-HooksDiffer-clause-refused
 returns-in-Err-HooksDiffer-clause-refused g c = λ e.
     refused_hooks g.P.Processor.wants c.args.setup.settings c.into_caches.result.items c.args.setup.hooks.items c.in-Err-HooksDiffer.field-0 c.in-Err-HooksDiffer.field-0-0 c.into_caches.ensures c.in-Err-HooksDiffer.field-0-is c.in-Err-HooksDiffer.ensures.refused
+
+pub returns-in-Err-OutOfMemory-clause-memory : goal.returns-in-Err-OutOfMemory-clause-memory
+returns-in-Err-OutOfMemory-clause-memory g c = λ e.
+    opens_in_memory g.P.Processor.wants c.args.setup.settings c.into_caches.result.items c.args.setup.hooks.items c.in-Err-OutOfMemory.field-0 c.into_caches.ensures c.in-Err-OutOfMemory.field-0-is c.in-Err-OutOfMemory.ensures.refused
