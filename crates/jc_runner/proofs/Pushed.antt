@@ -50,5 +50,5 @@ pub if_err_weaker : {A E : Type 0} (r : Result A E) (P Q : E → Type 0) → ((e
 if_err_weaker (Ok a) P Q f p = tt
 if_err_weaker (Err e) P Q f p = f e p
 
-pub if_not_so : {A E : Type 0} (r : Result A E) (a : A) (e : E) → r ≡ Err e → r ≡ Ok a → ⊥
-if_not_so r a e failed well = cc
+pub not_both : {A E : Type 0} (e : E) (a : A) → Err e ≡ Ok a → ⊥
+not_both e a is = cc

@@ -1,14 +1,12 @@
 //! Files by their paths, and what the machine hands over.
-ghost use Rattle.std.specs.Prelude.{◌≡◌, ◌≢◌, ◌↔◌, IsTrue, IfOk, IfErr, drop};
+ghost use Rattle.std.specs.Prelude.{◌≡◌, ◌≢◌, ◌↔◌, IsTrue};
 ghost use Rattle.std.specs.IoError.{error_kind};
 
 use crate::ending::WordsFault;
-use std::alloc::Global;
-use std::env;
-use std::env::{Args, Env};
-use std::fs;
+use std::env::Env;
 use std::fs::Files;
 use std::io::{Error, ErrorKind, Read};
+use std::{env, fs};
 
 /// Why a file does not open.
 #[derive(Clone, Copy, Debug, PartialEq, Eq)]
@@ -58,21 +56,13 @@ fn words_fault(error: &Error) -> WordsFault
     }
 }
 
-/// The arguments without the first, which is the program's name.
-fn behind_name(alloc: Global, arguments: Args) -> Result<Vec<String>, WordsFault>
-    ensures words { IfOk result (λ words. words.items ≡ drop 1 arguments.rest.items) }
-    ensures memory { IfErr result (λ fault. fault ≡ WordsFault.OutOfMemory) }
-{
-    match arguments.skip(1).collect(alloc) {
-        Ok(words) => Ok(words),
-        Err(_) => Err(WordsFault::OutOfMemory),
-    }
-}
-
-/// The words behind the program's name. No contract says what the machine hands over.
+/// The words after the program's name. Nothing is known of what the machine hands over, so no clause says what they are.
 pub fn words_of<R: Env + AllocGlobal>(rt: &R) -> Result<Vec<String>, WordsFault> {
     match env::args(rt) {
-        Ok(arguments) => behind_name(rt.alloc(), arguments),
+        Ok(arguments) => match arguments.skip(1).collect(rt.alloc()) {
+            Ok(words) => Ok(words),
+            Err(_) => Err(WordsFault::OutOfMemory),
+        },
         Err(fault) => Err(words_fault(&fault)),
     }
 }

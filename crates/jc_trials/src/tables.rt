@@ -1,7 +1,9 @@
-//! Values from outside: what the policies answer, and how keys are ordered and laid in words.
+//! Values from outside: what the policies answer, where counters stay, and how keys are ordered and laid in words.
 
 use crate::trouble::{Trouble, key};
+use jc_expiry::counters::{with_eviction, with_hit, with_miss, with_put, with_removal};
 use jc_expiry::expiry::{after_access, after_create, after_update};
+use jc_model::call::Counts;
 use jc_model::config::{Expiry, Policy};
 
 const LAST: u64 = u64::MAX;
@@ -45,6 +47,26 @@ fn policies_answer_by_their_table(rt: HostRuntime) {
         assert!(rt; after_create(*policy, *now) == *created);
         assert!(rt; after_access(*policy, PRESENT, *now) == *accessed);
         assert!(rt; after_update(*policy, PRESENT, *now) == *updated);
+    }
+}
+
+/// All five counters at this number.
+fn all_at(n: u64) -> Counts {
+    Counts {
+        hits: n,
+        misses: n,
+        puts: n,
+        removals: n,
+        evictions: n,
+    }
+}
+
+#[test]
+fn counters_stay_at_the_greatest_number(rt: HostRuntime) {
+    for n in [LAST - 1, LAST] {
+        let hit = with_hit(all_at(n));
+        let counted = with_eviction(with_removal(with_put(with_miss(hit))));
+        assert!(rt; counted == all_at(LAST));
     }
 }
 

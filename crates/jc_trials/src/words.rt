@@ -30,22 +30,25 @@ impl<'a> Env for CommandLine<'a> {
     }
 }
 
-/// Command lines, and the words behind the program's name; none where a word is no text.
+/// Command lines, and the words after the program's name; none where a word is no text.
 static COMMAND_LINES: [(&[&[u8]], Option<&[&str]>); 5] = [
     (&[], Some(&[])),
     (&[b"jcache"], Some(&[])),
-    (&[b"jcache", b"run", b"a b.toml"], Some(&["run", "a b.toml"])),
+    (
+        &[b"jcache", b"run", b"a b.toml"],
+        Some(&["run", "a b.toml"]),
+    ),
     (&[b"jcache", b"", b"\xc3\xa9"], Some(&["", "é"])),
     (&[b"jcache", b"run", b"\xff"], None),
 ];
 
 #[test]
 fn the_programs_name_is_no_word(rt: HostRuntime) {
-    for (words, behind) in &COMMAND_LINES {
+    for (words, after) in &COMMAND_LINES {
         let given = words_of(&(CommandLine { words }, Global));
-        match (given, behind) {
-            (Ok(given), Some(behind)) => assert!(rt; given.as_slice() == *behind),
-            (given, _) => assert!(rt; behind.is_none() && given == Err(WordsFault::NotText)),
+        match (given, after) {
+            (Ok(given), Some(after)) => assert!(rt; given.as_slice() == *after),
+            (given, _) => assert!(rt; after.is_none() && given == Err(WordsFault::NotText)),
         }
     }
 }

@@ -1,9 +1,7 @@
-use Rattle.std.proofs.Common.{◌∙◌, sym, ap, subst, refl, map, Bor, List, ℕ, Option, None, Result}
+use Rattle.std.proofs.Common.{◌∙◌, sym, ap, subst, refl, map, Bor, List, ℕ, Result}
 use Rattle.std.proofs.lemmas.Bool.{false≢true}
-use Rattle.jc_runner.proofs.Pushed.{of_some, none_of, if_not_so}
-use Rattle.clap.specs.declared.error.Error.{Error}
+use Rattle.jc_runner.proofs.Pushed.{of_some, none_of, not_both}
 use Rattle.jc_words.specs.Program.{AsksFor, MayRefuse}
-use Rattle.jc_words.specs.declared.run.Run.{Run}
 use Rattle.jc_runner.specs.Endings.{ending_of}
 use Rattle.jc_runner.specs.Program.{as_program, plays, runs, refuses}
 use Rattle.jc_runner.specs.declared.fault.RunFault.{RunFault}
@@ -30,4 +28,4 @@ returns-in-Ok-None g c =
 pub returns : goal.returns
 returns g c =
     let same = ap shown c.as_slice.ensures.value ∙ c.in-Ok.ensures in
-    refuses c.in-Err.error (λ none. if_not_so {A = Option Run} {E = Error} c.read_words.result None c.in-Err.error c.in-Err.is (c.in-Err.ensures.wordless (none_of _ _ (same ∙ none)))) (subst (λ (ws : List (List ℕ)). MayRefuse ws c.in-Err.error) same c.in-Err.ensures.refused) (λ e. absurd (false≢true (sym c.if-lacks_memory.false ∙ c.lacks_memory.ensures.1 e))) refl ((refl, refl), refl, refl)
+    refuses c.in-Err.error (λ none. not_both _ _ (c.in-Err.ensures.wordless (none_of _ _ (same ∙ none)))) (subst (λ (ws : List (List ℕ)). MayRefuse ws c.in-Err.error) same c.in-Err.ensures.refused) (λ e. absurd (false≢true (sym c.if-lacks_memory.false ∙ c.lacks_memory.ensures.1 e))) refl ((refl, refl), refl, refl)
