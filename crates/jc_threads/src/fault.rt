@@ -1,5 +1,6 @@
 //! Why a run on threads comes to no transcript.
-ghost use Rattle.std.specs.Prelude.{◌≡◌, ◌≢◌, Err, IfOk};
+ghost use Rattle.std.specs.Prelude.{◌≡◌, ◌≢◌, Ok, Err, IfOk};
+ghost use Rattle.jc_model.specs.declared.event.CreateRefusal.{CreateRefusal as Refused};
 ghost use Rattle.jc_threads.specs.declared.fault.WorkFault.TheVariants.{OutOfMemory};
 
 use jc_model::event::CreateRefusal;
@@ -54,6 +55,7 @@ pub(crate) fn of_call(fault: CallFault) -> WorkFault
 
 /// The engine's refusal. Other faults end the run.
 pub(crate) fn of_create(fault: CreateFault) -> Result<CreateRefusal, WorkFault>
+    ensures cache { (refusal : Refused) → fault ≡ CreateFault.Cache refusal → result ≡ Ok refusal }
     ensures refused { IfOk result (λ refusal. fault ≡ CreateFault.Cache refusal) }
     ensures memory { fault ≡ CreateFault.OutOfMemory → result ≡ Err WorkFault.OutOfMemory }
     ensures differ { fault ≡ CreateFault.HooksDiffer → result ≡ Err WorkFault.Close }
