@@ -46,6 +46,7 @@ impl<N: Naming, P: Placer + Drop> Pass<N, P> {
     pub fn lookup(&mut self, id: CacheId, key: &Key, now: u64) -> Lookup
         ensures sure { (b : Bool) → result ≡ Sure b → found (last_image self.new.images) id key.now now ≡ Some b }
         ensures stays { (b : Bool) → result ≡ Sure b → Stayed self.new.begun self.new.checked }
+        ensures unmet { self.old.met ≡ false → (result ≡ Unsure) × (self.new ≡ self.old) }
         ensures unsure { result ≡ Unsure → (self.old.met ≡ false) ⊎ ((SomeOdd self.new.begun ⊎ (self.new.begun ≢ self.new.checked)) ⊎ (found (last_image self.new.images) id key.now now ≡ None)) }
         ensures stripes { self.old.met ≡ true → (stripes_in self.new.begun ≡ read_for (buckets_of (P.placing self.old.placer) self.old.buckets (id, key.now))) × (stripes_in self.new.checked ≡ stripes_in self.new.begun) }
         ensures counted { self.old.met ≡ true → self.new.lookups ≡ suc self.old.lookups }
