@@ -52,13 +52,17 @@ fn the_longest_value_is_stored_and_replied(rt: HostRuntime) -> Result<(), Troubl
 fn a_longer_value_is_a_fault(rt: HostRuntime) -> Result<(), Trouble> {
     let alloc = rt.alloc();
     let value = "v".repeat(alloc, 65_536)?;
-    let script = format!(in alloc; r#"{{"s":0,"c":"a","at":0,"op":"put","k":"x","v":"{value}"}}"#)?;
-    let fault = ScriptFault::Bad {
-        line: 1,
-        member: Member::Value,
-    };
-    let wanted = Trouble::Running(RunFault::Script(fault));
-    assert!(rt; reported(alloc, script.as_str()).err() == Some(wanted));
+    for (op, end, member) in [
+        (r#""put","k":"x","v":"#, "", Member::Value),
+        (r#""remove_if","k":"x","expect":"#, "", Member::Expect),
+        (r#""invoke","k":"x","p":0,"arg":"#, "", Member::Argument),
+        (r#""put_all","kvs":[["x","#, "]]", Member::Pairs),
+    ] {
+        let script = format!(in alloc; r#"{{"s":0,"c":"a","at":0,"op":{op}"{value}"{end}}}"#)?;
+        let fault = ScriptFault::Bad { line: 1, member };
+        let wanted = Trouble::Running(RunFault::Script(fault));
+        assert!(rt; reported(alloc, script.as_str()).err() == Some(wanted));
+    }
     Ok(())
 }
 

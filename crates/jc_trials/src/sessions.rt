@@ -104,7 +104,7 @@ listeners = 1
 name = "a"
 capacity = 4
 writer = "check"
-listeners = 1
+listeners = 2
 "#,
         poor: 2,
         calls: r#"
@@ -112,7 +112,7 @@ listeners = 1
 {"s":1,"c":"a","at":0,"op":"remove_keys","ks":["a","c"]}
 {"s":1,"c":"a","at":0,"op":"entries"}
 "#,
-        asked: "wa=1 wb=2 wc=3 1ca 1cb . da dc 1ra . . ",
+        asked: "wa=1 wb=2 wc=3 1ca 2ca 1cb 2cb . da dc 1ra 2ra . . ",
         report: r#"cache a
 0 event created "a"
 0 event created "b"
