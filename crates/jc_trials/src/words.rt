@@ -1,10 +1,10 @@
 //! The words of a command line, as the program takes them from the machine.
 
 use jc_runner::{WordsFault, words_of};
-use std::alloc::Global;
 use std::env::{Env, FillError};
 
 /// A machine whose command line has these words, the program's name first. It has no variables.
+#[derive(Drop)]
 struct CommandLine<'a> {
     words: &'a [&'a [u8]],
 }
@@ -45,9 +45,14 @@ static COMMAND_LINES: [(&[&[u8]], Option<&[&str]>); 5] = [
 #[test]
 fn the_programs_name_is_no_word(rt: HostRuntime) {
     for (words, after) in &COMMAND_LINES {
-        let given = words_of(&(CommandLine { words }, Global));
+        let given = words_of(&(CommandLine { words }, rt.alloc()));
         match (given, after) {
-            (Ok(given), Some(after)) => assert!(rt; given.as_slice() == *after),
+            (Ok(given), Some(after)) => {
+                assert_eq!(rt; given.len(), after.len());
+                for (word, wanted) in given.iter().zip(after.iter()) {
+                    assert!(rt; word.as_str() == *wanted);
+                }
+            }
             (given, _) => assert!(rt; after.is_none() && given == Err(WordsFault::NotText)),
         }
     }
