@@ -1,5 +1,5 @@
 -- What a session more, or a call more, leaves of the dealing.
-use Rattle.std.proofs.Common.{◌≡◌, ◌≢◌, ℕ, zero, suc, replicate, Bool, true, false, ◌%◌, ◌/◌, List, [], ◌∷◌, ◌++◌, length, length-set, map, Some, refl, sym, ◌∙◌, ap, subst, arith, append_assoc, append-nil}
+use Rattle.std.proofs.Common.{◌≡◌, ◌≢◌, ℕ, zero, suc, ◌+◌, ◌<◌, replicate, Bool, true, false, ◌%◌, ◌/◌, List, [], ◌∷◌, ◌++◌, length, length-set, map, Some, refl, sym, ◌∙◌, ap, subst, arith, append_assoc, append-nil}
 use Rattle.std.specs.Prelude.{slice_get, slice_set, ◌==◌}
 use Rattle.std.proofs.lemmas.List.Elements.{All-nil, All-push}
 use Rattle.std.proofs.lemmas.Bool.Decides.{nat_tests}
@@ -7,8 +7,8 @@ use Rattle.jc_model.proofs.Lives.{at_same, at_other}
 use Rattle.jc_script.specs.declared.line.LineCall.{LineCall}
 use Rattle.jc_shared.specs.Sessions.{Sitting, log_of}
 use Rattle.jc_shared.specs.Stated.{Stated}
-use Rattle.jc_threads.specs.Dealing.{Share, idle, AreSeated, IsIdle, AreIdle, IsUnderWay, AreUnderWay, HasRested, HaveRested, dealt_to}
-use Rattle.jc_threads.proofs.Lists.{kept_more, left_out, at_end}
+use Rattle.jc_threads.specs.Dealing.{Share, idle, AreSeated, HasSeat, IsIdle, AreIdle, IsUnderWay, AreUnderWay, HasRested, HaveRested, dealt_to}
+use Rattle.jc_threads.proofs.Lists.{kept_more, left_out, at_end, get_last, get_still}
 use Rattle.jc_threads.proofs.Making.{at_work_first, at_work_same}
 
 -- a session more at a worker
@@ -47,6 +47,50 @@ seat_idle crew share o n is none at next =
       lines = had.lines;
     })
     (λ other found differ had. had)
+
+-- it is where one looks for it
+pub seat_own : (crew : List Share) (share : Share) (o : Sitting) (n : ℕ) → n ≡ o.number → slice_get crew (n % length crew) ≡ Some share → length share.sessions ≡ n / length crew
+    → HasSeat (length crew) n (slice_set crew (n % length crew) (record share { sessions = share.sessions ++ o ∷ [] }))
+seat_own crew share o n is at next = record {
+  share = record share { sessions = share.sessions ++ o ∷ [] };
+  at = at_same crew (n % length crew) share (record share { sessions = share.sessions ++ o ∷ [] }) at;
+  session = o;
+  there = subst (λ (k : ℕ). slice_get (share.sessions ++ o ∷ []) k ≡ Some o) next (get_last share.sessions o);
+  own = sym is;
+}
+
+-- and the others are where they were
+pub seat_others : (workers : ℕ) (crew : List Share) (worker : ℕ) (share : Share) (o : Sitting) → slice_get crew worker ≡ Some share
+    → (number : ℕ) → HasSeat workers number crew → HasSeat workers number (slice_set crew worker (record share { sessions = share.sessions ++ o ∷ [] }))
+seat_others workers crew worker share o at number had = go (worker == (number % workers)) refl
+  where
+    more : Share
+    more = record share { sessions = share.sessions ++ o ∷ [] }
+
+    go : (b : Bool) → (worker == (number % workers)) ≡ b → HasSeat workers number (slice_set crew worker more)
+    go true is =
+        let here : worker ≡ number % workers = grind (arith, nat_tests, is) in
+        let found : Some share ≡ Some had.share = sym at ∙ (ap (slice_get crew) here ∙ had.at) in
+        let share_is : share ≡ had.share = cc in
+        record {
+          share = more;
+          at = subst (λ (k : ℕ). slice_get (slice_set crew worker more) k ≡ Some more) here (at_same crew worker share more at);
+          session = had.session;
+          there = get_still share.sessions o (number / workers) had.session (subst (λ (s : Share). slice_get s.sessions (number / workers) ≡ Some had.session) (sym share_is) had.there);
+          own = had.own;
+        }
+    go false is =
+        let elsewhere : worker ≢ number % workers = grind (arith, nat_tests, is) in
+        record { share = had.share; at = at_other crew worker (number % workers) more elsewhere ∙ had.at; session = had.session; there = had.there; own = had.own }
+
+-- with the next number it makes one more of those from 0 upward
+pub seats_more : (workers count number found : ℕ) (crew crew' : List Share) → count ≡ workers → found ≡ number → HasSeat count found crew' → ((m : ℕ) → HasSeat count m crew → HasSeat count m crew')
+    → ((m : ℕ) → m < number → HasSeat workers m crew) → (m : ℕ) → m < number + 1 → HasSeat workers m crew'
+seats_more workers count number found crew crew' same is own others before m below = subst (λ (w : ℕ). HasSeat w m crew') same (go (m == number) refl)
+  where
+    go : (b : Bool) → (m == number) ≡ b → HasSeat count m crew'
+    go true at = let last : found ≡ m = grind (arith, nat_tests, at, is) in subst (λ (k : ℕ). HasSeat count k crew') last own
+    go false at = others m (subst (λ (w : ℕ). HasSeat w m crew) (sym same) (before m (grind (arith, nat_tests, at, below))))
 
 -- a call more
 pub hand_more : (stated : List Stated) (all : List LineCall) (l : LineCall) (crew : List Share) (share : Share) → slice_get crew (l.session % length crew) ≡ Some share

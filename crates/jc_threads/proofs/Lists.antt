@@ -23,6 +23,16 @@ some_at [] k below = absurd (omega (arith, below))
 some_at (x ∷ xs) zero below = (x, refl)
 some_at (x ∷ xs) (suc k) below = some_at xs k (omega (arith, below))
 
+-- the last element, and those before it
+pub get_last : {X : Type 0} (xs : List X) (x : X) → slice_get (xs ++ x ∷ []) (length xs) ≡ Some x
+get_last [] x = refl
+get_last (y ∷ xs) x = get_last xs x
+
+pub get_still : {X : Type 0} (xs : List X) (y : X) (k : ℕ) (x : X) → slice_get xs k ≡ Some x → slice_get (xs ++ y ∷ []) k ≡ Some x
+get_still [] y k x at = absurd cc
+get_still (z ∷ xs) y zero x at = at
+get_still (z ∷ xs) y (suc k) x at = get_still xs y k x at
+
 -- what is true of each class of elements is true of all
 pub all_by_class : {X : Type 0} (f : X → ℕ) (P : X → Type 0) (xs : List X) → ((x : X) → All P (filter (λ y. f y == f x) xs)) → All P xs
 all_by_class f P [] h = All-nil P

@@ -1,6 +1,8 @@
 -- How sessions and calls are dealt to workers: session s goes to worker s mod workers, and with it its calls.
-use Rattle.std.specs.Prelude.{◌≡◌, ℕ, ◌%◌, ◌/◌, ◌==◌, List, [], ◌++◌, length, slice_get, Some, Result, IfOk}
-use Rattle.std.specs.List.{filter, All}
+use Rattle.std.specs.Prelude.{◌≡◌, ℕ, ◌+◌, max, ◌%◌, ◌/◌, ◌==◌, List, [], ◌++◌, length, slice_get, Some, Result, IfOk}
+use Rattle.std.specs.List.{filter, fold, All}
+use Rattle.jc_script.specs.declared.line.Line.{Line}
+use Rattle.jc_script.specs.declared.line.Line.TheVariants.{Call, Create, Destroy}
 use Rattle.jc_script.specs.declared.line.LineCall.{LineCall}
 use Rattle.jc_shared.specs.Sessions.{Sitting}
 use Rattle.jc_shared.specs.Stated.{Stated}
@@ -19,6 +21,24 @@ idle = record { sessions = []; lines = [] }
 abbrev pub AreSeated : ℕ → ℕ → List Sitting → Type 0
 AreSeated workers worker sessions =
     (place : ℕ) (o : Sitting) → slice_get sessions place ≡ Some o → (o.number % workers ≡ worker) × (o.number / workers ≡ place)
+
+-- and that with this number is there
+pub record HasSeat (workers number : ℕ) (crew : List Share) : Type 0 where
+  pub share : Share
+  pub at : slice_get crew (number % workers) ≡ Some share
+  pub session : Sitting
+  pub there : slice_get share.sessions (number / workers) ≡ Some session
+  pub own : session.number ≡ number
+
+-- the session of a line
+abbrev pub session_in : Line → ℕ
+session_in (Call session id at call) = session
+session_in (Create session config) = session
+session_in (Destroy session id) = session
+
+-- how many sessions lines need: those from 0 to the greatest that a line names
+abbrev pub sessions_in : List Line → ℕ
+sessions_in lines = fold (λ count l. max count (session_in l + 1)) 0 lines
 
 abbrev pub dealt_to : ℕ → ℕ → List LineCall → List LineCall
 dealt_to workers worker lines = filter (λ l. (l.session % workers) == worker) lines

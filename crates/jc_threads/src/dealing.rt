@@ -1,7 +1,7 @@
 //! Dealing sessions and calls to workers.
-ghost use Rattle.std.specs.Prelude.{◌≡◌, ◌<◌, ◌++◌, ◌∷◌, [], List, IfOk, OnOk, length, replicate};
+ghost use Rattle.std.specs.Prelude.{◌≡◌, ◌≢◌, ℕ, ◌<◌, ◌++◌, ◌∷◌, [], List, Err, IfOk, OnOk, length, replicate};
 ghost use Rattle.jc_script.specs.declared.line.LineCall.{LineCall as CallValue};
-ghost use Rattle.jc_threads.specs.Dealing.{idle, AreIdle, AreUnderWay};
+ghost use Rattle.jc_threads.specs.Dealing.{idle, session_in, sessions_in, HasSeat, AreIdle, AreUnderWay};
 
 use crate::fault::{WorkFault, of_session};
 use crate::worker::Worker;
@@ -12,7 +12,9 @@ use jc_shared::{Manager, Name, Session};
 use std::alloc::Global;
 use std::sync::Wait;
 
-fn session_of(line: &Line) -> u32 {
+fn session_of(line: &Line) -> u32
+    ensures { result ≡ session_in line.now }
+{
     match line {
         Line::Call { session, .. } | Line::Create { session, .. } | Line::Destroy { session, .. } =>
             *session,
@@ -20,7 +22,9 @@ fn session_of(line: &Line) -> u32 {
 }
 
 /// How many sessions the lines need: those from 0 to the greatest that a line names.
-fn sessions_of(lines: &[Line]) -> usize {
+fn sessions_of(lines: &[Line]) -> usize
+    ensures { result ≡ sessions_in lines.now }
+{
     let mut count = 0;
     for line in lines {
         count = count.max(session_of(line) as usize + 1);
@@ -45,17 +49,23 @@ fn idle<'a, N: Name, L: Loader, W: Writer, P: Processor, K: Listener>(
     Ok(crew)
 }
 
-/// Gives a session that has made no call to its worker.
+/// Gives a session that has made no call to its worker, if it has this number.
 fn seat<'a, N: Name, L: Loader, W: Writer, P: Processor, K: Listener>(
     crew: &mut [Worker<'a, N, L, W, P, K>],
     session: Session<'a, N, L, W, P, K>,
+    number: usize,
 ) -> Result<(), WorkFault>
     requires some { 0 < length crew.old }
     requires fresh { session.calls ≡ [] }
     ensures counted { length crew.new ≡ length crew.old }
+    ensures other { session.entry.number ≢ number → result ≡ Err WorkFault.Close }
+    ensures own { OnOk result (HasSeat (length crew.old) number crew.new) }
+    ensures kept { OnOk result ((n : ℕ) → HasSeat (length crew.old) n crew.old → HasSeat (length crew.old) n crew.new) }
     ensures seated { OnOk result (AreIdle crew.old → AreIdle crew.new) }
 {
-    let number = session.number() as usize;
+    if session.number() as usize != number {
+        return Err(WorkFault::Close);
+    }
     let workers = crew.len();
     crew[number % workers].seat(session, number / workers)
 }
@@ -69,6 +79,7 @@ fn seat_all<'a, N: Name, L: Loader, W: Writer, P: Processor, K: Listener, R: Wai
 ) -> Result<(), WorkFault>
     requires some { 0 < length crew.old }
     ensures counted { length crew.new ≡ length crew.old }
+    ensures opened { OnOk result ((number : ℕ) → number < sessions → HasSeat (length crew.old) number crew.new) }
     ensures seated { OnOk result (AreIdle crew.old → AreIdle crew.new) }
 {
     for number in 0..sessions {
@@ -76,10 +87,7 @@ fn seat_all<'a, N: Name, L: Loader, W: Writer, P: Processor, K: Listener, R: Wai
             Ok(session) => session,
             Err(refusal) => return Err(of_session(refusal)),
         };
-        if session.number() as usize != number {
-            return Err(WorkFault::Close);
-        }
-        seat(crew, session)?;
+        seat(crew, session, number)?;
     }
     Ok(())
 }
@@ -106,7 +114,8 @@ pub(crate) fn dealt<'a, N: Name, L: Loader, W: Writer, P: Processor, K: Listener
     lines: &[Line],
 ) -> Result<Vec<Worker<'a, N, L, W, P, K>>, WorkFault>
     requires { 0 < workers }
-    ensures { IfOk result (λ crew. (length crew.items ≡ workers) × AreUnderWay N.stated [] crew.items) }
+    ensures ready { IfOk result (λ crew. (length crew.items ≡ workers) × AreUnderWay N.stated [] crew.items) }
+    ensures opened { IfOk result (λ crew. (number : ℕ) → number < sessions_in lines.now → HasSeat workers number crew.items) }
 {
     let sessions = sessions_of(lines);
     let mut crew = idle(alloc, workers)?;

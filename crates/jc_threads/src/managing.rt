@@ -1,7 +1,8 @@
 //! Caches created and destroyed by a worker's session.
-ghost use Rattle.std.specs.Prelude.{◌≡◌, ◌<◌, List, IfOk, IfErr, OnOk, length, map};
+ghost use Rattle.std.specs.Prelude.{◌≡◌, ◌≢◌, ◌<◌, ◌≤◌, List, None, Some, Err, IfOk, IfErr, OnOk, length, map, slice_get};
 ghost use Rattle.jc_script.specs.declared.line.LineCall.{LineCall as CallValue};
-ghost use Rattle.jc_shared.specs.Sessions.{log_of};
+ghost use Rattle.jc_shared.specs.Living.{Answers};
+ghost use Rattle.jc_shared.specs.Sessions.{Sitting, log_of};
 ghost use Rattle.jc_threads.specs.Dealing.{AreAtRest, HaveRested};
 ghost use Rattle.jc_threads.specs.Managing.{IsCreating, IsDestroying};
 
@@ -21,7 +22,8 @@ fn create_by<'a, N: Name, L: Loader, W: Writer, P: Processor, K: Listener, R: Wa
     session: &Session<'a, N, L, W, P, K>,
     config: CacheConfig,
 ) -> Result<Option<CreateRefusal>, WorkFault>
-    ensures { IfOk result (λ refusal. IsCreating N.configs config refusal) }
+    ensures told { IfOk result (λ refusal. IsCreating N.configs config refusal) }
+    ensures ended { IfErr result (λ _. Answers N.configs config None) }
 {
     let hooks: CacheHooks<L, W, P, K> = CacheHooks {
         loader: None,
@@ -42,7 +44,8 @@ fn own_session<'s, 'a, N: Name, L: Loader, W: Writer, P: Processor, K: Listener>
 ) -> Result<&'s Session<'a, N, L, W, P, K>, WorkFault>
     requires some { 0 < length crew.now }
     requires rest { AreAtRest crew.now }
-    ensures { IfErr result (λ fault. fault ≡ WorkFault.Close) }
+    ensures own { IfOk result (λ found. found.now.number ≡ session) }
+    ensures other { IfErr result (λ fault. fault ≡ WorkFault.Close) }
 {
     let workers = crew.len();
     let number = session as usize;
@@ -75,6 +78,8 @@ pub(crate) fn destroy_by<'a, N: Name, L: Loader, W: Writer, P: Processor, K: Lis
     session: u32,
     id: CacheId,
 ) -> Result<(), WorkFault>
+    ensures beyond { length sessions.old ≤ place → result ≡ Err WorkFault.Close }
+    ensures other { (found : Sitting) → slice_get sessions.old place ≡ Some found → found.number ≢ session → result ≡ Err WorkFault.Close }
     ensures gone { OnOk result (IsDestroying N.configs id) }
     ensures same { map log_of sessions.new ≡ map log_of sessions.old }
 {

@@ -1,5 +1,5 @@
 //! A script in rounds: the workers make calls side by side, and are all done before a cache is created or destroyed.
-ghost use Rattle.std.specs.Prelude.{◌≡◌, ◌<◌, ◌++◌, ◌∷◌, [], List, Ok, None, IsTrue, IfOk, OnOk, length, map};
+ghost use Rattle.std.specs.Prelude.{◌≡◌, ◌↔◌, ◌<◌, ◌++◌, ◌∷◌, [], List, Ok, None, IsTrue, IfOk, OnOk, length, map};
 ghost use Rattle.jc_script.specs.Calls.{call_in, calls_in};
 ghost use Rattle.jc_script.specs.declared.line.Line.{Line as LineValue};
 ghost use Rattle.jc_script.specs.declared.line.Line.TheVariants as lines;
@@ -70,7 +70,7 @@ fn gathered<'a, N: Name, L: Loader, W: Writer, P: Processor, K: Listener>(
 fn are_at_rest<'a, N: Name, L: Loader, W: Writer, P: Processor, K: Listener>(
     crew: &[Worker<'a, N, L, W, P, K>],
 ) -> bool
-    ensures { IsTrue result → AreAtRest crew.now }
+    ensures { IsTrue result ↔ AreAtRest crew.now }
 {
     for worker in crew {
         if !worker.is_at_rest() {
@@ -96,6 +96,7 @@ pub(crate) fn end_round<
     gate: &G,
     crew: Vec<Worker<'a, N, L, W, P, K>>,
 ) -> Result<Vec<Worker<'a, N, L, W, P, K>>, WorkFault>
+    ensures idle { AreAtRest crew.entry.items → result ≡ Ok crew.entry }
     ensures counted { IfOk result (λ v. length v.items ≡ length crew.entry.items) }
     ensures rest { IfOk result (λ v. AreAtRest v.items) }
     ensures rested { IfOk result (λ v. (all : List CallValue) → AreUnderWay N.stated all crew.entry.items → HaveRested N.stated all v.items) }

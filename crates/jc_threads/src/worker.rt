@@ -1,5 +1,5 @@
 //! One worker: it makes the calls that it holds, by its sessions and in the script's order.
-ghost use Rattle.std.specs.Prelude.{◌≡◌, ℕ, ◌<◌, ◌++◌, ◌∷◌, [], List, length, map, IsTrue, IsOk, IfOk, OnOk};
+ghost use Rattle.std.specs.Prelude.{◌≡◌, ◌≢◌, ◌↔◌, ℕ, ◌<◌, ◌≤◌, ◌/◌, ◌++◌, ◌∷◌, [], List, length, map, Err, IsTrue, IsOk, IfOk, IfErr, OnOk};
 ghost use Rattle.jc_script.specs.declared.line.LineCall.{LineCall as CallValue};
 ghost use Rattle.jc_shared.specs.Sessions.{log_of};
 ghost use Rattle.jc_threads.specs.Dealing.{IsAtWork, HasWorked};
@@ -42,6 +42,8 @@ impl<'a, N: Name, L: Loader, W: Writer, P: Processor, K: Listener> Worker<'a, N,
         place: usize,
     ) -> Result<(), WorkFault>
         ensures next { OnOk result (length self.old.sessions ≡ place) }
+        ensures other { length self.old.sessions ≢ place → result ≡ Err WorkFault.Close }
+        ensures memory { length self.old.sessions ≡ place → IfErr result (λ fault. fault ≡ WorkFault.OutOfMemory) }
         ensures seated { OnOk result (self.new ≡ record self.old { sessions = self.old.sessions ++ session.entry ∷ [] }) }
     {
         if self.sessions.len() != place {
@@ -53,7 +55,8 @@ impl<'a, N: Name, L: Loader, W: Writer, P: Processor, K: Listener> Worker<'a, N,
 
     /// Takes a call.
     pub(crate) fn hand(&mut self, line: LineCall) -> Result<(), WorkFault>
-        ensures { OnOk result (self.new ≡ record self.old { lines = self.old.lines ++ line ∷ [] }) }
+        ensures handed { OnOk result (self.new ≡ record self.old { lines = self.old.lines ++ line ∷ [] }) }
+        ensures memory { IfErr result (λ fault. fault ≡ WorkFault.OutOfMemory) }
     {
         self.lines.push(line)?;
         Ok(())
@@ -61,7 +64,7 @@ impl<'a, N: Name, L: Loader, W: Writer, P: Processor, K: Listener> Worker<'a, N,
 
     /// Whether it holds no call.
     pub(crate) fn is_at_rest(&self) -> bool
-        ensures { IsTrue result → self.now.lines ≡ [] }
+        ensures { IsTrue result ↔ (self.now.lines ≡ []) }
     {
         self.lines.is_empty()
     }
@@ -98,7 +101,10 @@ impl<'a, N: Name, L: Loader, W: Writer, P: Processor, K: Listener> Worker<'a, N,
 }
 
 fn outcome(replied: Result<Reply, CallFault>) -> Result<(), WorkFault>
-    ensures { OnOk result (IsOk replied) }
+    ensures replied { OnOk result (IsOk replied) }
+    ensures ok { OnOk replied (IsOk result) }
+    ensures memory { replied ≡ Err CallFault.OutOfMemory → result ≡ Err WorkFault.OutOfMemory }
+    ensures others { IfErr replied (λ fault. fault ≢ CallFault.OutOfMemory → result ≡ Err WorkFault.Close) }
 {
     match replied {
         Ok(_) => Ok(()),
@@ -115,6 +121,7 @@ fn make_call<'a, N: Name, L: Loader, W: Writer, P: Processor, K: Listener, G: Ga
 ) -> Result<(), WorkFault>
     ensures number { session.new.number ≡ session.old.number }
     ensures own { OnOk result (session.old.number ≡ line.session) }
+    ensures other { session.old.number ≢ line.session → result ≡ Err WorkFault.Close }
     ensures made { OnOk result ((done : List CallValue) → HasMade N.stated done session.old → HasMade N.stated (done ++ line ∷ []) session.new) }
 {
     if session.number() != line.session {
@@ -142,7 +149,8 @@ fn make_line<'a, N: Name, L: Loader, W: Writer, P: Processor, K: Listener, G: Ga
     line: LineCall,
 ) -> Result<(), WorkFault>
     requires { 0 < workers }
-    ensures { OnOk result ((worker : ℕ) (done : List CallValue) → IsAtWork N.stated workers worker done sessions.old → IsAtWork N.stated workers worker (done ++ line ∷ []) sessions.new) }
+    ensures beyond { length sessions.old ≤ line.session / workers → result ≡ Err WorkFault.Close }
+    ensures made { OnOk result ((worker : ℕ) (done : List CallValue) → IsAtWork N.stated workers worker done sessions.old → IsAtWork N.stated workers worker (done ++ line ∷ []) sessions.new) }
 {
     let place = line.session as usize / workers;
     if place >= sessions.len() {

@@ -15,4 +15,4 @@ returns-clause-handed g c =
     let d = c.index-crew-line.result in
     on_ok_weaker c.hand.result (λ handed all under.
     subst (λ (s : Share). AreUnderWay stated (all ++ c.args.line ∷ []) (slice_set crew (n % length crew) s)) (sym handed)
-    (hand_more stated all c.args.line crew (get_or crew (n % length crew) d) (slice_get-get_or crew (n % length crew) d (mod_below n (length crew) c.requires.some)) under)) c.hand.ensures
+    (hand_more stated all c.args.line crew (get_or crew (n % length crew) d) (slice_get-get_or crew (n % length crew) d (mod_below n (length crew) c.requires.some)) under)) c.hand.ensures.handed

@@ -1,4 +1,5 @@
-use Rattle.std.proofs.Common.{◌≡◌, List, length, map, Ok, subst}
+use Rattle.std.proofs.Common.{◌≡◌, ◌∙◌, List, length, map, Ok, sym, subst}
+use Rattle.std.proofs.lemmas.Bool.{false≢true}
 use Rattle.std.proofs.lemmas.Result.{IfOk-weaker}
 use Rattle.jc_script.specs.declared.line.LineCall.{LineCall}
 use Rattle.jc_threads.specs.Dealing.{AreAtRest, AreUnderWay, HaveRested}
@@ -19,6 +20,13 @@ returns-clause-rested g c =
     IfOk-weaker c.gathered.result (λ v. map Ok v.items ≡ results) (λ v. (all : List LineCall) → AreUnderWay stated all crew → HaveRested stated all v.items)
     (λ v done. rested stated crew v.items results c.in_ok-results.ensures done) c.gathered.ensures
 
+-- a worker held a call
+pub returns-in_err-results-clause-idle : goal.returns-in_err-results-clause-idle
+returns-in_err-results-clause-idle g c = λ rest. absurd (false≢true (sym c.if-are_at_rest.false ∙ c.are_at_rest.ensures.1 (subst AreAtRest (sym c.as_slice.ensures.value) rest)))
+
+pub returns-clause-idle : goal.returns-clause-idle
+returns-clause-idle g c = λ rest. absurd (false≢true (sym c.if-are_at_rest.false ∙ c.are_at_rest.ensures.1 (subst AreAtRest (sym c.as_slice.ensures.value) rest)))
+
 pub returns-clause-rest : goal.returns-clause-rest
 returns-clause-rest g c =
     let crew = c.args.crew.items in
@@ -27,7 +35,7 @@ returns-clause-rest g c =
 
 -- no worker held a call
 pub returns-then-are_at_rest-clause-rest : goal.returns-then-are_at_rest-clause-rest
-returns-then-are_at_rest-clause-rest g c = subst AreAtRest c.as_slice.ensures.value (c.are_at_rest.ensures c.if-are_at_rest.true)
+returns-then-are_at_rest-clause-rest g c = subst AreAtRest c.as_slice.ensures.value (c.are_at_rest.ensures.0 c.if-are_at_rest.true)
 
 pub returns-then-are_at_rest-clause-rested : goal.returns-then-are_at_rest-clause-rested
-returns-then-are_at_rest-clause-rested g c = rested_already g.N.Name.stated c.args.crew.items (subst AreAtRest c.as_slice.ensures.value (c.are_at_rest.ensures c.if-are_at_rest.true))
+returns-then-are_at_rest-clause-rested g c = rested_already g.N.Name.stated c.args.crew.items (subst AreAtRest c.as_slice.ensures.value (c.are_at_rest.ensures.0 c.if-are_at_rest.true))

@@ -9,7 +9,7 @@ loop-line-preserved g c = record {
   all = append_assoc c.loop-line.yielded (c.in-Some.line ∷ []) c.next.new.self.rest.items ∙ (ap (λ (ls : List LineCall). c.loop-line.yielded ++ ls) (sym c.in-Some.ensures.steps.0) ∙ c.loop-line.invariant.all);
   made = λ worker done first.
       subst (λ (ls : List LineCall). IsAtWork g.N.Name.stated c.args.workers worker ls c.make_line.new.sessions) (append_assoc done c.loop-line.yielded (c.in-Some.line ∷ []))
-      (c.in_ok-make_line.ensures worker (done ++ c.loop-line.yielded) (c.loop-line.invariant.made worker done first));
+      (c.in_ok-make_line.ensures.made worker (done ++ c.loop-line.yielded) (c.loop-line.invariant.made worker done first));
 }
 
 pub returns : goal.returns

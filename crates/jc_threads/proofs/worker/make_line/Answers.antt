@@ -5,8 +5,8 @@ use Rattle.jc_threads.proofs.Lists.{all_at, on_ok_both}
 use Rattle.jc_threads.proofs.Making.{at_work_more}
 use Rattle.jc_threads.proofs.worker.make_line.Goals as goal
 
-pub returns : goal.returns
-returns g c =
+pub returns-clause-made : goal.returns-clause-made
+returns-clause-made g c =
     let stated = g.N.Name.stated in
     let sessions = c.args.sessions.now in
     let place = c.args.line.session / c.args.workers in
