@@ -12,6 +12,7 @@ ghost use Rattle.jc_engine.specs.Results.{reply_in};
 ghost use Rattle.jc_shared.specs.Accounts.{Accounts, IsCloseFault};
 ghost use Rattle.jc_shared.specs.Admitting.{Admits};
 ghost use Rattle.jc_shared.specs.Calls.{Stands, GoesOn, IsBeginFault};
+ghost use Rattle.jc_shared.specs.Living.{IsHeld};
 ghost use Rattle.jc_shared.specs.Sessions.{BeginsWith, Sees, SeesSome};
 ghost use Rattle.jc_shared.specs.Finding.{fault_of, halt_of, IsOfCall, IsOpenFor, IsOpen, StandsAt, Turns, IsReplied};
 
@@ -284,6 +285,7 @@ impl<N: Name> Locked<N> {
     pub(crate) fn has(&mut self, id: CacheId, key: &Key, now: u64, pass: &mut TablePass<N>) -> bool
         ensures same { (self.new.recorded ≡ self.old.recorded) × (self.new.given ≡ self.old.given) × (self.new.closed ≡ self.old.closed) }
         ensures front { IsPrefix pass.old.images pass.new.images }
+        ensures held { IsHeld N.configs id key.now now result }
         ensures agrees { pass.new.met ≡ true → (b : Bool) → found (last_image pass.new.images) id key.now now ≡ Some b → result ≡ b }
     {
         self.show(pass);

@@ -12,7 +12,7 @@ ghost use Rattle.jc_index.specs.Found.{found};
 ghost use Rattle.jc_index.specs.Versions.{read_for};
 ghost use Rattle.jc_index.specs.declared.lookup.Lookup.TheVariants.{Sure, Unsure};
 ghost use Rattle.jc_shared.specs.Calls.{Adds, Fails, Lacks};
-ghost use Rattle.jc_shared.specs.Living.{IsCreated, IsCreateFault, HasGone};
+ghost use Rattle.jc_shared.specs.Living.{IsCreated, IsCreateFault, HasGone, IsHeld};
 ghost use Rattle.jc_shared.specs.Sessions.{log_of};
 
 use crate::auditing::Logged;
@@ -214,6 +214,7 @@ impl<'a, N: Name, L: Loader, W: Writer, P: Processor, K: Listener> Session<'a, N
     /// that the session has seen, which is no older than its own last call. An unknown cache has no rows.
     pub fn contains_key(&mut self, id: CacheId, key: &Key, now: u64) -> Lookup
         ensures sure { (b : Bool) → result ≡ Sure b → found (last_image self.new.pass.images) id key.now now ≡ Some b }
+        ensures unmet { self.old.pass.met ≡ false → (result ≡ Unsure) × (self.new.pass ≡ self.old.pass) }
         ensures unsure { result ≡ Unsure → (self.old.pass.met ≡ false) ⊎ ((SomeOdd self.new.pass.begun ⊎ (self.new.pass.begun ≢ self.new.pass.checked)) ⊎ (found (last_image self.new.pass.images) id key.now now ≡ None)) }
         ensures stripes { self.old.pass.met ≡ true → (stripes_in self.new.pass.begun ≡ read_for (buckets_of (seeded_place self.old.pass.placer) self.old.pass.buckets (id, key.now))) × (stripes_in self.new.pass.checked ≡ stripes_in self.new.pass.begun) }
         ensures counted { self.old.pass.met ≡ true → self.new.pass.lookups ≡ suc self.old.pass.lookups }
@@ -227,6 +228,7 @@ impl<'a, N: Name, L: Loader, W: Writer, P: Processor, K: Listener> Session<'a, N
     /// Whether a cache has a live row of this key: by a lookup where that is sure, else under the lock. It is no use of
     /// the row, and the session keeps no entry of it.
     pub fn contains<R: Wait>(&mut self, rt: &R, id: CacheId, key: &Key, now: u64) -> bool
+        ensures unmet { self.old.pass.met ≡ false → IsHeld N.configs id key.now now result }
         ensures agrees { self.new.pass.met ≡ true → (b : Bool) → found (last_image self.new.pass.images) id key.now now ≡ Some b → result ≡ b }
         ensures front { IsPrefix self.old.pass.images self.new.pass.images }
         ensures same { log_of self.new ≡ log_of self.old }
