@@ -208,7 +208,7 @@ impl<N: Name> Locked<N> {
         ensures ok { IfOk result (λ turned. GoesOn N.configs draft.old turned draft.new pass.new) }
         ensures front { IsPrefix pass.old.images pass.new.images }
         ensures err { IfErr result (λ fault. IsBeginFault N.configs draft.old.id call fault) }
-        ensures same { OnErr result (draft.new ≡ draft.old) }
+        ensures same { OnErr result ((draft.new ≡ draft.old) × (pass.new ≡ pass.old)) }
     {
         let _told = self.recorded.transcript();
         match self.recorded.begin(draft.session, draft.id, draft.at, call) {

@@ -1,5 +1,5 @@
 //! One caller's way to the caches of a manager.
-ghost use Rattle.std.specs.Prelude.{◌≡◌, ◌≢◌, ◌⊎◌, suc, Bool, true, false, Some, None, IfOk, IfErr, OnOk, Err};
+ghost use Rattle.std.specs.Prelude.{◌≡◌, ◌≢◌, ◌⊎◌, suc, Bool, true, false, Some, None, IfOk, IfErr, OnOk, OnErr, Err};
 ghost use mathlib.Core.List.{IsPrefix};
 ghost use Rattle.jc_model.specs.declared.event.End.TheVariants.{Replied};
 ghost use Rattle.jc_engine.specs.Recording.{blank};
@@ -119,8 +119,9 @@ impl<'a, N: Name, L: Loader, W: Writer, P: Processor, K: Listener> Session<'a, N
     ///
     /// Refused as `NoSuchCache`, `NoSuchProcessor`, then as `OutOfMemory`, `Busy` or `Overtaken`; also as
     /// `NoSuchCache` where the cache is destroyed meanwhile, and as `OutOfMemory` at once where its callbacks can't be
-    /// shared. Where memory is refused in the midst of the call it is given up, and its listeners are told what it has
-    /// changed; its entry says so. No use of a manager comes to `Busy` or `Overtaken`.
+    /// shared. A call that has not begun leaves the session as it was. Where memory is refused in the midst of the call
+    /// it is given up, and its listeners are told what it has changed; its entry says so. No use of a manager comes to
+    /// `Busy` or `Overtaken`.
     pub fn call<R: Wait>(
         &mut self,
         rt: &R,
@@ -195,10 +196,11 @@ impl<'a, N: Name, L: Loader, W: Writer, P: Processor, K: Listener> Session<'a, N
     /// Destroys a cache, with its rows, its counters and its callbacks. No one is told. It waits for a call on the cache
     /// that is under way. Where memory allows it the session's lookups know of it at once.
     ///
-    /// Refused as `NoSuchCache`, `Busy`; as `OutOfMemory` at once where the callbacks can't be shared. No use of a
-    /// manager comes to `Busy`.
+    /// Refused as `NoSuchCache`, `Busy`; as `OutOfMemory` at once where the callbacks can't be shared. The session is then
+    /// as it was. No use of a manager comes to `Busy`.
     pub fn destroy<R: Wait>(&mut self, rt: &R, id: CacheId) -> Result<(), DestroyFault>
         ensures gone { OnOk result (HasGone N.configs id self.new.pass) }
+        ensures refused { OnErr result (self.new ≡ self.old) }
         ensures front { IsPrefix self.old.pass.images self.new.pass.images }
         ensures same { log_of self.new ≡ log_of self.old }
     {
