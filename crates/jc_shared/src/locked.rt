@@ -315,7 +315,7 @@ impl<N: Name> Locked<N> {
     pub(crate) fn enter(&mut self, room: bool) -> Result<(u32, TablePass<N>), SessionRefusal>
         ensures sees { IfOk result (λ s. SeesSome N.configs s.1 × (s.1.met ≡ true)) }
         ensures admits { IfOk result (λ s. Admits self.old.closed self.old.given room (Ok s.0) self.new.given) }
-        ensures refused { IfErr result (λ fault. fault ≢ SessionRefusal.OutOfMemory → Admits self.old.closed self.old.given room (Err fault) self.new.given) }
+        ensures refused { IfErr result (λ fault. (roomy : Bool) × Admits self.old.closed self.old.given roomy (Err fault) self.new.given) }
         ensures kept { self.new.closed ≡ self.old.closed }
     {
         let _legal = self.recorded.transcript();
