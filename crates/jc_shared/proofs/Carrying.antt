@@ -135,7 +135,7 @@ module _ (configs : List CacheConfig) (stated : List Stated) (old new : Sitting)
   added_err (Err fault) h = fails fault h
 
 -- it did not begin
-pub begin_fails : (configs : List CacheConfig) (stated : List Stated) (old new : Sitting) (id at : ℕ) (call : Call) (draft : Entry) (fault : CallFault) → draft ≡ blank old.number id at call → new.calls ≡ old.calls → IsBeginFault configs draft.id call fault → Fails configs stated old new id at call fault
+pub begin_fails : (configs : List CacheConfig) (stated : List Stated) (old new : Sitting) (id at : ℕ) (call : Call) (draft : Entry) (fault : CallFault) → draft ≡ blank old.number id at call → new ≡ old → IsBeginFault configs draft.id call fault → Fails configs stated old new id at call fault
 begin_fails configs stated old new id at call draft faults.NoSuchCache is same h = same
 begin_fails configs stated old new id at call draft faults.NoSuchProcessor is same h = (same, subst (λ (i : ℕ). MayLack configs i call) (ap (λ (e : Entry). e.id) is) h)
 begin_fails configs stated old new id at call draft faults.Busy is same h = same
@@ -147,5 +147,5 @@ pub not_accepted : (b : Bool) (fault : CallFault) → Err fault ≡ accepted b �
 not_accepted true fault is = absurd cc
 not_accepted false fault is = refl
 
-pub unaccepted_fails : (configs : List CacheConfig) (stated : List Stated) (old new : Sitting) (id at : ℕ) (call : Call) (fault : CallFault) → fault ≡ faults.NoSuchProcessor → new.calls ≡ old.calls → MayLack configs id call → Fails configs stated old new id at call fault
+pub unaccepted_fails : (configs : List CacheConfig) (stated : List Stated) (old new : Sitting) (id at : ℕ) (call : Call) (fault : CallFault) → fault ≡ faults.NoSuchProcessor → new ≡ old → MayLack configs id call → Fails configs stated old new id at call fault
 unaccepted_fails configs stated old new id at call fault is same lacks = subst (λ (f : CallFault). Fails configs stated old new id at call f) (sym is) (same, lacks)

@@ -2,19 +2,31 @@
 use Rattle.std.proofs.Common.{◌≡◌, ℕ, suc, zero, Bool, true, false, ◌==◌, if◌then◌else◌, List, [], ◌∷◌, slice_get, get_or, Option, Some, None, Result, Ok, Err, refl, sym, ap, ◌∙◌, eqb-true}
 use Rattle.std.specs.Prelude.{OnOk, OnErr, option_map}
 use Rattle.jc_model.specs.declared.config.Expiry.{Expiry}
-use Rattle.jc_model.specs.State.{Item, live, is_live, row_of}
+use Rattle.jc_model.specs.State.{Item, State, live, is_live, row_of}
 use Rattle.jc_model.specs.Places.{at_place}
+use Rattle.jc_model.specs.Runs.{live_at}
+use Rattle.jc_model.specs.Whole.{holds as holds_now}
 use Rattle.jc_rows.specs.Images.{Image, Shown}
-use Rattle.jc_engine.specs.Caches.{Cache, lives_of, holds_in}
+use Rattle.jc_engine.proofs.Names.{at_place_map}
+use Rattle.jc_engine.specs.Caches.{Cache, status_of, lives_of, holds_in}
 use Rattle.jc_engine.specs.Watching.{ShowsStates, expiry_at, states_of}
-use Rattle.jc_engine.proofs.Watching.{state_at}
+use Rattle.jc_engine.proofs.Watching.{state_is, state_at}
 use Rattle.jc_index.specs.Found.{found, first_seen, answer}
 use Rattle.jc_index.proofs.Found.{seen_some, seen_none, got}
+use Rattle.jc_shared.specs.Living.{has_live_row}
 
 -- a pass that has met the table, or was refused
 pub met_shows : {A E P : Type 0} (R : Type 0) (r : Result A E) (m : Bool) → OnOk r (P × (m ≡ true)) → OnErr r (R × (m ≡ false)) → m ≡ true → P
 met_shows R (Ok x) m met refused is = met.0
 met_shows R (Err e) m met refused is = absurd cc
+
+-- a cache has a live row as its status tells
+pub row_told : (now : ℕ) (key : List ℕ) (caches : List (Option Cache)) (id : ℕ) → holds_in now key (at_place caches id) ≡ has_live_row now key (live_at (lives_of caches) id)
+row_told now key caches id = by (at_place caches id) ∙ ap (has_live_row now key) (sym (at_place_map status_of caches id))
+  where
+    by : (o : Option Cache) → holds_in now key o ≡ has_live_row now key (option_map status_of o)
+    by None = refl
+    by (Some k) = ap (λ (s : State). holds_now k.config now key s) (sym (state_is k.config k.progress k.turn))
 
 -- whether a row is live, by when it expires
 abbrev lives_by : ℕ → Option Expiry → Bool

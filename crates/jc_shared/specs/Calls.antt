@@ -99,10 +99,10 @@ pub record AddsWaiting (old new : Sitting) (id at : ℕ) (call : Call) : Type 0 
   pub told : List Notice
   pub added : new.calls ≡ old.calls ++ called old.number id at call answers told end.Waiting ∷ []
 
--- why a call has no reply, and what it adds
+-- why a call has no reply, and what it adds; one that did not begin leaves the session as it was
 abbrev pub Fails : List CacheConfig → List Stated → Sitting → Sitting → ℕ → ℕ → Call → CallFault → Type 0
-Fails configs stated old new id at call OutOfMemory = (new.calls ≡ old.calls) ⊎ Adds configs stated old new id at call end.GivenUp
+Fails configs stated old new id at call OutOfMemory = (new ≡ old) ⊎ Adds configs stated old new id at call end.GivenUp
 Fails configs stated old new id at call Overtaken = AddsWaiting old new id at call
-Fails configs stated old new id at call Busy = new.calls ≡ old.calls
-Fails configs stated old new id at call NoSuchCache = new.calls ≡ old.calls
-Fails configs stated old new id at call NoSuchProcessor = (new.calls ≡ old.calls) × MayLack configs id call
+Fails configs stated old new id at call Busy = new ≡ old
+Fails configs stated old new id at call NoSuchCache = new ≡ old
+Fails configs stated old new id at call NoSuchProcessor = (new ≡ old) × MayLack configs id call

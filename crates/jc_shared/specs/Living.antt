@@ -1,5 +1,5 @@
--- What a session is told of caches that are created and destroyed.
-use Rattle.std.specs.Prelude.{◌≡◌, ℕ, List, [], ◌∷◌, ◌++◌, Option, Some, None, IsSome}
+-- What a session is told of caches that are created and destroyed, and of their rows.
+use Rattle.std.specs.Prelude.{◌≡◌, ℕ, Bool, false, List, [], ◌∷◌, ◌++◌, Option, Some, None, IsSome}
 use Rattle.jc_model.specs.declared.config.CacheConfig.{CacheConfig}
 use Rattle.jc_model.specs.declared.event.Cause.{Cause}
 use Rattle.jc_model.specs.declared.event.Cause.TheVariants as cause
@@ -7,7 +7,9 @@ use Rattle.jc_model.specs.declared.event.CreateRefusal.{CreateRefusal}
 use Rattle.jc_model.specs.declared.event.Life.{Life}
 use Rattle.jc_model.specs.Places.{named_from}
 use Rattle.jc_model.specs.declared.event.Outcome.TheVariants.{Refused}
-use Rattle.jc_model.specs.Runs.{Lives, live_at, create_refusal, answer_to_destroy}
+use Rattle.jc_model.specs.Runs.{Status, Lives, live_at, create_refusal, answer_to_destroy}
+use Rattle.jc_model.specs.Solo.{state_of}
+use Rattle.jc_model.specs.Whole.{holds}
 use Rattle.jc_model.specs.Legal.{History, IsLegal, Tells, config_of}
 use Rattle.jc_shared.specs.declared.fault.CreateFault.{CreateFault}
 use Rattle.jc_shared.specs.declared.fault.CreateFault.TheVariants.{Cache, HooksDiffer, OutOfMemory}
@@ -71,3 +73,15 @@ abbrev pub IsDestroyFault : List CacheConfig → ℕ → DestroyFault → Type 0
 IsDestroyFault configs id destroying.NoSuchCache = Refuses configs id cause.NoSuchCache
 IsDestroyFault configs id destroying.Busy = Refuses configs id cause.Busy
 IsDestroyFault configs id destroying.OutOfMemory = ⊥
+
+-- whether a cache that may be live has a live row of this key
+abbrev pub has_live_row : ℕ → List ℕ → Option Status → Bool
+has_live_row now key None = false
+has_live_row now key (Some k) = holds k.config now key (state_of k.standing)
+
+-- whether the cache has one, as a legal transcript leaves it
+pub record IsHeld (configs : List CacheConfig) (id : ℕ) (key : List ℕ) (now : ℕ) (b : Bool) : Type 0 where
+  pub transcript : History
+  pub lives : Lives
+  pub told : AreTold configs transcript lives
+  pub held : b ≡ has_live_row now key (live_at lives id)

@@ -12,6 +12,7 @@ ghost use Rattle.jc_engine.specs.Results.{reply_in};
 ghost use Rattle.jc_shared.specs.Accounts.{Accounts, IsCloseFault};
 ghost use Rattle.jc_shared.specs.Admitting.{Admits};
 ghost use Rattle.jc_shared.specs.Calls.{Stands, GoesOn, IsBeginFault};
+ghost use Rattle.jc_shared.specs.Living.{IsHeld};
 ghost use Rattle.jc_shared.specs.Sessions.{BeginsWith, Sees, SeesSome};
 ghost use Rattle.jc_shared.specs.Finding.{fault_of, halt_of, IsOfCall, IsOpenFor, IsOpen, StandsAt, Turns, IsReplied};
 
@@ -207,7 +208,7 @@ impl<N: Name> Locked<N> {
         ensures ok { IfOk result (λ turned. GoesOn N.configs draft.old turned draft.new pass.new) }
         ensures front { IsPrefix pass.old.images pass.new.images }
         ensures err { IfErr result (λ fault. IsBeginFault N.configs draft.old.id call fault) }
-        ensures same { OnErr result (draft.new ≡ draft.old) }
+        ensures same { OnErr result ((draft.new ≡ draft.old) × (pass.new ≡ pass.old)) }
     {
         // Read for its clauses: the transcript is legal.
         let _told = self.recorded.transcript();
@@ -285,6 +286,7 @@ impl<N: Name> Locked<N> {
     pub(crate) fn has(&mut self, id: CacheId, key: &Key, now: u64, pass: &mut TablePass<N>) -> bool
         ensures same { (self.new.recorded ≡ self.old.recorded) × (self.new.given ≡ self.old.given) × (self.new.closed ≡ self.old.closed) }
         ensures front { IsPrefix pass.old.images pass.new.images }
+        ensures held { IsHeld N.configs id key.now now result }
         ensures agrees { pass.new.met ≡ true → (b : Bool) → found (last_image pass.new.images) id key.now now ≡ Some b → result ≡ b }
     {
         self.show(pass);
@@ -314,7 +316,7 @@ impl<N: Name> Locked<N> {
     pub(crate) fn enter(&mut self, room: bool) -> Result<(u32, TablePass<N>), SessionRefusal>
         ensures sees { IfOk result (λ s. SeesSome N.configs s.1 × (s.1.met ≡ true)) }
         ensures admits { IfOk result (λ s. Admits self.old.closed self.old.given room (Ok s.0) self.new.given) }
-        ensures refused { IfErr result (λ fault. fault ≢ SessionRefusal.OutOfMemory → Admits self.old.closed self.old.given room (Err fault) self.new.given) }
+        ensures refused { IfErr result (λ fault. (roomy : Bool) × Admits self.old.closed self.old.given roomy (Err fault) self.new.given) }
         ensures kept { self.new.closed ≡ self.old.closed }
     {
         // Read for its clauses: the transcript is legal.

@@ -1,5 +1,5 @@
 //! One caller's way to the caches of a manager.
-ghost use Rattle.std.specs.Prelude.{◌≡◌, ◌≢◌, ◌⊎◌, suc, Bool, true, false, Some, None, IfOk, IfErr, OnOk, Err};
+ghost use Rattle.std.specs.Prelude.{◌≡◌, ◌≢◌, ◌⊎◌, suc, Bool, true, false, Some, None, IfOk, IfErr, OnOk, OnErr, Err};
 ghost use mathlib.Core.List.{IsPrefix};
 ghost use Rattle.jc_model.specs.declared.event.End.TheVariants.{Replied};
 ghost use Rattle.jc_engine.specs.Recording.{blank};
@@ -12,7 +12,7 @@ ghost use Rattle.jc_index.specs.Found.{found};
 ghost use Rattle.jc_index.specs.Versions.{read_for};
 ghost use Rattle.jc_index.specs.declared.lookup.Lookup.TheVariants.{Sure, Unsure};
 ghost use Rattle.jc_shared.specs.Calls.{Adds, Fails, Lacks};
-ghost use Rattle.jc_shared.specs.Living.{IsCreated, IsCreateFault, HasGone};
+ghost use Rattle.jc_shared.specs.Living.{IsCreated, IsCreateFault, HasGone, IsHeld};
 ghost use Rattle.jc_shared.specs.Sessions.{log_of};
 
 use crate::auditing::Logged;
@@ -118,9 +118,10 @@ impl<'a, N: Name, L: Loader, W: Writer, P: Processor, K: Listener> Session<'a, N
     /// Its entry is added to the session's own.
     ///
     /// Refused as `NoSuchCache`, `NoSuchProcessor`, then as `OutOfMemory`, `Busy` or `Overtaken`; also as `NoSuchCache`
-    /// where the cache is destroyed meanwhile, and as `OutOfMemory` at once where its callbacks can't be shared. Where
-    /// memory is refused in the midst of the call it is given up, and its listeners are told what it has changed; its
-    /// entry says so. By the locks no use of a manager should come to `Busy` or `Overtaken`; no clause says so.
+    /// where the cache is destroyed meanwhile, and as `OutOfMemory` at once where its callbacks can't be shared. A call
+    /// that has not begun leaves the session as it was. Where memory is refused in the midst of the call it is given up,
+    /// and its listeners are told what it has changed; its entry says so. By the locks no use of a manager should come
+    /// to `Busy` or `Overtaken`; no clause says so.
     pub fn call<R: Wait>(
         &mut self,
         rt: &R,
@@ -195,10 +196,11 @@ impl<'a, N: Name, L: Loader, W: Writer, P: Processor, K: Listener> Session<'a, N
     /// Destroys a cache, with its rows, its counters and its callbacks. No one is told. It waits for a call on the
     /// cache that is under way. Where memory allows it the session's lookups know of it at once.
     ///
-    /// Refused as `NoSuchCache`, `Busy`; as `OutOfMemory` at once where the callbacks can't be shared. By the locks
-    /// none should come to `Busy`; no clause says so.
+    /// Refused as `NoSuchCache`, `Busy`; as `OutOfMemory` at once where the callbacks can't be shared. The session is
+    /// then as it was. By the locks none should come to `Busy`; no clause says so.
     pub fn destroy<R: Wait>(&mut self, rt: &R, id: CacheId) -> Result<(), DestroyFault>
         ensures gone { OnOk result (HasGone N.configs id self.new.pass) }
+        ensures refused { OnErr result (self.new ≡ self.old) }
         ensures front { IsPrefix self.old.pass.images self.new.pass.images }
         ensures same { log_of self.new ≡ log_of self.old }
     {
@@ -214,6 +216,7 @@ impl<'a, N: Name, L: Loader, W: Writer, P: Processor, K: Listener> Session<'a, N
     /// that the session has seen, which is no older than its own last call. An unknown cache has no rows.
     pub fn contains_key(&mut self, id: CacheId, key: &Key, now: u64) -> Lookup
         ensures sure { (b : Bool) → result ≡ Sure b → found (last_image self.new.pass.images) id key.now now ≡ Some b }
+        ensures unmet { self.old.pass.met ≡ false → (result ≡ Unsure) × (self.new.pass ≡ self.old.pass) }
         ensures unsure { result ≡ Unsure → (self.old.pass.met ≡ false) ⊎ ((SomeOdd self.new.pass.begun ⊎ (self.new.pass.begun ≢ self.new.pass.checked)) ⊎ (found (last_image self.new.pass.images) id key.now now ≡ None)) }
         ensures stripes { self.old.pass.met ≡ true → (stripes_in self.new.pass.begun ≡ read_for (buckets_of (seeded_place self.old.pass.placer) self.old.pass.buckets (id, key.now))) × (stripes_in self.new.pass.checked ≡ stripes_in self.new.pass.begun) }
         ensures counted { self.old.pass.met ≡ true → self.new.pass.lookups ≡ suc self.old.pass.lookups }
@@ -227,6 +230,7 @@ impl<'a, N: Name, L: Loader, W: Writer, P: Processor, K: Listener> Session<'a, N
     /// Whether a cache has a live row of this key: by a lookup where that is sure, else under the lock. It is no use of
     /// the row, and the session keeps no entry of it.
     pub fn contains<R: Wait>(&mut self, rt: &R, id: CacheId, key: &Key, now: u64) -> bool
+        ensures unmet { self.old.pass.met ≡ false → IsHeld N.configs id key.now now result }
         ensures agrees { self.new.pass.met ≡ true → (b : Bool) → found (last_image self.new.pass.images) id key.now now ≡ Some b → result ≡ b }
         ensures front { IsPrefix self.old.pass.images self.new.pass.images }
         ensures same { log_of self.new ≡ log_of self.old }

@@ -32,7 +32,7 @@ pub returns-in-Err-begun-clause-err : goal.returns-in-Err-begun-clause-err
 returns-in-Err-begun-clause-err g c =
     rw (← c.self.view_is)
     (begin_fails g.N.Name.configs g.N.Name.stated (record { number = c.self.inside.number; calls = c.self.inside.own.items; pass = c.self.inside.pass }) (record { number = c.self.inside.number; calls = c.reserve.new.self.items; pass = c.begin-begun.new.pass }) c.args.id c.args.now c.args.call
-    c.in-Ok.draft c.in-Err-begun.fault c.in-Ok.ensures c.reserve.ensures.items c.in-Err-begun.ensures.err)
+    c.in-Ok.draft c.in-Err-begun.fault c.in-Ok.ensures (λ i. record { number = c.self.inside.number; calls = c.reserve.ensures.items i; pass = c.in-Err-begun.ensures.same.1 i }) c.in-Err-begun.ensures.err)
 
 pub returns-in-Err-clause-err : goal.returns-in-Err-clause-err
 returns-in-Err-clause-err g c =
