@@ -66,7 +66,8 @@ pub(crate) fn create<'a, N: Name, L: Loader, W: Writer, P: Processor, K: Listene
 ) -> Result<Option<CreateRefusal>, WorkFault>
     requires some { 0 < length crew.now }
     requires rest { AreAtRest crew.now }
-    ensures { IfOk result (λ refusal. IsCreating N.configs config refusal) }
+    ensures told { IfOk result (λ refusal. IsCreating N.configs config refusal) }
+    ensures ended { HasSeat (length crew.now) session crew.now → IfErr result (λ _. Answers N.configs config None) }
 {
     create_by(rt, alloc, own_session(crew, session)?, config)
 }
