@@ -1,9 +1,9 @@
 //! Caches created and destroyed by a worker's session.
-ghost use Rattle.std.specs.Prelude.{◌≡◌, ◌≢◌, ◌<◌, ◌≤◌, List, None, Some, Err, IfOk, IfErr, OnOk, length, map, slice_get};
+ghost use Rattle.std.specs.Prelude.{◌≡◌, ◌≢◌, ◌<◌, ◌≤◌, List, None, Some, Err, IsOk, IfOk, IfErr, OnOk, length, map, slice_get};
 ghost use Rattle.jc_script.specs.declared.line.LineCall.{LineCall as CallValue};
 ghost use Rattle.jc_shared.specs.Living.{Answers};
 ghost use Rattle.jc_shared.specs.Sessions.{Sitting, log_of};
-ghost use Rattle.jc_threads.specs.Dealing.{AreAtRest, HaveRested};
+ghost use Rattle.jc_threads.specs.Dealing.{HasSeat, AreAtRest, HaveRested};
 ghost use Rattle.jc_threads.specs.Managing.{IsCreating, IsDestroying};
 
 use crate::fault::{WorkFault, of_create, of_destroy};
@@ -45,6 +45,7 @@ fn own_session<'s, 'a, N: Name, L: Loader, W: Writer, P: Processor, K: Listener>
     requires some { 0 < length crew.now }
     requires rest { AreAtRest crew.now }
     ensures own { IfOk result (λ found. found.now.number ≡ session) }
+    ensures found { HasSeat (length crew.now) session crew.now → IsOk result }
     ensures other { IfErr result (λ fault. fault ≡ WorkFault.Close) }
 {
     let workers = crew.len();
@@ -65,7 +66,8 @@ pub(crate) fn create<'a, N: Name, L: Loader, W: Writer, P: Processor, K: Listene
 ) -> Result<Option<CreateRefusal>, WorkFault>
     requires some { 0 < length crew.now }
     requires rest { AreAtRest crew.now }
-    ensures { IfOk result (λ refusal. IsCreating N.configs config refusal) }
+    ensures told { IfOk result (λ refusal. IsCreating N.configs config refusal) }
+    ensures ended { HasSeat (length crew.now) session crew.now → IfErr result (λ _. Answers N.configs config None) }
 {
     create_by(rt, alloc, own_session(crew, session)?, config)
 }

@@ -16,7 +16,7 @@ returns-clause-managed g c =
     let more = Create c.args.session c.args.config ∷ [] in
     λ done before.
     subst (λ (rs : List (Option CreateRefusal)). AreManaged configs (done ++ more) rs) (sym c.in_ok-push.ensures.items)
-    (managed_both configs done more c.args.refusals.now.items (c.in_ok-refusal.refusal ∷ []) before (c.in_ok-refusal.ensures, tt))
+    (managed_both configs done more c.args.refusals.now.items (c.in_ok-refusal.refusal ∷ []) before (c.in_ok-refusal.ensures.told, tt))
 
 pub create-requires-clause-rest : goal.create-requires-clause-rest
 create-requires-clause-rest g c = λ _ _. subst AreAtRest (sym c.as_slice.ensures.value) c.in_ok-crew.ensures.rest
