@@ -248,10 +248,3 @@ fn total_capacity(configs: &[CacheConfig]) -> u64
     }
     total
 }
-
-/// The names of the caches, in their order.
-pub fn all_names(alloc: Global, configs: &[CacheConfig]) -> Result<Vec<Key>, OutOfMemory>
-    ensures { IfOk result (λ names. names.items ≡ names_in configs.now) }
-{
-    configs.iter().map(|config| config.name).collect(alloc)
-}
