@@ -90,6 +90,12 @@ impl Suspended {
     pub fn into_notices(self) -> Notices
         ensures { result.told ≡ self.notices }
     {
-        self.notices
+        let Suspended {
+            paused,
+            awaits: _,
+            notices,
+        } = self;
+        drop(paused);
+        notices
     }
 }

@@ -5,7 +5,7 @@ pub mod Places
 pub mod Hearing
 pub mod Moving
 pub mod GivingUp
-pub mod Positions
+pub mod Taken
 pub mod Openings
 pub mod Untold
 pub mod Calls

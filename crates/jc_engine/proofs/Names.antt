@@ -1,5 +1,6 @@
 -- The names that most proofs here cite, passed on from one place. Declares nothing.
-pub use Rattle.std.specs.HashMap.{HashMap, get}
+pub use Rattle.std.specs.HashMap.{get}
+pub use Rattle.std.specs.HashSet.{HashSet, contains}
 pub use Rattle.std.specs.Map.{lookup}
 pub use Rattle.std.proofs.lemmas.Bool.{cases_eq, cases_lt}
 pub use Rattle.std.proofs.lemmas.Bool.Decides.{nat_tests}
@@ -52,7 +53,7 @@ pub use Rattle.jc_engine.specs.declared.open.OpenRefusal.{OpenRefusal}
 pub use Rattle.jc_engine.specs.declared.open.OpenRefusal.TheVariants.{IdsSpent, TooManyCaches, TotalCapacity}
 pub use Rattle.jc_engine.specs.Advances.{ChangesOne, ClosedAt, FitsAt, is_open_in, of_abandon, outcome_of}
 pub use Rattle.jc_engine.specs.Caches.{Cache, expiry_in, fresh_cache, fresh_from, holds_in, id_of, lives_of, names_of, status_of}
-pub use Rattle.jc_engine.specs.Fresh.{AreIds, MayCome, fresh_fields}
+pub use Rattle.jc_engine.specs.Fresh.{AreNames, MayCome, fresh_fields}
 pub use Rattle.jc_engine.specs.Managed.{Abandons, FitsTurn, IsManaged, LeavesNotices, Moves, NeverTells, Settled, WaitsThere, cache_in, is_step, is_telling, notices_in, step_of, tells, turn_in}
 pub use Rattle.jc_engine.specs.Opening.{capacities, is_taken, limit_refusal, names_in, open_refusal, open_refusal_from, or_else, refusal_at, refusal_from}
 pub use Rattle.jc_engine.specs.Recording.{CanTell, HasEntry, IsOpenAt, IsRecorded, Recording, blank, left_in, with_entries, with_life}

@@ -121,6 +121,13 @@ impl<G: Ring> Managed<G> {
         }
     }
 
+    /// Comes to stand at this turn; the one before is let go.
+    fn stand_at(&mut self, turn: Turn)
+        ensures { self.new ≡ record self.old { turn = turn } }
+    {
+        drop(mem::replace(&mut self.turn, turn));
+    }
+
     /// Begins a call. Only memory can refuse it, before any change.
     pub(crate) fn start<R: Rows>(
         &mut self,
@@ -141,7 +148,7 @@ impl<G: Ring> Managed<G> {
     {
         let moved = start_call(alloc, &mut self.state, rows, now, call)?;
         let (turn, advance) = settle(moved);
-        self.turn = turn;
+        self.stand_at(turn);
         Ok(advance)
     }
 
@@ -165,11 +172,11 @@ impl<G: Ring> Managed<G> {
                 match answer_call(&mut self.state, rows, suspended, answer) {
                     Ok(moved) => {
                         let (turn, advance) = settle(moved);
-                        self.turn = turn;
+                        self.stand_at(turn);
                         Ok(advance)
                     }
                     Err((suspended, answer)) => {
-                        self.turn = Turn::Waiting(suspended);
+                        self.stand_at(Turn::Waiting(suspended));
                         Err(answer)
                     }
                 }
@@ -200,7 +207,9 @@ impl<G: Ring> Managed<G> {
     pub(crate) fn into_config(self) -> CacheConfig
         ensures { result ≡ self.state.config }
     {
-        self.state.into_config()
+        let Managed { state, turn } = self;
+        drop(turn);
+        state.into_config()
     }
 
     /// Ends the open call without a reply, and hands out the notices that no one was told, if any may be left.

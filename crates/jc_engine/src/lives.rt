@@ -88,7 +88,10 @@ impl<R: Rows, G: Ring> Engine<R, G> {
             return Err(cache.into_config());
         };
         match self.caches.insert(number, cache) {
-            Ok(_) => Ok(CacheId::new(number)),
+            Ok(none) => {
+                drop(none);
+                Ok(CacheId::new(number))
+            }
             Err(_) => unreachable!(),
         }
     }

@@ -1,12 +1,12 @@
 //! Opening a manager: which configurations it takes, and the caches as they are at first.
-ghost use Rattle.std.specs.Prelude.{◌≡◌, ◌<◌, ◌≤◌, ℕ, false, List, [], ◌∷◌, ◌++◌, IfSome, IfOk, IfErr, OnOk, ◌⊎◌, sum, length};
+ghost use Rattle.std.specs.Prelude.{◌≡◌, ◌<◌, ◌≤◌, ℕ, false, List, [], ◌∷◌, ◌++◌, IfSome, IfOk, IfErr, ◌⊎◌, sum, length};
 ghost use Rattle.std.specs.FinMap as table;
 ghost use Rattle.std.specs.List.{list_any};
 ghost use Rattle.std.specs.Str.{bytes_eq};
 ghost use Rattle.jc_model.specs.Limits.{most_caches};
 ghost use Rattle.jc_engine.specs.Caches.{fresh_from};
 ghost use Rattle.jc_engine.specs.Opening.{open_refusal, open_refusal_from, limit_refusal, refusal_from, is_taken, capacities, names_in};
-ghost use Rattle.jc_engine.specs.Fresh.{AreIds};
+ghost use Rattle.jc_engine.specs.Fresh.{AreNames};
 
 use crate::engine::Engine;
 use jc_model::OutOfMemory;
@@ -19,7 +19,7 @@ use jc_ring::ring::Ring;
 use jc_roster::roster::Roster;
 use jc_rows::rows::Rows;
 use std::alloc::Global;
-use std::collections::HashMap;
+use std::collections::{HashMap, HashSet};
 
 /// Why a manager does not open; `cache` is the place of the cache in the list, from 0.
 #[derive(Debug, Drop, PartialEq, Eq)]
@@ -84,7 +84,9 @@ impl<R: Rows, G: Ring> Engine<R, G> {
         ensures memory { IfErr result (λ refusal. (open_refusal_from first configs.items ≡ Some refusal) ⊎ (refusal ≡ OpenRefusal.OutOfMemory)) }
         ensures opened { IfOk result (λ engine. engine ≡ fresh_from first configs.items) }
     {
-        check(alloc, &configs, first)?;
+        if let Some(refusal) = open_refusal_from(alloc, &configs, first) {
+            return Err(refusal);
+        }
         let mut engine = Engine::vacant(alloc, rows, first);
         for config in configs {
             let Ok(_) = engine.admit(config) else {
@@ -108,61 +110,33 @@ impl<R: Rows, G: Ring> Engine<R, G> {
     }
 }
 
-/// Why a manager does not open with these caches, with ids from the first, want of memory aside.
-pub(crate) fn check(alloc: Global, configs: &[CacheConfig], first: u32) -> Result<(), OpenRefusal>
-    ensures ok { OnOk result (open_refusal_from first configs.now ≡ None) }
-    ensures refused { IfErr result (λ refusal. open_refusal_from first configs.now ≡ Some refusal) }
-{
-    let _ids = ids_by_name(alloc, configs)?;
-    if u64::from(first) + configs.len() as u64 > u64::from(MOST_IDS) {
-        return Err(OpenRefusal::IdsSpent);
-    }
-    Ok(())
-}
-
 /// Why a manager does not open with these caches, want of memory aside.
-pub fn open_refusal(configs: &[CacheConfig]) -> Option<OpenRefusal>
+pub fn open_refusal(alloc: Global, configs: &[CacheConfig]) -> Option<OpenRefusal>
     ensures { result ≡ open_refusal configs.now }
 {
-    match checked(None, configs) {
-        Ok(_) => None,
-        Err(refusal) => Some(refusal),
+    if configs.len() > MOST_CACHES {
+        return Some(OpenRefusal::TooManyCaches);
     }
+    let refusal = first_refusal(alloc, configs);
+    if refusal.is_none() && total_capacity(configs) > MOST_ROWS_TOGETHER {
+        return Some(OpenRefusal::TotalCapacity);
+    }
+    refusal
 }
 
-/// The ids of the caches by name, or `None` where memory was refused for them, unless a manager does not open with
-/// these caches.
-pub fn ids_by_name(
+/// The same, where the first cache gets this id and each further one the next.
+pub(crate) fn open_refusal_from(
     alloc: Global,
     configs: &[CacheConfig],
-) -> Result<Option<HashMap<Key, u32>>, OpenRefusal>
-    ensures ok { IfOk result (λ ids. open_refusal configs.now ≡ None) }
-    ensures ids { IfOk result (λ ids. AreIds ids (names_in configs.now)) }
-    ensures refused { IfErr result (λ refusal. open_refusal configs.now ≡ Some refusal) }
+    first: u32,
+) -> Option<OpenRefusal>
+    ensures { result ≡ open_refusal_from first configs.now }
 {
-    let some = HashMap::with_capacity(alloc, configs.len()).ok();
-    checked(some, configs)
-}
-
-/// The ids of the caches by name, where there is a map for them and memory suffices, unless a manager does not open
-/// with these caches.
-fn checked(
-    ids: Option<HashMap<Key, u32>>,
-    configs: &[CacheConfig],
-) -> Result<Option<HashMap<Key, u32>>, OpenRefusal>
-    requires { AreIds ids [] }
-    ensures ok { IfOk result (λ ids. open_refusal configs.now ≡ None) }
-    ensures ids { IfOk result (λ ids. AreIds ids (names_in configs.now)) }
-    ensures refused { IfErr result (λ refusal. open_refusal configs.now ≡ Some refusal) }
-{
-    if configs.len() > MOST_CACHES {
-        return Err(OpenRefusal::TooManyCaches);
+    let refusal = open_refusal(alloc, configs);
+    if refusal.is_none() && u64::from(first) + configs.len() as u64 > u64::from(MOST_IDS) {
+        return Some(OpenRefusal::IdsSpent);
     }
-    let ids = checked_ids(ids, configs)?;
-    if total_capacity(configs) > MOST_ROWS_TOGETHER {
-        return Err(OpenRefusal::TotalCapacity);
-    }
-    Ok(ids)
+    refusal
 }
 
 /// What is wrong with one cache, its name aside.
@@ -190,51 +164,46 @@ fn is_named(configs: &[CacheConfig], name: Key) -> bool
         .any(|config| config.name.text().as_bytes() == bytes)
 }
 
-/// Whether one of these caches has this name, by the map of their ids where memory sufficed for one.
-fn is_taken(ids: &Option<HashMap<Key, u32>>, before: &[CacheConfig], name: &Key) -> bool
-    requires { AreIds ids.now (names_in before.now) }
-    ensures { result ≡ is_taken name.now (names_in before.now) }
+/// Whether one of these caches has this name, by the set of their names where memory sufficed for one.
+fn is_taken(names: &Option<HashSet<Key>>, before: &[CacheConfig], name: Key) -> bool
+    requires { AreNames names.now (names_in before.now) }
+    ensures { result ≡ is_taken name (names_in before.now) }
 {
-    match ids {
-        Some(ids) => ids.contains_key(name),
-        None => is_named(before, *name),
+    match names {
+        Some(names) => names.contains(&name),
+        None => is_named(before, name),
     }
 }
 
-/// The map with one id more, unless memory is refused for it.
-fn with_id(ids: Option<HashMap<Key, u32>>, name: Key, number: u32) -> Option<HashMap<Key, u32>>
-    ensures { (names : List (List ℕ)) → AreIds ids names → is_taken name names ≡ false → number ≡ length names → AreIds result (names ++ name ∷ []) }
+/// The set with one name more, unless memory is refused for it.
+fn with_name(names: Option<HashSet<Key>>, name: Key) -> Option<HashSet<Key>>
+    ensures { (taken : List (List ℕ)) → AreNames names taken → AreNames result (taken ++ name ∷ []) }
 {
-    let mut ids = ids?;
-    match ids.insert(name, number) {
-        Ok(_) => Some(ids),
+    let mut names = names?;
+    match names.insert(name) {
+        Ok(_) => Some(names),
         Err(_) => None,
     }
 }
 
-/// The same, unless one of the caches is refused.
-fn checked_ids(
-    ids: Option<HashMap<Key, u32>>,
-    configs: &[CacheConfig],
-) -> Result<Option<HashMap<Key, u32>>, OpenRefusal>
-    requires few { length configs.now ≤ most_caches }
-    requires ids { AreIds ids [] }
-    ensures ok { IfOk result (λ ids. refusal_from [] 0 configs.now ≡ None) }
-    ensures ids { IfOk result (λ ids. AreIds ids (names_in configs.now)) }
-    ensures refused { IfErr result (λ refusal. refusal_from [] 0 configs.now ≡ Some refusal) }
+/// What is wrong with the first cache of these that is refused.
+fn first_refusal(alloc: Global, configs: &[CacheConfig]) -> Option<OpenRefusal>
+    requires { length configs.now ≤ most_caches }
+    ensures { result ≡ refusal_from [] 0 configs.now }
 {
-    let mut ids = ids;
+    let mut names = HashSet::with_capacity(alloc, configs.len()).ok();
     for (place, config) in configs.iter().enumerate() {
-        let number = place as u32;
-        if let Some(refusal) = limit_refusal(config, number) {
-            return Err(refusal);
+        let cache = place as u32;
+        let refusal = limit_refusal(config, cache);
+        if refusal.is_some() {
+            return refusal;
         }
-        if is_taken(&ids, &configs[..place], &config.name) {
-            return Err(OpenRefusal::DuplicateName { cache: number });
+        if is_taken(&names, &configs[..place], config.name) {
+            return Some(OpenRefusal::DuplicateName { cache });
         }
-        ids = with_id(ids, config.name, number);
+        names = with_name(names, config.name);
     }
-    Ok(ids)
+    None
 }
 
 /// How many rows the caches may have together.

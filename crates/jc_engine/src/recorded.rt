@@ -19,7 +19,7 @@ use self::notes::{
     begun, enter_answer, enter_life, first_lives, keep_place, kept_place, note, note_given_up,
 };
 use crate::engine::Engine;
-use crate::open::{OpenRefusal, check};
+use crate::open::{OpenRefusal, open_refusal_from};
 use jc_model::call::{Answer, Call, Notice, Reply};
 use jc_model::config::CacheConfig;
 use jc_model::event::{CacheId, Cause, CreateRefusal, Entry, Step};
@@ -85,7 +85,9 @@ impl<R: Rows, G: Ring> Recorded<R, G> {
         ensures opened { IfOk result (λ r. lives_of r.caches ≡ opened_from first configs.items) }
         ensures uncalled { IfOk result (λ r. r.transcript ≡ at_first first configs.items) }
     {
-        check(alloc, &configs, first)?;
+        if let Some(refusal) = open_refusal_from(alloc, &configs, first) {
+            return Err(refusal);
+        }
         let transcript = first_lives(alloc, &configs, first)?;
         let engine = Engine::open_from(alloc, rows, configs, first)?;
         Ok(Recorded {

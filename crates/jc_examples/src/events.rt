@@ -94,7 +94,7 @@ fn id_of<R: Rows, G: Ring>(manager: &Recorded<R, G>, name: &str) -> CacheId {
         Ok(name) => manager.cache(&name),
         Err(_) => None,
     };
-    known.unwrap_or(CacheId::new(1024))
+    known.unwrap_or(CacheId::new(u32::MAX))
 }
 
 /// What a call does next: it replies, or it asks.
@@ -127,13 +127,9 @@ fn done<R: Rows, G: Ring>(
     line: Line,
 ) -> Result<String, AllocError> {
     match line {
-        Line::Call {
-            session,
-            id,
-            at,
-            call,
-        } => {
-            let begun = match manager.begin(session, id, at, call) {
+        Line::Call(made) => {
+            let (session, id, at) = (made.session, made.id, made.at);
+            let begun = match manager.begin(session, id, at, made.call) {
                 Err((Cause::OutOfMemory, call)) => manager.begin(session, id, at, call),
                 begun => begun,
             };

@@ -26,7 +26,7 @@ pub use closure::{ClosureLoader, ClosureProcessor, LoadClosure, ProcessClosure};
 pub use listener::Listener;
 pub use loader::{Loaded, Loader};
 pub use processor::Processor;
-pub use suiting::suits;
+pub use suiting::{first_unsuited, suits};
 pub use tally::{Tally, TallyListener};
 pub use telling::tell_all;
 pub use turn::Turn;

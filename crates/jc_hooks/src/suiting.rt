@@ -1,6 +1,6 @@
-//! Whether a cache's callbacks are those that its configuration names.
-ghost use Rattle.std.specs.Prelude.{◌≡◌, ◌↔◌, IsTrue, map};
-ghost use Rattle.jc_hooks.specs.Suits.{Suits};
+//! Whether callbacks are those that configurations name.
+ghost use Rattle.std.specs.Prelude.{◌≡◌, ◌≤◌, ◌↔◌, IsTrue, IfSome, MatchOption, length, map};
+ghost use Rattle.jc_hooks.specs.Suits.{Suits, AllSuit, DifferFirst};
 
 use crate::cache_hooks::CacheHooks;
 use crate::listener::Listener;
@@ -35,4 +35,27 @@ pub fn suits<L: Loader, W: Writer, P: Processor, K: Listener>(
         && cache.writer == hooks.writer.is_some()
         && cache.listeners as usize == hooks.listeners.len()
         && want_alike(cache.processors.items(), hooks.processors.as_slice())
+}
+
+/// The first place at which the callbacks are not those that the configuration names, or one of the two is missing.
+pub fn first_unsuited<L: Loader, W: Writer, P: Processor, K: Listener>(
+    configs: &[CacheConfig],
+    hooks: &[CacheHooks<L, W, P, K>],
+) -> Option<usize>
+    ensures first { MatchOption result (AllSuit P.wants configs.now hooks.now) (λ place. DifferFirst P.wants configs.now hooks.now place) }
+    ensures within { IfSome result (λ place. place ≤ length configs.now) }
+{
+    for (place, config) in configs.iter().enumerate() {
+        let Some(own) = hooks.get(place) else {
+            return Some(place);
+        };
+        if !suits(config, own) {
+            return Some(place);
+        }
+    }
+    if hooks.len() > configs.len() {
+        Some(configs.len())
+    } else {
+        None
+    }
 }

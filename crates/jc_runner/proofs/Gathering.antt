@@ -1,6 +1,6 @@
 -- A run on worker threads: its callbacks, and what its manager has refused.
 use Rattle.std.proofs.Common.{◌≡◌, ℕ, zero, suc, ◌+◌, ◌<◌, ◌≤◌, Bool, List, [], ◌∷◌, ◌++◌, length, map, get_or, take, sym, ap, ap₂, subst, ◌∙◌, arith, Option, Some, Result, Err}
-use Rattle.std.specs.Prelude.{slice_get, is_some}
+use Rattle.std.specs.Prelude.{is_some}
 use Rattle.std.specs.Result.{result_err}
 use Rattle.std.proofs.lemmas.List.{take_all, take_more, map_push}
 use Rattle.std.proofs.lemmas.Bool.{false≢true}
@@ -27,28 +27,16 @@ use Rattle.jc_engine.specs.Opening.{open_refusal}
 use Rattle.jc_engine.specs.declared.open.OpenRefusal.{OpenRefusal}
 use Rattle.jc_shared.specs.declared.fault.SharedRefusal.{SharedRefusal}
 use Rattle.jc_shared.specs.declared.fault.SharedRefusal.TheVariants.{Caches, HooksDiffer, OutOfMemory}
-use Rattle.jc_shared.specs.Opening.{SuitAt, AllSuit as AllSuitByPlace, CanOpen, IsRefusal}
-use Rattle.jc_runner.specs.Hooks.{AllSuit, CannotOpen}
+use Rattle.jc_hooks.specs.Suits.{AllSuit}
+use Rattle.jc_shared.specs.Opening.{CanOpen, IsRefusal}
+use Rattle.jc_runner.specs.Hooks.{AreSuited, CannotOpen}
+use Rattle.jc_runner.proofs.Suiting.{suited, each_suits}
 use Rattle.jc_runner.specs.Together.{stated_of, Gathers, GathersSo}
 use Rattle.jc_runner.specs.declared.fault.RunFault.{RunFault}
 
--- Callbacks that suit, one after the other and by place.
+-- Why a shared manager does not open.
 
 module _ {L W P K : Type 0} (wants : P → Bool) where
-  pub suit_at : (caches : List CacheConfig) (hooks : List (CacheHooks L W P K)) (place : ℕ) → AllSuit wants caches hooks → SuitAt wants (slice_get caches place) (slice_get hooks place)
-  suit_at [] [] place s = tt
-  suit_at [] (h ∷ hs) place s = absurd s
-  suit_at (c ∷ cs) [] place s = absurd s
-  suit_at (c ∷ cs) (h ∷ hs) zero s = s.0
-  suit_at (c ∷ cs) (h ∷ hs) (suc place) s = suit_at cs hs place s.1
-
-  pub all_suit : (caches : List CacheConfig) (hooks : List (CacheHooks L W P K)) → AllSuitByPlace wants caches hooks → AllSuit wants caches hooks
-  all_suit [] [] s = tt
-  all_suit [] (h ∷ hs) s = s 0
-  all_suit (c ∷ cs) [] s = s 0
-  all_suit (c ∷ cs) (h ∷ hs) s = (s 0, all_suit cs hs (λ place. s (suc place)))
-
-  -- why a shared manager does not open
   pub refused_caches : (caches caches' : List CacheConfig) (hooks : List (CacheHooks L W P K)) (f : SharedRefusal) (r : OpenRefusal) → caches' ≡ caches → f ≡ Caches r → IsRefusal wants caches' hooks f → CannotOpen wants caches hooks
   refused_caches caches caches' hooks f r same is refused =
       let refused' : open_refusal caches' ≡ Some r = subst (IsRefusal wants caches' hooks) is refused in inr (ap is_some (ap open_refusal (sym same) ∙ refused'))
@@ -56,10 +44,10 @@ module _ {L W P K : Type 0} (wants : P → Bool) where
   pub refused_hooks : (caches caches' : List CacheConfig) (hooks : List (CacheHooks L W P K)) (f : SharedRefusal) (place : ℕ) → caches' ≡ caches → f ≡ HooksDiffer place → IsRefusal wants caches' hooks f → CannotOpen wants caches hooks
   refused_hooks caches caches' hooks f place same is refused =
       let refused' : IsRefusal wants caches hooks (HooksDiffer place) = subst (λ (cs : List CacheConfig). IsRefusal wants cs hooks (HooksDiffer place)) same (subst (IsRefusal wants caches' hooks) is refused) in
-      inl (λ suits. refused'.1.here (suit_at caches hooks place suits))
+      inl (λ suits. refused'.1.here (each_suits wants caches hooks suits place))
 
-  pub opened_suits : (caches caches' : List CacheConfig) (hooks : List (CacheHooks L W P K)) → caches' ≡ caches → CanOpen wants caches' hooks → AllSuit wants caches hooks
-  opened_suits caches caches' hooks same opens = subst (λ (cs : List CacheConfig). AllSuit wants cs hooks) same (all_suit caches' hooks opens.1)
+  pub opened_suits : (caches caches' : List CacheConfig) (hooks : List (CacheHooks L W P K)) → caches' ≡ caches → CanOpen wants caches' hooks → AreSuited wants caches hooks
+  opened_suits caches caches' hooks same opens = suited wants caches hooks (subst (λ (cs : List CacheConfig). AllSuit wants cs hooks) same opens.1)
 
   pub opens_in_memory : (caches caches' : List CacheConfig) (hooks : List (CacheHooks L W P K)) (f : SharedRefusal) → caches' ≡ caches → f ≡ OutOfMemory → IsRefusal wants caches' hooks f → CannotOpen wants caches hooks → ⊥
   opens_in_memory caches caches' hooks f same is refused cannot =

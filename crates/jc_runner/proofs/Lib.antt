@@ -7,13 +7,13 @@ pub mod Answered
 pub mod Hearing
 pub mod Reached
 pub mod Bounds
-pub mod Suiting
 pub mod Placed
 pub mod Steps
 pub mod Lives
 pub mod Lines
 pub mod Told
 pub mod Configured
+pub mod Suiting
 pub mod Gathering
 pub mod Sessions
 pub mod Apart

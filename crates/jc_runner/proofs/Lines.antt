@@ -58,7 +58,7 @@ next_ready r l at_rest named =
 
 module _ {L W P K : Type 0} (load_of : L → List ℕ → Loaded) (may : W → List (Request × Answer) → Type 0) (verdict_of : P → Option (List ℕ) → List ℕ → Result Verdict ProcessorFault) (state_after : K → List Notice → List ℕ) where
   pub line_follows : (old new : Recording) (hooks hooks' : List (CacheHooks L W P K)) (l : Line) → IsAtRest old → Names (as_read (lives_now old)) l → RunsLine load_of may verdict_of state_after old new hooks hooks' l → Follows old new l
-  line_follows old new hooks hooks' (line.Call session id at call) at_rest named ran = call_follows load_of may verdict_of state_after old new hooks hooks' (record { session = session; id = id; at = at; call = call }) at_rest ran
+  line_follows old new hooks hooks' (line.Call l) at_rest named ran = call_follows load_of may verdict_of state_after old new hooks hooks' l at_rest ran
   line_follows old new hooks hooks' (line.Create session c) at_rest named ran = create_follows old new session c at_rest ran.0
   line_follows old new hooks hooks' (line.Destroy session id) at_rest named ran = destroy_follows old new session id at_rest named ran.0
 
@@ -67,8 +67,8 @@ module _ {L W P K : Type 0} (load_of : L → List ℕ → Loaded) (may : W → L
     ComesHere id lines callbacks = Comes id all lines (slice_get handed id) (slice_get callbacks id)
 
     comes : (l : Line) → Names (as_read (lives_now old)) l → RunsLine load_of may verdict_of state_after old new hooks hooks' l → (id : ℕ) → (length (lives_now old) ≤ id → ComesHere id (l ∷ rest) hooks) → length (lives_now new) ≤ id → ComesHere id rest hooks'
-    comes (line.Call session i at call) named ran id before beyond =
-        call_comes load_of may verdict_of state_after old new hooks hooks' (record { session = session; id = i; at = at; call = call }) at_rest ran handed all rest id before beyond
+    comes (line.Call l) named ran id before beyond =
+        call_comes load_of may verdict_of state_after old new hooks hooks' l at_rest ran handed all rest id before beyond
     comes (line.Create session c) named ran id before beyond =
         create_comes old new session c at_rest ran.0 load_of may verdict_of state_after all rest id (slice_get handed id) (slice_get hooks id) (slice_get hooks' id) (ap (λ (hs : List (CacheHooks L W P K)). slice_get hs id) ran.1) before beyond
     comes (line.Destroy session i) named ran id before beyond =
@@ -77,8 +77,8 @@ module _ {L W P K : Type 0} (load_of : L → List ℕ → Loaded) (may : W → L
     goes : (l : Line) → Names (as_read (lives_now old)) l → RunsLine load_of may verdict_of state_after old new hooks hooks' l → (id : ℕ) (c : CacheConfig) → (length (lives_now old) ≤ id → ComesHere id (l ∷ rest) hooks)
         → (config_of id old.transcript.lives ≡ Some c → Goes load_of may verdict_of state_after c id all (l ∷ rest) (slice_get handed id) (slice_get hooks id) old.transcript.entries)
         → config_of id new.transcript.lives ≡ Some c → Goes load_of may verdict_of state_after c id all rest (slice_get handed id) (slice_get hooks' id) new.transcript.entries
-    goes (line.Call session i at call) named ran id c before went config =
-        call_goes load_of may verdict_of state_after old new hooks hooks' (record { session = session; id = i; at = at; call = call }) at_rest ran handed all rest id c went config
+    goes (line.Call l) named ran id c before went config =
+        call_goes load_of may verdict_of state_after old new hooks hooks' l at_rest ran handed all rest id c went config
     goes (line.Create session d) named ran id c before went config =
         create_goes old new session d at_rest ran.0 load_of may verdict_of state_after all rest id (slice_get handed id) (slice_get hooks id) (slice_get hooks' id) (ap (λ (hs : List (CacheHooks L W P K)). slice_get hs id) ran.1) before c went config
     goes (line.Destroy session i) named ran id c before went config =

@@ -1,5 +1,5 @@
 -- A configuration that was read opens a manager, and the callbacks that it names are those that its caches are to have.
-use Rattle.std.proofs.Common.{◌≡◌, ℕ, ◌+◌, ◌≤◌, Bool, true, false, List, [], ◌∷◌, ◌++◌, length, map, Option, Some, None, option_map, Result, Ok, Err, refl, sym, ap, ◌∙◌, subst, arith, nat_le, add-one}
+use Rattle.std.proofs.Common.{◌≡◌, ℕ, zero, suc, ◌+◌, ◌≤◌, Bool, true, false, List, [], ◌∷◌, ◌++◌, length, map, Option, Some, None, option_map, Result, Ok, Err, refl, sym, ap, ◌∙◌, subst, arith, nat_le, add-one}
 use Rattle.std.specs.Prelude.{◌||◌, ◌&&◌, ltb, if◌then◌else◌, is_some, sum, option_and_then, ⊤}
 use Rattle.std.specs.Option.{ok_or}
 use Rattle.std.specs.List.{list_any, fold}
@@ -29,7 +29,7 @@ use Rattle.jc_hooks.specs.Tallies.{no_notices}
 use Rattle.jc_model.specs.Limits.{most_rows, most_listeners, most_processors, most_caches, most_rows_together, text_bytes}
 use Rattle.jc_model.specs.declared.config.CacheConfig.{CacheConfig}
 use Rattle.jc_hooks.specs.Suits.{Suits}
-use Rattle.jc_runner.specs.Hooks.{AllSuit}
+use Rattle.jc_hooks.specs.Suits.{AllSuit}
 use Rattle.jc_runner.specs.Naming.{ProgramHooks, loader_named, writer_named, processor_named, IsNamed, AllNamed}
 use Rattle.jc_runner.specs.Opens.{HasKinds, AllHaveKinds, Opens}
 use Rattle.jc_runner.specs.Program.{demonstration}
@@ -241,12 +241,13 @@ named_suits c k h has named = record {
 }
 
 pub all_named_suit : (caches : List CacheConfig) (kinds : List HookKinds) (hooks : List ProgramHooks) → AllHaveKinds caches kinds → AllNamed caches kinds hooks → AllSuit wants_of caches hooks
-all_named_suit [] [] [] has named = tt
-all_named_suit [] [] (h ∷ hooks) has named = absurd named
-all_named_suit [] (k ∷ kinds) hooks has named = absurd has
-all_named_suit (c ∷ caches) [] hooks has named = absurd has
-all_named_suit (c ∷ caches) (k ∷ kinds) [] has named = absurd named
-all_named_suit (c ∷ caches) (k ∷ kinds) (h ∷ hooks) has named = (named_suits c k h has.0 named.0, all_named_suit caches kinds hooks has.1 named.1)
+all_named_suit [] [] [] has named place = tt
+all_named_suit [] [] (h ∷ hooks) has named place = absurd named
+all_named_suit [] (k ∷ kinds) hooks has named place = absurd has
+all_named_suit (c ∷ caches) [] hooks has named place = absurd has
+all_named_suit (c ∷ caches) (k ∷ kinds) [] has named place = absurd named
+all_named_suit (c ∷ caches) (k ∷ kinds) (h ∷ hooks) has named zero = named_suits c k h has.0 named.0
+all_named_suit (c ∷ caches) (k ∷ kinds) (h ∷ hooks) has named (suc place) = all_named_suit caches kinds hooks has.1 named.1 place
 
 pub as_many_kinds : (caches : List CacheConfig) (kinds : List HookKinds) → AllHaveKinds caches kinds → length caches ≤ length kinds
 as_many_kinds [] kinds has = omega arith

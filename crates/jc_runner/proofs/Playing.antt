@@ -29,6 +29,7 @@ use Rattle.jc_runner.specs.declared.fault.RunFault.TheVariants as run
 use Rattle.jc_runner.specs.declared.watched.Watched.{Watched}
 use Rattle.jc_runner.specs.declared.watched.WatchedWriter.{WatchedWriter}
 use Rattle.jc_runner.proofs.Opening.{all_named_suit}
+use Rattle.jc_runner.proofs.Suiting.{suited}
 
 pub named_as : (cs cs' : List CacheConfig) (ks ks' : List HookKinds) (hs hs' : List ProgramHooks) → cs ≡ cs' → ks ≡ ks' → hs' ≡ hs → AllNamed cs ks hs → AllNamed cs' ks' hs'
 named_as cs cs' ks ks' hs hs' e e' e'' named =
@@ -39,7 +40,7 @@ not_refused caches None e some = absurd (false≢true some)
 not_refused caches (Some r) e some = cc
 
 opens_so : (c : Configuration) (hooks : List ProgramHooks) → AllNamed c.settings c.hooks hooks → Opens c → CannotOpen wants_of c.settings hooks → ⊥
-opens_so c hooks named opens (inl differ) = differ (all_named_suit c.settings c.hooks hooks opens.kinds named)
+opens_so c hooks named opens (inl differ) = differ (suited wants_of c.settings hooks (all_named_suit c.settings c.hooks hooks opens.kinds named))
 opens_so c hooks named opens (inr refused) = not_refused c.settings (open_refusal c.settings) opens.refuses_nothing refused
 
 module _ (c : Configuration) (hooks hooks' : List ProgramHooks) (named : AllNamed c.settings c.hooks hooks) where

@@ -74,7 +74,7 @@ one_on id l false calls lines rest = rest
 
 calls_by_id : (id : ℕ) (all : List Line) → calls_on id all ≡ filter (on id) (calls_in all)
 calls_by_id id [] = refl
-calls_by_id id (line.Call session i at call ∷ ls) = one_on id (record { session = session; id = i; at = at; call = call }) (i == id) (calls_on id ls) (calls_in ls) (calls_by_id id ls)
+calls_by_id id (line.Call l ∷ ls) = one_on id l (l.id == id) (calls_on id ls) (calls_in ls) (calls_by_id id ls)
 calls_by_id id (line.Create session c ∷ ls) = calls_by_id id ls
 calls_by_id id (line.Destroy session i ∷ ls) = calls_by_id id ls
 

@@ -54,13 +54,10 @@ entry_of_same id transcript e h = filter-append (λ d. d.id == id) transcript (e
 entry_of_other : (id : ℕ) (transcript : List Entry) (e : Entry) → (e.id == id) ≡ false → entries_of id (transcript ++ e ∷ []) ≡ entries_of id transcript
 entry_of_other id transcript e h = filter-append (λ d. d.id == id) transcript (e ∷ []) ∙ ap (λ es. entries_of id transcript ++ es) (rw h refl) ∙ append-nil (entries_of id transcript)
 
-abbrev pub as_line : LineCall → Line
-as_line l = line.Call l.session l.id l.at l.call
-
-call_of_same : (id : ℕ) (l : LineCall) (rest : List Line) → (l.id == id) ≡ true → calls_on id (as_line l ∷ rest) ≡ l ∷ calls_on id rest
+call_of_same : (id : ℕ) (l : LineCall) (rest : List Line) → (l.id == id) ≡ true → calls_on id (line.Call l ∷ rest) ≡ l ∷ calls_on id rest
 call_of_same id l rest h = rw h refl
 
-call_of_other : (id : ℕ) (l : LineCall) (rest : List Line) → (l.id == id) ≡ false → calls_on id (as_line l ∷ rest) ≡ calls_on id rest
+call_of_other : (id : ℕ) (l : LineCall) (rest : List Line) → (l.id == id) ≡ false → calls_on id (line.Call l ∷ rest) ≡ calls_on id rest
 call_of_other id l rest h = rw h refl
 
 -- A call that replied is closed.
@@ -118,7 +115,7 @@ module _ {L W P K : Type 0} (load_of : L → List ℕ → Loaded) (may : W → L
 
   -- the life of a call
   module _ (c : CacheConfig) (s : State) (all rest : List Line) (l : LineCall) (old new : Recording) (handed h h' : Option (CacheHooks L W P K)) (reply : Reply) (left : standing_from c fresh (map played (entries_of l.id old.transcript.entries)) ≡ idle s)
-      (g : GoesHere c l.id all (as_line l ∷ rest) handed h old.transcript.entries) (r : ReachedFrom load_of may verdict_of state_after c s old new h h' l (Done reply)) where
+      (g : GoesHere c l.id all (line.Call l ∷ rest) handed h old.transcript.entries) (r : ReachedFrom load_of may verdict_of state_after c s old new h h' l (Done reply)) where
     abbrev run : Run
     run = run_alone c s l
 
@@ -196,7 +193,7 @@ module _ {L W P K : Type 0} (load_of : L → List ℕ → Loaded) (may : W → L
     rests id k false is at =
         at_rest.resting id k (sym (ap (λ (ks : Lives). live_at ks id) done.reached.lives ∙ live_other (lives_now old) l.id id (Some stands) (is_other l.id id is)) ∙ at)
 
-    pub call_follows : Follows old new (as_line l)
+    pub call_follows : Follows old new (line.Call l)
     call_follows = record {
       read = ap as_read done.reached.lives ∙ read_same (lives_now old) l.id stood stands done.there refl;
       begun = done.reached.begun ∙ sym (append-nil old.transcript.lives);
@@ -212,32 +209,32 @@ module _ {L W P K : Type 0} (load_of : L → List ℕ → Loaded) (may : W → L
       told_here : IsTold old.transcript l.id stood
       told_here = at_rest.told.each l.id stood done.there
 
-      goes_here : (c : CacheConfig) → config_of l.id old.transcript.lives ≡ Some c → GoesHere c l.id all (as_line l ∷ rest) (slice_get handed l.id) (slice_get hooks l.id) old.transcript.entries
+      goes_here : (c : CacheConfig) → config_of l.id old.transcript.lives ≡ Some c → GoesHere c l.id all (line.Call l ∷ rest) (slice_get handed l.id) (slice_get hooks l.id) old.transcript.entries
           → GoesHere c l.id all rest (slice_get handed l.id) (slice_get hooks' l.id) new.transcript.entries
       goes_here c is =
           let same : done.config ≡ c = same_Some done.config c (sym told_here.0 ∙ is) in
-          subst (λ (d : CacheConfig). GoesHere d l.id all (as_line l ∷ rest) (slice_get handed l.id) (slice_get hooks l.id) old.transcript.entries → GoesHere d l.id all rest (slice_get handed l.id) (slice_get hooks' l.id) new.transcript.entries) same
+          subst (λ (d : CacheConfig). GoesHere d l.id all (line.Call l ∷ rest) (slice_get handed l.id) (slice_get hooks l.id) old.transcript.entries → GoesHere d l.id all rest (slice_get handed l.id) (slice_get hooks' l.id) new.transcript.entries) same
           (λ g. goes_same done.config done.state all rest l old new (slice_get handed l.id) (slice_get hooks l.id) (slice_get hooks' l.id) r.replies.reply (sym told_here.1) g done.reached)
 
-      goes_by : (id : ℕ) (c : CacheConfig) (b : Bool) → (l.id == id) ≡ b → config_of id old.transcript.lives ≡ Some c → GoesHere c id all (as_line l ∷ rest) (slice_get handed id) (slice_get hooks id) old.transcript.entries
+      goes_by : (id : ℕ) (c : CacheConfig) (b : Bool) → (l.id == id) ≡ b → config_of id old.transcript.lives ≡ Some c → GoesHere c id all (line.Call l ∷ rest) (slice_get handed id) (slice_get hooks id) old.transcript.entries
           → GoesHere c id all rest (slice_get handed id) (slice_get hooks' id) new.transcript.entries
       goes_by id c true is config g =
-          let Step : ℕ → Type 0 = λ i. config_of i old.transcript.lives ≡ Some c → GoesHere c i all (as_line l ∷ rest) (slice_get handed i) (slice_get hooks i) old.transcript.entries → GoesHere c i all rest (slice_get handed i) (slice_get hooks' i) new.transcript.entries in
+          let Step : ℕ → Type 0 = λ i. config_of i old.transcript.lives ≡ Some c → GoesHere c i all (line.Call l ∷ rest) (slice_get handed i) (slice_get hooks i) old.transcript.entries → GoesHere c i all rest (slice_get handed i) (slice_get hooks' i) new.transcript.entries in
           subst Step (is_same l.id id is) (goes_here c) config g
       goes_by id c false is config g =
-          goes_past c id all (as_line l ∷ rest) rest (slice_get handed id) (slice_get hooks id) (slice_get hooks' id) old.transcript.entries new.transcript.entries (sym (call_of_other id l rest is))
+          goes_past c id all (line.Call l ∷ rest) rest (slice_get handed id) (slice_get hooks id) (slice_get hooks' id) old.transcript.entries new.transcript.entries (sym (call_of_other id l rest is))
           (ap (entries_of id) done.reached.entries ∙ entry_of_other id old.transcript.entries entry is) (r.others id (is_other l.id id is)) g
 
-      pub call_goes : (id : ℕ) (c : CacheConfig) → (config_of id old.transcript.lives ≡ Some c → GoesHere c id all (as_line l ∷ rest) (slice_get handed id) (slice_get hooks id) old.transcript.entries) → config_of id new.transcript.lives ≡ Some c
+      pub call_goes : (id : ℕ) (c : CacheConfig) → (config_of id old.transcript.lives ≡ Some c → GoesHere c id all (line.Call l ∷ rest) (slice_get handed id) (slice_get hooks id) old.transcript.entries) → config_of id new.transcript.lives ≡ Some c
           → GoesHere c id all rest (slice_get handed id) (slice_get hooks' id) new.transcript.entries
       call_goes id c goes config =
           let config' : config_of id old.transcript.lives ≡ Some c = sym (ap (config_of id) done.reached.begun) ∙ config in
           goes_by id c (l.id == id) refl config' (goes config')
 
-      pub call_comes : (id : ℕ) → (length (lives_now old) ≤ id → Comes id all (as_line l ∷ rest) (slice_get handed id) (slice_get hooks id)) → length (lives_now new) ≤ id → Comes id all rest (slice_get handed id) (slice_get hooks' id)
+      pub call_comes : (id : ℕ) → (length (lives_now old) ≤ id → Comes id all (line.Call l ∷ rest) (slice_get handed id) (slice_get hooks id)) → length (lives_now new) ≤ id → Comes id all rest (slice_get handed id) (slice_get hooks' id)
       call_comes id comes beyond =
           let as_many : length (lives_now new) ≡ length (lives_now old) = ap length done.reached.lives ∙ same_length (lives_now old) l.id (Some stands) in
           let given : l.id < length (lives_now old) = live_within (lives_now old) l.id stood done.there in
           let apart : (l.id == id) ≡ false = grind (arith, nat_tests) in
-          let before : Comes id all (as_line l ∷ rest) (slice_get handed id) (slice_get hooks id) = comes (omega (arith, beyond, as_many)) in
+          let before : Comes id all (line.Call l ∷ rest) (slice_get handed id) (slice_get hooks id) = comes (omega (arith, beyond, as_many)) in
           record { calls = sym (call_of_other id l rest apart) ∙ before.calls; same = r.others id (is_other l.id id apart) ∙ before.same }

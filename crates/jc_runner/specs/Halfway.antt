@@ -111,7 +111,7 @@ module _ {L W P K : Type 0} (load_of : L → List ℕ → Loaded) (may : W → L
 
   -- a line was run
   abbrev pub RunsLine : Recording → Recording → List (CacheHooks L W P K) → List (CacheHooks L W P K) → Line → Type 0
-  RunsLine old new hooks hooks' (line.Call session id at call) = RepliesAt old new hooks hooks' (record { session = session; id = id; at = at; call = call })
+  RunsLine old new hooks hooks' (line.Call l) = RepliesAt old new hooks hooks' l
   RunsLine old new hooks hooks' (line.Create session c) = Moves old new session (Create c) (answer_to (lives_now old) (Create c) false) × (hooks' ≡ hooks)
   RunsLine old new hooks hooks' (line.Destroy session id) = Moves old new session (Destroy id) Destroyed × (hooks' ≡ hooks)
 

@@ -1,6 +1,6 @@
 -- Callbacks that are those which the configurations name.
-use Rattle.std.specs.Prelude.{◌≡◌, ◌⊎◌, Bool, None, IsSome, List, [], ◌∷◌, ⊤}
-use Rattle.jc_hooks.specs.Suits.{Suits}
+use Rattle.std.specs.Prelude.{◌≡◌, ◌⊎◌, Bool, None, IsSome, List, []}
+use Rattle.jc_hooks.specs.Suits.{AllSuit}
 use Rattle.jc_hooks.specs.declared.cache_hooks.CacheHooks.{CacheHooks}
 use Rattle.jc_model.specs.declared.config.CacheConfig.{CacheConfig}
 use Rattle.jc_engine.specs.Opening.{open_refusal}
@@ -13,12 +13,10 @@ pub record HasNone {L W P K : Type 0} (h : CacheHooks L W P K) : Type 0 where
   pub listeners : h.listeners.items ≡ []
 
 module _ {L W P K : Type 0} (wants : P → Bool) where
-  abbrev pub AllSuit : List CacheConfig → List (CacheHooks L W P K) → Type 0
-  AllSuit [] [] = ⊤
-  AllSuit [] (h ∷ hooks) = ⊥
-  AllSuit (c ∷ caches) [] = ⊥
-  AllSuit (c ∷ caches) (h ∷ hooks) = Suits wants c h × AllSuit caches hooks
+  -- each cache has the callbacks that its configuration names: one fact, which a search does not take apart
+  unfoldable pub AreSuited : List CacheConfig → List (CacheHooks L W P K) → Type 0
+  AreSuited caches hooks = AllSuit wants caches hooks
 
   -- the callbacks differ, or the manager refuses the caches
   abbrev pub CannotOpen : List CacheConfig → List (CacheHooks L W P K) → Type 0
-  CannotOpen caches hooks = (AllSuit caches hooks → ⊥) ⊎ IsSome (open_refusal caches)
+  CannotOpen caches hooks = (AreSuited caches hooks → ⊥) ⊎ IsSome (open_refusal caches)

@@ -2,12 +2,12 @@
 ghost use Rattle.std.specs.Prelude.{◌↔◌, ◌∷◌, [], IsTrue, IfOk};
 ghost use Rattle.jc_model.specs.Run.{is_answer_to};
 ghost use Rattle.jc_runner.specs.Answering.{Heard};
-ghost use Rattle.jc_runner.specs.Hooks.{AllSuit, HasNone};
+ghost use Rattle.jc_runner.specs.Hooks.{AreSuited, HasNone};
 
 use jc_config::Settings;
 use jc_hooks::{
     CacheHooks, Listener, Loader, Processor, Writer, ask_loader, ask_processor, ask_to_delete,
-    ask_to_write, suits, tell_all,
+    ask_to_write, first_unsuited, tell_all,
 };
 use jc_model::OutOfMemory;
 use jc_model::call::{Answer, Request};
@@ -18,18 +18,12 @@ pub fn all_suit<L: Loader, W: Writer, P: Processor, K: Listener>(
     settings: &Settings,
     hooks: &[CacheHooks<L, W, P, K>],
 ) -> bool
-    ensures { IsTrue result ↔ AllSuit P.wants settings.now hooks.now }
+    ensures { IsTrue result ↔ AreSuited P.wants settings.now hooks.now }
 {
-    let caches = settings.caches();
-    if caches.len() != hooks.len() {
-        return false;
+    match first_unsuited(settings.caches(), hooks) {
+        None => true,
+        Some(_) => false,
     }
-    for (i, cache) in caches.iter().enumerate() {
-        if !suits(cache, &hooks[i]) {
-            return false;
-        }
-    }
-    true
 }
 
 /// The callbacks of a cache that has none.

@@ -10,7 +10,7 @@ ghost use Rattle.jc_model.specs.Limits.{text_bytes};
 ghost use Rattle.jc_model.specs.Legal.{at_first};
 ghost use Rattle.jc_model.specs.Runs.{opened_from};
 ghost use Rattle.jc_runner.specs.Halfway.{lives_now};
-ghost use Rattle.jc_runner.specs.Hooks.{AllSuit, CannotOpen};
+ghost use Rattle.jc_runner.specs.Hooks.{AreSuited, CannotOpen};
 ghost use Rattle.jc_runner.specs.Reports.{Reports, ReportsOf};
 ghost use Rattle.jc_runner.specs.Meters.{next, most_reads, AddsAtMost};
 ghost use Rattle.jc_runner.specs.Streams.{WritesFront, IsOfRunning, IsOfScript, IsBeforeCalls, HasRun};
@@ -83,7 +83,7 @@ pub fn report_on<T: Rows, L: Loader, W: Writer, P: Processor, K: Listener>(
 ) -> Result<String, RunFault>
     requires empty { T.contents rows ≡ finite.empty }
     requires named { AllName (opened_from 0 settings) lines.items }
-    requires suit { AllSuit P.wants settings hooks.old }
+    requires suit { AreSuited P.wants settings hooks.old }
     ensures untouched { result ≡ Err faults.Open → hooks.new ≡ hooks.old }
     ensures text { IfOk result (λ s. Reports L.load_of W.may P.verdict_of K.state_after settings lines.items hooks.old hooks.new (string_bytes s)) }
     ensures faults { IfErr result IsOfRunning }
@@ -116,7 +116,7 @@ pub fn serial<L: Loader, W: Writer, P: Processor, K: Listener, R: Read, O: Write
     ensures open { result ≡ Err faults.Open → CannotOpen P.wants settings hooks.old }
     ensures good { result ≡ Err faults.Open → IfSome (R.remaining reader.old.inner) (λ input. IsOk (lines settings input)) }
     ensures untouched { IfErr result (λ e. IsBeforeCalls e → hooks.new ≡ hooks.old) }
-    ensures suit { HasRun result → AllSuit P.wants settings hooks.old }
+    ensures suit { HasRun result → AreSuited P.wants settings hooks.old }
     ensures flushed { OnOk result ((writer.new.flushed ≡ true) × (writer.new.failures ≡ writer.old.failures)) }
     ensures closed { result ≢ Err faults.Close }
     ensures front { result ≡ Err faults.Write → IfSome (R.remaining reader.old.inner) (λ input. ReportsOf L.load_of W.may P.verdict_of K.state_after settings input hooks.old hooks.new (λ text. WritesFront (O.contents writer.old.inner) (O.contents writer.new.inner) text)) }

@@ -15,7 +15,7 @@ use jc_engine::recorded::Recorded;
 use jc_hooks::{CacheHooks, Listener, Loader, Processor, Writer};
 use jc_ring::ring::Ring;
 use jc_rows::rows::Rows;
-use jc_script::{Line, LineCall, Managed};
+use jc_script::{Line, Managed};
 use std::alloc::Global;
 
 /// Runs a line. What became of it is noted where it creates or destroys a cache.
@@ -33,20 +33,7 @@ fn run_line<R: Rows, G: Ring, L: Loader, W: Writer, P: Processor, K: Listener>(
     ensures faults { IfErr result (λ e. e ≡ faults.Memory) }
 {
     match line {
-        Line::Call {
-            session,
-            id,
-            at,
-            call,
-        } => {
-            let line = LineCall {
-                session,
-                id,
-                at,
-                call,
-            };
-            run_call(alloc, recorded, hooks, line)
-        }
+        Line::Call(call) => run_call(alloc, recorded, hooks, call),
         Line::Create { session, config } => run_create(recorded, managed, session, config),
         Line::Destroy { session, id } => run_destroy(recorded, managed, session, id),
     }

@@ -8,7 +8,7 @@ ghost use Rattle.jc_script.specs.Named.{AllName};
 ghost use Rattle.jc_shared.specs.Stated.{stated_by, shared_of};
 ghost use Rattle.jc_threads.specs.Lines.{AreMade};
 ghost use Rattle.jc_threads.specs.Managing.{AreManaged};
-ghost use Rattle.jc_runner.specs.Hooks.{AllSuit, CannotOpen};
+ghost use Rattle.jc_runner.specs.Hooks.{AreSuited, CannotOpen};
 ghost use Rattle.jc_runner.specs.Meters.{next};
 ghost use Rattle.jc_runner.specs.Streams.{WritesFront, IsOfThreads, HasRun};
 ghost use Rattle.jc_runner.specs.Together.{stated_of, Gathers, GathersSo};
@@ -52,7 +52,7 @@ fn unnamed<L: Loader, W: Writer, P: Processor, K: Listener>(
 ) -> Result<Shared<L, W, P, K>, RunFault>
     ensures configs { IfOk result (λ s. s.configs ≡ setup.settings) }
     ensures shared { IfOk result (λ s. s.shared ≡ map shared_of setup.hooks.items) }
-    ensures suit { OnOk result (AllSuit P.wants setup.settings setup.hooks.items) }
+    ensures suit { OnOk result (AreSuited P.wants setup.settings setup.hooks.items) }
     ensures refused { result ≡ Err faults.Open → CannotOpen P.wants setup.settings setup.hooks.items }
     ensures memory { result ≡ Err faults.Memory → CannotOpen P.wants setup.settings setup.hooks.items → ⊥ }
     ensures faults { IfErr result IsOfThreads }
@@ -168,7 +168,7 @@ fn gathered<L: Loader, W: Writer, P: Processor, K: Listener, G: Gate, R: Threads
     requires workers { 0 < crew.now.workers }
     requires named { AllName (opened_from 0 setup.settings) lines.items }
     ensures text { IfOk result (λ s. Gathers (stated_of L.load_of P.verdict_of setup.hooks.items) setup.settings lines.items (string_bytes s)) }
-    ensures suit { OnOk result (AllSuit P.wants setup.settings setup.hooks.items) }
+    ensures suit { OnOk result (AreSuited P.wants setup.settings setup.hooks.items) }
     ensures refused { result ≡ Err faults.Open → CannotOpen P.wants setup.settings setup.hooks.items }
     ensures faults { IfErr result IsOfThreads }
 {
@@ -207,7 +207,7 @@ pub fn threaded<
     requires named { AllName (opened_from 0 setup.settings) lines.items }
     ensures ok { OnOk result (GathersSo (stated_of L.load_of P.verdict_of setup.hooks.items) setup.settings lines.items (λ text. Appends (O.contents writer.old.inner) (O.contents writer.new.inner) text)) }
     ensures flushed { OnOk result ((writer.new.flushed ≡ true) × (writer.new.failures ≡ writer.old.failures)) }
-    ensures suit { HasRun result → AllSuit P.wants setup.settings setup.hooks.items }
+    ensures suit { HasRun result → AreSuited P.wants setup.settings setup.hooks.items }
     ensures refused { result ≡ Err faults.Open → CannotOpen P.wants setup.settings setup.hooks.items }
     ensures front { result ≡ Err faults.Write → GathersSo (stated_of L.load_of P.verdict_of setup.hooks.items) setup.settings lines.items (λ text. WritesFront (O.contents writer.old.inner) (O.contents writer.new.inner) text) }
     ensures write_failed { result ≡ Err faults.Write → writer.new.failures ≡ next writer.old.failures }

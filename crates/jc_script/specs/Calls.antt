@@ -10,7 +10,7 @@ use Rattle.jc_script.specs.declared.line.LineCall.{LineCall}
 
 -- the call that a line makes, if it makes one
 abbrev pub call_in : Line → List LineCall
-call_in (line.Call session id at call) = record { session = session; id = id; at = at; call = call } ∷ []
+call_in (line.Call l) = l ∷ []
 call_in (line.Create session c) = []
 call_in (line.Destroy session id) = []
 
@@ -20,7 +20,7 @@ calls_in lines = flat_map call_in lines
 
 -- the call that a line makes on the cache with this id
 abbrev pub call_on : ℕ → Line → List LineCall
-call_on id (line.Call session i at call) = if i == id then record { session = session; id = i; at = at; call = call } ∷ [] else []
+call_on id (line.Call l) = if l.id == id then l ∷ [] else []
 call_on id (line.Create session c) = []
 call_on id (line.Destroy session i) = []
 

@@ -19,7 +19,7 @@ use Rattle.jc_script.specs.Operation.{call_of}
 unfoldable pub calling : Lives → ℕ → ℕ → ℕ → List ℕ → ℕ → Data → Result Line ScriptFault
 calling lives s id moment name n d = do
   call ← call_of name (processors_at lives id) n d
-  Ok (Call s id moment call)
+  Ok (Call (record { session = s; id = id; at = moment; call = call }))
 
 -- a line that names a live cache
 unfoldable pub on_cache : Lives → ℕ → ℕ → Data → Result Line ScriptFault

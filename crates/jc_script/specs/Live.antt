@@ -13,7 +13,7 @@ use Rattle.jc_script.specs.declared.line.Line.TheVariants.{Call, Create, Destroy
 
 -- the caches after a line
 abbrev pub after_line : Lives → Line → Lives
-after_line lives (Call session id at call) = lives
+after_line lives (Call l) = lives
 after_line lives (Create session c) = lives_by lives (creates c) (answer_in lives (creates c) false)
 after_line lives (Destroy session id) = lives_by lives (destroys id) (answer_in lives (destroys id) false)
 

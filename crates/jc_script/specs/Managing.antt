@@ -18,7 +18,7 @@ name_of_live (Some k) = k.config.name
 
 -- a line's answer
 abbrev pub managed_by : Lives → Line → List Managed
-managed_by lives (Call session id at call) = []
+managed_by lives (Call l) = []
 managed_by lives (Create session c) = record { session = session; op = op.Create; name = c.name; refusal = create_refusal lives c } ∷ []
 managed_by lives (Destroy session id) = record { session = session; op = op.Destroy; name = name_of_live (live_at lives id); refusal = None } ∷ []
 
@@ -33,7 +33,7 @@ life_unless (Some refusal) life = []
 
 -- the life that a line begins, if it does
 abbrev pub begun_by : Lives → Line → List Life
-begun_by lives (Call session id at call) = []
+begun_by lives (Call l) = []
 begun_by lives (Create session c) = life_unless (create_refusal lives c) (record { id = length lives; config = c })
 begun_by lives (Destroy session id) = []
 

@@ -17,7 +17,7 @@ pub record IsNamed (lives : Lives) (id : ℕ) (call : Call) : Type 0 where
   pub processor : has_processor status.config call ≡ true
 
 abbrev pub Names : Lives → Line → Type 0
-Names lives (line.Call session id at call) = IsNamed lives id call
+Names lives (line.Call l) = IsNamed lives l.id l.call
 Names lives (line.Create session c) = ⊤
 Names lives (line.Destroy session id) = IsLive lives id
 

@@ -107,7 +107,7 @@ fn follow_line(
     ensures managed { OnOk result (managed.new.items ≡ managed.old.items ++ managed_by (lives_in live) line.now) }
 {
     match line {
-        Line::Call { .. } => Ok(live),
+        Line::Call(_) => Ok(live),
         Line::Create { session, config } => follow_create(live, *session, config, lives, managed),
         Line::Destroy { session, id } => follow_destroy(live, *session, *id, managed),
     }

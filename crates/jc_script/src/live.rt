@@ -155,7 +155,7 @@ impl Live {
         ensures { IfOk result (λ live. lives_in live ≡ after_line (lives_in self) line.now) }
     {
         match line {
-            Line::Call { .. } => Ok(self),
+            Line::Call(_) => Ok(self),
             Line::Create { config, .. } => self.create(config),
             Line::Destroy { id, .. } => Ok(self.destroy(*id)),
         }

@@ -11,7 +11,7 @@ ghost use Rattle.jc_script.specs.Script.{is_feed, is_blank, pieces_after, piece_
 
 use crate::creating::read_create;
 use crate::fault::ScriptFault;
-use crate::line::Line;
+use crate::line::{Line, LineCall};
 use crate::live::{Live, read_cache};
 use crate::member::Reader;
 use crate::operation::read_call;
@@ -26,20 +26,20 @@ use std::alloc::Global;
 fn read_on_cache(live: &Live, reader: &Reader<'_>, session: u32) -> Result<Line, ScriptFault>
     ensures { Gives (λ x. x) result (on_cache (lives_in live.now) session reader.now.line (view reader.now.object.now)) }
 {
-    let id = read_cache(live, reader)?;
+    let number = read_cache(live, reader)?;
+    let id = CacheId::new(number);
     let at = reader.moment()?;
     let name = reader.op()?;
     if name == "destroy" {
-        let id = CacheId::new(id);
         return Ok(Line::Destroy { session, id });
     }
-    let call = read_call(reader, live.processors(id), name)?;
-    Ok(Line::Call {
+    let call = read_call(reader, live.processors(number), name)?;
+    Ok(Line::Call(LineCall {
         session,
-        id: CacheId::new(id),
+        id,
         at,
         call,
-    })
+    }))
 }
 
 #[tactic(auto, unfolding(crate::specs::Line::line_of))]

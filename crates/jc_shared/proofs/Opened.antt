@@ -11,7 +11,7 @@ use Rattle.jc_engine.specs.declared.open.OpenRefusal.{OpenRefusal}
 use Rattle.jc_engine.specs.declared.open.OpenRefusal.TheVariants.{TooManyCaches}
 use Rattle.jc_engine.specs.Opening.{open_refusal}
 use Rattle.jc_place.specs.Place.{IsTableSize}
-use Rattle.jc_shared.specs.Opening.{AllSuit}
+use Rattle.jc_hooks.specs.Suits.{AllSuit}
 use Rattle.jc_shared.specs.Stated.{shared_of, processor_counts, wanted_counts}
 use Rattle.std.proofs.lemmas.List.{length-map}
 use Rattle.jc_shared.specs.Sessions.{BeginsWith}

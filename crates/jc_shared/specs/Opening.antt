@@ -1,10 +1,10 @@
 -- With which configurations and callbacks a manager opens.
-use Rattle.std.specs.Prelude.{◌≡◌, ℕ, ◌<◌, Bool, List, [], ◌∷◌, replicate, slice_get, Option, Some, None, ⊤}
+use Rattle.std.specs.Prelude.{◌≡◌, ℕ, Bool, List, [], ◌∷◌, replicate, Option, Some, None}
 use Rattle.atomic_table.specs.Seated.{TableId}
 use Rattle.jc_cuckoo.specs.declared.held.Held.{Held}
 use Rattle.jc_cuckoo.specs.Images.{image_of}
 use Rattle.jc_index.specs.Indexes.{Index}
-use Rattle.jc_hooks.specs.Suits.{Suits}
+use Rattle.jc_hooks.specs.Suits.{AllSuit, DifferFirst}
 use Rattle.jc_hooks.specs.declared.cache_hooks.CacheHooks.{CacheHooks}
 use Rattle.jc_model.specs.declared.config.CacheConfig.{CacheConfig}
 use Rattle.jc_model.specs.Runs.{opened_from}
@@ -36,26 +36,11 @@ pub record Handed (L P : Type 0) : Type 0 where
   pub index : TableId
 
 module _ {L W P K : Type 0} (wants : P → Bool) where
-  abbrev pub SuitAt : Option CacheConfig → Option (CacheHooks L W P K) → Type 0
-  SuitAt None None = ⊤
-  SuitAt None (Some h) = ⊥
-  SuitAt (Some c) None = ⊥
-  SuitAt (Some c) (Some h) = Suits wants c h
-
-  -- each cache has the callbacks that its configuration names
-  abbrev pub AllSuit : List CacheConfig → List (CacheHooks L W P K) → Type 0
-  AllSuit configs hooks = (place : ℕ) → SuitAt (slice_get configs place) (slice_get hooks place)
-
-  -- this is the first place at which they differ, or one of the two is missing
-  pub record DifferFirst (configs : List CacheConfig) (hooks : List (CacheHooks L W P K)) (place : ℕ) : Type 0 where
-    pub before : (earlier : ℕ) → earlier < place → SuitAt (slice_get configs earlier) (slice_get hooks earlier)
-    pub here : SuitAt (slice_get configs place) (slice_get hooks place) → ⊥
-
   abbrev pub CanOpen : List CacheConfig → List (CacheHooks L W P K) → Type 0
-  CanOpen configs hooks = (open_refusal configs ≡ None) × AllSuit configs hooks
+  CanOpen configs hooks = (open_refusal configs ≡ None) × AllSuit wants configs hooks
 
   -- why nothing opens
   abbrev pub IsRefusal : List CacheConfig → List (CacheHooks L W P K) → SharedRefusal → Type 0
   IsRefusal configs hooks (Caches refusal) = open_refusal configs ≡ Some refusal
-  IsRefusal configs hooks (HooksDiffer cache) = (open_refusal configs ≡ None) × DifferFirst configs hooks cache
+  IsRefusal configs hooks (HooksDiffer cache) = (open_refusal configs ≡ None) × DifferFirst wants configs hooks cache
   IsRefusal configs hooks OutOfMemory = CanOpen configs hooks

@@ -121,13 +121,16 @@ impl<N: Name, L: Loader, W: Writer, P: Processor, K: Listener> Manager<N, L, W, 
         ensures told { TellsOn K.state_after hooks.old hooks.new draft.old.told draft.new.told }
     {
         if tells_again(draft, &request) {
+            drop(request);
             return Err(CallFault::Overtaken);
         }
         let Ok(answer) = self.answer(asked, hooks, draft, &request) else {
+            drop(request);
             return Err(self.give_up(rt, hooks, draft, pass));
         };
         keep_told(draft, request);
         if note_answer(draft, &answer).is_err() {
+            drop(answer);
             return Err(self.give_up(rt, hooks, draft, pass));
         }
         let resumed = self.locked.lock(rt).resume(draft, answer, pass);

@@ -1,16 +1,14 @@
 //! A cache's callbacks, apart by who uses them: loader and processors are asked by all sessions side by side, writer
 //! and listeners by the one call that holds the cache's hooks lock.
-ghost use Rattle.std.specs.Prelude.{◌≡◌, ◌≤◌, length, map, IfOk, IfErr, MatchOption};
+ghost use Rattle.std.specs.Prelude.{◌≡◌, length, map, IfOk, IfErr};
 ghost use Rattle.jc_model.specs.declared.config.CacheConfig.{CacheConfig as Configured};
 ghost use Rattle.jc_model.specs.Runs.{has_processor};
-ghost use Rattle.jc_model.specs.Limits.{most_caches};
 ghost use Rattle.jc_shared.specs.Finding.{accepted};
-ghost use Rattle.jc_shared.specs.Opening.{AllSuit, DifferFirst};
 ghost use Rattle.jc_shared.specs.Stated.{shared_of};
 
 use crate::directory::Directory;
 use crate::fault::CallFault;
-use jc_hooks::{CacheHooks, Listener, Loader, Processor, Writer, suits};
+use jc_hooks::{CacheHooks, Listener, Loader, Processor, Writer};
 use jc_model::OutOfMemory;
 use jc_model::call::Call;
 use jc_model::config::CacheConfig;
@@ -130,27 +128,4 @@ pub(crate) fn apart<L: Loader, W: Writer, P: Processor, K: Listener>(
         shared.push(SharedHooks { loader, processors })?;
     }
     Ok(AllHooks { shared, directory })
-}
-
-/// The first place at which the callbacks are not those that the configuration names, or one of the two is missing.
-pub(crate) fn first_unsuited<L: Loader, W: Writer, P: Processor, K: Listener>(
-    configs: &[CacheConfig],
-    hooks: &[CacheHooks<L, W, P, K>],
-) -> Option<u32>
-    requires { length configs.now ≤ most_caches }
-    ensures { MatchOption result (AllSuit P.wants configs.now hooks.now) (λ cache. DifferFirst P.wants configs.now hooks.now cache) }
-{
-    for (place, config) in configs.iter().enumerate() {
-        let Some(own) = hooks.get(place) else {
-            return Some(place as u32);
-        };
-        if !suits(config, own) {
-            return Some(place as u32);
-        }
-    }
-    if hooks.len() > configs.len() {
-        Some(configs.len() as u32)
-    } else {
-        None
-    }
 }

@@ -1,5 +1,6 @@
 //! One caller's way to the caches of a manager.
-ghost use Rattle.std.specs.Prelude.{◌≡◌, ◌≢◌, ◌⊎◌, suc, Bool, true, false, Some, None, IfOk, IfErr, OnOk, OnErr, Err};
+ghost use Rattle.std.specs.Prelude.{◌≡◌, ◌<◌, ◌≢◌, ◌⊎◌, suc, Bool, true, false, Some, None, IfOk, IfErr, OnOk, OnErr, Err};
+ghost use Rattle.std.specs.Vec.{vec_len, vec_capacity};
 ghost use mathlib.Core.List.{IsPrefix};
 ghost use Rattle.jc_model.specs.declared.event.End.TheVariants.{Replied};
 ghost use Rattle.jc_engine.specs.Recording.{blank};
@@ -68,16 +69,20 @@ impl<'a, N: Name, L: Loader, W: Writer, P: Processor, K: Listener> Logged
     }
 }
 
-/// The entry of a call that is to begin, with a copy of the call.
+/// The entry of a call that is to begin, with a copy of the call, and room for it among a session's own.
 fn draft_of(
     alloc: Global,
+    own: &mut Vec<Entry>,
     session: u32,
     id: CacheId,
     now: u64,
     call: &Call,
 ) -> Result<Entry, OutOfMemory>
-    ensures { IfOk result (λ e. e ≡ blank session id now call.now) }
+    ensures drafted { IfOk result (λ e. e ≡ blank session id now call.now) }
+    ensures room { OnOk result (vec_len own.new < vec_capacity own.new) }
+    ensures same { own.new.items ≡ own.old.items }
 {
+    own.reserve(1)?;
     let call = call.share()?;
     Ok(Entry {
         session,
@@ -136,18 +141,24 @@ impl<'a, N: Name, L: Loader, W: Writer, P: Processor, K: Listener> Session<'a, N
         ensures front { IsPrefix self.old.pass.images self.new.pass.images }
     {
         let manager = self.manager;
-        let lock = manager.hooks_lock(rt, id)?;
+        let lock = match manager.hooks_lock(rt, id) {
+            Ok(lock) => lock,
+            Err(unfound) => {
+                drop(call);
+                return Err(CallFault::from(unfound));
+            }
+        };
         let mut hooks = lock.lock(rt);
         let OwnHooks { asked, locked } = &mut *hooks;
         let asked = manager.asked(id, asked);
         let accepted = asked.accept(&call);
         if let Err(fault) = accepted {
+            drop(call);
             return Err(fault);
         }
-        if self.own.reserve(1).is_err() {
-            return Err(CallFault::OutOfMemory);
-        }
-        let Ok(mut draft) = draft_of(manager.alloc, self.number, id, now, &call) else {
+        let drafted = draft_of(manager.alloc, &mut self.own, self.number, id, now, &call);
+        let Ok(mut draft) = drafted else {
+            drop(call);
             return Err(CallFault::OutOfMemory);
         };
         let begun = manager
@@ -156,7 +167,10 @@ impl<'a, N: Name, L: Loader, W: Writer, P: Processor, K: Listener> Session<'a, N
             .begin(&mut draft, call, &mut self.pass);
         let turned = match begun {
             Ok(turned) => turned,
-            Err(fault) => return Err(fault),
+            Err(fault) => {
+                drop(draft);
+                return Err(fault);
+            }
         };
         let replied = manager.carry_on(rt, asked, locked, &mut draft, turned, &mut self.pass);
         self.own.push_reserved(draft);

@@ -4,18 +4,19 @@ ghost use Rattle.jc_model.specs.Legal.{at_first};
 ghost use Rattle.jc_model.specs.Runs.{opened_from};
 ghost use Rattle.jc_engine.specs.Caches.{lives_of};
 ghost use Rattle.jc_engine.specs.Opening.{open_refusal};
-ghost use Rattle.jc_shared.specs.Opening.{AllSuit, CanOpen, IsRefusal};
+ghost use Rattle.jc_hooks.specs.Suits.{AllSuit};
+ghost use Rattle.jc_shared.specs.Opening.{CanOpen, IsRefusal};
 ghost use Rattle.jc_shared.specs.Stated.{stated_by, shared_of};
 
 use crate::fault::SharedRefusal;
-use crate::hooks::{AllHooks, apart, first_unsuited};
+use crate::hooks::{AllHooks, apart};
 use crate::locked::Locked;
 use crate::manager::Manager;
 use crate::name::Name;
 use crate::tables::BlankTable;
-use jc_engine::open::ids_by_name;
+use jc_engine::open::open_refusal;
 use jc_engine::recorded::Recorded;
-use jc_hooks::{CacheHooks, Listener, Loader, Processor, Writer};
+use jc_hooks::{CacheHooks, Listener, Loader, Processor, Writer, first_unsuited};
 use jc_model::OutOfMemory;
 use jc_model::config::CacheConfig;
 use jc_model::share::Share;
@@ -112,11 +113,13 @@ impl<L: Loader, W: Writer, P: Processor, K: Listener> Shared<L, W, P, K> {
         ensures opens { OnOk result (CanOpen P.wants configs.items hooks.items) }
         ensures refused { IfErr result (λ refusal. IsRefusal P.wants configs.items hooks.items refusal) }
     {
-        if let Err(refusal) = ids_by_name(alloc, configs.as_slice()) {
+        if let Some(refusal) = open_refusal(alloc, configs.as_slice()) {
             return Err(SharedRefusal::Caches(refusal));
         }
         if let Some(cache) = first_unsuited(configs.as_slice(), hooks.as_slice()) {
-            return Err(SharedRefusal::HooksDiffer { cache });
+            return Err(SharedRefusal::HooksDiffer {
+                cache: cache as u32,
+            });
         }
         match opened(alloc, configs, hooks, seed) {
             Ok(shared) => Ok(shared),

@@ -32,7 +32,7 @@ pub record HasSeat (workers number : ℕ) (crew : List Share) : Type 0 where
 
 -- the session of a line
 abbrev pub session_in : Line → ℕ
-session_in (Call session id at call) = session
+session_in (Call l) = l.session
 session_in (Create session config) = session
 session_in (Destroy session id) = session
 

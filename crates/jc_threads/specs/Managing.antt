@@ -20,7 +20,7 @@ IsDestroying configs id = (pass : Sight) × HasGone configs id pass
 abbrev pub AreManaged : List CacheConfig → List Line → List (Option CreateRefusal) → Type 0
 AreManaged configs [] [] = ⊤
 AreManaged configs [] (r ∷ rs) = ⊥
-AreManaged configs (Call session id at call ∷ ls) rs = AreManaged configs ls rs
+AreManaged configs (Call l ∷ ls) rs = AreManaged configs ls rs
 AreManaged configs (Create session config ∷ ls) [] = ⊥
 AreManaged configs (Create session config ∷ ls) (r ∷ rs) = IsCreating configs config r × AreManaged configs ls rs
 AreManaged configs (Destroy session id ∷ ls) [] = ⊥

@@ -16,8 +16,8 @@ fn session_of(line: &Line) -> u32
     ensures { result ≡ session_in line.now }
 {
     match line {
-        Line::Call { session, .. } | Line::Create { session, .. } | Line::Destroy { session, .. } =>
-            *session,
+        Line::Call(call) => call.session,
+        Line::Create { session, .. } | Line::Destroy { session, .. } => *session,
     }
 }
 

@@ -33,7 +33,10 @@ fn create_by<'a, N: Name, L: Loader, W: Writer, P: Processor, K: Listener, R: Wa
     };
     match session.create(rt, config, hooks) {
         Ok(_) => Ok(None),
-        Err((fault, _, _)) => Ok(Some(of_create(fault)?)),
+        Err((fault, config, hooks)) => {
+            drop((config, hooks));
+            Ok(Some(of_create(fault)?))
+        }
     }
 }
 

@@ -206,20 +206,7 @@ fn take<
     ensures managed { OnOk result ((done : List LineValue) → AreManaged N.configs done refusals.old.items → AreManaged N.configs (done ++ line ∷ []) refusals.new.items) }
 {
     match line {
-        Line::Call {
-            session,
-            id,
-            at,
-            call,
-        } => take_call(
-            crew,
-            LineCall {
-                session,
-                id,
-                at,
-                call,
-            },
-        ),
+        Line::Call(call) => take_call(crew, call),
         Line::Create { session, config } => {
             take_create(rt, alloc, gate, crew, refusals, session, config)
         }

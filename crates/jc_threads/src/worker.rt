@@ -125,6 +125,7 @@ fn make_call<'a, N: Name, L: Loader, W: Writer, P: Processor, K: Listener, G: Ga
     ensures made { OnOk result ((done : List CallValue) → HasMade N.stated done session.old → HasMade N.stated (done ++ line ∷ []) session.new) }
 {
     if session.number() != line.session {
+        drop(line);
         return Err(WorkFault::Close);
     }
     let LineCall {
@@ -154,6 +155,7 @@ fn make_line<'a, N: Name, L: Loader, W: Writer, P: Processor, K: Listener, G: Ga
 {
     let place = line.session as usize / workers;
     if place >= sessions.len() {
+        drop(line);
         return Err(WorkFault::Close);
     }
     make_call(rt, gate, &mut sessions[place], line)

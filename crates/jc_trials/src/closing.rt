@@ -127,11 +127,11 @@ fn closes<'a, N: Name, L: Loader, W: Writer, P: Processor, K: Listener, R: Wait>
     let mut sessions = seated(rt, alloc, manager, 64)?;
     let too_many = manager.session(rt).err();
     let Some(mut last) = sessions.pop() else {
-        return Err(Trouble::Memory);
+        return Err(Trouble::Unexpected);
     };
     let answered = answers(rt, alloc, &mut last)? == [true; 3];
     let Err((missing, mut back)) = manager.close(rt, sessions) else {
-        return Err(Trouble::Memory);
+        return Err(Trouble::Unexpected);
     };
     let handed_back = back.len() == 63 && missing == CloseFault::Missing;
     back.push(last)?;
@@ -197,14 +197,14 @@ fn transcript(alloc: Global, waits: bool) -> Result<Transcript, Trouble> {
     for (session, name) in [(0u32, "x"), (1, "y"), (0, "z"), (1, "w")] {
         let put = Call::Put(key(name)?, value_of(alloc, "1")?);
         if manager.begin(session, a, 0, put).is_err() {
-            return Err(Trouble::Memory);
+            return Err(Trouble::Unexpected);
         }
     }
     if manager.begin(0, a, 0, Call::Get(key("v")?)).is_err() {
-        return Err(Trouble::Memory);
+        return Err(Trouble::Unexpected);
     }
     if !waits && manager.resume(a, Answer::LoadFailed).is_err() {
-        return Err(Trouble::Memory);
+        return Err(Trouble::Unexpected);
     }
     Ok(manager.transcript().share()?)
 }

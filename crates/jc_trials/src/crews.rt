@@ -160,9 +160,7 @@ fn gathered<L: Loader, W: Writer, P: Processor, K: Listener, G: Gate, R: Threads
     requires { 0 < crew.now.workers }
 {
     let Configuration { settings, .. } = read_config(alloc, caches.as_bytes())?;
-    let Ok(lines) = read_script(alloc, calls, &settings) else {
-        return Err(Trouble::Memory);
-    };
+    let lines = read_script(alloc, calls, &settings)?;
     let setup = Setup {
         settings,
         hooks,

@@ -67,7 +67,7 @@ fn put_letters<N: Naming>(
     for name in LETTERS.iter().take(after).skip(before) {
         let put = Call::Put(key(name)?, value_of(alloc, name)?);
         if manager.begin(0, CacheId::new(0), 0, put).is_err() {
-            return Err(Trouble::Memory);
+            return Err(Trouble::Unexpected);
         }
     }
     Ok(())

@@ -34,7 +34,7 @@ fn put_new<R: Rows>(rows: &mut R, key: Key, row: u32) -> Result<(), Trouble> {
     let id = CacheId::new(0);
     if rows.find(id, &key).is_none() {
         let Some(all) = rows.len().checked_add(1) else {
-            return Err(Trouble::Memory);
+            return Err(Trouble::Unexpected);
         };
         if rows.make_room(all).is_err() {
             rows.make_room(all)?;

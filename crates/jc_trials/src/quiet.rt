@@ -69,17 +69,14 @@ static LINES: [(&str, u64); 24] = [
 /// Does what a line asks for.
 fn done(manager: &mut Counted, line: Line) -> Result<(), Trouble> {
     let refused = match line {
-        Line::Call {
-            session,
-            id,
-            at,
-            call,
-        } => manager.begin(session, id, at, call).is_err(),
+        Line::Call(made) => manager
+            .begin(made.session, made.id, made.at, made.call)
+            .is_err(),
         Line::Create { config, .. } => manager.create(config).is_err(),
         Line::Destroy { id, .. } => manager.destroy(id).is_err(),
     };
     if refused {
-        return Err(Trouble::Memory);
+        return Err(Trouble::Unexpected);
     }
     Ok(())
 }
@@ -89,9 +86,7 @@ fn first_other(alloc: Global) -> Result<Option<usize>, Trouble> {
     let Configuration { settings, .. } = read_config(alloc, CACHES.as_bytes())?;
     let mut lines: Vec<Line> = Vec::new(alloc);
     for (text, _) in &LINES {
-        let Ok(read) = read_script(alloc, text.as_bytes(), &settings) else {
-            return Err(Trouble::Memory);
-        };
+        let read = read_script(alloc, text.as_bytes(), &settings)?;
         for line in read {
             lines.push(line)?;
         }

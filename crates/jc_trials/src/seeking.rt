@@ -90,7 +90,7 @@ fn put<N: Name, L: Loader, W: Writer, P: Processor, K: Listener, R: Wait>(
     for number in from..to {
         let call = Call::Put(numbered(alloc, number)?, value_of(alloc, "1")?);
         if session.call(rt, id, 0, call) != Ok(Reply::Done) {
-            return Err(Trouble::Memory);
+            return Err(Trouble::Unexpected);
         }
     }
     Ok(())
@@ -200,7 +200,7 @@ fn found_in_crowd<N: Name, L: Loader, W: Writer, P: Processor, K: Listener, R: W
     for key in keys.iter().take(9) {
         let call = Call::Put(*key, value_of(alloc, "1")?);
         if session.call(rt, id, 0, call) != Ok(Reply::Done) {
-            return Err(Trouble::Memory);
+            return Err(Trouble::Unexpected);
         }
     }
     let (mut sure, mut there) = (0usize, 0usize);

@@ -193,17 +193,11 @@ fn make<N: Name, L: Loader, W: Writer, P: Processor, K: Listener, R: Wait>(
     log: &Log,
 ) {
     for line in lines {
-        let Line::Call {
-            session,
-            id,
-            at,
-            call,
-        } = line
-        else {
+        let Line::Call(made) = line else {
             continue;
         };
-        if let Some(session) = sessions.get_mut(session as usize) {
-            let _ = session.call(rt, id, at, call);
+        if let Some(session) = sessions.get_mut(made.session as usize) {
+            let _ = session.call(rt, made.id, made.at, made.call);
         }
         log.note(Text::of(b"."));
     }
@@ -269,9 +263,7 @@ pub(crate) fn noting_hooks(
 /// The report of a scene, and what its callbacks are asked.
 fn report_of<R: Wait>(rt: &R, alloc: Global, scene: &Scene) -> Result<(String, Vec<u8>), Trouble> {
     let Configuration { settings, .. } = read_config(alloc, scene.caches.as_bytes())?;
-    let Ok(lines) = read_script(alloc, scene.calls.as_bytes(), &settings) else {
-        return Err(Trouble::Memory);
-    };
+    let lines = read_script(alloc, scene.calls.as_bytes(), &settings)?;
     let log = Log::new(alloc, 32)?;
     let noting = noting_hooks(alloc, scene, &log)?;
     let shared = Shared::open(alloc, settings.into_caches(), noting, 7)?;

@@ -27,7 +27,7 @@ pub const NAMES: [&str; 40] = [
 pub fn put_new<R: Rows>(rows: &mut R, id: CacheId, key: Key, row: u32) -> Result<(), Trouble> {
     if rows.find(id, &key).is_none() {
         let Some(all) = rows.len().checked_add(1) else {
-            return Err(Trouble::Memory);
+            return Err(Trouble::Unexpected);
         };
         rows.make_room(all)?;
         rows.put(id, key, row, Expiry::Never);

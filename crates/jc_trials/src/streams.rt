@@ -209,9 +209,7 @@ fn fault_of_workers<O: Write, R: Threads + Wait + Sync>(
     writer: &mut WatchedWriter<O>,
 ) -> Result<Option<RunFault>, Trouble> {
     let settings = demonstration(alloc)?;
-    let Ok(lines) = read_script(alloc, SCRIPT.as_bytes(), &settings) else {
-        return Err(Trouble::Memory);
-    };
+    let lines = read_script(alloc, SCRIPT.as_bytes(), &settings)?;
     let mut hooks: Vec<ProgramHooks> = Vec::new(alloc);
     for _ in 0..2 {
         hooks.push(no_hooks(alloc))?;

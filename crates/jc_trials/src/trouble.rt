@@ -10,15 +10,19 @@ use jc_model::key::{Key, KeyFault};
 use jc_model::keys::ListFault;
 use jc_model::value::{Value, ValueFault};
 use jc_runner::{ProgramFault, RunFault};
+use jc_script::ScriptFault;
 use jc_shared::{CloseFault, SessionRefusal, SharedRefusal};
 use std::alloc::{AllocFailed, Global};
 
-/// What stopped a trial: want of memory, or what the part that was called refused.
+/// What stopped a trial: want of memory, what the part that was called refused, or that something else came of a call
+/// that the trial builds on.
 #[derive(Debug, Drop, PartialEq, Eq)]
 pub enum Trouble {
     Memory,
+    Unexpected,
     Opening(OpenRefusal),
     NoConfig(ConfigFault),
+    NoScript(ScriptFault),
     NoKey(KeyFault),
     NoValue(ValueFault),
     NoList(ListFault),
@@ -51,6 +55,12 @@ impl From<OpenRefusal> for Trouble {
 impl From<ConfigFault> for Trouble {
     fn from(fault: ConfigFault) -> Trouble {
         Trouble::NoConfig(fault)
+    }
+}
+
+impl From<ScriptFault> for Trouble {
+    fn from(fault: ScriptFault) -> Trouble {
+        Trouble::NoScript(fault)
     }
 }
 

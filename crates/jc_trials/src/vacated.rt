@@ -122,7 +122,7 @@ fn filled_again(alloc: Global, manager: &mut Crowded, name: &str) -> Result<Cach
         created => created,
     };
     let Ok(id) = created else {
-        return Err(Trouble::Memory);
+        return Err(Trouble::Unexpected);
     };
     let value = match value_of(alloc, name) {
         Err(Trouble::Memory) => value_of(alloc, name),
@@ -132,7 +132,11 @@ fn filled_again(alloc: Global, manager: &mut Crowded, name: &str) -> Result<Cach
         Err((Cause::OutOfMemory, call)) => manager.begin(0, id, 0, call).is_ok(),
         begun => begun.is_ok(),
     };
-    if put { Ok(id) } else { Err(Trouble::Memory) }
+    if put {
+        Ok(id)
+    } else {
+        Err(Trouble::Unexpected)
+    }
 }
 
 #[test]

@@ -8,7 +8,7 @@ use Rattle.jc_runner.proofs.running.run_line.Goals as goal
 
 pub run_call-requires-after_bounds : goal.run_call-requires-after_bounds
 run_call-requires-after_bounds g c κs within =
-    next_ready c.args.recorded.now (record { session = c.in-Call.session; id = c.in-Call.id; at = c.in-Call.at; call = c.in-Call.call }) c.requires.rest
+    next_ready c.args.recorded.now c.in-Call.call c.requires.rest
     (subst (Names (as_read (lives_now c.args.recorded.now))) c.in-Call.is c.requires.named)
 
 pub returns-in-Create-clause-ran : goal.returns-in-Create-clause-ran

@@ -10,7 +10,7 @@ pub returns-in-Call-clause-managed : goal.returns-in-Call-clause-managed
 returns-in-Call-clause-managed g c =
     let configs = g.N.Name.configs in
     let rs = c.args.refusals.now.items in
-    let more = Call c.in-Call.session c.in-Call.id c.in-Call.at c.in-Call.call ∷ [] in
+    let more = Call c.in-Call.call ∷ [] in
     on_ok_always c.take_call.result (λ done before.
     subst (λ (l : Line). AreManaged configs (done ++ l ∷ []) rs) (sym c.in-Call.is)
     (subst (AreManaged configs (done ++ more)) (append-nil rs) (managed_both configs done more rs [] before tt)))
