@@ -12,6 +12,7 @@ returns-in-None g c =
 
 pub returns-in-Some : goal.returns-in-Some
 returns-in-Some g c =
-    let wants = g.P.Processor.wants in
-    (λ e. absurd (false≢true e),
-     λ s. absurd (c.in-Some.ensures.first.here (subst (λ (cs : List CacheConfig). AllSuit wants cs c.args.hooks.now) (sym c.caches.ensures.same) (each_suits wants c.args.settings.now c.args.hooks.now s) _)))
+    let wants = g.P.Processor.wants in (
+      λ e. absurd (false≢true e),
+      λ s. absurd (c.in-Some.ensures.first.here (subst (λ (cs : List CacheConfig). AllSuit wants cs c.args.hooks.now) (sym c.caches.ensures.same) (each_suits wants c.args.settings.now c.args.hooks.now s) _)),
+    )
