@@ -290,10 +290,10 @@ impl Share for End {
 
 impl Share for Entry {
     fn share(&self) -> Result<Entry, OutOfMemory> {
-        let call = self.call.share()?;
         let answers = self.answers.share()?;
         let told = self.told.share()?;
         let end = self.end.share()?;
+        let call = self.call.share()?;
         Ok(Entry {
             session: self.session,
             id: self.id,
