@@ -92,7 +92,9 @@ pub(crate) fn go_on<R: Rows, G: Ring>(
             }
             Next::Ended(reply) => {
                 if let Some(by) = ends_call(reply.first()) {
-                    return Moved::Ended(fault(by, Some(ahead.sum.done)), notices);
+                    let done = ahead.sum.done;
+                    drop((reply, ahead));
+                    return Moved::Ended(fault(by, Some(done)), notices);
                 }
                 ahead.sum.add(key, reply);
             }
@@ -120,7 +122,11 @@ pub(crate) fn go_on_after<R: Rows, G: Ring>(
     ensures moved { ComesTo state.old.config (after_key key (λ next q. each state.old.config now (calls_in ahead.rest.items) next q) (sum_of ahead.sum) (progress_of state.old notices.told) reply) result state.new }
 {
     match ends_call(reply.first()) {
-        Some(by) => Moved::Ended(fault(by, Some(ahead.sum.done)), notices),
+        Some(by) => {
+            let done = ahead.sum.done;
+            drop((reply, ahead));
+            Moved::Ended(fault(by, Some(done)), notices)
+        }
         None => {
             ahead.sum.add(key, reply);
             go_on(state, rows, notices, now, ahead)

@@ -127,10 +127,10 @@ pub fn prepare<R: Rows, G: Ring>(
         adds: any_creates(calls.as_slice()),
         tells: any_tells(calls.as_slice()),
     };
-    let sum = tally_for(alloc, call, count)?;
-    let rest = with_values(alloc, state, rows, calls)?;
     make_places(state, notices, needs, count, 0)?;
     make_room(rows, if needs.adds { count } else { 0 })?;
+    let rest = with_values(alloc, state, rows, calls)?;
+    let sum = tally_for(alloc, call, count)?;
     Ok(Ahead { rest, sum, needs })
 }
 
