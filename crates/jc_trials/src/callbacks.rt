@@ -2,7 +2,9 @@
 //! stored closures.
 
 use crate::closures::{echo_closure, processor_closure};
-use crate::fakes::{NotedListener, NotedLoader, NotedProcessor, NotedWriter, PoorLoader};
+use crate::fakes::{
+    NotedListener, NotedLoader, NotedProcessor, NotedWriter, PoorLoader, noted_listeners,
+};
 use crate::log::Log;
 use crate::trouble::{Trouble, no_hooks};
 use jc_config::{Configuration, HookKinds, ProcessorKind, read_config};
@@ -147,11 +149,7 @@ fn processing(
     log: &Log,
 ) -> Result<NotedProcessor<ClosureProcessor>, OutOfMemory> {
     let (name, processor) = named(kind);
-    Ok(NotedProcessor {
-        name,
-        processor: processor_closure(alloc, processor)?,
-        log: log.share()?,
-    })
+    NotedProcessor::new(name, processor_closure(alloc, processor)?, log)
 }
 
 /// The callbacks of one cache, which share a log.
@@ -161,30 +159,27 @@ fn noted(
     listeners: u8,
     log: &Log,
 ) -> Result<NotedHooks, OutOfMemory> {
-    let mut hooks: NotedHooks = no_hooks(alloc);
-    if kinds.loader.is_some() {
-        let loader = echo_closure(alloc)?;
-        hooks.loader = Some(NotedLoader {
-            loader,
-            log: log.share()?,
-        });
-    }
-    if kinds.writer.is_some() {
-        hooks.writer = Some(NotedWriter {
-            writer: CheckWriter,
-            log: log.share()?,
-        });
-    }
+    let listeners = noted_listeners(alloc, listeners, log)?;
+    let mut processors = Vec::new(alloc);
     for kind in kinds.processors.items() {
-        hooks.processors.push(processing(alloc, *kind, log)?)?;
+        processors.push(processing(alloc, *kind, log)?)?;
     }
-    for name in b'1'..b'1'.saturating_add(listeners) {
-        hooks.listeners.push(NotedListener {
-            name,
-            log: log.share()?,
-        })?;
-    }
-    Ok(hooks)
+    let loader = if kinds.loader.is_some() {
+        Some(NotedLoader::new(echo_closure(alloc)?, log)?)
+    } else {
+        None
+    };
+    let writer = if kinds.writer.is_some() {
+        Some(NotedWriter::new(CheckWriter, log)?)
+    } else {
+        None
+    };
+    Ok(CacheHooks {
+        loader,
+        writer,
+        processors,
+        listeners,
+    })
 }
 
 /// What a scene's callbacks are asked.

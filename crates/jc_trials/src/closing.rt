@@ -3,7 +3,7 @@ ghost use Rattle.std.specs.Prelude.{◌≡◌, map};
 ghost use Rattle.jc_shared.specs.Stated.{stated_by};
 
 use crate::sessions::seated;
-use crate::trouble::{Trouble, key, no_hooks, plain_cache, value_of};
+use crate::trouble::{Trouble, done, is, key, no_hooks, plain_cache, value_of};
 use jc_engine::open::OpenRefusal;
 use jc_engine::recorded::Recorded;
 use jc_hooks::program::{CheckWriter, EchoLoader, ProgramProcessor};
@@ -39,17 +39,17 @@ fn full_cache(alloc: Global, name: &str, capacity: u32) -> Result<CacheConfig, T
 /// Its callbacks, but for the one of this number.
 fn hooks_but(alloc: Global, left_out: u32) -> Result<Hooks, Trouble> {
     let mut hooks: Hooks = no_hooks(alloc);
-    if left_out != 0 {
-        hooks.loader = Some(EchoLoader);
-    }
-    if left_out != 1 {
-        hooks.writer = Some(CheckWriter);
-    }
     if left_out != 2 {
         hooks.processors.push(ProgramProcessor::Append)?;
     }
     if left_out != 3 {
         hooks.listeners.push(TallyListener::new())?;
+    }
+    if left_out != 0 {
+        hooks.loader = Some(EchoLoader);
+    }
+    if left_out != 1 {
+        hooks.writer = Some(CheckWriter);
     }
     Ok(hooks)
 }
@@ -72,27 +72,32 @@ static OPENINGS: [(u32, (u32, u32), usize, Option<SharedRefusal>); 9] = [
     (4, (4, 4), 3, Some(SharedRefusal::HooksDiffer { cache: 2 })),
 ];
 
+/// Two such caches.
+fn full_caches(alloc: Global, capacity: u32) -> Result<Vec<CacheConfig>, Trouble> {
+    let mut configs = Vec::new(alloc);
+    for name in ["a", "b"] {
+        configs.push(full_cache(alloc, name, capacity)?)?;
+    }
+    Ok(configs)
+}
+
+/// The callbacks of so many caches, the first two of which lack these.
+fn hooks_of(alloc: Global, left_out: (u32, u32), count: usize) -> Result<Vec<Hooks>, Trouble> {
+    let mut hooks = Vec::new(alloc);
+    for lacks in [left_out.0, left_out.1, 4].iter().take(count) {
+        hooks.push(hooks_but(alloc, *lacks)?)?;
+    }
+    Ok(hooks)
+}
+
 #[test]
 fn managers_open_over_the_callbacks_that_are_named(rt: HostRuntime) -> Result<(), Trouble> {
     let alloc = rt.alloc();
     for (number, (capacity, left_out, count, refusal)) in OPENINGS.iter().enumerate() {
-        let configs = [
-            full_cache(alloc, "a", *capacity)?,
-            full_cache(alloc, "b", *capacity)?,
-        ];
-        let mut hooks = Vec::new(alloc);
-        let all = [
-            hooks_but(alloc, left_out.0)?,
-            hooks_but(alloc, left_out.1)?,
-            hooks_but(alloc, 4)?,
-        ];
-        for own in all {
-            if hooks.len() < *count {
-                hooks.push(own)?;
-            }
-        }
-        let opened = Shared::open(alloc, Vec::from_array(alloc, configs)?, hooks, 7);
-        assert_eq!(rt; &opened.err(), refusal, "{number}");
+        let configs = full_caches(alloc, *capacity)?;
+        let hooks = hooks_of(alloc, *left_out, *count)?;
+        let refused = Shared::open(alloc, configs, hooks, 7).err();
+        assert_eq!(rt; &refused, refusal, "{number}");
     }
     Ok(())
 }
@@ -111,9 +116,15 @@ fn answers<N: Name, L: Loader, W: Writer, P: Processor, K: Listener, R: Wait>(
     };
     let put = Call::Put(key("k")?, value_of(alloc, "1")?);
     Ok([
-        session.call(rt, b, 0, Call::Stats) == Err(CallFault::NoSuchCache),
-        session.call(rt, a, 0, invoke) == Err(CallFault::NoSuchProcessor),
-        session.call(rt, a, 0, put) == Ok(Reply::Done) && session.number() == 63,
+        is(
+            session.call(rt, b, 0, Call::Stats),
+            Err(CallFault::NoSuchCache),
+        ),
+        is(
+            session.call(rt, a, 0, invoke),
+            Err(CallFault::NoSuchProcessor),
+        ),
+        is(session.call(rt, a, 0, put), Ok(Reply::Done)) && session.number() == 63,
     ])
 }
 
@@ -196,15 +207,11 @@ fn transcript(alloc: Global, waits: bool) -> Result<Transcript, Trouble> {
     let a = CacheId::new(0);
     for (session, name) in [(0u32, "x"), (1, "y"), (0, "z"), (1, "w")] {
         let put = Call::Put(key(name)?, value_of(alloc, "1")?);
-        if manager.begin(session, a, 0, put).is_err() {
-            return Err(Trouble::Unexpected);
-        }
+        done(manager.begin(session, a, 0, put))?;
     }
-    if manager.begin(0, a, 0, Call::Get(key("v")?)).is_err() {
-        return Err(Trouble::Unexpected);
-    }
-    if !waits && manager.resume(a, Answer::LoadFailed).is_err() {
-        return Err(Trouble::Unexpected);
+    done(manager.begin(0, a, 0, Call::Get(key("v")?)))?;
+    if !waits {
+        done(manager.resume(a, Answer::LoadFailed))?;
     }
     Ok(manager.transcript().share()?)
 }

@@ -5,9 +5,10 @@ ghost use Rattle.jc_hooks.specs.Program.{echoed};
 ghost use Rattle.jc_hooks.specs.Processors.{verdict_by};
 ghost use Rattle.jc_shared.specs.Stated.{stated_by};
 
-use crate::fakes::{NotedListener, NotedLoader, NotedProcessor, NotedWriter};
+use crate::fakes::{NotedListener, NotedLoader, NotedProcessor, NotedWriter, noted_listeners};
 use crate::log::Log;
-use crate::trouble::{Trouble, key, no_hooks, plain_cache, value_of};
+use crate::sessions::seated;
+use crate::trouble::{Trouble, done, is, key, no_hooks, plain_cache, value_of};
 use jc_hooks::CacheHooks;
 use jc_hooks::program::{CheckWriter, EchoLoader, ProgramProcessor};
 use jc_index::lookup::Lookup;
@@ -45,25 +46,17 @@ fn full_cache(alloc: Global, name: &str) -> Result<CacheConfig, Trouble> {
 
 /// Its callbacks, which note what they are asked.
 fn full_hooks(alloc: Global, log: &Log) -> Result<Hooks, OutOfMemory> {
-    let mut hooks: Hooks = no_hooks(alloc);
-    hooks.loader = Some(NotedLoader {
-        loader: EchoLoader,
-        log: log.share()?,
-    });
-    hooks.writer = Some(NotedWriter {
-        writer: CheckWriter,
-        log: log.share()?,
-    });
-    hooks.processors.push(NotedProcessor {
-        name: b"a",
-        processor: ProgramProcessor::Append,
-        log: log.share()?,
-    })?;
-    hooks.listeners.push(NotedListener {
-        name: b'1',
-        log: log.share()?,
-    })?;
-    Ok(hooks)
+    let append = NotedProcessor::new(b"a", ProgramProcessor::Append, log)?;
+    let processors = Vec::from_array(alloc, [append])?;
+    let listeners = noted_listeners(alloc, 1, log)?;
+    let loader = NotedLoader::new(EchoLoader, log)?;
+    let writer = NotedWriter::new(CheckWriter, log)?;
+    Ok(CacheHooks {
+        loader: Some(loader),
+        writer: Some(writer),
+        processors,
+        listeners,
+    })
 }
 
 /// Whether all callbacks are there.
@@ -83,13 +76,19 @@ fn goes<N: Name, R: Wait>(
     let (a, x) = (CacheId::new(0), key("x")?);
     let put = Call::Put(x, value_of(alloc, "1")?);
     Ok([
-        second.call(rt, a, 0, put) == Ok(Reply::Done),
-        first.call(rt, a, 0, Call::Contains(x)) == Ok(Reply::Truth(true)),
+        is(second.call(rt, a, 0, put), Ok(Reply::Done)),
+        is(
+            first.call(rt, a, 0, Call::Contains(x)),
+            Ok(Reply::Truth(true)),
+        ),
         first.contains_key(a, &x, 1) == Lookup::Sure(true),
         first.destroy(rt, a) == Ok(()),
         first.contains_key(a, &x, 1) == Lookup::Sure(false),
         first.destroy(rt, a) == Err(DestroyFault::NoSuchCache),
-        second.call(rt, a, 1, Call::Get(x)) == Err(CallFault::NoSuchCache),
+        is(
+            second.call(rt, a, 1, Call::Get(x)),
+            Err(CallFault::NoSuchCache),
+        ),
         manager.cache(rt, &key("a")?).is_none(),
     ])
 }
@@ -104,22 +103,29 @@ fn comes<N: Name, R: Wait>(
     log: &Log,
 ) -> Result<[bool; 6], Trouble> {
     let (c, k) = (CacheId::new(2), key("k")?);
-    let created = first.create(rt, full_cache(alloc, "c")?, full_hooks(alloc, log)?);
-    let put = Call::Put(k, value_of(alloc, "2")?);
-    let invoke = |processor| {
-        Ok::<Call, Trouble>(Call::Invoke {
-            key: k,
-            processor,
-            argument: value_of(alloc, "+")?,
-        })
+    let (loaded, stored) = (value_of(alloc, "k")?, value_of(alloc, "2")?);
+    let (plus, other) = (value_of(alloc, "+")?, value_of(alloc, "+")?);
+    let invoke = |processor, argument| Call::Invoke {
+        key: k,
+        processor,
+        argument,
     };
+    let config = full_cache(alloc, "c")?;
+    let created = first.create(rt, config, full_hooks(alloc, log)?).ok();
+    let named = manager.cache(rt, &key("c")?);
     Ok([
-        created.ok() == Some(c),
-        manager.cache(rt, &key("c")?) == Some(c),
-        second.call(rt, c, 2, Call::Get(k)) == Ok(Reply::Found(Some(value_of(alloc, "k")?))),
-        second.call(rt, c, 2, put) == Ok(Reply::Done),
-        second.call(rt, c, 2, invoke(0)?).is_ok(),
-        second.call(rt, c, 2, invoke(1)?) == Err(CallFault::NoSuchProcessor),
+        created == Some(c),
+        named == Some(c),
+        is(
+            second.call(rt, c, 2, Call::Get(k)),
+            Ok(Reply::Found(Some(loaded))),
+        ),
+        is(second.call(rt, c, 2, Call::Put(k, stored)), Ok(Reply::Done)),
+        done(second.call(rt, c, 2, invoke(0, plus))).is_ok(),
+        is(
+            second.call(rt, c, 2, invoke(1, other)),
+            Err(CallFault::NoSuchProcessor),
+        ),
     ])
 }
 
@@ -143,19 +149,22 @@ fn stays<N: Name, R: Wait>(
     session: &mut Caller<'_, N>,
     log: &Log,
 ) -> Result<[bool; 5], Trouble> {
-    let full = |name| full_cache(alloc, name);
-    let hooks = || full_hooks(alloc, log);
-    let again = refused(rt, session, full("c")?, hooks()?);
-    let bare = refused(rt, session, full("d")?, no_hooks(alloc));
+    let hooks = full_hooks(alloc, log)?;
+    let again = refused(rt, session, full_cache(alloc, "c")?, hooks);
+    let bare = refused(rt, session, full_cache(alloc, "d")?, no_hooks(alloc));
     let empty = refused(rt, session, plain_cache(alloc, "e", 0)?, no_hooks(alloc));
-    let named = session.create(rt, plain_cache(alloc, "a", 1)?, no_hooks(alloc));
+    let plain = plain_cache(alloc, "a", 1)?;
+    let named = session.create(rt, plain, no_hooks(alloc)).ok();
     let get = Call::Get(key("x")?);
     Ok([
         again == Some((CreateFault::Cache(CreateRefusal::DuplicateName), true)),
         bare == Some((CreateFault::HooksDiffer, false)),
         empty == Some((CreateFault::Cache(CreateRefusal::BadCapacity), false)),
-        named.ok() == Some(CacheId::new(3)),
-        session.call(rt, CacheId::new(3), 3, get) == Ok(Reply::Found(None)),
+        named == Some(CacheId::new(3)),
+        is(
+            session.call(rt, CacheId::new(3), 3, get),
+            Ok(Reply::Found(None)),
+        ),
     ])
 }
 
@@ -176,13 +185,13 @@ fn outlived<N: Name, R: Wait>(
     manager: &Caches<N>,
     log: &Log,
 ) -> Result<Lived, Trouble> {
-    let (mut first, mut second) = (manager.session(rt)?, manager.session(rt)?);
-    let gone = goes(rt, alloc, manager, &mut first, &mut second)?;
-    let come = comes(rt, alloc, manager, &first, &mut second, log)?;
-    let stay = stays(rt, alloc, &mut first, log)?;
-    let mut sessions = Vec::new(alloc);
-    sessions.push(first)?;
-    sessions.push(second)?;
+    let mut sessions = seated(rt, alloc, manager, 2)?;
+    let [first, second] = sessions.as_mut_slice() else {
+        return Err(Trouble::Unexpected);
+    };
+    let gone = goes(rt, alloc, manager, first, second)?;
+    let come = comes(rt, alloc, manager, first, second, log)?;
+    let stay = stays(rt, alloc, first, log)?;
     match manager.close(rt, sessions) {
         Ok(transcript) => {
             let mut lives = Vec::new(alloc);

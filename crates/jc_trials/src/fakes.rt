@@ -12,8 +12,16 @@ use std::sync::atomic::{AtomicU64, Ordering};
 /// Notes `l` and the key.
 #[derive(Drop)]
 pub struct NotedLoader<L> {
-    pub loader: L,
-    pub log: Log,
+    loader: L,
+    log: Log,
+}
+
+impl<L: Drop> NotedLoader<L> {
+    /// It asks `loader`, and notes in a share of `log`.
+    pub fn new(loader: L, log: &Log) -> Result<NotedLoader<L>, OutOfMemory> {
+        let log = log.share()?;
+        Ok(NotedLoader { loader, log })
+    }
 }
 
 impl<L: Loader> Loader for NotedLoader<L> {
@@ -28,8 +36,16 @@ impl<L: Loader> Loader for NotedLoader<L> {
 /// Notes `w`, the key and the value, or `d` and the key.
 #[derive(Drop)]
 pub struct NotedWriter<W> {
-    pub writer: W,
-    pub log: Log,
+    writer: W,
+    log: Log,
+}
+
+impl<W: Drop> NotedWriter<W> {
+    /// It asks `writer`, and notes in a share of `log`.
+    pub fn new(writer: W, log: &Log) -> Result<NotedWriter<W>, OutOfMemory> {
+        let log = log.share()?;
+        Ok(NotedWriter { writer, log })
+    }
 }
 
 impl<W: Writer> Writer for NotedWriter<W> {
@@ -50,9 +66,25 @@ impl<W: Writer> Writer for NotedWriter<W> {
 /// Notes its name, the value that it is given and the argument, since it is not told the key.
 #[derive(Drop)]
 pub struct NotedProcessor<P> {
-    pub name: &'static [u8],
-    pub processor: P,
-    pub log: Log,
+    name: &'static [u8],
+    processor: P,
+    log: Log,
+}
+
+impl<P: Drop> NotedProcessor<P> {
+    /// It asks `processor`, and notes in a share of `log`.
+    pub fn new(
+        name: &'static [u8],
+        processor: P,
+        log: &Log,
+    ) -> Result<NotedProcessor<P>, OutOfMemory> {
+        let log = log.share()?;
+        Ok(NotedProcessor {
+            name,
+            processor,
+            log,
+        })
+    }
 }
 
 impl<P: Processor> Processor for NotedProcessor<P> {
@@ -82,8 +114,22 @@ impl<P: Processor> Processor for NotedProcessor<P> {
 /// Notes its name, the kind's first letter and the key.
 #[derive(Drop)]
 pub struct NotedListener {
-    pub name: u8,
-    pub log: Log,
+    name: u8,
+    log: Log,
+}
+
+/// So many listeners, with the names `1`, `2` and so on.
+pub fn noted_listeners(
+    alloc: Global,
+    count: u8,
+    log: &Log,
+) -> Result<Vec<NotedListener>, OutOfMemory> {
+    let mut listeners = Vec::new(alloc);
+    for name in b'1'..b'1'.saturating_add(count) {
+        let log = log.share()?;
+        listeners.push(NotedListener { name, log })?;
+    }
+    Ok(listeners)
 }
 
 fn letter(kind: Kind) -> &'static [u8] {

@@ -8,11 +8,13 @@ mod placers;
 mod refusing;
 mod trouble;
 
-pub use fakes::{NotedListener, NotedLoader, NotedProcessor, NotedWriter, OncePoor, PoorLoader};
+pub use fakes::{
+    NotedListener, NotedLoader, NotedProcessor, NotedWriter, OncePoor, PoorLoader, noted_listeners,
+};
 pub use log::{Log, Text};
 pub use placers::{ConstantPlacer, TablePlacer};
 pub use refusing::{CountingMirror, RefusingMirror, RefusingRows};
-pub use trouble::{Trouble, key, no_hooks, plain_cache, value_of};
+pub use trouble::{Trouble, done, is, key, no_hooks, plain_cache, value_of};
 
 #[cfg(test)]
 mod callbacks;

@@ -3,7 +3,7 @@ ghost use Rattle.std.specs.Prelude.{◌≡◌, [], ◌∷◌, None, replicate};
 ghost use Rattle.jc_cuckoo.specs.Images.{image_of};
 
 use crate::placers::ConstantPlacer;
-use crate::trouble::{Trouble, key, plain_cache, value_of};
+use crate::trouble::{Trouble, done, key, plain_cache, value_of};
 use jc_cuckoo::cuckoo::Cuckoo;
 use jc_cuckoo::mirror::NoMirror;
 use jc_engine::recorded::Recorded;
@@ -66,9 +66,7 @@ fn put_letters<N: Naming>(
 ) -> Result<(), Trouble> {
     for name in LETTERS.iter().take(after).skip(before) {
         let put = Call::Put(key(name)?, value_of(alloc, name)?);
-        if manager.begin(0, CacheId::new(0), 0, put).is_err() {
-            return Err(Trouble::Unexpected);
-        }
+        done(manager.begin(0, CacheId::new(0), 0, put))?;
     }
     Ok(())
 }

@@ -116,13 +116,16 @@ fn found(value: Value) -> Outcome {
 fn events(alloc: Global) -> Result<[(Event, Outcome); 10], Trouble> {
     let (a, b, c) = (CacheId::new(0), CacheId::new(1), CacheId::new(7));
     let (k, x) = (key("k")?, key("x")?);
-    let asked = Outcome::Step(Step::Need(Request::Load(k)));
-    let loaded = Answer::Loaded(Some(value_of(alloc, "k")?));
-    let put = Call::Put(x, value_of(alloc, "1")?);
+    let (one, stored) = (value_of(alloc, "1")?, value_of(alloc, "1")?);
+    let (loaded, replied) = (value_of(alloc, "k")?, value_of(alloc, "k")?);
+    let (of_b, of_c) = (invoke(alloc)?, invoke(alloc)?);
     Ok([
-        (Event::Begin(a, 0, Call::Get(k)), asked),
         (
-            Event::Begin(b, 0, put),
+            Event::Begin(a, 0, Call::Get(k)),
+            Outcome::Step(Step::Need(Request::Load(k))),
+        ),
+        (
+            Event::Begin(b, 0, Call::Put(x, one)),
             Outcome::Step(Step::Done(Reply::Done)),
         ),
         (
@@ -130,23 +133,23 @@ fn events(alloc: Global) -> Result<[(Event, Outcome); 10], Trouble> {
             Outcome::Refused(Cause::Busy),
         ),
         (
-            Event::Begin(b, 0, invoke(alloc)?),
+            Event::Begin(b, 0, of_b),
             Outcome::Refused(Cause::NoSuchProcessor),
         ),
         (
-            Event::Begin(c, 0, invoke(alloc)?),
+            Event::Begin(c, 0, of_c),
             Outcome::Refused(Cause::NoSuchCache),
         ),
         (
             Event::Answer(a, Answer::Told),
             Outcome::Refused(Cause::WrongAnswer),
         ),
-        (Event::Answer(a, loaded), found(value_of(alloc, "k")?)),
-        (Event::GiveUp(a), Outcome::Refused(Cause::NoTurn)),
         (
-            Event::Begin(b, 0, Call::Get(x)),
-            found(value_of(alloc, "1")?),
+            Event::Answer(a, Answer::Loaded(Some(loaded))),
+            found(replied),
         ),
+        (Event::GiveUp(a), Outcome::Refused(Cause::NoTurn)),
+        (Event::Begin(b, 0, Call::Get(x)), found(stored)),
         (Event::GiveUp(c), Outcome::Refused(Cause::NoSuchCache)),
     ])
 }

@@ -2,13 +2,14 @@
 
 use crate::placers::ConstantPlacer;
 use crate::refusing::CountingMirror;
-use crate::trouble::Trouble;
+use crate::trouble::{Trouble, done};
 use jc_config::{Configuration, read_config};
 use jc_cuckoo::cuckoo::Cuckoo;
 use jc_engine::recorded::Recorded;
+use jc_model::config::CacheConfig;
 use jc_ring::link_ring::LinkRing;
 use jc_script::{Line, read_script};
-use std::alloc::Global;
+use std::alloc::{AllocError, Global};
 use std::sync::Arc;
 use std::sync::atomic::{AtomicU64, Ordering};
 
@@ -66,43 +67,35 @@ static LINES: [(&str, u64); 24] = [
     (r#"{"s":0,"c":"a","at":15,"op":"destroy"}"#, 2),
 ];
 
+/// A manager of these caches, over a table that counts the images that it tells.
+fn counted(
+    alloc: Global,
+    caches: Vec<CacheConfig>,
+    told: &Arc<AtomicU64>,
+) -> Result<Counted, Trouble> {
+    let told = Arc::try_clone(told)?;
+    let table = Cuckoo::new(alloc, ConstantPlacer, CountingMirror { told }, 16)?;
+    Ok(Counted::open(alloc, table, caches)?)
+}
+
 /// Does what a line asks for.
-fn done(manager: &mut Counted, line: Line) -> Result<(), Trouble> {
-    let refused = match line {
-        Line::Call(made) => manager
-            .begin(made.session, made.id, made.at, made.call)
-            .is_err(),
-        Line::Create { config, .. } => manager.create(config).is_err(),
-        Line::Destroy { id, .. } => manager.destroy(id).is_err(),
-    };
-    if refused {
-        return Err(Trouble::Unexpected);
+fn obey(manager: &mut Counted, line: Line) -> Result<(), Trouble> {
+    match line {
+        Line::Call(made) => done(manager.begin(made.session, made.id, made.at, made.call)),
+        Line::Create { config, .. } => done(manager.create(config)),
+        Line::Destroy { id, .. } => done(manager.destroy(id)),
     }
-    Ok(())
 }
 
 /// The number of the first line that tells more or fewer images, if there is one.
-fn first_other(alloc: Global) -> Result<Option<usize>, Trouble> {
-    let Configuration { settings, .. } = read_config(alloc, CACHES.as_bytes())?;
-    let mut lines: Vec<Line> = Vec::new(alloc);
-    for (text, _) in &LINES {
-        let read = read_script(alloc, text.as_bytes(), &settings)?;
-        for line in read {
-            lines.push(line)?;
-        }
-    }
-    let told = Arc::new(alloc, AtomicU64::new(0))?;
-    let mirror = CountingMirror {
-        told: Arc::try_clone(&told)?,
-    };
-    let table = Cuckoo::new(alloc, ConstantPlacer, mirror, 16)?;
-    let mut manager = Counted::open(alloc, table, settings.into_caches())?;
-    for (number, line) in lines.into_iter().enumerate() {
-        let Some((_, images)) = LINES.get(number) else {
-            return Ok(Some(number));
-        };
+fn first_other(
+    manager: &mut Counted,
+    lines: Vec<Line>,
+    told: &AtomicU64,
+) -> Result<Option<usize>, Trouble> {
+    for (number, (line, (_, images))) in lines.into_iter().zip(&LINES).enumerate() {
         let before = told.load(Ordering::SeqCst);
-        done(&mut manager, line)?;
+        obey(manager, line)?;
         if told.load(Ordering::SeqCst).wrapping_sub(before) != *images {
             return Ok(Some(number));
         }
@@ -110,8 +103,24 @@ fn first_other(alloc: Global) -> Result<Option<usize>, Trouble> {
     Ok(None)
 }
 
+/// The lines' texts, as one script.
+fn script(alloc: Global) -> Result<String, AllocError> {
+    let mut script = String::new(alloc);
+    for (text, _) in &LINES {
+        script.push_str(text)?;
+        script.push_str("\n")?;
+    }
+    Ok(script)
+}
+
 #[test]
 fn what_changes_nothing_is_not_told(rt: HostRuntime) -> Result<(), Trouble> {
-    assert_eq!(rt; first_other(rt.alloc())?, None);
+    let alloc = rt.alloc();
+    let told = Arc::new(alloc, AtomicU64::new(0))?;
+    let Configuration { settings, .. } = read_config(alloc, CACHES.as_bytes())?;
+    let lines = read_script(alloc, script(alloc)?.as_bytes(), &settings)?;
+    assert_eq!(rt; lines.len(), LINES.len());
+    let mut manager = counted(alloc, settings.into_caches(), &told)?;
+    assert_eq!(rt; first_other(&mut manager, lines, &told)?, None);
     Ok(())
 }

@@ -2,11 +2,11 @@
 ghost use Rattle.std.specs.Prelude.{◌≡◌, map};
 ghost use Rattle.jc_shared.specs.Stated.{stated_by};
 
-use crate::trouble::{Trouble, no_hooks, plain_cache, value_of};
+use crate::trouble::{Trouble, done, no_hooks, plain_cache, value_of};
 use jc_hooks::program::{CheckWriter, EchoLoader, ProgramProcessor};
 use jc_hooks::{Listener, Loader, Processor, TallyListener, Writer};
 use jc_index::lookup::Lookup;
-use jc_model::call::{Call, Reply};
+use jc_model::call::Call;
 use jc_model::config::Policy;
 use jc_model::event::CacheId;
 use jc_model::key::Key;
@@ -89,9 +89,7 @@ fn put<N: Name, L: Loader, W: Writer, P: Processor, K: Listener, R: Wait>(
 ) -> Result<(), Trouble> {
     for number in from..to {
         let call = Call::Put(numbered(alloc, number)?, value_of(alloc, "1")?);
-        if session.call(rt, id, 0, call) != Ok(Reply::Done) {
-            return Err(Trouble::Unexpected);
-        }
+        done(session.call(rt, id, 0, call))?;
     }
     Ok(())
 }
@@ -199,9 +197,7 @@ fn found_in_crowd<N: Name, L: Loader, W: Writer, P: Processor, K: Listener, R: W
     let keys = crowd(alloc)?;
     for key in keys.iter().take(9) {
         let call = Call::Put(*key, value_of(alloc, "1")?);
-        if session.call(rt, id, 0, call) != Ok(Reply::Done) {
-            return Err(Trouble::Unexpected);
-        }
+        done(session.call(rt, id, 0, call))?;
     }
     let (mut sure, mut there) = (0usize, 0usize);
     for key in &keys {

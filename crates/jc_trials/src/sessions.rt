@@ -2,14 +2,16 @@
 ghost use Rattle.std.specs.Prelude.{◌≡◌, map};
 ghost use Rattle.jc_shared.specs.Stated.{stated_by};
 
-use crate::fakes::{NotedListener, NotedLoader, NotedProcessor, NotedWriter, OncePoor};
+use crate::fakes::{
+    NotedListener, NotedLoader, NotedProcessor, NotedWriter, OncePoor, noted_listeners,
+};
 use crate::log::{Log, Text};
-use crate::trouble::{Trouble, no_hooks};
+use crate::trouble::Trouble;
 use jc_config::{Configuration, HookKinds, ProcessorKind, read_config};
 use jc_hooks::program::{CheckWriter, EchoLoader, ProgramProcessor};
 use jc_hooks::{CacheHooks, Listener, Loader, Processor, Writer};
 use jc_model::OutOfMemory;
-use jc_script::{Line, read_script, report};
+use jc_script::{Line, LineCall, read_script, report};
 use jc_shared::{Manager, Name, Session, Shared};
 use std::alloc::Global;
 use std::marker::Brand;
@@ -142,33 +144,28 @@ fn poor_hooks(
     poor: u64,
     log: &Log,
 ) -> Result<PoorHooks, OutOfMemory> {
-    let mut hooks: PoorHooks = no_hooks(alloc);
-    if kinds.loader.is_some() {
-        hooks.loader = Some(NotedLoader {
-            loader: OncePoor::new(EchoLoader, poor),
-            log: log.share()?,
-        });
-    }
-    if kinds.writer.is_some() {
-        hooks.writer = Some(NotedWriter {
-            writer: OncePoor::new(CheckWriter, poor),
-            log: log.share()?,
-        });
-    }
+    let listeners = noted_listeners(alloc, listeners, log)?;
+    let mut processors = Vec::new(alloc);
     if matches!(kinds.processors.items(), [ProcessorKind::Append]) {
-        hooks.processors.push(NotedProcessor {
-            name: b"a",
-            processor: OncePoor::new(ProgramProcessor::Append, poor),
-            log: log.share()?,
-        })?;
+        let append = OncePoor::new(ProgramProcessor::Append, poor);
+        processors.push(NotedProcessor::new(b"a", append, log)?)?;
     }
-    for name in b'1'..b'1'.saturating_add(listeners) {
-        hooks.listeners.push(NotedListener {
-            name,
-            log: log.share()?,
-        })?;
-    }
-    Ok(hooks)
+    let loader = if kinds.loader.is_some() {
+        Some(NotedLoader::new(OncePoor::new(EchoLoader, poor), log)?)
+    } else {
+        None
+    };
+    let writer = if kinds.writer.is_some() {
+        Some(NotedWriter::new(OncePoor::new(CheckWriter, poor), log)?)
+    } else {
+        None
+    };
+    Ok(CacheHooks {
+        loader,
+        writer,
+        processors,
+        listeners,
+    })
 }
 
 /// So many sessions of a manager.
@@ -185,6 +182,18 @@ pub(crate) fn seated<'a, N: Name, L: Loader, W: Writer, P: Processor, K: Listene
     Ok(sessions)
 }
 
+/// Makes a call by its session. The report has what it replies.
+fn make_call<N: Name, L: Loader, W: Writer, P: Processor, K: Listener, R: Wait>(
+    rt: &R,
+    sessions: &mut [Session<'_, N, L, W, P, K>],
+    made: LineCall,
+) {
+    match sessions.get_mut(made.session as usize) {
+        Some(session) => drop(session.call(rt, made.id, made.at, made.call)),
+        None => drop(made),
+    }
+}
+
 /// Makes the calls of a script, each by its session.
 fn make<N: Name, L: Loader, W: Writer, P: Processor, K: Listener, R: Wait>(
     rt: &R,
@@ -193,11 +202,9 @@ fn make<N: Name, L: Loader, W: Writer, P: Processor, K: Listener, R: Wait>(
     log: &Log,
 ) {
     for line in lines {
-        let Line::Call(made) = line else {
-            continue;
-        };
-        if let Some(session) = sessions.get_mut(made.session as usize) {
-            let _ = session.call(rt, made.id, made.at, made.call);
+        match line {
+            Line::Call(made) => make_call(rt, sessions, made),
+            other => drop(other),
         }
         log.note(Text::of(b"."));
     }

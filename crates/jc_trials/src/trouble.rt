@@ -112,6 +112,19 @@ impl From<SessionRefusal> for Trouble {
     }
 }
 
+/// Whether something is what it should be; both end here.
+pub fn is<T: PartialEq + Drop>(found: T, wanted: T) -> bool {
+    found == wanted
+}
+
+/// What a call came to that a trial builds on: it must not be refused.
+pub fn done<T: Drop, E: Drop>(came: Result<T, E>) -> Result<(), Trouble> {
+    match came {
+        Ok(_) => Ok(()),
+        Err(_) => Err(Trouble::Unexpected),
+    }
+}
+
 /// The key with this text.
 pub fn key(text: &str) -> Result<Key, Trouble> {
     Ok(Key::from_text(text)?)
