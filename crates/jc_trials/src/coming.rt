@@ -186,7 +186,10 @@ fn outlived<N: Name, R: Wait>(
     log: &Log,
 ) -> Result<Lived, Trouble> {
     let mut sessions = seated(rt, alloc, manager, 2)?;
-    let [first, second] = sessions.as_mut_slice() else {
+    let Some((first, rest)) = sessions.split_first_mut() else {
+        return Err(Trouble::Unexpected);
+    };
+    let Some(second) = rest.first_mut() else {
         return Err(Trouble::Unexpected);
     };
     let gone = goes(rt, alloc, manager, first, second)?;

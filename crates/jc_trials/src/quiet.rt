@@ -93,10 +93,11 @@ fn first_other(
     lines: Vec<Line>,
     told: &AtomicU64,
 ) -> Result<Option<usize>, Trouble> {
-    for (number, (line, (_, images))) in lines.into_iter().zip(&LINES).enumerate() {
+    for (number, line) in lines.into_iter().enumerate() {
         let before = told.load(Ordering::SeqCst);
         obey(manager, line)?;
-        if told.load(Ordering::SeqCst).wrapping_sub(before) != *images {
+        let images = told.load(Ordering::SeqCst).wrapping_sub(before);
+        if LINES.get(number).map(|wanted| wanted.1) != Some(images) {
             return Ok(Some(number));
         }
     }

@@ -2,6 +2,7 @@
 ghost use Rattle.std.specs.Prelude.{◌≡◌, map};
 ghost use Rattle.jc_shared.specs.Stated.{stated_by};
 
+use crate::sessions::seated;
 use crate::trouble::{Trouble, done, no_hooks, plain_cache, value_of};
 use jc_hooks::program::{CheckWriter, EchoLoader, ProgramProcessor};
 use jc_hooks::{Listener, Loader, Processor, TallyListener, Writer};
@@ -128,15 +129,12 @@ fn first_other<N: Name, L: Loader, W: Writer, P: Processor, K: Listener, R: Wait
     requires index { shared.index ≡ N.index }
 {
     let manager = shared.named::<N>();
-    let mut one = manager.session(rt)?;
-    let mut two = manager.session(rt)?;
+    let mut sessions = seated(rt, alloc, &manager, 2)?;
     for (number, (by, act)) in ACTS.iter().enumerate() {
-        let done = if *by == 0 {
-            acts(rt, alloc, &mut one, act)?
-        } else {
-            acts(rt, alloc, &mut two, act)?
+        let Some(session) = sessions.get_mut(*by) else {
+            return Err(Trouble::Unexpected);
         };
-        if !done {
+        if !acts(rt, alloc, session, act)? {
             return Ok(Some(number));
         }
     }
