@@ -108,13 +108,13 @@ fn answers<N: Name, L: Loader, W: Writer, P: Processor, K: Listener, R: Wait>(
     alloc: Global,
     session: &mut Session<'_, N, L, W, P, K>,
 ) -> Result<[bool; 3], Trouble> {
-    let (a, b) = (CacheId::new(0), CacheId::new(1));
+    let (a, b, key) = (CacheId::new(0), CacheId::new(1), key("k")?);
+    let (argument, value) = (value_of(alloc, "")?, value_of(alloc, "1")?);
     let invoke = Call::Invoke {
-        key: key("k")?,
+        key,
         processor: 0,
-        argument: value_of(alloc, "")?,
+        argument,
     };
-    let put = Call::Put(key("k")?, value_of(alloc, "1")?);
     Ok([
         is(
             session.call(rt, b, 0, Call::Stats),
@@ -124,8 +124,30 @@ fn answers<N: Name, L: Loader, W: Writer, P: Processor, K: Listener, R: Wait>(
             session.call(rt, a, 0, invoke),
             Err(CallFault::NoSuchProcessor),
         ),
-        is(session.call(rt, a, 0, put), Ok(Reply::Done)) && session.number() == 63,
+        is(
+            session.call(rt, a, 0, Call::Put(key, value)),
+            Ok(Reply::Done),
+        ) && session.number() == 63,
     ])
+}
+
+/// Whether a manager is not closed without the last of its sessions and hands the others back, and all of them.
+fn without_last<'a, N: Name, L: Loader, W: Writer, P: Processor, K: Listener, R: Wait>(
+    rt: &R,
+    manager: &'a Manager<N, L, W, P, K>,
+    mut sessions: Vec<Session<'a, N, L, W, P, K>>,
+) -> Result<(bool, Vec<Session<'a, N, L, W, P, K>>), Trouble> {
+    let Some(last) = sessions.pop() else {
+        return Err(Trouble::Unexpected);
+    };
+    match manager.close(rt, sessions) {
+        Ok(_) => Err(Trouble::Unexpected),
+        Err((fault, mut back)) => {
+            let handed_back = back.len() == 63 && fault == CloseFault::Missing;
+            back.push(last)?;
+            Ok((handed_back, back))
+        }
+    }
 }
 
 /// A manager gives out 64 sessions and no more; is not closed without all of them, which are handed back; is closed
@@ -137,16 +159,12 @@ fn closes<'a, N: Name, L: Loader, W: Writer, P: Processor, K: Listener, R: Wait>
 ) -> Result<[bool; 6], Trouble> {
     let mut sessions = seated(rt, alloc, manager, 64)?;
     let too_many = manager.session(rt).err();
-    let Some(mut last) = sessions.pop() else {
-        return Err(Trouble::Unexpected);
+    let answered = match sessions.last_mut() {
+        Some(last) => answers(rt, alloc, last)? == [true; 3],
+        None => false,
     };
-    let answered = answers(rt, alloc, &mut last)? == [true; 3];
-    let Err((missing, mut back)) = manager.close(rt, sessions) else {
-        return Err(Trouble::Unexpected);
-    };
-    let handed_back = back.len() == 63 && missing == CloseFault::Missing;
-    back.push(last)?;
-    let entries = match manager.close(rt, back) {
+    let (handed_back, sessions) = without_last(rt, manager, sessions)?;
+    let entries = match manager.close(rt, sessions) {
         Ok(transcript) => transcript.entries().len(),
         Err((fault, _)) => return Err(Trouble::NotClosed(fault)),
     };
@@ -198,12 +216,12 @@ fn refusals_come_in_order(rt: HostRuntime) -> Result<(), Trouble> {
     Ok(())
 }
 
-/// The transcript of five calls of two sessions, the last of which may wait.
-fn transcript(alloc: Global, waits: bool) -> Result<Transcript, Trouble> {
-    let mut loading = plain_cache(alloc, "a", 4)?;
-    loading.loader = true;
-    let configs = Vec::from_array(alloc, [loading])?;
-    let mut manager = Recorded::<ListRows, ListRing>::open(alloc, ListRows::new(alloc), configs)?;
+/// Makes five calls of two sessions, the last of which may wait.
+fn make_five(
+    alloc: Global,
+    manager: &mut Recorded<ListRows, ListRing>,
+    waits: bool,
+) -> Result<(), Trouble> {
     let a = CacheId::new(0);
     for (session, name) in [(0u32, "x"), (1, "y"), (0, "z"), (1, "w")] {
         let put = Call::Put(key(name)?, value_of(alloc, "1")?);
@@ -213,6 +231,16 @@ fn transcript(alloc: Global, waits: bool) -> Result<Transcript, Trouble> {
     if !waits {
         done(manager.resume(a, Answer::LoadFailed))?;
     }
+    Ok(())
+}
+
+/// Their transcript.
+fn transcript(alloc: Global, waits: bool) -> Result<Transcript, Trouble> {
+    let mut loading = plain_cache(alloc, "a", 4)?;
+    loading.loader = true;
+    let configs = Vec::from_array(alloc, [loading])?;
+    let mut manager = Recorded::open(alloc, ListRows::new(alloc), configs)?;
+    make_five(alloc, &mut manager, waits)?;
     Ok(manager.transcript().share()?)
 }
 

@@ -20,7 +20,7 @@ use std::alloc::Global;
 use std::marker::Brand;
 
 /// Keys, put in this order. All share two buckets, so eight slots.
-const LETTERS: [&str; 34] = [
+static LETTERS: [&str; 34] = [
     "a", "b", "c", "d", "e", "f", "g", "h", "i", "j", "k", "l", "m", "n", "o", "p", "q", "r", "s",
     "t", "u", "v", "w", "x", "y", "z", "A", "B", "C", "D", "E", "F", "G", "H",
 ];

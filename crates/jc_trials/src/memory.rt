@@ -8,6 +8,7 @@ use crate::shapes::NAMES;
 use crate::trouble::{Trouble, key};
 use jc_cuckoo::cuckoo::{Cuckoo, TableRefusal};
 use jc_cuckoo::held::Shape;
+use jc_cuckoo::mirror::Mirror;
 use jc_model::config::Expiry;
 use jc_model::event::CacheId;
 use jc_model::key::Key;
@@ -46,7 +47,7 @@ fn put_new<R: Rows>(rows: &mut R, key: Key, row: u32) -> Result<(), Trouble> {
 
 /// Whether rows of the first so many keys are found, and of no others.
 fn holds_first<R: Rows>(rows: &R, count: u32) -> Result<bool, Trouble> {
-    for (row, name) in (0u32..).zip(NAMES) {
+    for (row, name) in (0u32..).zip(&NAMES) {
         let held = if row < count { Some(row) } else { None };
         if rows.find(CacheId::new(0), &key(name)?) != held {
             return Ok(false);
@@ -69,7 +70,7 @@ fn shape_of(count: u32, doubled: bool) -> Shape {
 fn a_refused_doubling_comes_with_the_next_put(rt: HostRuntime) -> Result<(), Trouble> {
     for refusals in [0u32, 1, 2, 40] {
         let mut table = crowded(rt.alloc(), refusals)?;
-        for (row, name) in (0u32..).zip(NAMES) {
+        for (row, name) in (0u32..).zip(&NAMES) {
             let count = row.saturating_add(1);
             assert!(rt; table.make_room(usize::MAX).is_err());
             put_new(&mut table, key(name)?, row)?;
@@ -83,16 +84,25 @@ fn a_refused_doubling_comes_with_the_next_put(rt: HostRuntime) -> Result<(), Tro
     Ok(())
 }
 
+/// Puts a row of each key. The result is the first row after which others are held or the shape is another, if there is
+/// one; the doubling may come one put late.
+fn first_other<M: Mirror>(table: &mut Cuckoo<ConstantPlacer, M>) -> Result<Option<u32>, Trouble> {
+    for (row, name) in (0u32..).zip(&NAMES) {
+        let count = row.saturating_add(1);
+        put_new(table, key(name)?, row)?;
+        let shape = table.shape();
+        let late = count == DOUBLING && shape == shape_of(count, false);
+        let as_told = late || shape == shape_of(count, count >= DOUBLING);
+        if !as_told || !holds_first(table, count)? {
+            return Ok(Some(row));
+        }
+    }
+    Ok(None)
+}
+
 #[test]
 fn rows_are_put_again(rt: HostRuntime) -> Result<(), Trouble> {
     let mut table = crowded(rt.alloc(), 0)?;
-    for (row, name) in (0u32..).zip(NAMES) {
-        let count = row.saturating_add(1);
-        put_new(&mut table, key(name)?, row)?;
-        assert!(rt; holds_first(&table, count)?);
-        let shape = table.shape();
-        let late = count == DOUBLING && shape == shape_of(count, false);
-        assert!(rt; late || shape == shape_of(count, count >= DOUBLING));
-    }
+    assert_eq!(rt; first_other(&mut table)?, None);
     Ok(())
 }

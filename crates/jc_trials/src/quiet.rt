@@ -114,14 +114,20 @@ fn script(alloc: Global) -> Result<String, AllocError> {
     Ok(script)
 }
 
+/// How many lines there are, and the first one that tells more or fewer images, if there is one.
+fn played(alloc: Global) -> Result<(usize, Option<usize>), Trouble> {
+    let told = Arc::new(alloc, AtomicU64::new(0))?;
+    let script = script(alloc)?;
+    let Configuration { settings, .. } = read_config(alloc, CACHES.as_bytes())?;
+    let lines = read_script(alloc, script.as_bytes(), &settings)?;
+    let count = lines.len();
+    let mut manager = counted(alloc, settings.into_caches(), &told)?;
+    let other = first_other(&mut manager, lines, &told)?;
+    Ok((count, other))
+}
+
 #[test]
 fn what_changes_nothing_is_not_told(rt: HostRuntime) -> Result<(), Trouble> {
-    let alloc = rt.alloc();
-    let told = Arc::new(alloc, AtomicU64::new(0))?;
-    let Configuration { settings, .. } = read_config(alloc, CACHES.as_bytes())?;
-    let lines = read_script(alloc, script(alloc)?.as_bytes(), &settings)?;
-    assert_eq!(rt; lines.len(), LINES.len());
-    let mut manager = counted(alloc, settings.into_caches(), &told)?;
-    assert_eq!(rt; first_other(&mut manager, lines, &told)?, None);
+    assert_eq!(rt; played(rt.alloc())?, (LINES.len(), None));
     Ok(())
 }

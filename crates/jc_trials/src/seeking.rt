@@ -13,7 +13,7 @@ use jc_model::event::CacheId;
 use jc_model::key::Key;
 use jc_place::place::{Placer, alternate};
 use jc_place::seeded::SeededPlacer;
-use jc_shared::{Name, Session, Shared};
+use jc_shared::{Manager, Name, Session, Shared};
 use std::alloc::Global;
 use std::marker::Brand;
 use std::sync::Wait;
@@ -122,14 +122,9 @@ fn acts<N: Name, L: Loader, W: Writer, P: Processor, K: Listener, R: Wait>(
 fn first_other<N: Name, L: Loader, W: Writer, P: Processor, K: Listener, R: Wait>(
     rt: &R,
     alloc: Global,
-    shared: Shared<L, W, P, K>,
-) -> Result<Option<usize>, Trouble>
-    requires configs { shared.configs ≡ N.configs }
-    requires stated { map (stated_by L.load_of P.verdict_of) shared.shared ≡ N.stated }
-    requires index { shared.index ≡ N.index }
-{
-    let manager = shared.named::<N>();
-    let mut sessions = seated(rt, alloc, &manager, 2)?;
+    manager: &Manager<N, L, W, P, K>,
+) -> Result<Option<usize>, Trouble> {
+    let mut sessions = seated(rt, alloc, manager, 2)?;
     for (number, (by, act)) in ACTS.iter().enumerate() {
         let Some(session) = sessions.get_mut(*by) else {
             return Err(Trouble::Unexpected);
@@ -141,13 +136,27 @@ fn first_other<N: Name, L: Loader, W: Writer, P: Processor, K: Listener, R: Wait
     Ok(None)
 }
 
+/// The same, under this name.
+fn first_other_named<N: Name, L: Loader, W: Writer, P: Processor, K: Listener, R: Wait>(
+    rt: &R,
+    alloc: Global,
+    shared: Shared<L, W, P, K>,
+) -> Result<Option<usize>, Trouble>
+    requires configs { shared.configs ≡ N.configs }
+    requires stated { map (stated_by L.load_of P.verdict_of) shared.shared ≡ N.stated }
+    requires index { shared.index ≡ N.index }
+{
+    let manager = shared.named::<N>();
+    first_other(rt, alloc, &manager)
+}
+
 /// The same, under a name that this call picks.
 fn first_other_act<L: Loader, W: Writer, P: Processor, K: Listener, R: Wait>(
     rt: &R,
     alloc: Global,
     shared: Shared<L, W, P, K>,
 ) -> Result<Option<usize>, Trouble> {
-    first_other::<Brand, L, W, P, K, R>(rt, alloc, shared)
+    first_other_named::<Brand, L, W, P, K, R>(rt, alloc, shared)
 }
 
 #[test]
@@ -183,15 +192,9 @@ fn crowd(alloc: Global) -> Result<Vec<Key>, Trouble> {
 fn found_in_crowd<N: Name, L: Loader, W: Writer, P: Processor, K: Listener, R: Wait>(
     rt: &R,
     alloc: Global,
-    shared: Shared<L, W, P, K>,
-) -> Result<(usize, usize), Trouble>
-    requires configs { shared.configs ≡ N.configs }
-    requires stated { map (stated_by L.load_of P.verdict_of) shared.shared ≡ N.stated }
-    requires index { shared.index ≡ N.index }
-{
+    session: &mut Session<'_, N, L, W, P, K>,
+) -> Result<(usize, usize), Trouble> {
     let id = CacheId::new(1);
-    let manager = shared.named::<N>();
-    let mut session = manager.session(rt)?;
     let keys = crowd(alloc)?;
     for key in keys.iter().take(9) {
         let call = Call::Put(*key, value_of(alloc, "1")?);
@@ -209,13 +212,28 @@ fn found_in_crowd<N: Name, L: Loader, W: Writer, P: Processor, K: Listener, R: W
     Ok((sure, there))
 }
 
+/// The same, by a session under this name.
+fn found_named<N: Name, L: Loader, W: Writer, P: Processor, K: Listener, R: Wait>(
+    rt: &R,
+    alloc: Global,
+    shared: Shared<L, W, P, K>,
+) -> Result<(usize, usize), Trouble>
+    requires configs { shared.configs ≡ N.configs }
+    requires stated { map (stated_by L.load_of P.verdict_of) shared.shared ≡ N.stated }
+    requires index { shared.index ≡ N.index }
+{
+    let manager = shared.named::<N>();
+    let mut session = manager.session(rt)?;
+    found_in_crowd(rt, alloc, &mut session)
+}
+
 /// The same, under a name that this call picks.
 fn found_of_ten<L: Loader, W: Writer, P: Processor, K: Listener, R: Wait>(
     rt: &R,
     alloc: Global,
     shared: Shared<L, W, P, K>,
 ) -> Result<(usize, usize), Trouble> {
-    found_in_crowd::<Brand, L, W, P, K, R>(rt, alloc, shared)
+    found_named::<Brand, L, W, P, K, R>(rt, alloc, shared)
 }
 
 #[test]
@@ -248,6 +266,31 @@ fn raced<
     P: Processor,
     K: Listener,
     R: Threads + Wait + Sync,
+>(
+    rt: &R,
+    alloc: Global,
+    one: &mut Session<'_, N, L, W, P, K>,
+    two: &mut Session<'_, N, L, W, P, K>,
+) -> Result<(bool, Lookup, u32), Trouble> {
+    put(rt, alloc, one, CacheId::new(1), 0, 1)?;
+    let key = numbered(alloc, 0)?;
+    let before = two.contains_key(CacheId::new(1), &key, 0);
+    let (put_all, denied) = join(
+        rt,
+        || put(rt, alloc, one, CacheId::new(1), 1, 1001).is_ok(),
+        || denials(two, &key),
+    );
+    Ok((put_all, before, denied))
+}
+
+/// The same, by two sessions under this name.
+fn raced_named<
+    N: Name + Send + Sync,
+    L: Loader,
+    W: Writer,
+    P: Processor,
+    K: Listener,
+    R: Threads + Wait + Sync,
 >(rt: &R, alloc: Global, shared: Shared<L, W, P, K>) -> Result<(bool, Lookup, u32), Trouble>
     requires configs { shared.configs ≡ N.configs }
     requires stated { map (stated_by L.load_of P.verdict_of) shared.shared ≡ N.stated }
@@ -256,15 +299,7 @@ fn raced<
     let manager = shared.named::<N>();
     let mut one = manager.session(rt)?;
     let mut two = manager.session(rt)?;
-    put(rt, alloc, &mut one, CacheId::new(1), 0, 1)?;
-    let key = numbered(alloc, 0)?;
-    let before = two.contains_key(CacheId::new(1), &key, 0);
-    let (put_all, denied) = join(
-        rt,
-        || put(rt, alloc, &mut one, CacheId::new(1), 1, 1001).is_ok(),
-        || denials(&mut two, &key),
-    );
-    Ok((put_all, before, denied))
+    raced(rt, alloc, &mut one, &mut two)
 }
 
 /// The same, under a name that this call picks.
@@ -273,7 +308,7 @@ fn race<L: Loader, W: Writer, P: Processor, K: Listener, R: Threads + Wait + Syn
     alloc: Global,
     shared: Shared<L, W, P, K>,
 ) -> Result<(bool, Lookup, u32), Trouble> {
-    raced::<Brand, L, W, P, K, R>(rt, alloc, shared)
+    raced_named::<Brand, L, W, P, K, R>(rt, alloc, shared)
 }
 
 #[test]

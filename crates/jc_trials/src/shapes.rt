@@ -2,7 +2,7 @@
 
 use crate::placers::{ConstantPlacer, TablePlacer};
 use crate::refusing::RefusingMirror;
-use crate::trouble::{Trouble, key, plain_cache, value_of};
+use crate::trouble::{Trouble, done, is, key, plain_cache, value_of};
 use jc_cuckoo::cuckoo::Cuckoo;
 use jc_cuckoo::held::{Shape, Work};
 use jc_cuckoo::mirror::NoMirror;
@@ -12,12 +12,13 @@ use jc_model::config::Expiry;
 use jc_model::event::{CacheId, Step};
 use jc_model::key::Key;
 use jc_ring::link_ring::LinkRing;
+use jc_ring::ring::Ring;
 use jc_rows::list_rows::ListRows;
 use jc_rows::rows::Rows;
 use std::alloc::Global;
 
 /// The names of forty keys.
-pub const NAMES: [&str; 40] = [
+pub static NAMES: [&str; 40] = [
     "a", "b", "c", "d", "e", "f", "g", "h", "i", "j", "k", "l", "m", "n", "o", "p", "q", "r", "s",
     "t", "u", "v", "w", "x", "y", "z", "A", "B", "C", "D", "E", "F", "G", "H", "I", "J", "K", "L",
     "M", "N",
@@ -96,7 +97,7 @@ fn two_full_buckets() -> TablePlacer {
 /// One key after the other has the next of 16 buckets as its first.
 fn spread() -> TablePlacer {
     let mut firsts = [0; 128];
-    for (bucket, name) in (0u32..).zip(NAMES) {
+    for (bucket, name) in (0u32..).zip(&NAMES) {
         if let Some(letter) = name.as_bytes().first() {
             firsts[(*letter % 128) as usize] = bucket % 16;
         }
@@ -150,27 +151,45 @@ fn manager(alloc: Global) -> Result<Manager, Trouble> {
     Ok(Manager::open(alloc, table, configs)?)
 }
 
+/// Puts forty keys into a cache.
+pub fn fill<R: Rows, G: Ring>(
+    alloc: Global,
+    manager: &mut Engine<R, G>,
+    id: CacheId,
+) -> Result<(), Trouble> {
+    for name in &NAMES {
+        let put = Call::Put(key(name)?, value_of(alloc, name)?);
+        done(manager.begin(id, 0, put))?;
+    }
+    Ok(())
+}
+
+/// A call on the first cache waits for its loader while the second is filled. The result is whether it asks and replies
+/// as it should, and the shapes before it goes on and after that.
+fn goes_on(alloc: Global, manager: &mut Manager) -> Result<(bool, Shape, Shape), Trouble> {
+    let (a, k) = (CacheId::new(0), key("k")?);
+    let (loaded, replied) = (value_of(alloc, "k")?, value_of(alloc, "k")?);
+    let asked = manager.begin(a, 0, Call::Get(k)).ok();
+    let asks = is(asked, Some(Step::Need(Request::Load(k))));
+    fill(alloc, manager, CacheId::new(1))?;
+    let before = manager.rows().shape();
+    let step = manager.resume(a, Answer::Loaded(Some(loaded))).ok();
+    let replies = is(step, Some(Step::Done(Reply::Found(Some(replied)))));
+    Ok((asks && replies, before, manager.rows().shape()))
+}
+
 #[test]
 fn a_waiting_call_goes_on_after_the_table_doubled(rt: HostRuntime) -> Result<(), Trouble> {
     let alloc = rt.alloc();
-    let (a, b, k) = (CacheId::new(0), CacheId::new(1), key("k")?);
-    let mut manager = manager(alloc)?;
-    let asked = manager.begin(a, 0, Call::Get(k)).ok();
-    assert!(rt; asked == Some(Step::Need(Request::Load(k))));
-    for name in &NAMES {
-        let put = Call::Put(key(name)?, value_of(alloc, name)?);
-        assert!(rt; manager.begin(b, 0, put).ok() == Some(Step::Done(Reply::Done)));
-    }
     let mut shape = Shape {
         buckets: 32,
         in_buckets: 8,
         in_stash: 32,
     };
-    assert_eq!(rt; manager.rows().shape(), shape);
-    let loaded = Answer::Loaded(Some(value_of(alloc, "k")?));
-    let reply = Reply::Found(Some(value_of(alloc, "k")?));
-    assert!(rt; manager.resume(a, loaded).ok() == Some(Step::Done(reply)));
+    let (as_told, before, after) = goes_on(alloc, &mut manager(alloc)?)?;
+    assert!(rt; as_told);
+    assert_eq!(rt; before, shape);
     shape.in_stash = 33;
-    assert_eq!(rt; manager.rows().shape(), shape);
+    assert_eq!(rt; after, shape);
     Ok(())
 }

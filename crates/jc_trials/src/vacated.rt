@@ -1,8 +1,10 @@
 //! What is left of caches that were destroyed: nothing in the table, also where creating found no memory at first.
+ghost use Rattle.std.specs.Prelude.{◌≡◌};
+ghost use Rattle.std.specs.FinMap as finite;
 
 use crate::placers::ConstantPlacer;
-use crate::shapes::NAMES;
-use crate::trouble::{Trouble, key, plain_cache, value_of};
+use crate::shapes::{NAMES, fill};
+use crate::trouble::{Trouble, done, key, plain_cache, value_of};
 use jc_cuckoo::cuckoo::Cuckoo;
 use jc_cuckoo::mirror::NoMirror;
 use jc_engine::engine::Engine;
@@ -41,19 +43,11 @@ fn make<R: Rows, G: Ring>(
     alloc: Global,
     manager: &mut Engine<R, G>,
     change: &Change,
-) -> Result<bool, Trouble> {
+) -> Result<(), Trouble> {
     match change {
-        Change::Fill(id) => {
-            for name in &NAMES {
-                let put = Call::Put(key(name)?, value_of(alloc, name)?);
-                if manager.begin(CacheId::new(*id), 0, put).is_err() {
-                    return Ok(false);
-                }
-            }
-            Ok(true)
-        }
-        Change::Destroy(id) => Ok(manager.destroy(CacheId::new(*id)).is_ok()),
-        Change::Create(name) => Ok(manager.create(plain_cache(alloc, name, 64)?).is_ok()),
+        Change::Fill(id) => fill(alloc, manager, CacheId::new(*id)),
+        Change::Destroy(id) => done(manager.destroy(CacheId::new(*id))),
+        Change::Create(name) => done(manager.create(plain_cache(alloc, name, 64)?)),
     }
 }
 
@@ -76,13 +70,13 @@ fn held<R: Rows, G: Ring>(manager: &Engine<R, G>, number: u32) -> Result<(usize,
 /// The number of the first change after which there are other rows, if there is one.
 fn first_other_rows<R: Rows, G: Ring>(
     alloc: Global,
-    mut manager: Engine<R, G>,
+    manager: &mut Engine<R, G>,
 ) -> Result<Option<usize>, Trouble> {
     for (number, (what, counts)) in CHANGES.iter().enumerate() {
-        let mut is_so = make(alloc, &mut manager, what)?;
-        let mut all = 0usize;
+        make(alloc, manager, what)?;
+        let (mut is_so, mut all) = (true, 0usize);
         for (id, count) in (0u32..).zip(counts) {
-            is_so &= held(&manager, id)? == (*count, *count);
+            is_so &= held(manager, id)? == (*count, *count);
             all = all.saturating_add(*count);
         }
         if !is_so || manager.rows().len() != all {
@@ -97,46 +91,64 @@ fn two_caches(alloc: Global) -> Result<Vec<CacheConfig>, Trouble> {
     Ok(Vec::from_array(alloc, caches)?)
 }
 
+/// The same, of a manager over this table.
+fn first_other_over<R: Rows, G: Ring>(alloc: Global, rows: R) -> Result<Option<usize>, Trouble>
+    requires { R.contents rows ≡ finite.empty }
+{
+    let mut manager = Engine::<R, G>::open(alloc, rows, two_caches(alloc)?)?;
+    first_other_rows(alloc, &mut manager)
+}
+
 #[test]
 fn rows_go_with_their_cache_alone(rt: HostRuntime) -> Result<(), Trouble> {
     let alloc = rt.alloc();
-    let configs = two_caches(alloc)?;
-    let plain = Engine::<ListRows, ListRing>::open(alloc, ListRows::new(alloc), configs)?;
-    assert_eq!(rt; first_other_rows(alloc, plain)?, None);
+    let plain = first_other_over::<_, ListRing>(alloc, ListRows::new(alloc))?;
+    assert_eq!(rt; plain, None);
     let table = Cuckoo::new(alloc, ConstantPlacer, NoMirror, 16)?;
-    let configs = two_caches(alloc)?;
-    let crowded = Engine::<Cuckoo<ConstantPlacer, NoMirror>, LinkRing>::open(
-        alloc, table, configs,
-    )?;
-    assert_eq!(rt; first_other_rows(alloc, crowded)?, None);
+    assert_eq!(rt; first_other_over::<_, LinkRing>(alloc, table)?, None);
     Ok(())
 }
 
 /// A recorded manager over the program's table and rings.
 type Crowded = Recorded<Cuckoo<ConstantPlacer, NoMirror>, LinkRing>;
 
-/// Creates a cache, and puts a row there. What is refused for want of memory is asked for again.
-fn filled_again(alloc: Global, manager: &mut Crowded, name: &str) -> Result<CacheId, Trouble> {
+/// Creates a cache, again where that is refused for want of memory.
+fn created_again(alloc: Global, manager: &mut Crowded, name: &str) -> Result<CacheId, Trouble> {
     let created = match manager.create(plain_cache(alloc, name, 1)?) {
         Err((CreateRefusal::OutOfMemory, config)) => manager.create(config),
         created => created,
     };
-    let Ok(id) = created else {
-        return Err(Trouble::Unexpected);
-    };
+    created.ok().ok_or(Trouble::Unexpected)
+}
+
+/// Puts a row, again where that is refused for want of memory.
+fn put_again(alloc: Global, manager: &mut Crowded, id: CacheId, name: &str) -> Result<(), Trouble> {
+    let key = key(name)?;
     let value = match value_of(alloc, name) {
         Err(Trouble::Memory) => value_of(alloc, name),
         value => value,
     };
-    let put = match manager.begin(0, id, 0, Call::Put(key(name)?, value?)) {
-        Err((Cause::OutOfMemory, call)) => manager.begin(0, id, 0, call).is_ok(),
-        begun => begun.is_ok(),
-    };
-    if put {
-        Ok(id)
-    } else {
-        Err(Trouble::Unexpected)
+    match manager.begin(0, id, 0, Call::Put(key, value?)) {
+        Err((Cause::OutOfMemory, call)) => done(manager.begin(0, id, 0, call)),
+        begun => done(begun),
     }
+}
+
+/// Creates forty caches with a row each, and destroys every second one. The result is how many rows, names and lives
+/// there are then; or an id is not the next one.
+fn alternate(alloc: Global, manager: &mut Crowded) -> Result<(usize, usize, usize), Trouble> {
+    for (number, name) in (0u32..).zip(&NAMES) {
+        let id = created_again(alloc, manager, name)?;
+        put_again(alloc, manager, id, name)?;
+        if id.number() != number {
+            return Err(Trouble::Unexpected);
+        }
+        if number % 2 == 0 {
+            done(manager.destroy(id))?;
+        }
+    }
+    let lives = manager.transcript().lives().len();
+    Ok((manager.rows().len(), manager.names().len(), lives))
 }
 
 #[test]
@@ -147,15 +159,6 @@ fn caches_are_created_again(rt: HostRuntime) -> Result<(), Trouble> {
         Ok(table) => table,
     };
     let mut manager = Crowded::open(alloc, table, Vec::new(alloc))?;
-    for (number, name) in (0u32..).zip(NAMES) {
-        let id = filled_again(alloc, &mut manager, name)?;
-        assert_eq!(rt; id.number(), number);
-        if number % 2 == 0 {
-            assert_eq!(rt; manager.destroy(id), Ok(()));
-        }
-    }
-    let kept = (manager.rows().len(), manager.names().len());
-    assert_eq!(rt; kept, (20, 20));
-    assert_eq!(rt; manager.transcript().lives().len(), 40);
+    assert_eq!(rt; alternate(alloc, &mut manager)?, (20, 20, 40));
     Ok(())
 }
