@@ -241,20 +241,34 @@ const REPORT: &str = r#"cache a
 0 get_and_remove some "k"
 "#;
 
+type BoxedHooks = CacheHooks<
+    Box<dyn Loader>,
+    Box<dyn Writer>,
+    Box<dyn Processor>,
+    Box<dyn Listener>,
+>;
+
+/// The callbacks of the last scene, each in a box.
+fn boxed(alloc: Global) -> Result<BoxedHooks, Trouble> {
+    let append: Box<dyn Processor> = Box::new(alloc, ProgramProcessor::Append)?;
+    let tally: Box<dyn Listener> = Box::new(alloc, TallyListener::new())?;
+    let processors = Vec::from_array(alloc, [append])?;
+    let listeners = Vec::from_array(alloc, [tally])?;
+    let loader: Box<dyn Loader> = Box::new(alloc, EchoLoader)?;
+    let writer: Box<dyn Writer> = Box::new(alloc, CheckWriter)?;
+    Ok(CacheHooks {
+        loader: Some(loader),
+        writer: Some(writer),
+        processors,
+        listeners,
+    })
+}
+
 #[test]
 fn boxed_callbacks_answer_as_those_in_the_boxes(rt: HostRuntime) -> Result<(), Trouble> {
     let alloc = rt.alloc();
+    let mut hooks = [boxed(alloc)?];
     let Configuration { settings, .. } = read_config(alloc, SCENES[5].caches.as_bytes())?;
-    let loader: Box<dyn Loader> = Box::new(alloc, EchoLoader)?;
-    let check: Box<dyn Writer> = Box::new(alloc, CheckWriter)?;
-    let append: Box<dyn Processor> = Box::new(alloc, ProgramProcessor::Append)?;
-    let tally: Box<dyn Listener> = Box::new(alloc, TallyListener::new())?;
-    let mut hooks = [CacheHooks {
-        loader: Some(loader),
-        writer: Some(check),
-        processors: Vec::from_array(alloc, [append])?,
-        listeners: Vec::from_array(alloc, [tally])?,
-    }];
     let mut reader = Watched::new(SCENES[5].calls.as_bytes());
     let mut writer = WatchedWriter::new(Vec::new(alloc));
     serial(alloc, settings, &mut hooks, 0, &mut reader, &mut writer)?;

@@ -216,6 +216,17 @@ fn outlived<N: Name, R: Wait>(
 
 type Opened = Shared<NotedEcho, NotedCheck, NotedAppend, NotedListener>;
 
+/// A manager of two caches without callbacks.
+fn two_caches(alloc: Global) -> Result<Opened, Trouble> {
+    let mut configs = Vec::new(alloc);
+    let mut hooks = Vec::new(alloc);
+    for name in ["a", "b"] {
+        configs.push(plain_cache(alloc, name, 4)?)?;
+        hooks.push(no_hooks(alloc))?;
+    }
+    Ok(Shared::open(alloc, configs, hooks, 7)?)
+}
+
 /// The same, under this name.
 fn named<N: Name, R: Wait>(
     rt: &R,
@@ -240,19 +251,13 @@ fn live<R: Wait>(rt: &R, alloc: Global, shared: Opened, log: &Log) -> Result<Liv
 fn sessions_create_and_destroy(rt: HostRuntime) -> Result<(), Trouble> {
     let alloc = rt.alloc();
     let log = Log::new(alloc, 16)?;
-    let configs = [plain_cache(alloc, "a", 4)?, plain_cache(alloc, "b", 4)?];
-    let mut hooks = Vec::new(alloc);
-    for _ in 0..2 {
-        hooks.push(no_hooks(alloc))?;
-    }
-    let shared = Shared::open(alloc, Vec::from_array(alloc, configs)?, hooks, 7)?;
-    let lived = live(&rt, alloc, shared, &log)?;
+    let lived = live(&rt, alloc, two_caches(alloc)?, &log)?;
+    let asked = log.text(alloc)?;
     assert_eq!(rt; lived.gone, [true; 8]);
     assert_eq!(rt; lived.come, [true; 6]);
     assert_eq!(rt; lived.stay, [true; 5]);
     assert_eq!(rt; lived.lives.as_slice(), [0u32, 1, 2, 3].as_slice());
     assert_eq!(rt; lived.calls, 6);
-    let asked = log.text(alloc)?;
     assert_eq!(rt;
         asked.as_slice(),
         b"lk 1ck wk=2 1uk a:2,+ wk=2+ 1uk ".as_slice()

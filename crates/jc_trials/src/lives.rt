@@ -1,12 +1,13 @@
 //! Managers at their limits: they open, create their last cache, and give no id beyond the last.
 
-use crate::trouble::{Trouble, plain_cache};
+use crate::trouble::{Trouble, is, plain_cache};
 use jc_engine::open::OpenRefusal;
 use jc_engine::recorded::Recorded;
 use jc_model::config::CacheConfig;
 use jc_model::event::CreateRefusal::{IdsSpent, TooManyCaches, TotalCapacity};
 use jc_model::event::{CacheId, CreateRefusal};
 use jc_model::list::Sequence;
+use jc_model::share::Share;
 use jc_ring::list_ring::ListRing;
 use jc_rows::list_rows::ListRows;
 use std::alloc::Global;
@@ -80,15 +81,23 @@ fn managers_take_all_that_the_limits_allow(rt: HostRuntime) -> Result<(), Troubl
     Ok(())
 }
 
+/// Whether a manager gives the last id; whether that cache goes; and whether no other one comes then.
+fn gives_last(alloc: Global, manager: &mut Manager) -> Result<[bool; 3], Trouble> {
+    let last = CacheId::new(LAST);
+    let config = plain_cache(alloc, "a", 1)?;
+    let (again, back) = (config.share()?, config.share()?);
+    Ok([
+        is(manager.create(config), Ok(last)),
+        is(manager.destroy(last), Ok(())),
+        is(manager.create(again), Err((IdsSpent, back))),
+    ])
+}
+
 #[test]
 fn the_last_id_is_given_once(rt: HostRuntime) -> Result<(), Trouble> {
     let alloc = rt.alloc();
-    let last = CacheId::new(LAST);
     let mut manager = opened(alloc, LAST, 0, (1, 0, 0))?;
-    assert!(rt; manager.create(plain_cache(alloc, "a", 1)?) == Ok(last));
-    assert!(rt; manager.destroy(last).is_ok());
-    let refused = Err((IdsSpent, plain_cache(alloc, "a", 1)?));
-    assert!(rt; manager.create(plain_cache(alloc, "a", 1)?) == refused);
+    assert_eq!(rt; gives_last(alloc, &mut manager)?, [true; 3]);
     let beyond = opened(alloc, LAST, 2, (1, 0, 0)).err();
     assert!(rt; beyond == Some(Trouble::Opening(OpenRefusal::IdsSpent)));
     Ok(())

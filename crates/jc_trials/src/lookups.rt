@@ -74,19 +74,15 @@ fn put_letters<N: Naming>(
 /// The number of the first lookup that tells something else, if there is one.
 fn first_other<N: Naming>(
     alloc: Global,
-    words: Unnamed<ConstantPlacer>,
-) -> Result<Option<usize>, Trouble>
-    requires name { words.name ≡ N.name }
-    requires images { words.images ≡ image_of 16 (replicate 64 None) ∷ [] }
-{
-    let mut manager = manager(alloc, words.named::<N>())?;
-    let mut pass: Pass<N, ConstantPlacer> = manager.watch()?;
+    manager: &mut Watched<N>,
+    pass: &mut Pass<N, ConstantPlacer>,
+) -> Result<Option<usize>, Trouble> {
     let mut done = 0;
     for (number, (keys, meets, name, moment, told)) in LOOKUPS.iter().enumerate() {
-        put_letters(alloc, &mut manager, done, *keys)?;
+        put_letters(alloc, manager, done, *keys)?;
         done = *keys;
         if *meets {
-            manager.meet(&mut pass)?;
+            manager.meet(pass)?;
         }
         if pass.lookup(CacheId::new(0), &key(name)?, *moment) != *told {
             return Ok(Some(number));
@@ -95,9 +91,22 @@ fn first_other<N: Naming>(
     Ok(None)
 }
 
+/// The same, of a manager over these words under this name.
+fn first_other_named<N: Naming>(
+    alloc: Global,
+    words: Unnamed<ConstantPlacer>,
+) -> Result<Option<usize>, Trouble>
+    requires name { words.name ≡ N.name }
+    requires images { words.images ≡ image_of 16 (replicate 64 None) ∷ [] }
+{
+    let mut manager = manager(alloc, words.named::<N>())?;
+    let mut pass = manager.watch()?;
+    first_other(alloc, &mut manager, &mut pass)
+}
+
 #[test]
 fn lookups_tell_what_the_last_image_shows(rt: HostRuntime) -> Result<(), Trouble> {
     let words = Unnamed::new(rt.alloc(), ConstantPlacer, 16)?;
-    assert_eq!(rt; first_other::<Brand>(rt.alloc(), words)?, None);
+    assert_eq!(rt; first_other_named::<Brand>(rt.alloc(), words)?, None);
     Ok(())
 }
