@@ -93,7 +93,7 @@ impl ProcessorKind {
     }
 }
 
-/// Needed: 1 to 31 ASCII letters, digits, `-` or `_`, else `Bad`. That no other cache has it is checked later.
+/// Needed: 1 to 63 ASCII letters, digits, `-` or `_`, else `Bad`. That no other cache has it is checked later.
 pub fn name(table: &Value, cache: usize) -> Result<Key, ConfigFault>
     ensures { Gives (λ x. x) result (needed name_text cache Member.Name (view table.now)) }
 {

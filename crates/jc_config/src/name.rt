@@ -27,7 +27,7 @@ fn has_name_bytes(bytes: &[u8]) -> bool
     bytes.iter().all(|byte| is_name_byte(*byte))
 }
 
-/// The name that a text is, if it is one: 1 to 31 of the ASCII letters, digits, `-` and `_`.
+/// The name that a text is, if it is one: 1 to 63 of the ASCII letters, digits, `-` and `_`.
 pub fn name_in(text: &str) -> Option<Key>
     ensures { result ≡ name_in text.now }
 {

@@ -1,15 +1,16 @@
 -- A stored closure's results are those of its function.
-use Rattle.std.proofs.Common.{◌≡◌, refl, ℕ, List, Bor, Option, Result, Ok, Err, ap, subst, sym, ◌∙◌}
+use Rattle.std.proofs.Common.{◌≡◌, refl, ℕ, Bool, List, Bor, Option, Result, Ok, Err, ap, subst, sym, ◌∙◌}
 use Rattle.std.specs.Prelude.{IfOk}
 use Rattle.std.specs.declared.alloc.Global.{Global}
 use Rattle.std.specs.declared.alloc.AllocError.{AllocError}
+use Rattle.jc_model.specs.declared.call.Notice.{Notice}
 use Rattle.jc_model.specs.declared.call.Verdict.{Verdict}
 use Rattle.jc_model.specs.declared.call.ProcessorFault.{ProcessorFault}
 use Rattle.jc_hooks.specs.declared.loader.Loaded.{Loaded}
-use Rattle.std.specs.Coded.{Coded-set}
+use Rattle.std.specs.Coded.{Coded-set, coded_bool}
 use Rattle.std.proofs.Math.Logic.{∥∥₁_elim}
 use Rattle.jc_hooks.specs.Codes.{loaded_code, verdict_code}
-use Rattle.jc_hooks.specs.Stated.{AnswersBy, AnswersBy-prop, IsFunction, MayLoad, MayProcess}
+use Rattle.jc_hooks.specs.Stated.{AnswersBy, AnswersBy-prop, IsFunction, MayAdmit, MayLoad, MayProcess}
 
 -- a relation is no other function
 pub stated_is : {X Y : Type 0} (set : (y z : Y) → IsProp (y ≡ z)) (may : X → Y → Type 0) (answers : AnswersBy may) (f : X → Y) → IsFunction may f → answers.0 ≡ f
@@ -35,3 +36,12 @@ pub processes_by : (post : Global → Option (List ℕ) → Bor (List ℕ) → R
     → ((alloc : Global) (value : Option (List ℕ)) (argument : Bor (List ℕ)) (v : Result Verdict ProcessorFault) → post alloc value argument v → v ≡ f (value, argument.now))
     → (alloc : Global) → ((value : Option (List ℕ)) (argument : List ℕ) → post alloc value (record { ref_ptr = (0, 0); now = argument }) (f (value, argument))) → AnswersBy (MayProcess post)
 processes_by post f only alloc may = (f, λ given v. (λ h. ∥∥₁_elim h (Coded-set verdict_code v (f given)) (λ m. only m.0 given.0 m.1 v m.2 ∙ ap (λ a. f (given.0, a)) m.3), λ same. ∣ (alloc, record { ref_ptr = (0, 0); now = given.1 }, subst (post alloc given.0 (record { ref_ptr = (0, 0); now = given.1 })) (sym same) (may given.0 given.1), refl) ∣₁))
+
+pub admits_stated : (post : Bor Notice → Bool → Type 0) (answers : AnswersBy (MayAdmit post)) (notice : Bor Notice) (b : Bool) → post notice b → b ≡ answers.0 notice.now
+admits_stated post answers notice b met = (answers.1 notice.now b).0 ∣ (notice, met, refl) ∣₁
+
+-- a relation that holds with the function's answers alone, and with each of them for a lent notice
+pub admits_by : (post : Bor Notice → Bool → Type 0) (f : Notice → Bool)
+    → ((notice : Bor Notice) (b : Bool) → post notice b → b ≡ f notice.now)
+    → ((notice : Notice) → post (record { ref_ptr = (0, 0); now = notice }) (f notice)) → AnswersBy (MayAdmit post)
+admits_by post f only may = (f, λ notice b. (λ h. ∥∥₁_elim h (Coded-set coded_bool b (f notice)) (λ m. only m.0 b m.1 ∙ ap f m.2), λ same. ∣ (record { ref_ptr = (0, 0); now = notice }, subst (post (record { ref_ptr = (0, 0); now = notice })) (sym same) (may notice), refl) ∣₁))

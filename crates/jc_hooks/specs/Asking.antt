@@ -1,5 +1,5 @@
 -- What each callback of a cache states of its answers. One that is not there fails.
-use Rattle.std.specs.Prelude.{◌≡◌, ℕ, List, ◌∷◌, map, slice_get, slice_set, Option, Some, None, Result, Err, ⊤}
+use Rattle.std.specs.Prelude.{◌≡◌, ℕ, Bool, if◌then◌else◌, List, [], ◌∷◌, map, slice_get, slice_set, Option, Some, None, Result, Err, ⊤}
 use Rattle.jc_model.specs.declared.call.Answer.{Answer}
 use Rattle.jc_model.specs.declared.call.Answer.TheVariants.{LoadFailed, Processed}
 use Rattle.jc_model.specs.declared.call.Notice.{Notice}
@@ -21,6 +21,11 @@ verdict_by verdict_of (Some processor) value argument = Processed (verdict_of pr
 abbrev pub MayGiveBy : {W : Type 0} → (W → List (Request × Answer) → Type 0) → Option W → List (Request × Answer) → Type 0
 MayGiveBy may None given = ⊤
 MayGiveBy may (Some writer) given = MayGive (may writer) given
+
+-- the notices that a filter admits, in order
+abbrev pub admitted : (Notice → Bool) → List Notice → List Notice
+admitted lets [] = []
+admitted lets (n ∷ ns) = if lets n then n ∷ admitted lets ns else admitted lets ns
 
 -- the states of all listeners
 abbrev pub states_after : {K : Type 0} → (K → List Notice → List ℕ) → List K → List Notice → List (List ℕ)

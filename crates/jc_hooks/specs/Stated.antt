@@ -1,11 +1,12 @@
 -- The one function by which a closure answers.
-use Rattle.std.specs.Prelude.{◌≡◌, refl, ℕ, List, Option, Result, ◌↔◌}
+use Rattle.std.specs.Prelude.{◌≡◌, refl, ℕ, Bool, List, Option, Result, ◌↔◌}
 use Rattle.std.specs.Coded.{Π_prop, ×_prop, →_prop}
 use mathlib.Core.HLevel.{Σ_prop_path}
 use mathlib.Core.Path.{fun_ext}
 use mathlib.Core.Logic.{∥∥₁_prop}
 use denote.Ref.{Bor}
 use Rattle.std.specs.declared.alloc.Global.{Global}
+use Rattle.jc_model.specs.declared.call.Notice.{Notice}
 use Rattle.jc_model.specs.declared.call.Verdict.{Verdict}
 use Rattle.jc_model.specs.declared.call.ProcessorFault.{ProcessorFault}
 use Rattle.jc_hooks.specs.declared.loader.Loaded.{Loaded}
@@ -32,3 +33,7 @@ MayLoad answers key l = (alloc : Global) × (shown : Bor (List ℕ)) × answers 
 -- a closure that may answer so gives this verdict on a value, or nothing, and an argument
 abbrev pub MayProcess : (Global → Option (List ℕ) → Bor (List ℕ) → Result Verdict ProcessorFault → Type 0) → Option (List ℕ) × List ℕ → Result Verdict ProcessorFault → Type 0
 MayProcess answers given verdict = (alloc : Global) × (argument : Bor (List ℕ)) × answers alloc given.0 argument verdict × (argument.now ≡ given.1)
+
+-- a closure that may answer so admits a change or not
+abbrev pub MayAdmit : (Bor Notice → Bool → Type 0) → Notice → Bool → Type 0
+MayAdmit answers notice admits = (shown : Bor Notice) × answers shown admits × (shown.now ≡ notice)

@@ -1,7 +1,7 @@
 //! The callbacks of one cache.
 
 /// One cache's callbacks, in the order of its configuration. The struct asks nothing of their types, so that it
-/// also holds boxed ones: `CacheHooks<Box<dyn Loader>, Box<dyn Writer>, Box<dyn Processor>, Box<dyn Listener>>`.
+/// also holds boxed ones: `CacheHooks<Box<dyn Loader>, Box<dyn Writer>, Box<dyn Processor>, ListenerHook<Box<dyn Filter>, Box<dyn Listener>>>`.
 #[derive(Drop)]
 pub struct CacheHooks<L, W, P, K> {
     /// Asked for missing keys, where the cache reads through.

@@ -1,19 +1,21 @@
-//! Loaders and processors made of closures.
+//! Loaders, processors and filters made of closures.
 //!
 //! The caller boxes the closure. Beside it stands the one function by which it answers where memory suffices.
 
-ghost use Rattle.std.specs.Prelude.{◌≡◌, ℕ, List, Option, Result, Ok};
+ghost use Rattle.std.specs.Prelude.{◌≡◌, ℕ, Bool, List, Option, Result, Ok};
+ghost use Rattle.jc_model.specs.declared.call.Notice.{Notice as Told};
 ghost use Rattle.jc_model.specs.declared.call.Verdict.{Verdict};
 ghost use Rattle.jc_model.specs.declared.call.ProcessorFault.{ProcessorFault};
-ghost use Rattle.std.specs.Coded.{Coded-set};
+ghost use Rattle.std.specs.Coded.{Coded-set, coded_bool};
 ghost use Rattle.jc_hooks.specs.declared.loader.Loaded.{Loaded};
 ghost use Rattle.jc_hooks.specs.Codes.{loaded_code, verdict_code};
-ghost use Rattle.jc_hooks.specs.Stated.{IsFunction, AnswersBy, AnswersBy-prop, MayLoad, MayProcess};
+ghost use Rattle.jc_hooks.specs.Stated.{IsFunction, AnswersBy, AnswersBy-prop, MayAdmit, MayLoad, MayProcess};
 
+use crate::filter::Filter;
 use crate::loader::{Loaded, Loader};
 use crate::processor::{Processor, shared};
 use jc_model::OutOfMemory;
-use jc_model::call::{ProcessorFault, Verdict};
+use jc_model::call::{Notice, ProcessorFault, Verdict};
 use jc_model::key::Key;
 use jc_model::value::Value;
 use std::alloc::Global;
@@ -118,5 +120,42 @@ impl Processor for ClosureProcessor {
     ) -> Result<Result<Verdict, ProcessorFault>, OutOfMemory> {
         let value = shared(value)?;
         run(&self.closure, alloc, value, argument)
+    }
+}
+
+/// A boxed closure that admits changes or not.
+pub type FilterClosure = Box<dyn Fn(&Notice) -> bool + Send>;
+
+/// A stored closure that admits changes by one function of them.
+#[derive(Drop)]
+pub struct ClosureFilter {
+    closure: FilterClosure,
+    ghost callable: { FilterClosure.IsAlwaysCallable closure },
+    ghost answers: { AnswersBy (MayAdmit (λ n b. FilterClosure.post closure n b)) } by { AnswersBy-prop (Coded-set coded_bool) _ },
+}
+
+impl ClosureFilter {
+    /// A filter that admits as the closure does, by the one function that the closure answers by.
+    pub fn new(closure: FilterClosure) -> ClosureFilter
+        requires callable { FilterClosure.IsAlwaysCallable closure }
+        requires answers { AnswersBy (MayAdmit (λ n b. FilterClosure.post closure n b)) }
+        ensures { (f : Told → Bool) → IsFunction (MayAdmit (λ n b. FilterClosure.post closure n b)) f → result.answers.0 ≡ f }
+    {
+        ClosureFilter { closure }
+    }
+}
+
+fn is_admitted(closure: &FilterClosure, notice: &Notice) -> bool
+    requires { FilterClosure.IsAlwaysCallable closure.now }
+    ensures { FilterClosure.post closure.now notice.entry result }
+{
+    closure(notice)
+}
+
+impl Filter for ClosureFilter {
+    ghost lets = { λ s. s.answers.0 };
+
+    fn admits(&self, notice: &Notice) -> bool {
+        is_admitted(&self.closure, notice)
     }
 }

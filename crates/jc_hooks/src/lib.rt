@@ -9,6 +9,8 @@ mod answer;
 mod asking;
 mod cache_hooks;
 mod closure;
+mod filter;
+mod hook;
 mod listener;
 mod loader;
 mod processor;
@@ -22,7 +24,11 @@ mod writer;
 pub use answer::{load_answer, process_answer, write_answer};
 pub use asking::{ask_loader, ask_processor, ask_to_delete, ask_to_write};
 pub use cache_hooks::CacheHooks;
-pub use closure::{ClosureLoader, ClosureProcessor, LoadClosure, ProcessClosure};
+pub use closure::{
+    ClosureFilter, ClosureLoader, ClosureProcessor, FilterClosure, LoadClosure, ProcessClosure,
+};
+pub use filter::{AdmitAll, Filter};
+pub use hook::{Hearer, ListenerHook};
 pub use listener::Listener;
 pub use loader::{Loaded, Loader};
 pub use processor::Processor;

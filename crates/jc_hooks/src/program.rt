@@ -5,6 +5,8 @@ ghost use Rattle.jc_model.specs.Limits.{value_bytes};
 ghost use Rattle.jc_hooks.specs.Program.{begins, bytes_of, appended};
 
 use crate::cache_hooks::CacheHooks;
+use crate::filter::AdmitAll;
+use crate::hook::ListenerHook;
 use crate::loader::{Loaded, Loader};
 use crate::processor::{Processor, shared};
 use crate::tally::TallyListener;
@@ -159,5 +161,8 @@ impl Processor for ProgramProcessor {
     }
 }
 
+/// A listener of the program's caches: it counts every notice.
+pub type ProgramListener = ListenerHook<AdmitAll, TallyListener>;
+
 /// The callbacks of one of the program's caches.
-pub type ProgramHooks = CacheHooks<EchoLoader, CheckWriter, ProgramProcessor, TallyListener>;
+pub type ProgramHooks = CacheHooks<EchoLoader, CheckWriter, ProgramProcessor, ProgramListener>;

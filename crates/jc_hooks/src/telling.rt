@@ -4,12 +4,12 @@ ghost use Rattle.jc_model.specs.declared.call.Notice.{Notice as Told};
 ghost use Rattle.jc_hooks.specs.Asking.{states_after};
 ghost use Rattle.jc_hooks.specs.Turns.{HasTold};
 
-use crate::listener::Listener;
+use crate::hook::Hearer;
 use crate::turn::{Turn, tell_next};
 use jc_model::call::Notice;
 
 /// Tells a notice to the listeners, from the first registered to the last.
-fn tell<K: Listener>(listeners: &mut [K], turn: Turn<K>, notice: &Notice) -> Turn<K>
+fn tell<K: Hearer>(listeners: &mut [K], turn: Turn<K>, notice: &Notice) -> Turn<K>
     requires starts { HasTold turn (length listeners.old) turn.notices }
     requires fits { turn.notices + 1 < 2 ^ 64 }
     ensures told { (rest : List Told) → states_after K.state_after listeners.new rest ≡ states_after K.state_after listeners.old (notice.now ∷ rest) }
@@ -24,7 +24,7 @@ fn tell<K: Listener>(listeners: &mut [K], turn: Turn<K>, notice: &Notice) -> Tur
 
 /// Tells each notice to all listeners before the next one, in the order in which they were registered. It hands out the
 /// turn that it came to, which says so.
-pub fn tell_all<K: Listener>(listeners: &mut [K], notices: &[Notice]) -> Turn<K>
+pub fn tell_all<K: Hearer>(listeners: &mut [K], notices: &[Notice]) -> Turn<K>
     ensures told { (rest : List Told) → states_after K.state_after listeners.new rest ≡ states_after K.state_after listeners.old (notices.now ++ rest) }
     ensures order { HasTold result (length listeners.old) (length notices.now) }
 {

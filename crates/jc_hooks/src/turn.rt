@@ -2,7 +2,7 @@
 ghost use Rattle.std.specs.Prelude.{◌≡◌, ◌<◌, ◌+◌, ◌^◌, ◌↔◌, length, IsTrue};
 ghost use Rattle.jc_hooks.specs.Asking.{TellsAt};
 
-use crate::listener::Listener;
+use crate::hook::Hearer;
 use jc_model::call::Notice;
 use std::marker::PhantomData;
 
@@ -61,7 +61,7 @@ impl<K> Turn<K> {
 }
 
 /// Tells the listener whose turn it is, and no other.
-pub(crate) fn tell_next<K: Listener>(listeners: &mut [K], turn: Turn<K>, notice: &Notice) -> Turn<K>
+pub(crate) fn tell_next<K: Hearer>(listeners: &mut [K], turn: Turn<K>, notice: &Notice) -> Turn<K>
     requires all { turn.listeners ≡ length listeners.old }
     requires left { turn.told < turn.listeners }
     ensures all { result.listeners ≡ turn.listeners }
@@ -71,7 +71,7 @@ pub(crate) fn tell_next<K: Listener>(listeners: &mut [K], turn: Turn<K>, notice:
 {
     let place = turn.told;
     let listener = &mut listeners[place];
-    listener.tell(notice);
+    listener.hear(notice);
     Turn {
         listeners: turn.listeners,
         notices: turn.notices,

@@ -2,7 +2,7 @@
 use Rattle.std.specs.Prelude.{ℕ, ◌*◌, ◌-◌}
 
 abbrev pub key_words : ℕ
-key_words = 4
+key_words = 8
 
 abbrev pub key_bytes : ℕ
 key_bytes = 8 * key_words - 1

@@ -1,7 +1,7 @@
 //! The limits, each in one place; contracts cite the definitions of the same names.
 
 /// Words of eight bytes that hold a key: a byte for its length, then its text.
-pub const KEY_WORDS: usize = 4;
+pub const KEY_WORDS: usize = 8;
 /// The most bytes of a key or a name.
 pub const KEY_BYTES: usize = 8 * KEY_WORDS - 1;
 /// The most bytes of a value.

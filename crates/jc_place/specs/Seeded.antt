@@ -1,7 +1,8 @@
 -- Places by FNV-1a of 64 bits.
-use Rattle.std.specs.Prelude.{ℕ, ◌+◌, ◌*◌, ◌/◌, ◌%◌, ◌^◌, List, ◌++◌, fold, bit_xor}
+use Rattle.std.specs.Prelude.{ℕ, ◌*◌, ◌%◌, ◌^◌, List, ◌++◌, fold, bit_xor}
 use Rattle.std.specs.Int.{to_le_bytes, w32}
 use Rattle.jc_place.specs.declared.place.Place.{Place}
+use Rattle.jc_place.specs.Place.{place_of}
 
 -- one byte more
 abbrev pub fnv_step : ℕ → ℕ → ℕ
@@ -11,8 +12,5 @@ fnv_step hash byte = (bit_xor hash byte * 0x100000001b3) % 2 ^ 64
 unfoldable pub seeded_hash : ℕ → ℕ → List ℕ → ℕ
 seeded_hash seed id key = fold fnv_step (bit_xor 0xcbf29ce484222325 seed) (to_le_bytes w32 id ++ key)
 
--- the low half of the hash gives the first bucket, the high half the tag
 abbrev pub seeded_place : ℕ → ℕ → List ℕ → Place
-seeded_place seed id key =
-    let hash : ℕ = seeded_hash seed id key in
-    record { first = hash % 2 ^ 32; tag = 1 + hash / 2 ^ 32 % 255 }
+seeded_place seed id key = place_of (seeded_hash seed id key)

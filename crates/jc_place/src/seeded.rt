@@ -2,7 +2,7 @@
 ghost use Rattle.std.specs.Prelude.{◌≡◌, fold};
 ghost use Rattle.jc_place.specs.Seeded.{fnv_step, seeded_place};
 
-use crate::place::{Place, Placer};
+use crate::place::{Place, Placer, place_of};
 use jc_model::event::CacheId;
 use jc_model::key::Key;
 use std::marker::Model;
@@ -11,7 +11,8 @@ const OFFSET: u64 = 0xcbf2_9ce4_8422_2325;
 
 const PRIME: u64 = 0x100_0000_01b3;
 
-/// Places by FNV-1a of 64 bits, over the cache's id and the key, from a start that the seed changes.
+/// Places by FNV-1a of 64 bits, over the cache's id and the key, from a start that the seed changes. A seed is for runs
+/// that are to be repeated, and no protection: keys chosen for one seed share their buckets under most others.
 #[derive(Clone, Copy, Debug, PartialEq, Eq)]
 pub struct SeededPlacer {
     seed: u64,
@@ -52,10 +53,6 @@ impl Placer for SeededPlacer {
 
     fn place(&self, id: CacheId, key: &Key) -> Place {
         let of_id = walk(OFFSET ^ self.seed, &id.number().to_le_bytes());
-        let hash = walk(of_id, key.text().as_bytes());
-        Place {
-            first: (hash & 0xffff_ffff) as u32,
-            tag: 1 + ((hash >> 32) % 255) as u8,
-        }
+        place_of(walk(of_id, key.text().as_bytes()))
     }
 }

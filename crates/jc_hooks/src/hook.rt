@@ -1,0 +1,62 @@
+//! A listener behind its filter.
+
+ghost use Rattle.std.specs.Prelude.{◌≡◌};
+
+use crate::filter::{AdmitAll, Filter};
+use crate::listener::Listener;
+use jc_model::call::Notice;
+
+/// What a cache's list of listeners holds: it hears of each change of an entry, in order. What it states for a list of
+/// notices it stated before for the notice that it hears followed by the list. It takes no memory and cannot fail.
+/// `ListenerHook` alone hears, so no listener stands in a list without its filter.
+pub trait Hearer: Drop + Send {
+    ghost use Rattle.std.specs.Prelude.{◌≡◌, ℕ, List, ◌∷◌};
+    ghost use Rattle.jc_model.specs.declared.call.Notice.{Notice};
+
+    ghost state_after: { Self → List Notice → List ℕ };
+
+    /// Hears of one change.
+    fn hear(&mut self, notice: &Notice)
+        ensures stated { (rest : List Notice) → state_after self.new rest ≡ state_after self.old (notice.now ∷ rest) };
+}
+
+/// A listener that is told what its filter admits, as JSR 107 registers one (`CacheEntryListenerConfiguration`). It
+/// states for a list what the listener states for the notices of the list that the filter admits.
+#[derive(Drop)]
+pub struct ListenerHook<F, K> {
+    /// Which notices the listener is told.
+    pub filter: F,
+    /// Who is told them.
+    pub listener: K,
+}
+
+impl<K> ListenerHook<AdmitAll, K> {
+    /// A listener that is told every notice.
+    pub fn unfiltered(listener: K) -> ListenerHook<AdmitAll, K>
+        ensures { result ≡ record { filter = record {}; listener = listener } }
+    {
+        ListenerHook {
+            filter: AdmitAll,
+            listener,
+        }
+    }
+}
+
+impl<F: Filter, K: Listener> Hearer for ListenerHook<F, K> {
+    ghost use Rattle.std.specs.Prelude.{◌≡◌, ◌∷◌, List, true, false};
+    ghost use Rattle.jc_model.specs.declared.call.Notice.{Notice};
+    ghost use Rattle.jc_hooks.specs.Asking.{admitted};
+
+    ghost state_after = { λ h notices. K.state_after h.listener (admitted (F.lets h.filter) notices) };
+
+    fn hear(&mut self, notice: &Notice)
+        ensures stated { (rest : List Notice) → K.state_after self.new.listener (admitted (F.lets self.new.filter) rest) ≡ K.state_after self.old.listener (admitted (F.lets self.old.filter) (notice.now ∷ rest)) }
+        ensures admitted { F.lets self.old.filter notice.now ≡ true → (rest : List Notice) → K.state_after self.new.listener rest ≡ K.state_after self.old.listener (notice.now ∷ rest) }
+        ensures refused { F.lets self.old.filter notice.now ≡ false → self.new ≡ self.old }
+        ensures filter { self.new.filter ≡ self.old.filter }
+    {
+        if self.filter.admits(notice) {
+            self.listener.tell(notice);
+        }
+    }
+}
