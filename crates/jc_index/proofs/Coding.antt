@@ -1,15 +1,17 @@
 -- Rows and their words.
-use Rattle.std.proofs.Common.{◌≡◌, ℕ, zero, suc, ◌+◌, ◌-◌, ◌*◌, ◌%◌, ◌^◌, ◌<◌, ◌≤◌, Bool, true, false, List, [], ◌∷◌, ◌++◌, length, take, drop, replicate, get_or, set, nat_lt, if◌then◌else◌, Option, Some, None, refl, sym, ap, ◌∙◌, arith, append_assoc, length-append, length-drop}
-use Rattle.std.specs.Int.{from_le_bytes, to_le_bytes, w64}
+use Rattle.std.proofs.Common.{◌≡◌, ℕ, zero, suc, ◌+◌, ◌-◌, ◌*◌, ◌%◌, ◌^◌, ◌<◌, ◌≤◌, Bool, true, false, List, [], ◌∷◌, ◌++◌, length, take, drop, replicate, get_or, set, nat_lt, if◌then◌else◌, Option, Some, None, refl, sym, ap, ◌∙◌, arith, append_assoc, append-nil, length-append, length-drop}
+use Rattle.std.specs.Int.{to_le_bytes, w64}
 use Rattle.std.proofs.Math.Seq.{take-append_seam}
 use Rattle.std.proofs.lemmas.Nat.{le_bytes_8}
-use Rattle.jc_model.specs.Key.{bytes_of, words_of}
+use Rattle.jc_model.specs.Key.{bytes_of, first_words, word_at, words_of}
+use Rattle.jc_model.specs.Limits.{key_bytes, key_words}
 use Rattle.jc_model.specs.declared.config.Expiry.{Expiry}
 use Rattle.jc_model.specs.declared.config.Expiry.TheVariants.{Never, At}
 use Rattle.jc_stripes.specs.Stripes.{set_all}
 use Rattle.jc_stripes.proofs.Opening.{taken_more}
 use Rattle.jc_rows.specs.Images.{Shown}
-use Rattle.jc_index.specs.Spelling.{IsCoded, key_of, slot_of, slot_in, slot_words, slots_words, slots_in, never_bit, moment_of}
+use Rattle.jc_index.specs.Layout.{slot_place, slot_words}
+use Rattle.jc_index.specs.Spelling.{IsCoded, bytes_in, key_of, slot_of, slot_in, words_of_slot, words_of_slots, slots_in, never_bit, moment_of}
 use Rattle.jc_index.specs.Batches.{placed_at}
 
 -- bytes
@@ -49,11 +51,15 @@ take_drop zero xs = refl
 take_drop (suc n) [] = refl
 take_drop (suc n) (x ∷ xs) = ap (λ l. x ∷ l) (take_drop n xs)
 
+take_none : (n : ℕ) → take {A = ℕ} n [] ≡ []
+take_none zero = refl
+take_none (suc n) = refl
+
 drop_none : (n : ℕ) → drop {A = ℕ} n [] ≡ []
 drop_none zero = refl
 drop_none (suc n) = refl
 
-drop_drop : (n m k : ℕ) (xs : List ℕ) → k ≡ m + n → drop n (drop m xs) ≡ drop k xs
+pub drop_drop : (n m k : ℕ) (xs : List ℕ) → k ≡ m + n → drop n (drop m xs) ≡ drop k xs
 drop_drop n zero k xs e = let f : n ≡ k = omega (arith, e) in ap (λ (i : ℕ). drop i xs) f
 drop_drop n (suc m) zero xs e = absurd (omega (arith, e))
 drop_drop n (suc m) (suc k) [] e = drop_none n
@@ -65,36 +71,38 @@ take_long zero (x ∷ xs) h = absurd (omega arith)
 take_long (suc n) [] h = refl
 take_long (suc n) (x ∷ xs) h = ap (λ l. x ∷ l) (take_long n xs (omega arith))
 
--- 32 bytes in four pieces
-pieces : (bs : List ℕ) → length bs ≡ 32 → take 8 (drop 0 bs) ++ take 8 (drop 8 bs) ++ take 8 (drop 16 bs) ++ take 8 (drop 24 bs) ≡ bs
-pieces bs long =
-    let p : List ℕ = take 8 bs in
-    let q : List ℕ = take 8 (drop 8 bs) in
-    let r : List ℕ = take 8 (drop 16 bs) in
-    let last : take 8 (drop 24 bs) ≡ drop 24 bs = take_long 8 (drop 24 bs) (omega (arith, length-drop 24 bs, long)) in
-    let three : r ++ take 8 (drop 24 bs) ≡ drop 16 bs = ap (λ l. r ++ l) (last ∙ sym (drop_drop 8 16 24 bs refl)) ∙ take_drop 8 (drop 16 bs) in
-    let two : q ++ (r ++ take 8 (drop 24 bs)) ≡ drop 8 bs = ap (λ l. q ++ l) (three ∙ sym (drop_drop 8 8 16 bs refl)) ∙ take_drop 8 (drop 8 bs) in
-    append_assoc (p ++ q) r (take 8 (drop 24 bs)) ∙ (append_assoc p q (r ++ take 8 (drop 24 bs)) ∙ (ap (λ l. p ++ l) two ∙ take_drop 8 bs))
+word_back : (n : ℕ) (bs : List ℕ) → 8 * n + 8 ≤ length bs → ((i : ℕ) → get_or bs i 0 < 256) → to_le_bytes w64 (word_at n bs) ≡ take 8 (drop (8 * n) bs)
+word_back n bs inside small = le_bytes_8 (take 8 (drop (8 * n) bs)) (word_at n bs) (long_take 8 (drop (8 * n) bs) (omega (arith, length-drop (8 * n) bs))) (at_take 8 (drop (8 * n) bs) (at_drop (8 * n) bs small)) refl
 
-abbrev word_from : ℕ → List ℕ → ℕ
-word_from n bs = from_le_bytes w64 (take 8 (drop n bs))
+bytes_more : (ws : List ℕ) (w : ℕ) → bytes_in (ws ++ w ∷ []) ≡ bytes_in ws ++ to_le_bytes w64 w
+bytes_more [] w = append-nil (to_le_bytes w64 w)
+bytes_more (v ∷ ws) w = ap (λ l. to_le_bytes w64 v ++ l) (bytes_more ws w) ∙ sym (append_assoc (to_le_bytes w64 v) (bytes_in ws) (to_le_bytes w64 w))
 
-word_back : (n : ℕ) (bs : List ℕ) → n + 8 ≤ length bs → ((i : ℕ) → get_or bs i 0 < 256) → to_le_bytes w64 (word_from n bs) ≡ take 8 (drop n bs)
-word_back n bs inside small = le_bytes_8 (take 8 (drop n bs)) (word_from n bs) (long_take 8 (drop n bs) (omega (arith, length-drop n bs))) (at_take 8 (drop n bs) (at_drop n bs small)) refl
+take_more : (n m k : ℕ) (xs : List ℕ) → k ≡ n + m → take n xs ++ take m (drop n xs) ≡ take k xs
+take_more zero m k xs e = let f : m ≡ k = omega (arith, e) in ap (λ (i : ℕ). take i xs) f
+take_more (suc n) m zero xs e = absurd (omega (arith, e))
+take_more (suc n) m (suc k) [] e = take_none m
+take_more (suc n) m (suc k) (x ∷ xs) e = ap (λ l. x ∷ l) (take_more n m k xs (omega (arith, e)))
+
+-- the first words spell the first bytes
+bytes_back : (n : ℕ) (bs : List ℕ) → 8 * n ≤ length bs → ((i : ℕ) → get_or bs i 0 < 256) → bytes_in (first_words n bs) ≡ take (8 * n) bs
+bytes_back zero bs inside small = refl
+bytes_back (suc n) bs inside small =
+    bytes_more (first_words n bs) (word_at n bs)
+    ∙ ((λ i. bytes_back n bs (omega (arith, inside)) small i ++ word_back n bs (omega (arith, inside)) small i) ∙ take_more (8 * n) 8 (8 * suc n) bs (omega arith))
 
 small_head : (n : ℕ) (text : List ℕ) → n < 256 → ((i : ℕ) → get_or text i 0 < 256) → (i : ℕ) → get_or (n ∷ text) i 0 < 256
 small_head n text few small zero = few
 small_head n text few small (suc i) = small i
 
 -- a key's words spell it
-pub key_back : (text : List ℕ) → length text ≤ 31 → ((i : ℕ) → get_or text i 0 < 256) → key_of (words_of text) ≡ text
+pub key_back : (text : List ℕ) → length text ≤ key_bytes → ((i : ℕ) → get_or text i 0 < 256) → key_of (words_of text) ≡ text
 key_back text few small =
-    let zeros : List ℕ = replicate (31 - length text) 0 in
+    let zeros : List ℕ = replicate (key_bytes - length text) 0 in
     let bs : List ℕ = bytes_of text in
-    let long : length bs ≡ 32 = omega (arith, length-append text zeros, long_zeros (31 - length text)) in
-    let all : (i : ℕ) → get_or bs i 0 < 256 = small_head (length text) (text ++ zeros) (omega arith) (at_append (λ x. x < 256) text zeros 0 small (at_zeros (31 - length text))) in
-    let bytes : to_le_bytes w64 (word_from 0 bs) ++ to_le_bytes w64 (word_from 8 bs) ++ to_le_bytes w64 (word_from 16 bs) ++ to_le_bytes w64 (word_from 24 bs) ≡ bs =
-    (λ i. word_back 0 bs (omega (arith, long)) all i ++ word_back 8 bs (omega (arith, long)) all i ++ word_back 16 bs (omega (arith, long)) all i ++ word_back 24 bs (omega (arith, long)) all i) ∙ pieces bs long in
+    let long : length bs ≡ 8 * key_words = omega (arith, length-append text zeros, long_zeros (key_bytes - length text)) in
+    let all : (i : ℕ) → get_or bs i 0 < 256 = small_head (length text) (text ++ zeros) (omega arith) (at_append (λ x. x < 256) text zeros 0 small (at_zeros (key_bytes - length text))) in
+    let bytes : bytes_in (words_of text) ≡ bs = bytes_back key_words bs (omega (arith, long)) all ∙ take_long (8 * key_words) bs (omega (arith, long)) in
     ap (λ (l : List ℕ). take (get_or l 0 0) (drop 1 l)) bytes ∙ take-append_seam text zeros
 
 lt_true : (a b : ℕ) → a < b → nat_lt a b ≡ true
@@ -144,41 +152,60 @@ set_over [] (y ∷ ys) xs e = absurd (omega (arith, e))
 set_over (v ∷ vs) [] xs e = absurd (omega (arith, e))
 set_over (v ∷ vs) (y ∷ ys) xs e = set_skip 0 vs v (ys ++ xs) (0 + 1) (omega arith) ∙ ap (λ l. v ∷ l) (set_over vs ys xs (omega (arith, e)))
 
-pub six_words : (x : Option Shown) → length (slot_words x) ≡ 6
-six_words None = refl
-six_words (Some h) = refl
+pub long_slot : (x : Option Shown) → length (words_of_slot x) ≡ slot_words
+long_slot None = refl
+long_slot (Some h) = refl
 
-pub long_slots : (xs : List (Option Shown)) → length (slots_words xs) ≡ 6 * length xs
+pub long_slots : (xs : List (Option Shown)) → length (words_of_slots xs) ≡ slot_words * length xs
 long_slots [] = refl
-long_slots (x ∷ xs) = omega (arith, length-append (slot_words x) (slots_words xs), six_words x, long_slots xs)
+long_slots (x ∷ xs) = omega (arith, length-append (words_of_slot x) (words_of_slots xs), long_slot x, long_slots xs)
 
-pub slot_set : (xs : List (Option Shown)) (s p : ℕ) (x : Option Shown) → p ≡ 6 * s → s < length xs → set_all (slots_words xs) (placed_at p (slot_words x)) ≡ slots_words (set xs s x)
+pub slot_set : (xs : List (Option Shown)) (s p : ℕ) (x : Option Shown) → p ≡ slot_words * s → s < length xs → set_all (words_of_slots xs) (placed_at p (words_of_slot x)) ≡ words_of_slots (set xs s x)
 slot_set [] s p x e inside = absurd (omega arith)
 slot_set (y ∷ xs) zero p x e inside = let f : p ≡ 0 = omega (arith, e) in
-    ap (λ (i : ℕ). set_all (slot_words y ++ slots_words xs) (placed_at i (slot_words x))) f ∙ set_over (slot_words x) (slot_words y) (slots_words xs) (six_words x ∙ sym (six_words y))
+    ap (λ (i : ℕ). set_all (words_of_slot y ++ words_of_slots xs) (placed_at i (words_of_slot x))) f ∙ set_over (words_of_slot x) (words_of_slot y) (words_of_slots xs) (long_slot x ∙ sym (long_slot y))
 slot_set (y ∷ xs) (suc s) p x e inside =
-    skip_all (slot_words y) (p - 6) (slot_words x) (slots_words xs) p (omega (arith, e, six_words y)) ∙ ap (λ l. slot_words y ++ l) (slot_set xs s (p - 6) x (omega (arith, e)) (omega arith))
+    skip_all (words_of_slot y) (p - slot_words) (words_of_slot x) (words_of_slots xs) p (omega (arith, e, long_slot y)) ∙ ap (λ l. words_of_slot y ++ l) (slot_set xs s (p - slot_words) x (omega (arith, e)) (omega arith))
 
 -- the words of one slot are set in an image
-pub image_set : (n : ℕ) (xs : List (Option Shown)) (s p : ℕ) (x : Option Shown) → p ≡ 6 * s + 1 → s < length xs → set_all (n ∷ slots_words xs) (placed_at p (slot_words x)) ≡ n ∷ slots_words (set xs s x)
-image_set n xs s p x e inside = set_skip (6 * s) (slot_words x) n (slots_words xs) p e ∙ ap (λ l. n ∷ l) (slot_set xs s (6 * s) x refl inside)
+pub image_set : (n : ℕ) (xs : List (Option Shown)) (s p : ℕ) (x : Option Shown) → p ≡ slot_place s → s < length xs → set_all (n ∷ words_of_slots xs) (placed_at p (words_of_slot x)) ≡ n ∷ words_of_slots (set xs s x)
+image_set n xs s p x e inside = set_skip (slot_words * s) (words_of_slot x) n (words_of_slots xs) p e ∙ ap (λ l. n ∷ l) (slot_set xs s (slot_words * s) x refl inside)
 
--- coded slots are read back
-pub data_coded : (x : Option Shown) (ws : List ℕ) → slots_in (slot_words x ++ ws) ≡ slot_in (slot_words x) ∷ slots_in ws
-data_coded None ws = refl
-data_coded (Some h) ws = refl
+-- the words of the first slot, and the rest
+first_slot : (x : Option Shown) (ws : List ℕ) → take slot_words (words_of_slot x ++ ws) ≡ words_of_slot x
+first_slot None ws = refl
+first_slot (Some h) ws = refl
+
+other_slots : (x : Option Shown) (ws : List ℕ) → drop slot_words (words_of_slot x ++ ws) ≡ ws
+other_slots None ws = refl
+other_slots (Some h) ws = refl
 
 abbrev pub AllCoded : List (Option Shown) → Type 0
 AllCoded [] = Unit {0}
 AllCoded (x ∷ xs) = IsCoded x × AllCoded xs
 
-pub coded_back : (xs : List (Option Shown)) → AllCoded xs → slots_in (slots_words xs) ≡ xs
-coded_back [] a = refl
-coded_back (x ∷ xs) a = data_coded x (slots_words xs) ∙ (λ i. a.0 i ∷ coded_back xs a.1 i)
+-- coded slots are read back
+pub coded_back : (xs : List (Option Shown)) (n : ℕ) → n ≡ length xs → AllCoded xs → slots_in n (words_of_slots xs) ≡ xs
+coded_back [] zero e a = refl
+coded_back [] (suc n) e a = absurd (omega (arith, e))
+coded_back (x ∷ xs) zero e a = absurd (omega (arith, e))
+coded_back (x ∷ xs) (suc n) e a =
+    let ws : List ℕ = words_of_slots xs in
+    λ i. (ap slot_in (first_slot x ws) ∙ a.0) i ∷ (ap (slots_in n) (other_slots x ws) ∙ coded_back xs n (omega (arith, e)) a.1) i
 
-pub back_coded : (xs : List (Option Shown)) → slots_in (slots_words xs) ≡ xs → AllCoded xs
-back_coded [] e = tt
-back_coded (x ∷ xs) e = let both : slot_in (slot_words x) ∷ slots_in (slots_words xs) ≡ x ∷ xs = sym (data_coded x (slots_words xs)) ∙ e in (cc both, back_coded xs (cc both))
+pub back_coded : (xs : List (Option Shown)) (n : ℕ) → slots_in n (words_of_slots xs) ≡ xs → AllCoded xs
+back_coded [] n e = tt
+back_coded (x ∷ xs) zero e = absurd cc
+back_coded (x ∷ xs) (suc n) e =
+    let ws : List ℕ = words_of_slots xs in
+    let both : slot_in (words_of_slot x) ∷ slots_in n ws ≡ x ∷ xs = (λ i. slot_in (sym (first_slot x ws) i) ∷ slots_in n (sym (other_slots x ws) i)) ∙ e in (cc both, back_coded xs n (cc both))
+
+-- the words of a slot, by its number
+pub slot_taken : (xs : List (Option Shown)) (k : ℕ) → k < length xs → take slot_words (drop (slot_words * k) (words_of_slots xs)) ≡ words_of_slot (get_or xs k None)
+slot_taken [] k inside = absurd (omega arith)
+slot_taken (x ∷ xs) zero inside = first_slot x (words_of_slots xs)
+slot_taken (x ∷ xs) (suc k) inside =
+    ap (take slot_words) (sym (drop_drop (slot_words * k) slot_words (slot_words * suc k) (words_of_slot x ++ words_of_slots xs) (omega arith)) ∙ ap (drop (slot_words * k)) (other_slots x (words_of_slots xs))) ∙ slot_taken xs k (omega arith)
 
 pub coded_set : (xs : List (Option Shown)) (s : ℕ) (x : Option Shown) → IsCoded x → AllCoded xs → AllCoded (set xs s x)
 coded_set [] s x k a = tt

@@ -9,6 +9,7 @@ use Rattle.jc_stripes.specs.Stripes.{Front, last_of}
 use Rattle.jc_rows.specs.Images.{Image, last_image}
 use Rattle.jc_cuckoo.specs.Images.{IsGrowth, grown, shown}
 use Rattle.jc_cuckoo.specs.declared.held.Held.{Held}
+use Rattle.jc_index.specs.Layout.{bucket_slots, bucket_words}
 use Rattle.jc_index.specs.declared.placed.Placed.{Placed}
 use Rattle.jc_index.specs.Spelling.{IsCoded, IsLawful, encoded, image_in}
 use Rattle.jc_index.specs.Batches.{Write}
@@ -37,13 +38,13 @@ module _ {P : Type 0} (placer : P) (buckets count : ℕ) (lineage : Lineage (Pla
   front = lineage.writer.seat.me.0.front
 
   pub last_buckets : (last_image (map image_in front)).buckets ≡ buckets
-  last_buckets = ap (λ (i : Image). i.buckets) (last_images front) ∙ (let wide : length (last_of front) ≡ 24 * buckets + 1 = is.spelt.wide in omega arith)
+  last_buckets = ap (λ (i : Image). i.buckets) (last_images front) ∙ (let wide : length (last_of front) ≡ bucket_words * buckets + 1 = is.spelt.wide in omega arith)
 
   pub last_stash : (last_image (map image_in front)).stash ≡ count
   last_stash = ap (λ (i : Image). i.stash) (last_images front) ∙ is.counted
 
-  pub slots_inside : (writes : List Write) → All (λ w. w.0 < 4 * (last_image (map image_in front)).buckets) writes → All (λ w. w.0 < 4 * buckets) writes
-  slots_inside writes asked = subst (λ (n : ℕ). All (λ w. w.0 < 4 * n) writes) last_buckets asked
+  pub slots_inside : (writes : List Write) → All (λ w. w.0 < bucket_slots * (last_image (map image_in front)).buckets) writes → All (λ w. w.0 < bucket_slots * buckets) writes
+  slots_inside writes asked = subst (λ (n : ℕ). All (λ w. w.0 < bucket_slots * n) writes) last_buckets asked
 
   module _ (placing : ℕ → List ℕ → Place) (slots : List (Option Held)) (stash : ℕ) (asked : IsGrowth placing (last_image (map image_in front)) slots stash) where
     pub grown_size : IsTableSize (2 * buckets)
@@ -51,5 +52,5 @@ module _ {P : Type 0} (placer : P) (buckets count : ℕ) (lineage : Lineage (Pla
 
     pub grown_lawful : All (λ x. IsCoded (option_map shown x)) slots → IsLawful placing (2 * buckets) (encoded (grown slots stash))
     grown_lawful coded =
-        let n : length slots / 4 ≡ 2 * buckets = (let twice : length slots ≡ 8 * buckets = asked.twice ∙ ap (λ (n : ℕ). 8 * n) last_buckets in omega arith) in
+        let n : length slots / bucket_slots ≡ 2 * buckets = (let twice : length slots ≡ 8 * buckets = asked.twice ∙ ap (λ (n : ℕ). 8 * n) last_buckets in omega arith) in
         subst (λ (n : ℕ). IsLawful placing n (encoded (grown slots stash))) n (filled_lawful placing (grown slots stash) (all_coded slots coded) asked.image)

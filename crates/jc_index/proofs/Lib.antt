@@ -1,4 +1,5 @@
 pub mod Coding
+pub mod Firsts
 pub mod Judging
 pub mod Noting
 pub mod Found

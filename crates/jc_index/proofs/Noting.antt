@@ -1,20 +1,46 @@
 -- Notes after one another.
-use Rattle.std.proofs.Common.{◌≡◌, ℕ, zero, suc, ◌+◌, ◌*◌, ◌/◌, ◌%◌, ◌<◌, false, List, ◌∷◌, get_or, refl, ap, sym, subst, ◌∙◌, arith}
+use Rattle.std.proofs.Common.{◌≡◌, ℕ, zero, suc, ◌+◌, ◌/◌, ◌<◌, false, List, [], ◌∷◌, ◌++◌, length, take, get_or, refl, ap, sym, subst, ◌∙◌, arith, add-one}
 use Rattle.atomic_table.specs.declared.shared.Seat.{Seat}
 use Rattle.jc_stripes.specs.declared.board.View.{View}
 use Rattle.jc_stripes.specs.Stripes.{Among, ReadsIn, glance, glance_of}
-use Rattle.jc_index.specs.Spelling.{group_of}
+use Rattle.jc_stripes.specs.Layout.{common}
+use Rattle.jc_index.specs.Layout.{bucket_slots, bucket_words, slot_place, slot_words, stripe_of}
+use Rattle.jc_index.specs.Spelling.{group_of, words_at}
 use Rattle.jc_index.specs.Passes.{IsNoted}
 
-pub group_zero : group_of 0 ≡ 64
+pub group_zero : group_of 0 ≡ common
 unfolding group_of
 group_zero = refl
 
 -- a slot's words are under its bucket's version
-pub group_at : (slot p k : ℕ) → k < 6 → p ≡ 6 * slot + 1 + k → group_of p ≡ slot / 4 % 64
+pub group_at : (slot p k : ℕ) → k < slot_words → p ≡ slot_place slot + k → group_of p ≡ stripe_of (slot / bucket_slots)
 unfolding group_of
 group_at slot zero k few e = absurd (omega (arith, e))
-group_at slot (suc n) k few e = let f : n / 24 ≡ slot / 4 = omega (arith, e) in ap (λ (x : ℕ). x % 64) f
+group_at slot (suc n) k few e = let f : n / bucket_words ≡ slot / bucket_slots = omega (arith, e) in ap stripe_of f
+
+-- one word more
+words_snoc : (words : List ℕ) (p k : ℕ) → words_at words p (suc k) ≡ words_at words p k ++ get_or words (p + k) 0 ∷ []
+words_snoc words p zero = let e : p ≡ p + 0 = omega arith in ap (λ (q : ℕ). get_or words q 0 ∷ []) e
+words_snoc words p (suc k) =
+    let e : suc p + k ≡ p + suc k = omega arith in
+    ap (λ l. get_or words p 0 ∷ l) (words_snoc words (suc p) k ∙ ap (λ (q : ℕ). words_at words (suc p) k ++ get_or words q 0 ∷ []) e)
+
+take_snoc : (xs : List ℕ) (k : ℕ) → k < length xs → take (suc k) xs ≡ take k xs ++ get_or xs k 0 ∷ []
+take_snoc [] k inside = absurd (omega arith)
+take_snoc (y ∷ xs) zero inside = refl
+take_snoc (y ∷ xs) (suc k) inside = ap (λ l. y ∷ l) (take_snoc xs k (omega arith))
+
+pub word_more : (xs words : List ℕ) (p q k : ℕ) → q ≡ p + k → k < length xs → take k xs ≡ words_at words p k → get_or xs k 0 ≡ get_or words q 0 → take (k + 1) xs ≡ words_at words p (k + 1)
+word_more xs words p q k e inside same is =
+    rw add-one (take_snoc xs k inside ∙ ((λ i. same i ++ (is ∙ ap (λ (z : ℕ). get_or words z 0) e) i ∷ []) ∙ sym (words_snoc words p k)))
+
+-- and one of them
+pub nth_word : (words : List ℕ) (p n k : ℕ) → k < n → get_or (words_at words p n) k 0 ≡ get_or words (p + k) 0
+nth_word words p zero k few = absurd (omega arith)
+nth_word words p (suc n) zero few = let e : p ≡ p + 0 = omega arith in ap (λ (q : ℕ). get_or words q 0) e
+nth_word words p (suc n) (suc k) few =
+    let e : suc p + k ≡ p + suc k = omega arith in
+    nth_word words (suc p) n k (omega arith) ∙ ap (λ (q : ℕ). get_or words q 0) e
 
 module _ {L : Type 0} where
   pub note_is : (js : List ℕ) (s t : Seat (Unit {0}) (View L)) (place n : ℕ) → Among (group_of place) js → t.table_id ≡ s.table_id

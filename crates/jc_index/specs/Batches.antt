@@ -1,9 +1,11 @@
 -- The words that a commit sets, and the versions that it takes.
-use Rattle.std.specs.Prelude.{ℕ, ◌+◌, ◌*◌, ◌/◌, ◌==◌, ◌||◌, not, if◌then◌else◌, Bool, true, false, List, [], ◌∷◌, ◌++◌, Option, Some, None, option_map}
+use Rattle.std.specs.Prelude.{ℕ, ◌+◌, ◌/◌, ◌==◌, ◌||◌, not, if◌then◌else◌, Bool, true, false, List, [], ◌∷◌, ◌++◌, Option, Some, None, option_map}
 use Rattle.jc_cuckoo.specs.declared.held.Held.{Held}
 use Rattle.jc_rows.specs.Images.{Shown}
 use Rattle.jc_cuckoo.specs.Images.{shown}
-use Rattle.jc_index.specs.Spelling.{slot_words}
+use Rattle.jc_stripes.specs.Layout.{common}
+use Rattle.jc_index.specs.Layout.{bucket_slots, slot_place}
+use Rattle.jc_index.specs.Spelling.{words_of_slot}
 use Rattle.jc_index.specs.Versions.{versions_of}
 
 -- a slot's number, and what it is to hold
@@ -21,7 +23,7 @@ placed_at p (v ∷ vs) = (p, v) ∷ placed_at (p + 1) vs
 -- the words of these slots
 abbrev pub slot_batch : List Write → List (ℕ × ℕ)
 slot_batch [] = []
-slot_batch (w ∷ ws) = placed_at (6 * w.0 + 1) (slot_words (shows w)) ++ slot_batch ws
+slot_batch (w ∷ ws) = placed_at (slot_place w.0) (words_of_slot (shows w)) ++ slot_batch ws
 
 -- the count, where it changes
 abbrev pub count_batch : Option ℕ → List (ℕ × ℕ)
@@ -38,6 +40,6 @@ count_for slots old stash = if slots == 0 || not (old == stash) then Some stash 
 
 -- the versions of the buckets that are written, and that of the stash where its count changes or no slot is written
 abbrev pub stripes_for : List Write → Bool → List ℕ
-stripes_for [] stash = 64 ∷ []
-stripes_for (w ∷ []) stash = versions_of (w.0 / 4) (w.0 / 4) stash
-stripes_for (w ∷ x ∷ ws) stash = versions_of (w.0 / 4) (x.0 / 4) stash
+stripes_for [] stash = common ∷ []
+stripes_for (w ∷ []) stash = versions_of (w.0 / bucket_slots) (w.0 / bucket_slots) stash
+stripes_for (w ∷ x ∷ ws) stash = versions_of (w.0 / bucket_slots) (x.0 / bucket_slots) stash

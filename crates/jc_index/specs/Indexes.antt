@@ -1,11 +1,12 @@
 -- The writer's index and a reader's pass, as their contracts see them, and what is kept of their fields.
-use Rattle.std.specs.Prelude.{◌≡◌, ℕ, ◌+◌, ◌*◌, Bool, true, List, map, replicate, Some, None}
+use Rattle.std.specs.Prelude.{◌≡◌, ℕ, ◌*◌, Bool, true, List, map, replicate, Some, None}
 use Rattle.atomic_table.specs.Seated.{TableId}
 use Rattle.jc_place.specs.Place.{IsTableSize}
 use Rattle.jc_stripes.specs.Stripes.{desk_of, glance_of, last_of}
 use Rattle.jc_stripes.specs.declared.lineage.Lineage.{Lineage}
 use Rattle.jc_stripes.specs.declared.member.Member.{Member}
 use Rattle.jc_rows.specs.Images.{Image}
+use Rattle.jc_index.specs.Layout.{bucket_slots, table_words}
 use Rattle.jc_index.specs.declared.placed.Placed.{Placed}
 use Rattle.jc_index.specs.Spelling.{IsSpelt, image_in}
 
@@ -29,7 +30,7 @@ pub record Passing (P : Type 0) : Type 0 where
   pub checked : List (ℕ × ℕ)
 
 abbrev pub empty_image : ℕ → Image
-empty_image buckets = record { buckets = buckets; slots = replicate (4 * buckets) None; stash = 0 }
+empty_image buckets = record { buckets = buckets; slots = replicate (bucket_slots * buckets) None; stash = 0 }
 
 module _ {P : Type 0} where
   abbrev pub index_of : P → ℕ → Lineage (Placed P) → Index P
@@ -56,12 +57,12 @@ module _ {P : Type 0} where
   pub record IsIndex (placer : P) (buckets count : ℕ) (lineage : Lineage (Placed P)) : Type 0 where
     pub lawful : lineage.writer.seat.me.0.law ≡ Some record { placer = placer; buckets = buckets }
     pub size : IsTableSize buckets
-    pub wide : buckets * 24 + 66 ≡ lineage.writer.seat.table_id.words
+    pub wide : table_words buckets ≡ lineage.writer.seat.table_id.words
     pub spelt : IsSpelt buckets (last_of lineage.writer.seat.me.0.front)
     pub counted : (image_in (last_of lineage.writer.seat.me.0.front)).stash ≡ count
 
   pub record IsPassing (placer : P) (buckets : ℕ) (member : Member (Placed P)) : Type 0 where
     pub lawful : member.reader.seat.me.0.law ≡ Some record { placer = placer; buckets = buckets }
     pub size : IsTableSize buckets
-    pub wide : buckets * 24 + 66 ≡ member.reader.seat.table_id.words
+    pub wide : table_words buckets ≡ member.reader.seat.table_id.words
     pub rests : (glance_of member.reader.seat.me.0).settled ≡ true

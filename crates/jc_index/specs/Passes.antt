@@ -1,13 +1,14 @@
 -- What a reader's steps tell.
-use Rattle.std.specs.Prelude.{◌≡◌, ◌≢◌, ◌⊎◌, ℕ, suc, ◌+◌, ◌*◌, true, false, List, [], ◌∷◌, map, Option}
+use Rattle.std.specs.Prelude.{◌≡◌, ◌≢◌, ◌⊎◌, ℕ, suc, ◌+◌, ◌*◌, ◌%◌, ◌^◌, true, false, List, [], ◌∷◌, map, slice_index, Option, None, Some}
 use mathlib.Core.List.{IsPrefix}
 use Rattle.atomic_table.specs.declared.shared.Seat.{Seat}
 use Rattle.jc_stripes.specs.declared.board.View.{View}
 use Rattle.jc_stripes.specs.Stripes.{ReadsIn, SomeOdd, glance, glance_of, stripes_in}
 use Rattle.jc_stripes.specs.declared.reader.Reader.{Reader}
 use Rattle.jc_rows.specs.Images.{Image, Shown}
+use Rattle.jc_index.specs.Layout.{bucket_slots, slot_place}
 use Rattle.jc_index.specs.Versions.{read_for}
-use Rattle.jc_index.specs.Spelling.{image_in, group_of, six_at, slot_at, slot_words}
+use Rattle.jc_index.specs.Spelling.{image_in, group_of, key_words_at, slot_at, words_of_slot, slot_words_at}
 
 -- Only the notes changed. Words that fit the notes under these versions now fitted them before, and meet this
 pub record IsNoted {L : Type 0} (js : List ℕ) (s t : Seat (Unit {0}) (View L)) (P : List ℕ → Type 0) : Type 0 where
@@ -17,14 +18,19 @@ pub record IsNoted {L : Type 0} (js : List ℕ) (s t : Seat (Unit {0}) (View L))
 
 -- the words of this slot spell it
 abbrev pub IsSpeltAt : List ℕ → ℕ → Type 0
-IsSpeltAt words slot = slot_words (slot_at words slot) ≡ six_at words (6 * slot + 1)
+IsSpeltAt words slot = words_of_slot (slot_at words slot) ≡ slot_words_at words slot
+
+-- the first word of a slot that holds this cache's key of these words
+abbrev pub IsHeadAt : ℕ → List ℕ → List ℕ → ℕ → Option ℕ → Type 0
+IsHeadAt id key words slot None = (slice_index words (slot_place slot) % 2 ^ 33 ≢ id + 1) ⊎ (key_words_at words slot ≢ key)
+IsHeadAt id key words slot (Some head) = (head ≡ slice_index words (slot_place slot)) × (head % 2 ^ 33 ≡ id + 1) × (key_words_at words slot ≡ key)
 
 abbrev pub IsSpeltIn : List ℕ → ℕ → Type 0
-IsSpeltIn words bucket = IsSpeltAt words (4 * bucket) × IsSpeltAt words (4 * bucket + 1) × IsSpeltAt words (4 * bucket + 2) × IsSpeltAt words (4 * bucket + 3)
+IsSpeltIn words bucket = IsSpeltAt words (bucket_slots * bucket) × IsSpeltAt words (bucket_slots * bucket + 1) × IsSpeltAt words (bucket_slots * bucket + 2) × IsSpeltAt words (bucket_slots * bucket + 3)
 
 -- the slots of a bucket
 abbrev pub bucket_at : List ℕ → ℕ → List (Option Shown)
-bucket_at words bucket = slot_at words (4 * bucket) ∷ slot_at words (4 * bucket + 1) ∷ slot_at words (4 * bucket + 2) ∷ slot_at words (4 * bucket + 3) ∷ []
+bucket_at words bucket = slot_at words (bucket_slots * bucket) ∷ slot_at words (bucket_slots * bucket + 1) ∷ slot_at words (bucket_slots * bucket + 2) ∷ slot_at words (bucket_slots * bucket + 3) ∷ []
 
 -- the images that a reader has seen, the last one last
 abbrev pub images_of : {L : Type 0} → Reader L → List Image

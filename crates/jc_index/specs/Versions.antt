@@ -1,5 +1,7 @@
 -- The versions that a lookup or a commit takes.
-use Rattle.std.specs.Prelude.{ℕ, ◌%◌, ◌==◌, Bool, true, false, List, [], ◌∷◌, ◌++◌, nat_lt}
+use Rattle.std.specs.Prelude.{ℕ, ◌==◌, Bool, true, false, List, [], ◌∷◌, ◌++◌, nat_lt}
+use Rattle.jc_stripes.specs.Layout.{common}
+use Rattle.jc_index.specs.Layout.{stripe_of}
 
 abbrev pub pair_by : Bool → Bool → ℕ → ℕ → List ℕ
 pair_by true less a b = a ∷ []
@@ -11,11 +13,11 @@ abbrev pub pair_of : ℕ → ℕ → List ℕ
 pair_of a b = pair_by (a == b) (nat_lt a b) a b
 
 abbrev pub stash_if : Bool → List ℕ
-stash_if true = 64 ∷ []
+stash_if true = common ∷ []
 stash_if false = []
 
 abbrev pub versions_of : ℕ → ℕ → Bool → List ℕ
-versions_of one two stash = pair_of (one % 64) (two % 64) ++ stash_if stash
+versions_of one two stash = pair_of (stripe_of one) (stripe_of two) ++ stash_if stash
 
 -- a list from its end, and then another
 abbrev pub onto : List ℕ → List ℕ → List ℕ

@@ -1,11 +1,14 @@
 //! What a commit sets, and which versions it takes.
-ghost use Rattle.std.specs.Prelude.{◌≡◌, ◌≢◌, ◌⊎◌, ◌+◌, ◌*◌, ◌<◌, ◌≤◌, ◌++◌, ℕ, List, All, Some, None, take, length};
+ghost use Rattle.std.specs.Prelude.{◌≡◌, ◌⊎◌, ◌+◌, ◌*◌, ◌<◌, ◌≤◌, ◌++◌, ℕ, List, All, Some, None, take, length};
 ghost use Rattle.jc_stripes.specs.Stripes.{Covered, set_all};
 ghost use Rattle.jc_cuckoo.specs.Images.{written};
+ghost use Rattle.jc_stripes.specs.Layout.{version_count};
+ghost use Rattle.jc_index.specs.Layout.{bucket_slots, most_writes, slot_words, table_words};
 ghost use Rattle.jc_index.specs.Spelling.{IsCoded, IsSpelt, group_of, image_in};
 ghost use Rattle.jc_index.specs.Batches.{count_batch, count_for, is_some, shows, slot_batch, stripes_for};
 
 use crate::batch::Batch;
+use crate::layout::{BUCKET_SLOTS, SLOT_WORDS};
 use crate::slot::words_of_slot;
 use crate::versions::{STASH, versions_of};
 use jc_cuckoo::held::Held;
@@ -22,13 +25,13 @@ pub(crate) struct Change {
 fn gathered(writes: &[(u32, Option<Held>)]) -> Batch
     requires few { length writes.now ≤ 2 }
     ensures batch { take result.length result.writes ≡ slot_batch writes.now }
-    ensures length { result.length ≡ 6 * length writes.now }
+    ensures length { result.length ≡ slot_words * length writes.now }
     ensures coded { All (λ w. IsCoded (shows w)) writes.now }
 {
     let mut batch = Batch::new();
     for i in 0..writes.len() {
         let (slot, held) = writes[i];
-        batch.push_slot(6 * slot as usize + 1, words_of_slot(held));
+        batch.push_slot(SLOT_WORDS * slot as usize + 1, words_of_slot(held));
     }
     batch
 }
@@ -42,11 +45,11 @@ fn stripes_of(writes: &[(u32, Option<Held>)], stash: bool) -> ([usize; 3], usize
     if writes.len() == 0 {
         return ([STASH, 0, 0], 1);
     }
-    let one = writes[0].0 as usize / 4;
+    let one = writes[0].0 as usize / BUCKET_SLOTS;
     if writes.len() == 1 {
         return versions_of(one, one, stash);
     }
-    versions_of(one, writes[1].0 as usize / 4, stash)
+    versions_of(one, writes[1].0 as usize / BUCKET_SLOTS, stash)
 }
 
 /// The count is set where it changes or no slot is written.
@@ -62,7 +65,7 @@ fn count_of(slots: usize, old: u32, stash: u32) -> Option<u32>
 
 fn changed(writes: &[(u32, Option<Held>)], count: Option<u32>) -> Change
     requires few { length writes.now ≤ 2 }
-    ensures fits { (result.batch.length ≤ 13) × (result.taken ≤ 3) }
+    ensures fits { (result.batch.length ≤ most_writes) × (result.taken ≤ 3) }
     ensures batch { take result.batch.length result.batch.writes ≡ slot_batch writes.now ++ count_batch count }
     ensures stripes { take result.taken result.stripes ≡ stripes_for writes.now (is_some count) }
     ensures coded { All (λ w. IsCoded (shows w)) writes.now }
@@ -93,13 +96,13 @@ impl Change {
     /// At most two slots are written, and the stash's count.
     pub(crate) fn of(writes: &[(u32, Option<Held>)], old: u32, stash: u32) -> Change
         requires { length writes.now ≤ 2 }
-        ensures fits { (result.batch.length ≤ 13) × (result.taken ≤ 3) }
+        ensures fits { (result.batch.length ≤ most_writes) × (result.taken ≤ 3) }
         ensures stripes { take result.taken result.stripes ≡ stripes_for writes.now (is_some (count_for (length writes.now) old stash)) }
         ensures some { 0 < length (take result.batch.length result.batch.writes) }
-        ensures few { All (λ j. j < 65) (take result.taken result.stripes) }
+        ensures few { All (λ j. j < version_count) (take result.taken result.stripes) }
         ensures covered { Covered group_of (take result.taken result.stripes) (take result.batch.length result.batch.writes) }
-        ensures inside { (buckets : ℕ) → All (λ w. w.0 < 4 * buckets) writes.now → All (λ w. 65 + w.0 < 24 * buckets + 66) (take result.batch.length result.batch.writes) }
-        ensures image { (buckets : ℕ) (words : List ℕ) → All (λ w. w.0 < 4 * buckets) writes.now → IsSpelt buckets words → (image_in words).stash ≡ old → IsSpelt buckets (set_all words (take result.batch.length result.batch.writes)) × (image_in (set_all words (take result.batch.length result.batch.writes)) ≡ written (image_in words) writes.now stash) }
+        ensures inside { (buckets : ℕ) → All (λ w. w.0 < bucket_slots * buckets) writes.now → All (λ w. version_count + w.0 < table_words buckets) (take result.batch.length result.batch.writes) }
+        ensures image { (buckets : ℕ) (words : List ℕ) → All (λ w. w.0 < bucket_slots * buckets) writes.now → IsSpelt buckets words → (image_in words).stash ≡ old → IsSpelt buckets (set_all words (take result.batch.length result.batch.writes)) × (image_in (set_all words (take result.batch.length result.batch.writes)) ≡ written (image_in words) writes.now stash) }
     {
         let count = count_of(writes.len(), old, stash);
         changed(writes, count)
@@ -115,7 +118,7 @@ impl Change {
 
     /// The words, each with its place.
     pub(crate) fn writes(&self) -> &[(usize, u64)]
-        requires { self.now.batch.length ≤ 13 }
+        requires { self.now.batch.length ≤ most_writes }
         ensures { result.now ≡ take self.now.batch.length self.now.batch.writes }
     {
         self.batch.writes()

@@ -4,6 +4,7 @@
 mod batch;
 mod change;
 mod fill;
+mod layout;
 mod look;
 pub mod lookup;
 pub mod naming;

@@ -1,91 +1,112 @@
 //! What a lookup reads between its versions.
-ghost use Rattle.std.specs.Prelude.{◌≡◌, ◌+◌, ◌*◌, ◌/◌, ◌%◌, ◌^◌, ◌<◌, ◌≤◌, [], ◌∷◌, false, List, ℕ, slice_index};
-ghost use Rattle.jc_stripes.specs.Stripes.{Among, glance_of, many};
-ghost use Rattle.jc_index.specs.Spelling.{six_at, slot_at};
+ghost use Rattle.std.specs.Prelude.{◌≡◌, ◌+◌, ◌*◌, ◌/◌, ◌<◌, ◌≤◌, false, List, ℕ, slice_index};
+ghost use Rattle.jc_stripes.specs.Stripes.{Among, glance_of};
+ghost use Rattle.jc_stripes.specs.Layout.{common};
+ghost use Rattle.jc_index.specs.Layout.{bucket_slots, header_words, slot_words, stripe_of, table_words};
+ghost use Rattle.jc_index.specs.Spelling.{slot_at};
 ghost use Rattle.jc_index.specs.Found.{answer, first_seen, or_else, seen};
-ghost use Rattle.jc_index.specs.Passes.{IsNoted, IsSpeltAt, IsSpeltIn, bucket_at};
+ghost use Rattle.jc_index.specs.Passes.{IsHeadAt, IsNoted, IsSpeltAt, IsSpeltIn, bucket_at};
 
+use crate::layout::{BUCKET_SLOTS, MOMENT_PLACE, SLOT_WORDS};
 use crate::placed::Placed;
-use crate::sought::{Sought, answer, either};
+use crate::slot::NEVER;
+use crate::sought::{Sought, answer};
+use jc_model::limits::KEY_WORDS;
 use jc_place::place::Placer;
 use jc_stripes::reader::Reader;
 
-fn six_of(one: u64, two: u64, three: u64, four: u64, five: u64, six: u64) -> [u64; 6]
-    ensures { result ≡ one ∷ two ∷ three ∷ four ∷ five ∷ six ∷ [] }
-{
-    [one, two, three, four, five, six]
-}
-
-/// Reads a slot's words.
-fn read_slot<P: Placer>(reader: &mut Reader<Placed<P>>, slot: usize) -> [u64; 6]
-    requires inside { many + 6 * slot + 6 < reader.old.seat.table_id.words }
+/// The first word of a slot that holds the key. It reads no further than to the first word that differs.
+fn head_at<P: Placer>(reader: &mut Reader<Placed<P>>, slot: usize, sought: &Sought) -> Option<u64>
+    requires inside { header_words + slot_words * (slot + 1) ≤ reader.old.seat.table_id.words }
     requires young { (glance_of reader.old.seat.me.0).settled ≡ false }
     ensures same { reader.new.seat.table_id ≡ reader.old.seat.table_id }
     ensures young { (glance_of reader.new.seat.me.0).settled ≡ false }
-    ensures noted { (js : List ℕ) → Among (slot / 4 % 64) js → IsNoted js reader.old.seat reader.new.seat (λ words. result ≡ six_at words (6 * slot + 1)) }
+    ensures noted { (js : List ℕ) → Among (stripe_of (slot / bucket_slots)) js → IsNoted js reader.old.seat reader.new.seat (λ words. IsHeadAt sought.now.id sought.now.words words slot result) }
 {
-    let first = 6 * slot + 1;
-    let one = reader.note(first);
-    let two = reader.note(first + 1);
-    let three = reader.note(first + 2);
-    let four = reader.note(first + 3);
-    let five = reader.note(first + 4);
-    let six = reader.note(first + 5);
-    six_of(one, two, three, four, five, six)
+    let first = SLOT_WORDS * slot + 1;
+    let head = reader.note(first);
+    if !sought.is_of_cache(head) {
+        return None;
+    }
+    for k in 0..KEY_WORDS {
+        if reader.note(first + 1 + k) != sought.words[k] {
+            return None;
+        }
+    }
+    Some(head)
 }
 
+/// Whether a slot holds the key, and whether it is live there.
 fn look_slot<P: Placer>(
     reader: &mut Reader<Placed<P>>,
     slot: usize,
     sought: &Sought,
 ) -> Option<bool>
-    requires inside { many + 6 * slot + 6 < reader.old.seat.table_id.words }
+    requires inside { header_words + slot_words * (slot + 1) ≤ reader.old.seat.table_id.words }
     requires young { (glance_of reader.old.seat.me.0).settled ≡ false }
     ensures same { reader.new.seat.table_id ≡ reader.old.seat.table_id }
     ensures young { (glance_of reader.new.seat.me.0).settled ≡ false }
-    ensures noted { (js : List ℕ) → Among (slot / 4 % 64) js → IsNoted js reader.old.seat reader.new.seat (λ words. IsSpeltAt words slot → result ≡ seen sought.now.id sought.now.key sought.now.moment (slot_at words slot)) }
+    ensures noted { (js : List ℕ) → Among (stripe_of (slot / bucket_slots)) js → IsNoted js reader.old.seat reader.new.seat (λ words. IsSpeltAt words slot → result ≡ seen sought.now.id sought.now.key sought.now.moment (slot_at words slot)) }
 {
-    let words = read_slot(reader, slot);
-    sought.judge(&words)
+    let Some(head) = head_at(reader, slot, sought) else {
+        return None;
+    };
+    if head >= NEVER {
+        return Some(true);
+    }
+    let moment = reader.note(SLOT_WORDS * slot + 1 + MOMENT_PLACE);
+    Some(sought.moment < moment)
 }
 
+/// Looks at a bucket's slots in turn, up to the one that holds the key.
 fn look_bucket<P: Placer>(
     reader: &mut Reader<Placed<P>>,
     bucket: usize,
     sought: &Sought,
 ) -> Option<bool>
-    requires inside { many + 24 * bucket + 24 < reader.old.seat.table_id.words }
+    requires inside { table_words (bucket + 1) ≤ reader.old.seat.table_id.words }
     requires young { (glance_of reader.old.seat.me.0).settled ≡ false }
     ensures same { reader.new.seat.table_id ≡ reader.old.seat.table_id }
     ensures young { (glance_of reader.new.seat.me.0).settled ≡ false }
-    ensures noted { (js : List ℕ) → Among (bucket % 64) js → IsNoted js reader.old.seat reader.new.seat (λ words. IsSpeltIn words bucket → result ≡ first_seen sought.now.id sought.now.key sought.now.moment (bucket_at words bucket)) }
+    ensures noted { (js : List ℕ) → Among (stripe_of bucket) js → IsNoted js reader.old.seat reader.new.seat (λ words. IsSpeltIn words bucket → result ≡ first_seen sought.now.id sought.now.key sought.now.moment (bucket_at words bucket)) }
 {
-    let one = look_slot(reader, 4 * bucket, sought);
-    let two = look_slot(reader, 4 * bucket + 1, sought);
-    let three = look_slot(reader, 4 * bucket + 2, sought);
-    let four = look_slot(reader, 4 * bucket + 3, sought);
-    let last = either(three, four);
-    let later = either(two, last);
-    either(one, later)
+    let first = BUCKET_SLOTS * bucket;
+    let one = look_slot(reader, first, sought);
+    if one.is_some() {
+        return one;
+    }
+    let two = look_slot(reader, first + 1, sought);
+    if two.is_some() {
+        return two;
+    }
+    let three = look_slot(reader, first + 2, sought);
+    if three.is_some() {
+        return three;
+    }
+    look_slot(reader, first + 3, sought)
 }
 
-/// Reads the stash's count and the slots of two buckets.
+/// Reads the slots of two buckets up to the one that holds the key, and where none does the stash's count.
 pub(crate) fn look<P: Placer>(
     reader: &mut Reader<Placed<P>>,
     one: usize,
     two: usize,
     sought: &Sought,
 ) -> Option<bool>
-    requires one { many + 24 * one + 24 < reader.old.seat.table_id.words }
-    requires two { many + 24 * two + 24 < reader.old.seat.table_id.words }
+    requires one { table_words (one + 1) ≤ reader.old.seat.table_id.words }
+    requires two { table_words (two + 1) ≤ reader.old.seat.table_id.words }
     requires young { (glance_of reader.old.seat.me.0).settled ≡ false }
     ensures same { reader.new.seat.table_id ≡ reader.old.seat.table_id }
     ensures young { (glance_of reader.new.seat.me.0).settled ≡ false }
-    ensures noted { (js : List ℕ) → Among (one % 64) js → Among (two % 64) js → Among 64 js → IsNoted js reader.old.seat reader.new.seat (λ words. IsSpeltIn words one → IsSpeltIn words two → result ≡ answer (or_else (first_seen sought.now.id sought.now.key sought.now.moment (bucket_at words one)) (first_seen sought.now.id sought.now.key sought.now.moment (bucket_at words two))) (slice_index words 0)) }
+    ensures noted { (js : List ℕ) → Among (stripe_of one) js → Among (stripe_of two) js → Among common js → IsNoted js reader.old.seat reader.new.seat (λ words. IsSpeltIn words one → IsSpeltIn words two → result ≡ answer (or_else (first_seen sought.now.id sought.now.key sought.now.moment (bucket_at words one)) (first_seen sought.now.id sought.now.key sought.now.moment (bucket_at words two))) (slice_index words 0)) }
 {
-    let count = reader.note(0);
     let first = look_bucket(reader, one, sought);
+    if first.is_some() {
+        return first;
+    }
     let second = look_bucket(reader, two, sought);
-    let seen = either(first, second);
-    answer(seen, count)
+    if second.is_some() {
+        return second;
+    }
+    answer(reader.note(0))
 }

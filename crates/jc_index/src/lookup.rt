@@ -1,8 +1,9 @@
 //! A lookup that never waits.
-ghost use Rattle.std.specs.Prelude.{◌≡◌, ◌⊎◌, ◌≢◌, suc, ◌+◌, ◌*◌, ◌%◌, ◌<◌, Bool, true, false, [], ◌∷◌, length, Some, None};
+ghost use Rattle.std.specs.Prelude.{◌≡◌, ◌⊎◌, ◌%◌, ◌<◌, Bool, true, false, length, Some, None};
 ghost use Rattle.jc_place.specs.Place.{IsTableSize};
 ghost use Rattle.jc_stripes.specs.Stripes.{Stayed, glance_of};
 ghost use Rattle.jc_rows.specs.Images.{last_image};
+ghost use Rattle.jc_index.specs.Layout.{table_words};
 ghost use Rattle.jc_index.specs.Spelling.{buckets_of};
 ghost use Rattle.jc_index.specs.Found.{found};
 ghost use Rattle.jc_index.specs.declared.lookup.Lookup.TheVariants.{Sure, Unsure};
@@ -12,8 +13,9 @@ ghost use Rattle.jc_index.specs.Passes.{IsLookup, Moved, begun_of, checked_of, i
 use crate::look::look;
 use crate::placed::{Placed, buckets_of};
 use crate::sought::Sought;
-use crate::versions::{STASH, STRIPES};
+use crate::versions::STASH;
 use jc_place::place::Placer;
+use jc_stripes::board::STRIPE_COUNT;
 use jc_stripes::reader::Reader;
 
 /// Whether a key is there and live, where that is sure.
@@ -32,7 +34,7 @@ fn probe<P: Placer>(
     two: usize,
     sought: &Sought,
 ) -> (bool, Option<bool>)
-    requires law { (l : Placed P) × (reader.old.seat.me.0.law ≡ Some l) × (l.buckets * 24 + 66 ≡ reader.old.seat.table_id.words) × (buckets_of (P.placing l.placer) l.buckets (sought.now.id, sought.now.key) ≡ (one, two)) × (one < l.buckets) × (two < l.buckets) }
+    requires law { (l : Placed P) × (reader.old.seat.me.0.law ≡ Some l) × (table_words l.buckets ≡ reader.old.seat.table_id.words) × (buckets_of (P.placing l.placer) l.buckets (sought.now.id, sought.now.key) ≡ (one, two)) × (one < l.buckets) × (two < l.buckets) }
     requires stripes { stripes.now ≡ versions_of one two true }
     requires alike { length versions.old ≡ length stripes.now }
     requires rests { (glance_of reader.old.seat.me.0).settled ≡ true }
@@ -69,7 +71,7 @@ pub(crate) fn look_up<P: Placer>(
     sought: &Sought,
 ) -> Lookup
     requires law { reader.old.seat.me.0.law ≡ Some record { placer = placer.now; buckets = buckets } }
-    requires wide { buckets * 24 + 66 ≡ reader.old.seat.table_id.words }
+    requires wide { table_words buckets ≡ reader.old.seat.table_id.words }
     requires size { IsTableSize buckets }
     requires rests { (glance_of reader.old.seat.me.0).settled ≡ true }
     ensures sure { (b : Bool) → result ≡ Sure b → found (last_image (images_of reader.new)) sought.now.id sought.now.key sought.now.moment ≡ Some b }
@@ -78,7 +80,7 @@ pub(crate) fn look_up<P: Placer>(
     ensures reads { IsLookup (buckets_of (P.placing placer.now) buckets (sought.now.id, sought.now.key)) reader.old reader.new }
 {
     let (one, two) = buckets_of(placer, buckets, sought.id, &sought.key);
-    let (first, second) = (one % STRIPES, two % STRIPES);
+    let (first, second) = (one % STRIPE_COUNT, two % STRIPE_COUNT);
     if first == second {
         let (same, answer) = probe(reader, &[first, STASH], &mut [0; 2], one, two, sought);
         return told(same, answer);

@@ -2,6 +2,8 @@
 ghost use Rattle.std.specs.Prelude.{◌≡◌, ◌*◌, ◌%◌, [], ◌∷◌, None, IfOk, replicate};
 ghost use Rattle.jc_place.specs.Place.{IsTableSize};
 ghost use Rattle.jc_cuckoo.specs.Images.{image_of};
+ghost use Rattle.jc_stripes.specs.Layout.{versions_at};
+ghost use Rattle.jc_index.specs.Layout.{bucket_slots};
 
 use crate::fill::blank;
 use crate::placed::Placed;
@@ -45,10 +47,11 @@ impl<P: Placer + Drop> Model for Unnamed<P> {
 }
 
 impl<P: Placer + Drop> Unnamed<P> {
-    /// One empty image of so many buckets.
+    /// One empty image of so many buckets. All versions begin at 0.
     pub fn new(alloc: Global, placer: P, buckets: u32) -> Result<Unnamed<P>, OutOfMemory>
         requires { IsTableSize buckets }
-        ensures { IfOk result (λ w. (w.images ≡ image_of buckets (replicate (4 * buckets) None) ∷ []) × (w.placer ≡ placer) × (w.buckets ≡ buckets)) }
+        ensures words { IfOk result (λ w. (w.images ≡ image_of buckets (replicate (bucket_slots * buckets) None) ∷ []) × (w.placer ≡ placer) × (w.buckets ≡ buckets)) }
+        ensures versions { IfOk result (λ w. w.versions ≡ versions_at 0) }
     {
         Unnamed::starting_at(alloc, placer, buckets, 0)
     }
@@ -63,8 +66,8 @@ impl<P: Placer + Drop> Unnamed<P> {
     ) -> Result<Unnamed<P>, OutOfMemory>
         requires size { IsTableSize buckets }
         requires even { start % 2 ≡ 0 }
-        ensures words { IfOk result (λ w. (w.images ≡ image_of buckets (replicate (4 * buckets) None) ∷ []) × (w.placer ≡ placer) × (w.buckets ≡ buckets)) }
-        ensures versions { IfOk result (λ w. w.versions ≡ replicate 65 start) }
+        ensures words { IfOk result (λ w. (w.images ≡ image_of buckets (replicate (bucket_slots * buckets) None) ∷ []) × (w.placer ≡ placer) × (w.buckets ≡ buckets)) }
+        ensures versions { IfOk result (λ w. w.versions ≡ versions_at start) }
     {
         let words = blank(alloc.clone()?, buckets, start)?;
         let law = Placed { placer, buckets };

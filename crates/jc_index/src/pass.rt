@@ -60,11 +60,13 @@ impl<N: Naming, P: Placer + Drop> Pass<N, P> {
         look_up(&mut self.member.reader, &self.placer, self.buckets, &sought)
     }
 
-    /// Sees all images of its words. Where it is refused, every lookup is unsure until it is not.
+    /// Sees all images of its words, and counts its lookups anew. Where it is refused, every lookup is unsure until it is
+    /// not.
     pub fn meet(&mut self, words: &mut Words<N, P>) -> Result<(), OutOfMemory>
         ensures words { words.new ≡ words.old }
         ensures front { IsPrefix self.old.images self.new.images }
         ensures met { IfOk result (λ _. (self.new.met ≡ true) × (self.new.images ≡ words.old.images) × (self.new.placer ≡ words.old.placer) × (self.new.buckets ≡ words.old.buckets)) }
+        ensures counted { IfOk result (λ _. self.new.lookups ≡ 0) }
         ensures refused { IfErr result (λ _. self.new ≡ record self.old { met = false }) }
     {
         self.met = false;

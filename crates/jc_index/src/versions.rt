@@ -2,20 +2,18 @@
 ghost use Rattle.std.specs.Prelude.{◌≡◌, ◌≤◌, take};
 ghost use Rattle.jc_index.specs.Versions.{versions_of};
 
-use jc_stripes::board::COMMON;
-
-/// How many stripes there are: bucket b belongs to stripe b mod 64.
-pub(crate) const STRIPES: usize = 64;
+use jc_stripes::board::{COMMON, STRIPE_COUNT};
 
 /// The stash's version, which every lookup reads.
 pub(crate) const STASH: usize = COMMON;
 
-/// The versions of two buckets, each once and the lower number first, and then that of the stash.
+/// The versions of two buckets, each once and the lower number first, and then that of the stash. A bucket's
+/// stripe is its number modulo the number of stripes.
 pub(crate) fn versions_of(one: usize, two: usize, stash: bool) -> ([usize; 3], usize)
     ensures few { result.1 ≤ 3 }
     ensures these { take result.1 result.0 ≡ versions_of one two stash }
 {
-    let (one, two) = (one % STRIPES, two % STRIPES);
+    let (one, two) = (one % STRIPE_COUNT, two % STRIPE_COUNT);
     if one == two {
         if stash {
             return ([one, STASH, 0], 2);

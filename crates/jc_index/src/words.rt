@@ -1,9 +1,10 @@
 //! The index as its writer has it.
-ghost use Rattle.std.specs.Prelude.{◌≡◌, ◌*◌, ◌<◌, ◌≤◌, [], ◌∷◌, ◌++◌, None, true, All, Some, IfOk, OnErr, OnOk, length, replicate};
-ghost use Rattle.jc_place.specs.Place.{IsTableSize};
+ghost use Rattle.std.specs.Prelude.{◌≡◌, ◌*◌, ◌<◌, ◌≤◌, [], ◌∷◌, ◌++◌, true, All, Some, IfOk, OnErr, OnOk, length};
+ghost use Rattle.jc_stripes.specs.Layout.{versions_at};
 ghost use Rattle.jc_stripes.specs.Stripes.{Changes, IsCommitted};
 ghost use Rattle.jc_rows.specs.Images.{last_image};
-ghost use Rattle.jc_cuckoo.specs.Images.{IsGrowth, IsImage, grown, image_of, written};
+ghost use Rattle.jc_cuckoo.specs.Images.{IsGrowth, IsImage, grown, written};
+ghost use Rattle.jc_index.specs.Layout.{bucket_slots};
 ghost use Rattle.jc_index.specs.Batches.{count_for, is_some, stripes_for};
 
 use crate::change::Change;
@@ -40,10 +41,11 @@ impl<N: Naming, P: Placer + Drop> Model for Words<N, P> {
 }
 
 impl<N: Naming, P: Placer + Drop> Words<N, P> {
-    /// A pass that has seen all images.
+    /// A pass that has seen all images, and made no lookup.
     pub fn pass(&mut self) -> Result<Pass<N, P>, OutOfMemory>
         ensures same { self.new ≡ self.old }
         ensures pass { IfOk result (λ p. (p.images ≡ self.old.images) × (p.met ≡ true) × (p.placer ≡ self.old.placer) × (p.buckets ≡ self.old.buckets)) }
+        ensures counted { IfOk result (λ p. p.lookups ≡ 0) }
     {
         let member = self.lineage.member()?;
         Ok(Pass {
@@ -67,7 +69,7 @@ impl<N: Naming, P: Placer + Drop> Mirror for Words<N, P> {
     /// slot is written.
     fn commit(&mut self, writes: &[(u32, Option<Held>)], stash: u32)
         requires few { length writes.now ≤ 2 }
-        requires inside { All (λ w. w.0 < 4 * (last_image self.old.images).buckets) writes.now }
+        requires inside { All (λ w. w.0 < bucket_slots * (last_image self.old.images).buckets) writes.now }
         requires image { IsImage (P.placing self.old.placer) (written (last_image self.old.images) writes.now stash) }
         ensures images { Some self.new.images ≡ Some (self.old.images ++ written (last_image self.old.images) writes.now stash ∷ []) }
         ensures placing { P.placing self.new.placer ≡ P.placing self.old.placer }
@@ -79,11 +81,13 @@ impl<N: Naming, P: Placer + Drop> Mirror for Words<N, P> {
         self.count = stash;
     }
 
-    /// The image is the first of a new table. The old table's readers are unsure from then on.
+    /// The image is the first of a new table, whose versions all begin at 0. The old table's readers are unsure from
+    /// then on.
     fn grow(&mut self, slots: &[Option<Held>], stash: u32) -> Result<(), OutOfMemory>
         requires growth { IsGrowth (P.placing self.old.placer) (last_image self.old.images) slots.now stash }
         ensures images { OnOk result (Some self.new.images ≡ Some (self.old.images ++ grown slots.now stash ∷ [])) }
         ensures buckets { OnOk result (self.new.buckets ≡ 2 * self.old.buckets) }
+        ensures versions { OnOk result (self.new.versions ≡ versions_at 0) }
         ensures refused { OnErr result (Some self.new.images ≡ Some self.old.images) }
         ensures kept { OnErr result (self.new ≡ self.old) }
         ensures placing { P.placing self.new.placer ≡ P.placing self.old.placer }

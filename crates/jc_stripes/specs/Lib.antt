@@ -1,3 +1,4 @@
+pub mod Layout
 pub mod Stripes
 pub mod Rolls
 pub mod Lineages

@@ -1,10 +1,11 @@
 -- The rule of words in stripes. First come the versions, and then the content; `group` says which version a place of
 -- the content is under.
-use Rattle.std.specs.Prelude.{◌≡◌, ℕ, suc, ◌+◌, ◌-◌, ◌%◌, ◌<◌, ◌≤◌, ◌^◌, ◌⊎◌, Bool, true, false, List, [], ◌∷◌, ◌++◌, length, drop, replicate, map, slice_index, slice_set, if◌then◌else◌, Option, Some, None}
+use Rattle.std.specs.Prelude.{◌≡◌, ℕ, suc, ◌+◌, ◌-◌, ◌%◌, ◌<◌, ◌≤◌, ◌^◌, ◌⊎◌, Bool, true, false, List, [], ◌∷◌, ◌++◌, length, map, slice_index, slice_set, if◌then◌else◌, Option, Some, None}
 use mathlib.Core.Option.{some}
 use mathlib.Core.List.{IsPrefix}
 use lib.ListN.{get_elem?}
 use Rattle.atomic_table.specs.Table.{State, Me, Step}
+use Rattle.jc_stripes.specs.Layout.{content_of, versions_at}
 use Rattle.jc_stripes.specs.declared.board.Desk.{Desk}
 use Rattle.jc_stripes.specs.declared.board.Glance.{Glance}
 use Rattle.jc_stripes.specs.declared.board.Role.{Role}
@@ -37,14 +38,6 @@ Sat L = Me (Unit {0}) (View L)
 
 abbrev At : Type 0
 At = Step (Unit {0})
-
--- how many versions there are
-abbrev pub many : ℕ
-many = 65
-
--- the version that every lookup reads
-abbrev pub common : ℕ
-common = 64
 
 -- a number is among these
 abbrev pub Among : ℕ → List ℕ → Type 0
@@ -130,7 +123,7 @@ abbrev pub front_before : {L : Type 0} → Origin L → Front
 front_before o = elim o.before [ None ↦ [] | Some p ↦ p.value.me.0.front ]
 
 abbrev pub opening_view : {L : Type 0} → Origin L → View L
-opening_view o = record { law = Some o.law.value; role = desk (replicate many o.start) (drop many o.words.value.items); front = front_before o ++ drop many o.words.value.items ∷ []; told = []; lookups = 0 }
+opening_view o = record { law = Some o.law.value; role = desk (versions_at o.start) (content_of o.words.value.items); front = front_before o ++ content_of o.words.value.items ∷ []; told = []; lookups = 0 }
 
 -- a reader's seat that knows the front of v
 abbrev pub shared : {L : Type 0} → View L → View L

@@ -6,11 +6,14 @@ use std::collections::LinkedList;
 use std::marker::PhantomData;
 use std::snapshot::Snapshot;
 
-/// How many versions there are: those of 64 stripes, and the common one.
-pub const VERSIONS: usize = 65;
+/// How many stripes there are.
+pub const STRIPE_COUNT: usize = 64;
 
-/// The version that every lookup reads.
-pub const COMMON: usize = 64;
+/// The version that every lookup reads: it comes after those of the stripes.
+pub const COMMON: usize = STRIPE_COUNT;
+
+/// How many versions there are: one for each stripe, and the common one.
+pub const VERSION_COUNT: usize = STRIPE_COUNT + 1;
 
 /// Which version each place of the content is under, and what holds of the content whenever it is committed.
 pub trait Law {
@@ -71,14 +74,15 @@ pub struct Origin<L> {
 pub struct Versions;
 
 impl<L: Law> TableRule<(), View<L>, Origin<L>> for Versions {
-    ghost use Rattle.jc_stripes.specs.Stripes.{Kept, opening_view, many};
+    ghost use Rattle.jc_stripes.specs.Layout.{version_count};
+    ghost use Rattle.jc_stripes.specs.Stripes.{Kept, opening_view};
 
-    ghost holds = { λ o. Kept L.group many L.admits o.law.value };
+    ghost holds = { λ o. Kept L.group version_count L.admits o.law.value };
 
     ghost first = { opening_view };
 }
 
-/// The shared words: the 65 versions, then the content that `L` speaks of. It has no slots.
+/// The shared words: the versions, then the content that `L` speaks of. It has no slots.
 pub type Board<L> = Table<(), View<L>, Origin<L>, Versions, Global>;
 
 /// The writer opens or shuts a version.
@@ -94,18 +98,20 @@ impl<L> Play<(), View<L>> for Turn {
 pub(crate) struct Set;
 
 impl<L> Play<(), View<L>> for Set {
-    ghost use Rattle.jc_stripes.specs.Stripes.{many, put};
+    ghost use Rattle.jc_stripes.specs.Layout.{version_count};
+    ghost use Rattle.jc_stripes.specs.Stripes.{put};
 
-    ghost then = { put many };
+    ghost then = { put version_count };
 }
 
 /// The writer sets the last word of a commit, which appends to the front.
 pub(crate) struct Seal;
 
 impl<L> Play<(), View<L>> for Seal {
-    ghost use Rattle.jc_stripes.specs.Stripes.{many, sealed};
+    ghost use Rattle.jc_stripes.specs.Layout.{version_count};
+    ghost use Rattle.jc_stripes.specs.Stripes.{sealed};
 
-    ghost then = { sealed many };
+    ghost then = { sealed version_count };
 }
 
 /// The writer reads a version, and compares what it was told with its front.
@@ -130,9 +136,10 @@ impl<L> Play<(), View<L>> for Begin {
 pub(crate) struct Note;
 
 impl<L> Play<(), View<L>> for Note {
-    ghost use Rattle.jc_stripes.specs.Stripes.{many, noted};
+    ghost use Rattle.jc_stripes.specs.Layout.{version_count};
+    ghost use Rattle.jc_stripes.specs.Stripes.{noted};
 
-    ghost then = { noted many };
+    ghost then = { noted version_count };
 }
 
 /// A reader reads a version again.

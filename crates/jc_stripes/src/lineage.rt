@@ -1,7 +1,8 @@
 //! Tables of words that follow one another. Readers move on to the newest.
-ghost use Rattle.std.specs.Prelude.{◌≡◌, ◌+◌, ◌%◌, ◌^◌, ◌<◌, [], ◌∷◌, ◌++◌, drop, replicate, length, map, Some, IfOk, IfErr, All, slice_get, ℕ, List};
+ghost use Rattle.std.specs.Prelude.{◌≡◌, ◌+◌, ◌%◌, ◌^◌, ◌<◌, [], ◌∷◌, ◌++◌, length, map, Some, IfOk, IfErr, All, slice_get, ℕ, List};
 ghost use mathlib.Core.List.{IsPrefix};
-ghost use Rattle.jc_stripes.specs.Stripes.{many, last_of, desk_of, set_all, Covered, Changes, IsCommitted, shared};
+ghost use Rattle.jc_stripes.specs.Layout.{content_of, version_count, versions_at};
+ghost use Rattle.jc_stripes.specs.Stripes.{last_of, desk_of, set_all, Covered, Changes, IsCommitted, shared};
 ghost use Rattle.jc_stripes.specs.Lineages.{tables, outgrown, IsEarlier};
 
 use crate::board::{Law, StripesSeat};
@@ -41,11 +42,11 @@ impl<L: Law + Drop> Lineage<L> {
         start: u64,
     ) -> Result<Lineage<L>, AllocError>
         requires even { start % 2 ≡ 0 }
-        requires versions { words.now.items ≡ replicate many start ++ drop many words.now.items }
+        requires versions { words.now.items ≡ versions_at start ++ content_of words.now.items }
         requires sized { length words.now.items < 2 ^ 63 }
-        requires lawful { L.admits law.now (drop many words.now.items) }
-        ensures lineage { IfOk result (λ l. (l.writer.seat.me.0.law ≡ Some law.now) × (l.writer.seat.me.0.front ≡ drop many words.now.items ∷ [])) }
-        ensures versions { IfOk result (λ l. (desk_of l.writer.seat.me.0).versions ≡ replicate many start) }
+        requires lawful { L.admits law.now (content_of words.now.items) }
+        ensures lineage { IfOk result (λ l. (l.writer.seat.me.0.law ≡ Some law.now) × (l.writer.seat.me.0.front ≡ content_of words.now.items ∷ [])) }
+        ensures versions { IfOk result (λ l. (desk_of l.writer.seat.me.0).versions ≡ versions_at start) }
     {
         let mut keeper = Keeper::new(alloc.clone()?)?;
         let writer = Writer::starting_at(alloc.clone()?, law, words, start)?;
@@ -57,13 +58,14 @@ impl<L: Law + Drop> Lineage<L> {
         })
     }
 
-    /// A new table with these words follows. The old one is retired.
+    /// A new table with these words follows, whose versions all begin at 0. The old one is retired.
     pub fn follow(&mut self, alloc: Global, law: &L, words: &Vec<u64>) -> Result<(), AllocError>
-        requires versions { words.now.items ≡ replicate many 0 ++ drop many words.now.items }
+        requires versions { words.now.items ≡ versions_at 0 ++ content_of words.now.items }
         requires sized { length words.now.items < 2 ^ 63 }
-        requires lawful { L.admits law.now (drop many words.now.items) }
+        requires lawful { L.admits law.now (content_of words.now.items) }
         ensures name { self.new.keeper.seat.table_id ≡ self.old.keeper.seat.table_id }
-        ensures ok { IfOk result (λ _. (self.new.writer.seat.me.0.law ≡ Some law.now) × (self.new.writer.seat.me.0.front ≡ self.old.writer.seat.me.0.front ++ drop many words.now.items ∷ [])) }
+        ensures ok { IfOk result (λ _. (self.new.writer.seat.me.0.law ≡ Some law.now) × (self.new.writer.seat.me.0.front ≡ self.old.writer.seat.me.0.front ++ content_of words.now.items ∷ [])) }
+        ensures versions { IfOk result (λ _. (desk_of self.new.writer.seat.me.0).versions ≡ versions_at 0) }
         ensures refused { IfErr result (λ _. (self.new.writer.seat.me.0 ≡ self.old.writer.seat.me.0) × (self.new.writer.seat.table_id ≡ self.old.writer.seat.table_id)) }
     {
         self.retired.reserve(1)?;
@@ -77,8 +79,8 @@ impl<L: Law + Drop> Lineage<L> {
     /// Sets words of the newest table as one commit, under the versions of these stripes.
     pub fn commit(&mut self, stripes: &[usize], writes: &[(usize, u64)])
         requires some { 0 < length writes.now }
-        requires inside { All (λ w. many + w.0 < self.old.writer.seat.table_id.words) writes.now }
-        requires few { All (λ j. j < many) stripes.now }
+        requires inside { All (λ w. version_count + w.0 < self.old.writer.seat.table_id.words) writes.now }
+        requires few { All (λ j. j < version_count) stripes.now }
         requires covered { Covered L.group stripes.now writes.now }
         requires lawful { (l : L) × (self.old.writer.seat.me.0.law ≡ Some l) × L.admits l (set_all (last_of self.old.writer.seat.me.0.front) writes.now) }
         ensures name { self.new.keeper.seat.table_id ≡ self.old.keeper.seat.table_id }

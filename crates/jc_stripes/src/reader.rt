@@ -2,9 +2,10 @@
 ghost use Rattle.std.specs.Prelude.{◌≡◌, ◌≢◌, ◌⊎◌, suc, ◌+◌, ◌%◌, ◌<◌, ◌≤◌, ◌^◌, true, false, [], ◌∷◌, length, All, Some};
 ghost use Rattle.std.specs.Arc.{arc_value};
 ghost use mathlib.Core.List.{IsPrefix};
-ghost use Rattle.jc_stripes.specs.Stripes.{IsReader, ReadsIn, Shows, SomeOdd, Stayed, begun_view, glance, glance_of, last_of, many, stacked, stripes_in};
+ghost use Rattle.jc_stripes.specs.Layout.{version_count};
+ghost use Rattle.jc_stripes.specs.Stripes.{IsReader, ReadsIn, Shows, SomeOdd, Stayed, begun_view, glance, glance_of, last_of, stacked, stripes_in};
 
-use crate::board::{Begin, Board, Check, Law, Note, StripesSeat, VERSIONS};
+use crate::board::{Begin, Board, Check, Law, Note, StripesSeat, VERSION_COUNT};
 use std::alloc::Global;
 use std::sync::Arc;
 
@@ -14,7 +15,7 @@ pub struct Reader<L: Law> {
     pub(crate) board: Arc<Board<L>, Global>,
     pub seat: StripesSeat<L>,
     pub ghost seated: { seat.table_id ≡ (arc_value board).shared.table_id },
-    pub ghost sized: { (many ≤ seat.table_id.words) × (seat.table_id.words < 2 ^ 63) },
+    pub ghost sized: { (version_count ≤ seat.table_id.words) × (seat.table_id.words < 2 ^ 63) },
     pub ghost empty: { seat.me.1 ≡ [] },
     pub ghost reads: { IsReader seat.me.0 },
 }
@@ -33,7 +34,7 @@ fn rested(first: u64, again: u64) -> bool
 impl<L: Law> Reader<L> {
     /// Reads the version of a stripe for the first time.
     fn begin_one(&mut self, stripe: usize) -> u64
-        requires { stripe < many }
+        requires { stripe < version_count }
         ensures same { self.new.seat.table_id ≡ self.old.seat.table_id }
         ensures view { self.new.seat.me.0 ≡ begun_view stripe result self.old.seat.me.0 (glance_of self.old.seat.me.0) }
     {
@@ -42,7 +43,7 @@ impl<L: Law> Reader<L> {
 
     /// Reads the version of a stripe again. The first check of a lookup sees the front so far, and later ones keep it.
     fn check_one(&mut self, stripe: usize) -> u64
-        requires { stripe < many }
+        requires { stripe < version_count }
         ensures same { self.new.seat.table_id ≡ self.old.seat.table_id }
         ensures view { self.new.seat.me.0 ≡ record self.old.seat.me.0 { role = glance (glance_of self.old.seat.me.0).begun ((stripe, result) ∷ (glance_of self.old.seat.me.0).checked) (glance_of self.old.seat.me.0).notes true; front = self.new.seat.me.0.front } }
         ensures front { IsPrefix self.old.seat.me.0.front self.new.seat.me.0.front }
@@ -57,7 +58,7 @@ impl<L: Law> Reader<L> {
     pub fn begin(&mut self, stripes: &[usize], versions: &mut [u64])
         requires some { 0 < length stripes.now }
         requires alike { length versions.old ≡ length stripes.now }
-        requires few { All (λ j. j < many) stripes.now }
+        requires few { All (λ j. j < version_count) stripes.now }
         requires rests { (glance_of self.old.seat.me.0).settled ≡ true }
         ensures same { self.new.seat.table_id ≡ self.old.seat.table_id }
         ensures alike { length versions.new ≡ length versions.old }
@@ -71,14 +72,14 @@ impl<L: Law> Reader<L> {
 
     /// Reads the word at a place.
     pub fn note(&mut self, place: usize) -> u64
-        requires inside { many + place < self.old.seat.table_id.words }
+        requires inside { version_count + place < self.old.seat.table_id.words }
         requires young { (glance_of self.old.seat.me.0).settled ≡ false }
         ensures same { self.new.seat.table_id ≡ self.old.seat.table_id }
         ensures view { self.new.seat.me.0 ≡ record self.old.seat.me.0 { role = glance (glance_of self.old.seat.me.0).begun (glance_of self.old.seat.me.0).checked ((place, result) ∷ (glance_of self.old.seat.me.0).notes) false } }
     {
         self.board
             .shared
-            .load::<Note>(&mut self.seat, VERSIONS + place)
+            .load::<Note>(&mut self.seat, VERSION_COUNT + place)
     }
 
     /// Reads the versions again, and sees the front so far. Where they are even and as they were, what was read under
@@ -86,7 +87,7 @@ impl<L: Law> Reader<L> {
     pub fn check(&mut self, stripes: &[usize], versions: &[u64]) -> bool
         requires some { 0 < length stripes.now }
         requires alike { length versions.now ≡ length stripes.now }
-        requires few { All (λ j. j < many) stripes.now }
+        requires few { All (λ j. j < version_count) stripes.now }
         requires begun { (glance_of self.old.seat.me.0).begun ≡ stacked stripes.now versions.now [] }
         requires fresh { (glance_of self.old.seat.me.0).checked ≡ [] }
         requires young { (glance_of self.old.seat.me.0).settled ≡ false }

@@ -1,10 +1,11 @@
 //! The writer of the words, and what is left of it when its table is outgrown.
-ghost use Rattle.std.specs.Prelude.{◌≡◌, ◌+◌, ◌%◌, ◌^◌, ◌<◌, ◌≤◌, [], ◌∷◌, ◌++◌, drop, replicate, length, slice_index, All, IfOk, Some, ℕ};
+ghost use Rattle.std.specs.Prelude.{◌≡◌, ◌+◌, ◌%◌, ◌^◌, ◌<◌, [], ◌∷◌, ◌++◌, length, slice_index, All, IfOk, Some, ℕ};
 ghost use Rattle.std.specs.Arc.{arc_value};
 ghost use mathlib.Core.List.{IsPrefix};
-ghost use Rattle.jc_stripes.specs.Stripes.{IsWriter, IsCommitted, Changes, Covered, common, desk, desk_of, heard, last_of, many, opening_view, shared, set_all};
+ghost use Rattle.jc_stripes.specs.Layout.{common, content_of, version_count, versions_at};
+ghost use Rattle.jc_stripes.specs.Stripes.{IsWriter, IsCommitted, Changes, Covered, desk, desk_of, heard, last_of, opening_view, shared, set_all};
 
-use crate::board::{Board, COMMON, Hear, Law, Origin, Recall, Share, StripesSeat, VERSIONS};
+use crate::board::{Board, COMMON, Hear, Law, Origin, Recall, Share, StripesSeat, VERSION_COUNT};
 use crate::reader::Reader;
 use crate::stroke::{fill, open_all, open_one, seal, shut_all, versions_at};
 use std::alloc::{AllocError, Global};
@@ -16,9 +17,9 @@ use std::sync::Arc;
 pub struct Writer<L: Law> {
     board: Arc<Board<L>, Global>,
     pub seat: StripesSeat<L>,
-    versions: [u64; VERSIONS],
+    versions: [u64; VERSION_COUNT],
     pub ghost seated: { seat.table_id ≡ (arc_value board).shared.table_id },
-    pub ghost sized: { (seat.table_id.words ≡ many + length (last_of seat.me.0.front)) × (seat.table_id.words < 2 ^ 63) },
+    pub ghost sized: { (seat.table_id.words ≡ version_count + length (last_of seat.me.0.front)) × (seat.table_id.words < 2 ^ 63) },
     pub ghost empty: { seat.me.1 ≡ [] },
     pub ghost fits: { (j : ℕ) → slice_index versions j < 2 ^ 64 },
     pub ghost settled: { (j : ℕ) → slice_index versions j % 2 ≡ 1 → slice_index versions j + 1 ≡ 2 ^ 64 },
@@ -28,9 +29,9 @@ pub struct Writer<L: Law> {
 impl<L: Law> Writer<L> {
     fn over(alloc: Global, origin: Origin<L>, words: &Vec<u64>) -> Result<Writer<L>, AllocError>
         requires words { origin.words.value ≡ words.now }
-        requires lawful { L.admits origin.law.value (drop many words.now.items) }
+        requires lawful { L.admits origin.law.value (content_of words.now.items) }
         requires even { origin.start % 2 ≡ 0 }
-        requires versions { words.now.items ≡ replicate many origin.start ++ drop many words.now.items }
+        requires versions { words.now.items ≡ versions_at origin.start ++ content_of words.now.items }
         requires sized { length words.now.items < 2 ^ 63 }
         ensures { IfOk result (λ w. w.seat.me.0 ≡ opening_view origin) }
     {
@@ -51,11 +52,11 @@ impl<L: Law> Writer<L> {
         start: u64,
     ) -> Result<Writer<L>, AllocError>
         requires even { start % 2 ≡ 0 }
-        requires versions { words.now.items ≡ replicate many start ++ drop many words.now.items }
+        requires versions { words.now.items ≡ versions_at start ++ content_of words.now.items }
         requires sized { length words.now.items < 2 ^ 63 }
-        requires lawful { L.admits law.now (drop many words.now.items) }
-        ensures writer { IfOk result (λ w. (w.seat.me.0.law ≡ Some law.now) × (w.seat.me.0.front ≡ drop many words.now.items ∷ [])) }
-        ensures versions { IfOk result (λ w. (desk_of w.seat.me.0).versions ≡ replicate many start) }
+        requires lawful { L.admits law.now (content_of words.now.items) }
+        ensures writer { IfOk result (λ w. (w.seat.me.0.law ≡ Some law.now) × (w.seat.me.0.front ≡ content_of words.now.items ∷ [])) }
+        ensures versions { IfOk result (λ w. (desk_of w.seat.me.0).versions ≡ versions_at start) }
     {
         let origin = Origin {
             law: Snapshot::of(law),
@@ -66,12 +67,13 @@ impl<L: Law> Writer<L> {
         Writer::over(alloc, origin, words)
     }
 
-    /// A writer of other words, which are the next of the front.
+    /// A writer of other words, which are the next of the front. All its versions begin at 0.
     pub fn follow(&self, alloc: Global, law: &L, words: &Vec<u64>) -> Result<Writer<L>, AllocError>
-        requires versions { words.now.items ≡ replicate many 0 ++ drop many words.now.items }
+        requires versions { words.now.items ≡ versions_at 0 ++ content_of words.now.items }
         requires sized { length words.now.items < 2 ^ 63 }
-        requires lawful { L.admits law.now (drop many words.now.items) }
-        ensures { IfOk result (λ w. (w.seat.me.0.law ≡ Some law.now) × (w.seat.me.0.front ≡ self.now.seat.me.0.front ++ drop many words.now.items ∷ [])) }
+        requires lawful { L.admits law.now (content_of words.now.items) }
+        ensures writer { IfOk result (λ w. (w.seat.me.0.law ≡ Some law.now) × (w.seat.me.0.front ≡ self.now.seat.me.0.front ++ content_of words.now.items ∷ [])) }
+        ensures versions { IfOk result (λ w. (desk_of w.seat.me.0).versions ≡ versions_at 0) }
     {
         let origin = Origin {
             law: Snapshot::of(law),
@@ -86,8 +88,8 @@ impl<L: Law> Writer<L> {
     /// greatest even number is opened and never shut.
     pub fn commit(&mut self, stripes: &[usize], writes: &[(usize, u64)])
         requires some { 0 < length writes.now }
-        requires inside { All (λ w. many + w.0 < self.old.seat.table_id.words) writes.now }
-        requires few { All (λ j. j < many) stripes.now }
+        requires inside { All (λ w. version_count + w.0 < self.old.seat.table_id.words) writes.now }
+        requires few { All (λ j. j < version_count) stripes.now }
         requires covered { Covered L.group stripes.now writes.now }
         requires lawful { (l : L) × (self.old.seat.me.0.law ≡ Some l) × L.admits l (set_all (last_of self.old.seat.me.0.front) writes.now) }
         ensures same { (self.new.seat.table_id ≡ self.old.seat.table_id) × (self.new.seat.me.0.law ≡ self.old.seat.me.0.law) }

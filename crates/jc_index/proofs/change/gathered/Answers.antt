@@ -1,8 +1,9 @@
-use Rattle.std.proofs.Common.{ℕ, ◌+◌, ◌*◌, ◌<◌, ◌++◌, length, get_or, Option, None, arith, ap, sym, subst, ◌∙◌}
+use Rattle.std.proofs.Common.{ℕ, ◌<◌, ◌++◌, length, get_or, Option, None, arith, ap, sym, subst, ◌∙◌}
 use mathlib.Core.Logic.{dite}
 use native.Mathlib.Decide.{ℕ_discrete}
 use Rattle.jc_cuckoo.specs.declared.held.Held.{Held}
-use Rattle.jc_index.specs.Spelling.{IsCoded, slot_words}
+use Rattle.jc_index.specs.Layout.{slot_place}
+use Rattle.jc_index.specs.Spelling.{IsCoded, words_of_slot}
 use Rattle.jc_index.specs.Batches.{placed_at, shows}
 use Rattle.jc_index.proofs.Changing.{batch_more, any_default}
 use Rattle.jc_index.proofs.change.gathered.Goals as goal
@@ -13,7 +14,7 @@ loop-i-preserved c =
     let i = c.loop-i.i in
     let d : ℕ × Option Held = (0, None) in
     let inside : i < length ws = c.loop-i-test.true in (
-      c.push_slot.ensures.0 ∙ ((λ j. c.loop-i.invariant.0 j ++ placed_at (6 * (any_default ws i c.index-writes-i.result d inside j).0 + 1) ((c.words_of_slot.ensures.same ∙ ap (λ (w : ℕ × Option Held). slot_words (shows w)) (any_default ws i _ d inside)) j)) ∙ sym (batch_more ws i d inside)),
+      c.push_slot.ensures.0 ∙ ((λ j. c.loop-i.invariant.0 j ++ placed_at (slot_place (any_default ws i c.index-writes-i.result d inside j).0) ((c.words_of_slot.ensures.same ∙ ap (λ (w : ℕ × Option Held). words_of_slot (shows w)) (any_default ws i _ d inside)) j)) ∙ sym (batch_more ws i d inside)),
       omega (arith, c.push_slot.ensures.1, c.loop-i.invariant.1),
       λ k e few. dite (ℕ_discrete k i)
           (λ is. subst (λ (n : ℕ). IsCoded (shows (get_or ws n e))) (sym is) (subst (λ (w : ℕ × Option Held). IsCoded (shows w)) (any_default ws i _ e inside) c.words_of_slot.ensures.coded))

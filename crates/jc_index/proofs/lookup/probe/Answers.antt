@@ -1,4 +1,5 @@
 use Rattle.std.proofs.Common.{◌≡◌, ◌≢◌, ◌⊎◌, ◌<◌, ℕ, List, [], length, arith, ap, sym, subst, ◌∙◌, true}
+use Rattle.jc_stripes.specs.Layout.{version_count}
 use Rattle.jc_index.specs.Versions.{onto, versions_of}
 use Rattle.std.specs.List.{All}
 use mathlib.Core.List.{IsPrefix}
@@ -15,7 +16,7 @@ pub begin-requires-clause-some : goal.begin-requires-clause-some
 begin-requires-clause-some g c = subst (λ (l : List ℕ). 0 < length l) (sym c.requires.stripes) (some_versions c.args.one c.args.two true)
 
 pub begin-requires-clause-few : goal.begin-requires-clause-few
-begin-requires-clause-few g c = subst (λ (l : List ℕ). All (λ j. j < 65) l) (sym c.requires.stripes) (few_versions c.args.one c.args.two true)
+begin-requires-clause-few g c = subst (λ (l : List ℕ). All (λ j. j < version_count) l) (sym c.requires.stripes) (few_versions c.args.one c.args.two true)
 
 pub look-answer-requires-clause-one : goal.look-answer-requires-clause-one
 look-answer-requires-clause-one g c = omega (arith, c.requires.law.2, c.requires.law.4, ap (λ z. z.words) c.begin.ensures.same)

@@ -1,10 +1,11 @@
 use Rattle.std.proofs.Common.{rules, ap, ◌∙◌}
-use Rattle.jc_stripes.specs.Stripes.{desk_of, many}
+use Rattle.jc_stripes.specs.Layout.{version_count}
+use Rattle.jc_stripes.specs.Stripes.{desk_of}
 use Rattle.jc_stripes.proofs.Keeps.{hears, recalls}
 use Rattle.jc_stripes.proofs.writer.take_in.Goals as goal
 
 pub join_seat-requires : goal.join_seat-requires
-join_seat-requires g c = (search rules, search rules, search rules, search rules, hears g.L.Law.group many g.L.Law.admits _ _ _ (desk_of c.args.seat.now.me.0) _ _ c.requires.writes)
+join_seat-requires g c = (search rules, search rules, search rules, search rules, hears g.L.Law.group version_count g.L.Law.admits _ _ _ (desk_of c.args.seat.now.me.0) _ _ c.requires.writes)
 
 pub load-requires : goal.load-requires
-load-requires g c = (search rules, search rules, recalls g.L.Law.group many g.L.Law.admits _ _ _ _ (desk_of c.args.seat.now.me.0) 0 (ap (λ m. m.0.role) c.join_seat.ensures.2 ∙ c.requires.writes))
+load-requires g c = (search rules, search rules, recalls g.L.Law.group version_count g.L.Law.admits _ _ _ _ (desk_of c.args.seat.now.me.0) 0 (ap (λ m. m.0.role) c.join_seat.ensures.2 ∙ c.requires.writes))

@@ -1,6 +1,8 @@
-use Rattle.std.proofs.Common.{◌≡◌, ◌<◌, ◌+◌, ◌*◌, ℕ, List, Some, None, length, subst, sym, ap, ◌∙◌, inl, inr, ⊎_elim}
+use Rattle.std.proofs.Common.{◌≡◌, ◌<◌, ◌+◌, ℕ, List, Some, None, length, subst, sym, ap, ◌∙◌, inl, inr, ⊎_elim}
 use Rattle.std.specs.List.{All}
 use Rattle.jc_stripes.specs.Stripes.{Covered, set_all}
+use Rattle.jc_stripes.specs.Layout.{version_count}
+use Rattle.jc_index.specs.Layout.{table_words}
 use Rattle.jc_index.specs.Spelling.{IsSpelt, group_of, image_in}
 use Rattle.jc_cuckoo.specs.Images.{written}
 use Rattle.jc_index.specs.Batches.{is_some}
@@ -12,13 +14,13 @@ returns-clause-some c = subst (λ (l : List (ℕ × ℕ)). 0 < length l) (sym c.
     (some_batch c.args.writes.now c.count_of-count.result (⊎_elim (λ (e : c.count_of-count.result ≡ Some c.args.stash). inr (ap is_some e)) (λ (t : (c.count_of-count.result ≡ None) × (c.args.old ≡ c.args.stash) × (0 < length c.args.writes.now)). inl t.2) c.count_of-count.ensures.cases))
 
 pub returns-clause-few : goal.returns-clause-few
-returns-clause-few c = subst (λ (l : List ℕ). All (λ j. j < 65) l) (sym c.changed.ensures.stripes) (few_stripes c.args.writes.now (is_some c.count_of-count.result))
+returns-clause-few c = subst (λ (l : List ℕ). All (λ j. j < version_count) l) (sym c.changed.ensures.stripes) (few_stripes c.args.writes.now (is_some c.count_of-count.result))
 
 pub returns-clause-covered : goal.returns-clause-covered
 returns-clause-covered c = subst (λ (z : List ℕ × List (ℕ × ℕ)). Covered group_of z.0 z.1) (λ i. (sym c.changed.ensures.stripes i, sym c.changed.ensures.batch i)) (covered_batch c.args.writes.now c.count_of-count.result c.requires)
 
 pub returns-clause-inside : goal.returns-clause-inside
-returns-clause-inside c buckets all = subst (λ (l : List (ℕ × ℕ)). All (λ w. 65 + w.0 < 24 * buckets + 66) l) (sym c.changed.ensures.batch) (inside_batch buckets c.args.writes.now c.count_of-count.result all)
+returns-clause-inside c buckets all = subst (λ (l : List (ℕ × ℕ)). All (λ w. version_count + w.0 < table_words buckets) l) (sym c.changed.ensures.batch) (inside_batch buckets c.args.writes.now c.count_of-count.result all)
 
 pub returns-clause-image : goal.returns-clause-image
 returns-clause-image c buckets words all spelt count =

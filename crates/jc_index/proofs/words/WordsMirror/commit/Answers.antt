@@ -1,10 +1,12 @@
-use Rattle.std.proofs.Common.{◌≡◌, ◌+◌, ◌*◌, ◌<◌, ◌++◌, ℕ, List, [], ◌∷◌, Some, length, map, ap, sym, subst, ◌∙◌, arith, take}
+use Rattle.std.proofs.Common.{◌≡◌, ◌+◌, ◌<◌, ◌++◌, ℕ, List, [], ◌∷◌, Some, length, map, ap, sym, subst, ◌∙◌, arith, take}
 use Rattle.std.specs.List.{All}
 use mathlib.Core.List.{map-append}
 use Rattle.jc_stripes.specs.Stripes.{Changes, IsCommitted, desk_of, last_of, set_all}
 use Rattle.jc_stripes.proofs.Lists.{last-append}
 use Rattle.jc_rows.specs.Images.{Image, last_image}
 use Rattle.jc_cuckoo.specs.Images.{IsImage, written}
+use Rattle.jc_stripes.specs.Layout.{version_count}
+use Rattle.jc_index.specs.Layout.{table_words}
 use Rattle.jc_index.specs.Spelling.{IsSpelt, IsLawful, image_in}
 use Rattle.jc_index.specs.Batches.{count_for, is_some, stripes_for}
 use Rattle.jc_index.proofs.Seeing.{last_images}
@@ -20,8 +22,8 @@ commit-requires-clause-inside g c =
     let is = c.self.invariant.0 in
     let asked = rw (← c.self.view_is) at c.requires.inside in
     let inside = slots_inside me.placer me.buckets me.count me.lineage is c.args.writes.now asked in
-    let wide : 24 * me.buckets + 66 ≡ me.lineage.writer.seat.table_id.words = omega (arith, is.wide) in
-    subst (λ (z : List (ℕ × ℕ) × ℕ). All (λ w. 65 + w.0 < z.1) z.0) (λ i. (sym c.writes.ensures i, wide i)) (c.of-change.ensures.inside me.buckets inside)
+    let wide : table_words me.buckets ≡ me.lineage.writer.seat.table_id.words = omega (arith, is.wide) in
+    subst (λ (z : List (ℕ × ℕ) × ℕ). All (λ w. version_count + w.0 < z.1) z.0) (λ i. (sym c.writes.ensures i, wide i)) (c.of-change.ensures.inside me.buckets inside)
 
 pub commit-requires-clause-lawful : goal.commit-requires-clause-lawful
 commit-requires-clause-lawful g c =

@@ -10,7 +10,7 @@ pub invariant_of-self-2 : goal.invariant_of-self-2
 invariant_of-self-2 g c =
     let me = c.args.self.now in
     let more = c.push_reserved.ensures.items ∙ (λ i. c.reserve.ensures.items i ++ c.retire.result ∷ []) in
-    let next = c.in_ok-writer.ensures.1 in
+    let next = c.in_ok-writer.ensures.writer.1 in
     let dest = c.replace-old.ensures.after in
     let was : c.retire.result.seat.table_id ≡ me.writer.seat.table_id = c.retire.ensures.0 ∙ ap (λ w. w.seat.table_id) c.replace-old.ensures.value in
     let seen : c.retire.result.seat.me.0.front ≡ me.writer.seat.me.0.front = c.retire.ensures.1 ∙ ap (λ w. w.seat.me.0.front) c.replace-old.ensures.value in

@@ -1,11 +1,12 @@
 use Rattle.std.proofs.Common.{rules, ap, sym, ◌∙◌}
 use Rattle.jc_stripes.specs.declared.board.Role.TheVariants.{Looking}
-use Rattle.jc_stripes.specs.Stripes.{glance_of, many}
+use Rattle.jc_stripes.specs.Layout.{version_count}
+use Rattle.jc_stripes.specs.Stripes.{glance_of}
 use Rattle.jc_stripes.proofs.Keeps.{checks}
 use Rattle.jc_stripes.proofs.reader.Reader.check_one.Goals as goal
 
 pub load-requires : goal.load-requires
-load-requires g c = (search rules, search rules, checks g.L.Law.group many g.L.Law.admits _ _ _ _ (glance_of c.args.self.now.seat.me.0) _ c.args.self.now.reads c.requires)
+load-requires g c = (search rules, search rules, checks g.L.Law.group version_count g.L.Law.admits _ _ _ _ (glance_of c.args.self.now.seat.me.0) _ c.args.self.now.reads c.requires)
 
 pub invariant_of-self : goal.invariant_of-self
 invariant_of-self g c = let k = c.load.ensures.2 _ c.args.self.now.reads in record {

@@ -3,7 +3,8 @@ use Rattle.atomic_table.specs.Table.{Me}
 use Rattle.jc_stripes.specs.declared.board.View.{View}
 use Rattle.jc_stripes.specs.declared.board.Role.{Role}
 use Rattle.jc_stripes.specs.declared.board.Role.TheVariants.{Writing}
-use Rattle.jc_stripes.specs.Stripes.{Changes, IsCommitted, many, desk, desk_in, desk_of, last_of, set_all}
+use Rattle.jc_stripes.specs.Layout.{version_count}
+use Rattle.jc_stripes.specs.Stripes.{Changes, IsCommitted, desk, desk_in, desk_of, last_of, set_all}
 use Rattle.jc_stripes.proofs.Lists.{last-append}
 use Rattle.jc_stripes.proofs.Opening.{set_all-last, length-set_all, covered_at, covered_take, both, opened_fits, shut_fits, settled_after}
 use Rattle.jc_stripes.proofs.writer.Writer.commit.Goals as goal
@@ -91,7 +92,7 @@ invariant_of-self g c =
     let more = shut_fits c.args.stripes.now vs us fits c.shut_all.ensures.changes in
     record {
       seated = table ∙ own.seated;
-      sized = (ap (λ z. z.words) table ∙ (own.sized.0 ∙ ap (λ n. many + n) (sym long)), omega (arith, ap (λ z. z.words) table, own.sized));
+      sized = (ap (λ z. z.words) table ∙ (own.sized.0 ∙ ap (λ n. version_count + n) (sym long)), omega (arith, ap (λ z. z.words) table, own.sized));
       empty = ap (λ (m : Sat g.row.L.Denot). m.1) f ∙ own.empty;
       fits = more;
       settled = settled_after c.args.stripes.now own.versions us own.fits more own.settled (both c.args.stripes.now own.versions vs us own.fits fits own.settled c.open_all.ensures.changes c.shut_all.ensures.changes);
