@@ -1,14 +1,13 @@
 -- The image of a doubled table is the next one.
-use Rattle.std.proofs.Common.{◌≡◌, ℕ, ◌*◌, ◌≤◌, List, [], ◌∷◌, ◌++◌, length, Option, Some, None, refl, sym, ap, ◌∙◌, subst, arith}
+use Rattle.std.proofs.Common.{◌≡◌, ℕ, ◌*◌, ◌≤◌, List, [], ◌∷◌, ◌++◌, length, Option, Some, None, sym, ap, ◌∙◌, subst, arith}
 use Rattle.std.specs.FinMap as map
 use Rattle.std.specs.Option.{IfSome, option_map}
-use Rattle.jc_rows.specs.Rows.{RowMap}
 use Rattle.jc_place.specs.declared.place.Place.{Place}
 use Rattle.jc_cuckoo.specs.declared.held.Held.{Held}
 use Rattle.jc_cuckoo.specs.Cells.{IsSound, rows_in}
-use Rattle.jc_rows.specs.Images.{Image, Shows, last_image}
-use Rattle.jc_cuckoo.specs.Images.{IsImage, IsGrowth, Covers, grown, image_of}
-use Rattle.jc_cuckoo.specs.Table.{IsTable, IsMirrored, Table, Extends, image, longest}
+use Rattle.jc_rows.specs.Images.{Image, last_image}
+use Rattle.jc_cuckoo.specs.Images.{IsImage, IsGrowth, grown, image_of}
+use Rattle.jc_cuckoo.specs.Table.{IsTable, IsMirrored, longest}
 use Rattle.jc_cuckoo.proofs.Told.{is_image, mirrored_next}
 
 pub growth : (p q told : ℕ → List ℕ → Place) (images : Option (List Image)) (n m s : ℕ) (tags : List ℕ) (cs ds slots : List (Option Held)) → IfSome images (λ is. IsMirrored p told is (image_of n cs)) → q ≡ p → m ≡ 2 * n → 2 * n ≤ 65536 → IsSound q m tags ds → grown slots s ≡ image_of m ds → length slots ≡ 4 * m → IfSome images (λ is. IsGrowth told (last_image is) slots s)
@@ -30,13 +29,4 @@ table_grown p q told told' images next n m held tags tags' cs ds table same soun
   short = short;
   counted = table.counted ∙ sym (ap map.len rows);
   mirrored = mirrored_next p told told' images next (image_of n cs) (image_of m ds) table.mirrored placing is;
-}
-
--- one image more, of the same rows
-pub extends_one : {P M : Type 0} (told : M → Option (List Image)) (a b : Table P M) → told b.mirror ≡ option_map (λ is. is ++ image b ∷ []) (told a.mirror) → rows_in b.cells ≡ rows_in a.cells → Covers (image a) (image b) → Shows (rows_in b.cells) (image b) → Extends told a b 1
-extends_one told a b next rows covers shows = record {
-  way = image b ∷ [];
-  images = next;
-  count = refl;
-  kept = (covers, subst (λ (m : RowMap). Shows m (image b)) rows shows, tt);
 }

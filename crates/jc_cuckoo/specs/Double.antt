@@ -2,7 +2,8 @@
 use Rattle.std.specs.Prelude.{◌≡◌, ℕ, ◌+◌, ◌-◌, ◌*◌, ◌<◌, ◌≤◌, List, length, take, slice_set, Option, Some, None}
 use Rattle.std.specs.FinMap as map
 use Rattle.jc_cuckoo.specs.declared.held.Held.{Held}
-use Rattle.jc_cuckoo.specs.Cells.{place_of, row_of, cell, rows_in, IsVacant}
+use Rattle.jc_place.specs.declared.place.Place.{Place}
+use Rattle.jc_cuckoo.specs.Cells.{place_of, row_of, cell, rows_in, first_bucket, second_bucket, IsVacant, IsFull}
 use Rattle.jc_rows.specs.Images.{Image}
 use Rattle.jc_cuckoo.specs.Images.{Covers, image_of}
 use Rattle.jc_cuckoo.specs.Table.{Table}
@@ -39,22 +40,29 @@ pub record HasSlots {P M N : Type 0} (table : Table P M) (at : ℕ) (twice : Tab
   pub slots : length twice.cells ≡ 8 * table.buckets
   pub blank : IsBlank table.buckets twice.cells at
 
+-- each row of the stash has two full buckets
+pub record NeedsStash (placing : ℕ → List ℕ → Place) (n : ℕ) (cells : List (Option Held)) : Type 0 where
+  pub full : (i : ℕ) (h : Held) → 4 * n ≤ i → cell cells i ≡ Some h → IsFull cells (first_bucket placing n (place_of h)) × IsFull cells (second_bucket placing n (place_of h))
+
 -- it has the rows of all slots and of the first cells of the stash
-pub record HasStash {P M N : Type 0} (table : Table P M) (at : ℕ) (twice : Table P N) : Type 0 where
+pub record HasStash {P M N : Type 0} (placing : P → ℕ → List ℕ → Place) (table : Table P M) (at : ℕ) (twice : Table P N) : Type 0 where
   pub placer : twice.placer ≡ table.placer
   pub buckets : twice.buckets ≡ 2 * table.buckets
   pub rows : rows_in twice.cells ≡ rows_in (take at table.cells)
   pub short : length twice.cells ≤ 4 * table.buckets + at
   pub covers : Covers (image_of table.buckets table.cells) (image_of twice.buckets twice.cells)
+  pub needed : NeedsStash (placing table.placer) twice.buckets twice.cells
 
--- it has the same rows: each that was placed still is, the stash is no longer, and the room no less
-pub record IsDoubled {P M N : Type 0} (table : Table P M) (twice : Table P N) : Type 0 where
+-- It has the same rows: each that was placed still is, the stash is no longer, and the room no less. No row is in the
+-- stash for which one of its two buckets has an empty slot.
+pub record IsDoubled {P M N : Type 0} (placing : P → ℕ → List ℕ → Place) (table : Table P M) (twice : Table P N) : Type 0 where
   pub placer : twice.placer ≡ table.placer
   pub buckets : twice.buckets ≡ 2 * table.buckets
   pub rows : rows_in twice.cells ≡ rows_in table.cells
   pub stash : length twice.cells - 4 * twice.buckets ≤ length table.cells - 4 * table.buckets
   pub room : table.room ≤ twice.room
   pub covers : Covers (image_of table.buckets table.cells) (image_of twice.buckets twice.cells)
+  pub needed : NeedsStash (placing table.placer) twice.buckets twice.cells
 
 -- nothing changed, and no image was told
 pub record IsLeft {P M : Type 0} (told : M → Option (List Image)) (before after : Table P M) : Type 0 where

@@ -1,8 +1,9 @@
 -- A search for a path: buckets in the order in which they were reached.
-use Rattle.std.specs.Prelude.{◌≡◌, ◌⊎◌, ℕ, zero, suc, ◌+◌, ◌*◌, ◌/◌, ◌%◌, ◌<◌, ◌≤◌, List, length, slice_index_or, Option, Some}
+use Rattle.std.specs.Prelude.{◌≡◌, ◌≢◌, ◌⊎◌, ℕ, zero, suc, ◌+◌, ◌*◌, ◌/◌, ◌%◌, ◌<◌, ◌≤◌, List, length, slice_index_or, Option, Some, None}
 use Rattle.jc_place.specs.declared.place.Place.{Place}
 use Rattle.jc_place.specs.Place.{alternate_of}
 use Rattle.jc_cuckoo.specs.declared.held.Held.{Held}
+use Rattle.jc_cuckoo.specs.declared.held.Work.{Work}
 use Rattle.jc_cuckoo.specs.declared.queue.Queue.{Queue}
 use Rattle.jc_cuckoo.specs.Cells.{place_of, cell, first_bucket, second_bucket, IsBucketOf, IsFull, IsVacant}
 
@@ -112,3 +113,34 @@ pub record IsSearched (p : ℕ → List ℕ → Place) (n : ℕ) (cells : List (
   pub sorted : (i j : ℕ) → i ≤ j → j < q.count → depth_at q i ≤ depth_at q j
   pub ahead : (m k : ℕ) → m < q.count → k < q.count → looked ≤ 4 * k + 3 → depth_at q m ≤ depth_at q k + 1
   pub closed : IsClosed p n cells q looked
+
+-- How many slots a search looks at: those of a queue of buckets, one after the other.
+
+-- the last one is empty, and all before it hold rows
+pub record EndsEmpty (p : ℕ → List ℕ → Place) (n : ℕ) (cells : List (Option Held)) (q : Queue) (looked : ℕ) : Type 0 where
+  pub before : ℕ
+  pub count : looked ≡ before + 1
+  pub inside : before < 4 * q.count
+  pub full : (j : ℕ) → j < before → cell cells (looked_slot q j) ≢ None
+  pub empty : cell cells (looked_slot q before) ≡ None
+  pub searched : IsSearched p n cells q before
+
+-- they are all of the queue's, and hold rows
+pub record EndsFull (p : ℕ → List ℕ → Place) (n : ℕ) (cells : List (Option Held)) (q : Queue) (looked : ℕ) : Type 0 where
+  pub all : looked ≡ 4 * q.count
+  pub full : (j : ℕ) → j < looked → cell cells (looked_slot q j) ≢ None
+  pub searched : IsSearched p n cells q looked
+
+pub record IsSearch (p : ℕ → List ℕ → Place) (n : ℕ) (cells : List (Option Held)) (one two looked : ℕ) : Type 0 where
+  pub queue : Queue
+  pub is : IsQueue p n cells queue
+  pub first : bucket_at queue 0 ≡ one
+  pub second : bucket_at queue 1 ≡ two
+  pub end : EndsEmpty p n cells queue looked ⊎ EndsFull p n cells queue looked
+
+-- a search was counted, and each slot that it looked at
+pub record IsCounted (p : ℕ → List ℕ → Place) (n : ℕ) (cells : List (Option Held)) (one two : ℕ) (before after : Work) : Type 0 where
+  pub slots : ℕ
+  pub search : IsSearch p n cells one two slots
+  pub looked : after.looked ≡ before.looked + slots
+  pub searches : after.searches ≡ before.searches + 1

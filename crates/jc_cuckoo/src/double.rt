@@ -3,8 +3,8 @@ ghost use Rattle.std.specs.Prelude.{◌≡◌, ◌+◌, ◌*◌, ◌/◌, ◌≤
 ghost use Rattle.std.specs.FinMap as map;
 ghost use Rattle.jc_place.specs.Place.{IsTableSize};
 ghost use Rattle.jc_cuckoo.specs.Cells.{cell, rows_in, place_of, row_of, IsBucketOf, IsFull};
-ghost use Rattle.jc_cuckoo.specs.Double.{IsAdded, IsBlank, IsDoubled, IsFilled, IsLeft, HasSlots, HasStash, Doubles};
-ghost use Rattle.jc_cuckoo.specs.Table.{Extends, image};
+ghost use Rattle.jc_cuckoo.specs.Double.{IsAdded, IsBlank, IsDoubled, IsFilled, IsLeft, HasSlots, HasStash, NeedsStash, Doubles};
+ghost use Rattle.jc_cuckoo.specs.Table.{IsTold, image};
 ghost use Rattle.jc_cuckoo.specs.Images.{grown};
 
 use crate::change::stashed;
@@ -96,14 +96,15 @@ impl<P: Placer + Drop, M: Mirror> Cuckoo<P, M> {
     fn admit(&mut self, held: Held)
         requires room { 0 < self.old.room }
         requires absent { map.get (rows_in self.old.cells) (place_of held) ≡ None }
-        ensures { IsAdded self.old self.new held }
+        ensures added { IsAdded self.old self.new held }
+        ensures needed { NeedsStash (P.placing self.old.placer) self.old.buckets self.old.cells → NeedsStash (P.placing self.old.placer) self.new.buckets self.new.cells }
     {
         let place = self.placer.place(held.id, &held.key);
         let first = place.first % self.buckets;
+        let second = alternate(first, place.tag, self.buckets);
         if self.fill_first(first, place.tag, held.same()) {
             return;
         }
-        let second = alternate(first, place.tag, self.buckets);
         if self.fill_first(second, place.tag, held.same()) {
             return;
         }
@@ -113,9 +114,9 @@ impl<P: Placer + Drop, M: Mirror> Cuckoo<P, M> {
     /// Brings a row of the stash into a table of twice as many buckets.
     fn bring_stashed(&self, at: usize, twice: &mut Cuckoo<P, NoMirror>)
         requires at { (4 * self.now.buckets ≤ at) × (at < length self.now.cells) }
-        requires stash { HasStash self.now at twice.old }
+        requires stash { HasStash P.placing self.now at twice.old }
         requires room { 0 < twice.old.room }
-        ensures stash { HasStash self.now (at + 1) twice.new }
+        ensures stash { HasStash P.placing self.now (at + 1) twice.new }
         ensures total { twice.new.room + length twice.new.cells ≡ twice.old.room + length twice.old.cells }
     {
         if let Some(held) = &self.cells[at] {
@@ -125,9 +126,9 @@ impl<P: Placer + Drop, M: Mirror> Cuckoo<P, M> {
 
     /// Brings the rows of the stash into a table of twice as many buckets.
     fn bring_stash(&self, twice: &mut Cuckoo<P, NoMirror>)
-        requires stash { HasStash self.now (4 * self.now.buckets) twice.old }
+        requires stash { HasStash P.placing self.now (4 * self.now.buckets) twice.old }
         requires room { 4 * self.now.buckets + length self.now.cells + self.now.room ≤ twice.old.room + length twice.old.cells }
-        ensures { IsDoubled self.now twice.new }
+        ensures { IsDoubled P.placing self.now twice.new }
     {
         let mut at = self.slots();
         'stash: while at < self.cells.len() {
@@ -139,7 +140,7 @@ impl<P: Placer + Drop, M: Mirror> Cuckoo<P, M> {
     /// A table of twice as many buckets with the same rows.
     fn doubled(&self) -> Result<Cuckoo<P, NoMirror>, OutOfMemory>
         requires { self.now.buckets < 65536 }
-        ensures { IfOk result (λ twice. IsDoubled self.now twice) }
+        ensures { IfOk result (λ twice. IsDoubled P.placing self.now twice) }
     {
         let capacity = self.cells.capacity();
         let slots = self.slots();
@@ -171,9 +172,9 @@ impl<P: Placer + Drop, M: Mirror> Cuckoo<P, M> {
     /// Holds the rows from now on as a table of twice as many buckets does, unless the mirror finds no memory for it.
     fn take_over(&mut self, twice: Cuckoo<P, NoMirror>) -> bool
         requires few { 2 * self.old.buckets ≤ 65536 }
-        requires doubled { IsDoubled self.old twice }
-        ensures doubled { result ≡ true → IsDoubled self.old self.new }
-        ensures images { result ≡ true → Extends M.images self.old self.new 1 }
+        requires doubled { IsDoubled P.placing self.old twice }
+        ensures doubled { result ≡ true → IsDoubled P.placing self.old self.new }
+        ensures images { result ≡ true → IsTold M.images self.old self.new }
         ensures refused { result ≡ false → IsLeft M.images self.old self.new }
         ensures work { self.new.work ≡ self.old.work }
         ensures wide { 4 * self.new.buckets ≤ length self.new.cells }
@@ -193,8 +194,8 @@ impl<P: Placer + Drop, M: Mirror> Cuckoo<P, M> {
     /// Doubles the buckets where rows for half of their slots are held, memory is found, and there are not too many.
     pub(crate) fn double(&mut self) -> bool
         ensures allowed { result ≡ true → Doubles self.old self.new }
-        ensures doubled { result ≡ true → IsDoubled self.old self.new }
-        ensures images { result ≡ true → Extends M.images self.old self.new 1 }
+        ensures doubled { result ≡ true → IsDoubled P.placing self.old self.new }
+        ensures images { result ≡ true → IsTold M.images self.old self.new }
         ensures refused { result ≡ false → IsLeft M.images self.old self.new }
         ensures work { self.new.work ≡ self.old.work }
         ensures wide { 4 * self.new.buckets ≤ length self.new.cells }

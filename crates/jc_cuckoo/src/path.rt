@@ -2,15 +2,17 @@
 ghost use Rattle.std.specs.Prelude.{◌≡◌, ◌≢◌, ◌⊎◌, ◌+◌, ◌-◌, ◌*◌, ◌/◌, ◌≤◌, ◌<◌, None, Some, true, false, MatchOption, length};
 ghost use Rattle.std.specs.FinMap as map;
 ghost use Rattle.jc_cuckoo.specs.Cells.{cell, rows_in, place_of};
-ghost use Rattle.jc_cuckoo.specs.Images.{Covers};
-ghost use Rattle.jc_cuckoo.specs.Table.{Extends, Settles, Stays, image};
-ghost use Rattle.jc_cuckoo.specs.Search.{IsQueue, IsSearched, IsExhausted, Grows, IsEnd, bucket_at, looked_slot};
+ghost use Rattle.jc_cuckoo.specs.Table.{Extends, Searches, Settles, Stays};
+ghost use Rattle.jc_cuckoo.specs.Search.{IsQueue, IsSearched, IsExhausted, IsCounted, Grows, IsEnd, bucket_at, looked_slot};
 
 use crate::cuckoo::Cuckoo;
-use crate::held::Held;
+use crate::held::{Held, Work};
 use crate::mirror::Mirror;
 use crate::queue::Queue;
 use jc_place::place::{Placer, alternate};
+
+/// The most rows of a path.
+const MOST_MOVES: u8 = 5;
 
 impl<P: Placer + Drop, M: Mirror> Cuckoo<P, M> {
     /// Adds the bucket that a row could move into, where it is near and new and there is room for it. The row stands in
@@ -26,7 +28,7 @@ impl<P: Placer + Drop, M: Mirror> Cuckoo<P, M> {
         ensures grows { Grows queue.old queue.new }
     {
         let head = looked / 4;
-        if queue.depths[head] >= 5 {
+        if queue.depths[head] >= MOST_MOVES {
             return;
         }
         if queue.count >= 64 {
@@ -43,26 +45,29 @@ impl<P: Placer + Drop, M: Mirror> Cuckoo<P, M> {
     }
 
     /// Looks for a path, 256 slots at most: the bucket of the queue in which it ends, and that bucket's empty slot.
-    pub(crate) fn search(&self, queue: &mut Queue) -> (Option<(usize, usize)>, u32)
+    pub(crate) fn search(&self, queue: &mut Queue, work: &mut Work) -> Option<(usize, usize)>
         requires queue { IsQueue (P.placing self.now.placer) self.now.buckets self.now.cells queue.old }
         requires start { queue.old.count ≡ 2 }
+        requires work { (work.old.searches ≤ 1) × (work.old.looked ≤ 256) }
         ensures queue { IsQueue (P.placing self.now.placer) self.now.buckets self.now.cells queue.new }
         ensures buckets { (bucket_at queue.new 0 ≡ bucket_at queue.old 0) × (bucket_at queue.new 1 ≡ bucket_at queue.old 1) }
-        ensures looked { (1 ≤ result.1) × (result.1 ≤ 256) }
-        ensures counted { MatchOption result.0 (result.1 ≡ 4 * queue.new.count) (λ found. found.1 ≡ looked_slot queue.new (result.1 - 1)) }
-        ensures found { MatchOption result.0 (IsExhausted (P.placing self.now.placer) self.now.buckets self.now.cells (bucket_at queue.old 0) (bucket_at queue.old 1)) (λ found. IsEnd self.now.cells queue.new found) }
+        ensures counted { IsCounted (P.placing self.now.placer) self.now.buckets self.now.cells (bucket_at queue.old 0) (bucket_at queue.old 1) work.old work.new }
+        ensures looked { (work.old.looked < work.new.looked) × (work.new.looked ≤ work.old.looked + 256) }
+        ensures moves { work.new.moves ≡ work.old.moves }
+        ensures found { MatchOption result (IsExhausted (P.placing self.now.placer) self.now.buckets self.now.cells (bucket_at queue.old 0) (bucket_at queue.old 1)) (λ found. IsEnd self.now.cells queue.new found) }
     {
+        work.count_search();
         let mut looked = 0;
         'slots: while looked < 4 * queue.count {
             let head = looked / 4;
             let at = 4 * queue.buckets[head] as usize + looked % 4;
-            if self.cells[at].is_none() {
-                return (Some((head, at)), looked as u32 + 1);
+            if work.look(&self.cells[at]) {
+                return Some((head, at));
             }
             self.reach(queue, looked);
             looked += 1;
         }
-        (None, looked as u32)
+        None
     }
 
     /// The row in a slot.
@@ -91,7 +96,6 @@ impl<P: Placer + Drop, M: Mirror> Cuckoo<P, M> {
         ensures work { self.new.work ≡ self.old.work }
         ensures length { length self.new.cells ≡ length self.old.cells }
         ensures images { Extends M.images self.old self.new result.1 }
-        ensures covers { Covers (image self.old) (image self.new) }
     {
         let mut node = end;
         let mut gap = empty;
@@ -118,16 +122,16 @@ impl<P: Placer + Drop, M: Mirror> Cuckoo<P, M> {
         requires work { (self.old.work.searches ≤ 1) × (self.old.work.looked ≤ 256) × (self.old.work.moves ≡ 0) }
         ensures settled { result ≡ true → Settles M.images self.old self.new held }
         ensures stays { result ≡ false → Stays (P.placing self.old.placer) self.old self.new (place_of held) }
-        ensures searches { self.new.work.searches ≡ self.old.work.searches + 1 }
+        ensures counted { Searches P.placing self.old (place_of held) self.old.work self.new.work }
         ensures looked { (self.old.work.looked < self.new.work.looked) × (self.new.work.looked ≤ self.old.work.looked + 256) }
     {
         let place = self.placer.place(held.id, &held.key);
         let first = place.first % self.buckets;
         let second = alternate(first, place.tag, self.buckets);
         let mut queue = Queue::new(first, second);
-        let (path, looked) = self.search(&mut queue);
-        self.work.searches += 1;
-        self.work.looked += looked;
+        let mut work = self.work;
+        let path = self.search(&mut queue, &mut work);
+        self.work = work;
         match path {
             Some((end, empty)) => {
                 let (gap, moves) = self.displace(&queue, end, empty);

@@ -3,8 +3,8 @@ ghost use Rattle.std.specs.Prelude.{◌≡◌, ◌⊎◌, ℕ, ◌+◌, ◌-◌,
 ghost use Rattle.std.specs.FinMap as map;
 ghost use Rattle.jc_rows.specs.Rows.{with_expiry};
 ghost use Rattle.jc_cuckoo.specs.Cells.{rows_in, IsPlaced};
-ghost use Rattle.jc_cuckoo.specs.Table.{IsStill, Tells, Touches};
-ghost use Rattle.jc_cuckoo.specs.Double.{Doubles};
+ghost use Rattle.jc_cuckoo.specs.Table.{IsStill, Touches, no_work};
+ghost use Rattle.jc_cuckoo.specs.Attempts.{Tries, TriesTwice};
 ghost use Rattle.jc_cuckoo.specs.Search.{IsLastResort};
 
 use crate::cuckoo::Cuckoo;
@@ -64,10 +64,10 @@ impl<P: Placer + Drop, M: Mirror> Rows for Cuckoo<P, M> {
         ensures put { rows_in self.new.cells ≡ map.insert (rows_in self.old.cells) (id, key) (row, expiry) }
         ensures kept { self.old.room ≤ self.new.room + 1 }
 
-        // As many images on the way as rows were moved, and one more where the buckets doubled; none of them has the
-        // new row. Then the last one.
-        ensures images { ((self.new.buckets ≡ self.old.buckets) × (self.new.work.searches ≡ 1) × Tells M.images self.old self.new self.new.work.moves) ⊎ (Doubles self.old self.new × (self.new.work.searches ≡ 2) × Tells M.images self.old self.new (1 + self.new.work.moves)) }
-        ensures work { (self.new.work.searches ≤ self.new.work.looked) × (self.new.work.looked ≤ 256 * self.new.work.searches) × (self.new.work.moves ≤ 5) }
+        // Each slot that a search looked at is counted. As many images on the way as rows were moved, and one before
+        // them where the buckets doubled; none of them has the new row. Then the last one.
+        ensures images { Tries P.placing M.images (id, key) no_work self.old self.new ⊎ TriesTwice P.placing M.images (id, key) self.old self.new }
+        ensures work { (self.new.work.searches ≤ 2) × (self.new.work.searches ≤ self.new.work.looked) × (self.new.work.looked ≤ 256 * self.new.work.searches) × (self.new.work.moves ≤ 5) }
         ensures stash { IsPlaced self.new.buckets self.new.cells (id, key) ⊎ IsLastResort (P.placing self.new.placer) self.new.buckets self.new.cells (id, key) }
         ensures placer { self.new.placer ≡ self.old.placer }
     {

@@ -4,7 +4,7 @@ use Rattle.jc_cuckoo.proofs.cuckoo.Cuckoo.bring_stash.Given as goal
 
 abbrev pub invariant-stash : goal.invariant-stash
 invariant-stash g l = record {
-  stash : HasStash l.self l.at l.twice;
+  stash : HasStash g.P.Placer.placing l.self l.at l.twice;
   total : l.twice.room + length l.twice.cells ≡ l.initial.twice.room + length l.initial.twice.cells;
   first : 4 * l.self.buckets ≤ l.at;
   last : l.at ≤ length l.self.cells;

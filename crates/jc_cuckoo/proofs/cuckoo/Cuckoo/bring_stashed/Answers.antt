@@ -17,4 +17,4 @@ returns-in-Some-clause-stash g c =
     let at : c.args.at < length c.self.inside.cells.items = rw (← c.self.view_is) at c.requires.at.1 in
     let is : cell c.self.inside.cells.items c.args.at ≡ Some c.same.result = sym (get_or_read c.self.inside.cells.items c.args.at c.index.result.now at c.index.ensures None) ∙ (c.in-Some.is ∙ ap (λ (h : Held). Some h) (sym c.same.ensures)) in
     let has = rw (← c.self.view_is) at c.requires.stash in
-    rw (← c.self.view_is) (stash_brought _ c.args.at c.args.twice.now c.admit.new.self c.same.result c.self.invariant.sound.once at is has c.admit.ensures)
+    rw (← c.self.view_is) (stash_brought g.P.Placer.placing _ c.args.at c.args.twice.now c.admit.new.self c.same.result c.self.invariant.sound.once at is has c.admit.ensures.added c.admit.ensures.needed)

@@ -9,4 +9,4 @@ with_capacity-requires-clause-size g c = let below = rw (← c.self.view_is) at 
 pub bring_stash-requires-clause-stash : goal.bring_stash-requires-clause-stash
 bring_stash-requires-clause-stash g c =
     let has = rw (← c.self.view_is) at c.bring_slots.ensures.slots in
-    rw (← c.self.view_is) (slots_all _ _ c.bring_slots.new.twice c.self.invariant.sound.once c.self.invariant.sound.wide refl has)
+    rw (← c.self.view_is) (slots_all g.P.Placer.placing _ _ c.bring_slots.new.twice c.self.invariant.sound.once c.self.invariant.sound.wide refl has)

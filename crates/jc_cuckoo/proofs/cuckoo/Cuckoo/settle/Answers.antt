@@ -4,14 +4,16 @@ use Rattle.std.proofs.lemmas.List.{get_or-set_same}
 use Rattle.jc_rows.specs.Rows.{RowMap}
 use Rattle.jc_cuckoo.specs.declared.held.Work.{Work}
 use Rattle.jc_cuckoo.specs.Cells.{cell, place_of, row_of}
-use Rattle.jc_cuckoo.proofs.Covers.{covers_more, told_last}
+use Rattle.jc_rows.specs.Images.{Image}
+use Rattle.jc_cuckoo.specs.Images.{Covers}
+use Rattle.jc_cuckoo.specs.Table.{image}
+use Rattle.jc_cuckoo.proofs.Covers.{told_last}
 use Rattle.jc_cuckoo.proofs.cuckoo.Cuckoo.settle.Goals as goal
 
 pub returns-in-Some-clause-settled : goal.returns-in-Some-clause-settled
 returns-in-Some-clause-settled g c =
     let e = rw (← c.self-in-Some.view_is) at c.displace-gap.ensures.images in
     let rows = rw (← c.self-in-Some.view_is) at c.displace-gap.ensures.rows in
-    let covers = rw (← c.self-in-Some.view_is) at c.displace-gap.ensures.covers in
     let same = rw (← c.self-in-Some.view_is) at c.displace-gap.ensures.placer in
     let room = rw (← c.self-in-Some.view_is) at c.displace-gap.ensures.room in
     let buckets = c.fill.ensures.follows.buckets ∙ same.1 in
@@ -39,7 +41,7 @@ returns-in-Some-clause-settled g c =
         images = told_last _ _ _ e.way _ e.images c.fill.ensures.follows.images;
         count = e.count ∙ sym moves;
         kept = e.kept;
-        covers = covers_more _ _ _ covers c.fill.ensures.covers;
+        covers = subst (λ (x : Image). Covers x (image c.fill.new.self)) (sym e.last) c.fill.ensures.covers;
         shows = c.fill.ensures.follows.shows;
       };
     })

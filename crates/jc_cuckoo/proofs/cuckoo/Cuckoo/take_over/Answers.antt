@@ -1,5 +1,5 @@
 use Rattle.std.proofs.Common.{ap}
-use Rattle.jc_cuckoo.proofs.Grown.{growth, grown_next, table_grown, extends_one}
+use Rattle.jc_cuckoo.proofs.Grown.{growth, grown_next, table_grown}
 use Rattle.jc_cuckoo.proofs.Shows.{shows}
 use Rattle.jc_cuckoo.proofs.cuckoo.Cuckoo.take_over.Goals as goal
 
@@ -19,6 +19,5 @@ invariant_of-self g c =
 
 pub returns-in-Ok-clause-images : goal.returns-in-Ok-clause-images
 returns-in-Ok-clause-images g c =
-    let d = rw (← c.twice.view_is, ← c.self.view_is) at c.requires.doubled in
     let told = rw (← c.twice.view_is) at c.told-stash.ensures in
-    rw (← c.self.view_is) (λ t. extends_one g.M.Mirror.images _ _ (grown_next _ _ _ _ told.image c.in-Ok.ensures.images) d.rows d.covers (shows (g.P.Placer.placing c.twice.inside.placer) c.twice.inside.buckets c.twice.inside.tags.items c.twice.inside.cells.items c.twice.invariant.sound))
+    rw (← c.self.view_is) (λ t. record { images = grown_next _ _ _ _ told.image c.in-Ok.ensures.images; shows = shows (g.P.Placer.placing c.twice.inside.placer) c.twice.inside.buckets c.twice.inside.tags.items c.twice.inside.cells.items c.twice.invariant.sound })

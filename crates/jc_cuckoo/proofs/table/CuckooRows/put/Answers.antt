@@ -1,8 +1,8 @@
-use Rattle.std.proofs.Common.{◌∷◌, [], ◌++◌, Some, List, Option, sym, ap, ap₂, ◌∙◌, inr, arith}
+use Rattle.std.proofs.Common.{◌∷◌, [], ◌++◌, Some, List, Option, refl, sym, ap, ap₂, ◌∙◌, inl, inr}
 use Rattle.jc_cuckoo.specs.declared.held.Held.{Held}
 use Rattle.jc_cuckoo.specs.declared.held.Work.{Work}
 use Rattle.jc_cuckoo.specs.Cells.{place_of}
-use Rattle.jc_cuckoo.proofs.Crowded.{put_doubled, put_stowed, resort_stowed}
+use Rattle.jc_cuckoo.proofs.Crowded.{middle_of, resort_stowed, tries_settled, tries_stowed, tries_twice}
 use Rattle.jc_cuckoo.proofs.table.CuckooRows.put.Goals as goal
 
 pub returns-then-not-double-clause-stash : goal.returns-then-not-double-clause-stash
@@ -11,19 +11,31 @@ returns-then-not-double-clause-stash g c =
     inr (resort_stowed (g.P.Placer.placing c.self.inside.placer) (g.P.Placer.placing c.stow.new.self.placer) c.self.inside.buckets c.stow.new.self.buckets c.self.inside.cells.items c.stow.new.self.cells _ (place_of c.same.result) (c.args.id, c.args.key) c.self.invariant.sound.wide s.full
     (ap g.P.Placer.placing (f.placer ∙ (l.placer ∙ s.placer))) (f.buckets ∙ (l.buckets ∙ s.buckets)) (c.stow.ensures.cells ∙ ap₂ (λ (a : List (Option Held)) (h : Held). a ++ Some h ∷ []) (l.cells ∙ s.cells) (sym c.same.ensures)) (sym (ap place_of c.same.ensures)))
 
+pub returns-then-settle-clause-images : goal.returns-then-settle-clause-images
+returns-then-settle-clause-images g c =
+    rw (← c.self.view_is) (inl (tries_settled g.P.Placer.placing g.M.Mirror.images _ _ c.settle.new.self c.same.result (c.args.id, c.args.key) _ (ap place_of c.same.ensures) record { placer = refl; cells = refl; buckets = refl; images = refl } c.settle.ensures.counted (c.settle.ensures.settled c.if-settle.true)))
+
+pub returns-then-not-double-clause-images : goal.returns-then-not-double-clause-images
+returns-then-not-double-clause-images g c =
+    let s = c.settle.ensures.stays c.if-settle.false in let l = c.double.ensures.refused c.if-not-double.true in let f = c.stow.ensures.follows in
+    rw (← c.self.view_is) (inl (tries_stowed g.P.Placer.placing g.M.Mirror.images _ c.double.new.self c.stow.new.self c.same.result (c.args.id, c.args.key) _ c.settle.new.self.work (ap place_of c.same.ensures) c.settle.ensures.counted (f.work ∙ c.double.ensures.work) s.moves
+    record { placer = l.placer ∙ s.placer; cells = l.cells ∙ s.cells; buckets = l.buckets ∙ s.buckets; images = l.images ∙ ap g.M.Mirror.images s.mirror } f c.stow.ensures.covers))
+
 pub returns-then-settle-2-clause-images : goal.returns-then-settle-2-clause-images
 returns-then-settle-2-clause-images g c =
     let s = c.settle.ensures.stays c.if-settle.false in let d = c.double.ensures in let t = c.if-not-double.false in
-    let p = put_doubled g.M.Mirror.images _ c.settle.new.self c.double.new.self c.settle-2.new.self c.same-2.result record { cells = s.cells; mirror = s.mirror; buckets = s.buckets } (d.doubled t) (d.allowed t) (d.images t) (c.settle-2.ensures.settled c.if-settle-2.true) in
-    let first = c.settle.ensures.searches in let kept = ap (λ (w : Work). w.searches) d.work in let second = c.settle-2.ensures.searches in
-    rw (← c.self.view_is) (inr (p.0, omega arith, p.1))
+    let second = tries_settled g.P.Placer.placing g.M.Mirror.images c.double.new.self c.double.new.self c.settle-2.new.self c.same-2.result (c.args.id, c.args.key) c.double.new.self.work (ap place_of c.same-2.ensures) record { placer = refl; cells = refl; buckets = refl; images = refl } c.settle-2.ensures.counted (c.settle-2.ensures.settled c.if-settle-2.true) in
+    rw (← c.self.view_is) (inr (tries_twice g.P.Placer.placing g.M.Mirror.images _ c.settle.new.self c.double.new.self c.settle-2.new.self (c.args.id, c.args.key)
+    (middle_of g.P.Placer.placing g.M.Mirror.images _ c.settle.new.self c.double.new.self c.same.result (c.args.id, c.args.key) (ap place_of c.same.ensures) record { placer = s.placer; cells = s.cells; buckets = s.buckets; images = ap g.M.Mirror.images s.mirror } c.settle.ensures.counted s.full d.work (d.allowed t) (d.doubled t) (d.images t)) s.room second))
 
 pub returns-clause-images : goal.returns-clause-images
 returns-clause-images g c =
     let s = c.settle.ensures.stays c.if-settle.false in let d = c.double.ensures in let t = c.if-not-double.false in
-    let p = put_stowed g.M.Mirror.images _ _ c.settle.new.self c.double.new.self c.settle-2.new.self c.stow-2.new.self (place_of c.same-2.result) record { cells = s.cells; mirror = s.mirror; buckets = s.buckets } (d.doubled t) (d.allowed t) (d.images t) (ap (λ (w : Work). w.moves) d.work ∙ s.moves) (c.settle-2.ensures.stays c.if-settle-2.false) c.stow-2.ensures.follows c.stow-2.ensures.covers in
-    let first = c.settle.ensures.searches in let kept = ap (λ (w : Work). w.searches) d.work in let second = c.settle-2.ensures.searches in let last = ap (λ (w : Work). w.searches) c.stow-2.ensures.follows.work in
-    rw (← c.self.view_is) (inr (p.0, omega arith, p.1))
+    let e = c.settle-2.ensures.stays c.if-settle-2.false in let f = c.stow-2.ensures.follows in
+    let second = tries_stowed g.P.Placer.placing g.M.Mirror.images c.double.new.self c.settle-2.new.self c.stow-2.new.self c.same-2.result (c.args.id, c.args.key) c.double.new.self.work c.settle-2.new.self.work (ap place_of c.same-2.ensures) c.settle-2.ensures.counted f.work (e.moves ∙ (ap (λ (w : Work). w.moves) d.work ∙ s.moves))
+    record { placer = e.placer; cells = e.cells; buckets = e.buckets; images = ap g.M.Mirror.images e.mirror } f c.stow-2.ensures.covers in
+    rw (← c.self.view_is) (inr (tries_twice g.P.Placer.placing g.M.Mirror.images _ c.settle.new.self c.double.new.self c.stow-2.new.self (c.args.id, c.args.key)
+    (middle_of g.P.Placer.placing g.M.Mirror.images _ c.settle.new.self c.double.new.self c.same.result (c.args.id, c.args.key) (ap place_of c.same.ensures) record { placer = s.placer; cells = s.cells; buckets = s.buckets; images = ap g.M.Mirror.images s.mirror } c.settle.ensures.counted s.full d.work (d.allowed t) (d.doubled t) (d.images t)) s.room second))
 
 pub returns-clause-stash : goal.returns-clause-stash
 returns-clause-stash g c =

@@ -25,4 +25,5 @@ returns-then-eq-clause-touches g c =
       puts = puts_same (rows_in c.args.self.now.cells) (image c.args.self.now) (c.args.id, c.args.key.now) c.in-Some.held.now.row c.args.expiry c.slots-slots.ensures.shows (row.holds ∙ ap (λ (e : Expiry). Some (c.in-Some.held.now.row, e)) same);
       shows = c.slots-slots.ensures.shows;
       work = refl;
+      placer = refl;
     }
