@@ -2,7 +2,7 @@
 use Rattle.std.proofs.Common.{◌≡◌, ℕ, zero, suc, Bool, true, false, List, [], ◌∷◌, ◌++◌, ◌+◌, length, take, Option, Some, None, Result, Ok, Err, refl, sym, ap, ap₂, subst, ◌∙◌, arith, slice_get, slice_set, option_map, MatchOption, OnOk, IsSome, is_some, is_err}
 use Rattle.jc_engine.proofs.Names.{Answer, Call, Notice, CacheConfig, Event, Begin, GiveUp, Create, Destroy, Outcome, Entry, Progress, Awaited, told_by, there, at_place, Status, live_at, Said, says, answers, gives_up, idle}
 use Rattle.jc_engine.proofs.Names.{is_refused, reply_of, for_memory, answer_of, answer_in, answer_to, lives_after, Wait, one, many, telling, standing_by, History, Tells, recorded, numbered, at_first, with_outcome, with_answer}
-use Rattle.jc_engine.proofs.Names.{on_open, Noted, Advance, Replied, Asked, Told, Cache, status_of, fresh_cache, fresh_from, lives_of, step_of, is_step, is_telling, tells, FitsTurn, LeavesNotices, of_abandon, FitsAt, ClosedAt}
+use Rattle.jc_engine.proofs.Names.{on_open, Noted, Advance, Replied, Asked, Told, Cache, status_of, fresh_cache, fresh_from, lives_of, step_of, is_step, is_telling, tells, FitsTurn, LeavesNotices, of_abandon, FitsAt, ClosedAt, is_open_in}
 use Rattle.jc_engine.proofs.Names.{ChangesOne, IsOpenAt, HasEntry, IsRecorded, CanTell, blank, left_in, with_entries, with_life, State, Answered, Created, Destroyed, GivenUp, Stepped, at_same, at_other, at_place_map, common_steps}
 use Rattle.jc_engine.proofs.Names.{length_push, same_from_push}
 use Rattle.jc_model.specs.declared.event.Life.{Life}
@@ -195,6 +195,18 @@ answer_busy caches id a allowed = busy_by caches id (answers a) (λ c s. refl) (
 
 pub give_up_busy : (caches : List (Option Cache)) (id : ℕ) (left : Option Noted) → of_abandon (Ok left) ≡ answer_to (lives_of caches) (GiveUp id) false → IsBusy caches id
 give_up_busy caches id left given = busy_by caches id gives_up (λ c s. refl) (ap is_refused (sym given ∙ of_left left))
+
+-- a call is open there
+pub open_busy : (caches : List (Option Cache)) (id : ℕ) → is_open_in (at_place caches id) ≡ true → IsBusy caches id
+open_busy caches id open_there = by (at_place caches id) refl open_there
+  where
+    by : (found : Option Cache) → at_place caches id ≡ found → is_open_in found ≡ true → IsBusy caches id
+    by None here is = absurd cc
+    by (Some k) here is = at_turn k.turn refl is
+      where
+        at_turn : (turn : Option (Awaited × Wait)) → k.turn ≡ turn → is_some turn ≡ true → IsBusy caches id
+        at_turn None none is = absurd cc
+        at_turn (Some w) waits is = record { cache = k; wait = w; here = here; waits = waits }
 
 -- a manager that has just been opened
 pub first_recorded : (first : ℕ) (configs : List CacheConfig) (caches : List (Option Cache)) (h : History) (places : ℕ → Option ℕ) → caches ≡ fresh_from first configs → h ≡ at_first first configs → IsRecorded caches h places

@@ -1,5 +1,5 @@
 //! The manager with the transcript of its calls.
-ghost use Rattle.std.specs.Prelude.{◌≡◌, ◌⊎◌, ℕ, List, false, [], ◌∷◌, ◌++◌, IfSome, IfOk, IfErr, OnErr, MatchOption, option_map};
+ghost use Rattle.std.specs.Prelude.{◌≡◌, ◌⊎◌, ℕ, List, false, [], ◌∷◌, ◌++◌, IfSome, IfOk, IfErr, OnErr, MatchOption, is_some, option_map};
 ghost use Rattle.std.specs.FinMap as table;
 ghost use Rattle.jc_model.specs.declared.event.Event.TheVariants.{Begin, Answer as Answered, GiveUp, Create, Destroy};
 ghost use Rattle.jc_model.specs.declared.event.Entry.{Entry};
@@ -9,6 +9,7 @@ ghost use Rattle.jc_model.specs.Legal.{IsLegal, Tells, at_first, recorded};
 ghost use Rattle.jc_engine.specs.Caches.{AreSound, lives_of, names_of, id_of, expiry_in, holds_in};
 ghost use Rattle.jc_engine.specs.Opening.{open_refusal, open_refusal_from};
 ghost use Rattle.jc_engine.specs.Results.{of_recorded_begin, of_recorded_resume, of_give_up, of_create, of_destroy, reply_in};
+ghost use Rattle.jc_engine.specs.Advances.{is_open_in};
 ghost use Rattle.jc_engine.specs.Recording.{HasOpen};
 
 mod notes;
@@ -147,13 +148,14 @@ impl<R: Rows, G: Ring> Recorded<R, G> {
 
     /// The place of the entry of a cache's open call in the transcript, if a call is open there.
     pub fn open_place(&self, id: CacheId) -> Option<usize>
-        ensures { IfSome result (λ place. HasOpen self.now.transcript.entries id place) }
+        ensures entry { IfSome result (λ place. HasOpen self.now.transcript.entries id place) }
+        ensures open { is_some result ≡ is_open_in (at_place self.now.caches id) }
     {
-        if !self.engine.is_open(id) {
-            return None;
+        if self.engine.is_open(id) {
+            Some(kept_place(&self.places, id))
+        } else {
+            None
         }
-        let number = id.number();
-        self.places.get(&number).copied()
     }
 
     /// Begins a call of a session, which becomes the transcript's last entry. At `Done` the second part is an equal
