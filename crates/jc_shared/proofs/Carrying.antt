@@ -11,7 +11,9 @@ use Rattle.jc_model.specs.declared.call.Request.TheVariants.{Load, Write, Delete
 use Rattle.jc_model.specs.declared.config.CacheConfig.{CacheConfig}
 use Rattle.jc_model.specs.declared.event.End.{End}
 use Rattle.jc_model.specs.declared.event.End.TheVariants as ends
+use Rattle.jc_model.specs.declared.event.Cause.TheVariants as causes
 use Rattle.jc_model.specs.declared.event.Entry.{Entry}
+use Rattle.jc_model.specs.declared.event.Event.TheVariants as event
 use Rattle.jc_engine.specs.Recording.{blank}
 use Rattle.jc_shared.specs.declared.fault.CallFault.{CallFault}
 use Rattle.jc_shared.specs.declared.fault.CallFault.TheVariants as faults
@@ -24,6 +26,7 @@ use Rattle.jc_shared.specs.Serving.{told_behind, TellsOnce, Tells, TellsOn, Serv
 use Rattle.jc_shared.specs.Stated.{Stated, AreStated, IsStatedBy}
 use Rattle.jc_shared.specs.Finding.{accepted}
 use Rattle.jc_shared.specs.Sessions.{Sitting, Sight}
+use Rattle.jc_shared.specs.Living.{Refuses}
 use Rattle.jc_shared.specs.Calls.{Stands, called, IsSameCall, HasEnded, Stays, EndsFaulty, GoesOn, Adds, AddsWaiting, Fails, MayLack, IsBeginFault}
 
 -- no answers are stated ones
@@ -61,6 +64,11 @@ module _ {W K : Type 0} (state_after : K → List Notice → List ℕ) where
 pub goes_untold : (configs : List CacheConfig) (d e : Entry) (pass : Sight) (turned : Turned) → GoesOn configs d turned e pass → e.told ≡ d.told
 goes_untold configs d e pass (Asked q) goes = ap (λ (x : Entry). x.told) goes.0
 goes_untold configs d e pass (Replied r) goes = ap (λ (x : Entry). x.told) goes.0
+
+-- nor does it answer
+pub goes_unanswered : (configs : List CacheConfig) (d e : Entry) (pass : Sight) (turned : Turned) → GoesOn configs d turned e pass → e.answers ≡ d.answers
+goes_unanswered configs d e pass (Asked q) goes = ap (λ (x : Entry). x.answers) goes.0
+goes_unanswered configs d e pass (Replied r) goes = ap (λ (x : Entry). x.answers) goes.0
 
 -- the answer that the draft was given
 pub noted_waits : (stated : List Stated) (d told d' : Entry) (notices : List Notice) (a : Answer) → told ≡ record d { told = notices } → d' ≡ record told { answers = told.answers ++ a ∷ [] } → d.end ≡ ends.Waiting → AreStated (slice_get stated d.id) d.call d.answers
@@ -135,10 +143,10 @@ module _ (configs : List CacheConfig) (stated : List Stated) (old new : Sitting)
   added_err (Err fault) h = fails fault h
 
 -- it did not begin
-pub begin_fails : (configs : List CacheConfig) (stated : List Stated) (old new : Sitting) (id at : ℕ) (call : Call) (draft : Entry) (fault : CallFault) → draft ≡ blank old.number id at call → new ≡ old → IsBeginFault configs draft.id call fault → Fails configs stated old new id at call fault
+pub begin_fails : (configs : List CacheConfig) (stated : List Stated) (old new : Sitting) (id at : ℕ) (call : Call) (draft : Entry) (fault : CallFault) → draft ≡ blank old.number id at call → new ≡ old → IsBeginFault configs draft.id draft.at call fault → Fails configs stated old new id at call fault
 begin_fails configs stated old new id at call draft faults.NoSuchCache is same h = same
-begin_fails configs stated old new id at call draft faults.NoSuchProcessor is same h = (same, subst (λ (i : ℕ). MayLack configs i call) (ap (λ (e : Entry). e.id) is) h)
-begin_fails configs stated old new id at call draft faults.Busy is same h = same
+begin_fails configs stated old new id at call draft faults.NoSuchProcessor is same h = (same, subst (λ (e : Entry). MayLack configs e.id call) is h.1)
+begin_fails configs stated old new id at call draft faults.Busy is same h = (same, subst (λ (e : Entry). Refuses configs (event.Begin e.id e.at call) causes.Busy) is h)
 begin_fails configs stated old new id at call draft faults.Overtaken is same h = absurd h
 begin_fails configs stated old new id at call draft faults.OutOfMemory is same h = inl same
 

@@ -1,13 +1,17 @@
 -- Lists that part, and sessions that differ.
-use Rattle.std.proofs.Common.{◌≡◌, ◌≢◌, ℕ, ◌+◌, ◌-◌, ◌<◌, ◌≤◌, Bool, true, false, if◌then◌else◌, List, [], ◌∷◌, ◌++◌, length, take, length-append, Option, Some, None, refl, sym, ◌∙◌, ap, subst, arith, append-nil}
-use Rattle.std.specs.Prelude.{slice_get, ltb, ◌==◌}
+use Rattle.std.proofs.Common.{◌≡◌, ◌≢◌, ℕ, ◌+◌, ◌-◌, ◌<◌, ◌≤◌, Bool, true, false, if◌then◌else◌, List, [], ◌∷◌, ◌++◌, length, take, length-append, Option, Some, None, Result, Err, inl, inr, refl, sym, ◌∙◌, ap, subst, arith, append-nil}
+use Rattle.std.specs.Prelude.{slice_get, ltb, ◌==◌, IfErr}
 use Rattle.std.specs.List.{All}
 use Rattle.std.proofs.lemmas.List.Elements.{filter-append, All-head, All-tail, All-cons}
 use Rattle.std.proofs.lemmas.Bool.{false≢true}
 use Rattle.std.proofs.lemmas.Bool.Decides.{nat_tests}
+use Rattle.jc_model.specs.declared.config.CacheConfig.{CacheConfig}
 use Rattle.jc_model.specs.declared.event.Entry.{Entry}
-use Rattle.jc_shared.specs.Sessions.{Own}
-use Rattle.jc_shared.specs.Accounts.{calls_of, own_of, IsLeastFrom, PartAt}
+use Rattle.jc_model.specs.Legal.{History, IsLegal}
+use Rattle.jc_shared.specs.declared.fault.CloseFault.{CloseFault}
+use Rattle.jc_shared.specs.declared.fault.CloseFault.TheVariants.{Missing, StillOpen, Differs, OutOfMemory}
+use Rattle.jc_shared.specs.Sessions.{Own, BeginsWith}
+use Rattle.jc_shared.specs.Accounts.{calls_of, own_of, IsLeastFrom, PartAt, IsFault, IsCloseRefusal}
 
 take_none : (xs : List Entry) → take 0 xs ≡ []
 take_none [] = refl
@@ -123,3 +127,13 @@ agree_from given limit transcript logs below le before n beyond = go (ltb n limi
     go false h =
         let from : given ≤ n = grind (arith, nat_tests, le) in
         beyond from ∙ sym (own_beyond given logs below n from)
+
+-- why a manager does not close, by the fault of the audit
+pub cannot_close : (configs : List CacheConfig) (given : ℕ) (logs : List Own) (t : History) (fault : CloseFault) → IsLegal t → BeginsWith configs t → IsFault given logs t.entries fault → IsCloseRefusal configs logs fault
+cannot_close configs given logs t Missing legal begins h = inl refl
+cannot_close configs given logs t StillOpen legal begins h = inr (record { given = given; transcript = t; legal = legal; begins = begins; fails = h })
+cannot_close configs given logs t (Differs session place) legal begins h = inr (record { given = given; transcript = t; legal = legal; begins = begins; fails = h })
+cannot_close configs given logs t OutOfMemory legal begins h = absurd h
+
+pub passed_on : {T : Type 0} (P : CloseFault → Type 0) (r : Result T CloseFault) (fault : CloseFault) → (y : CloseFault) × (r ≡ Err y) × (y ≡ fault) → P fault → IfErr r P
+passed_on P r fault passed h = subst (λ s. IfErr s P) (sym passed.1) (subst P (sym passed.2) h)

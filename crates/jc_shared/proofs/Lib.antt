@@ -5,4 +5,6 @@ pub mod Livings
 pub mod Asked
 pub mod Comparing
 pub mod Carrying
+pub mod Writing
 pub mod Opened
+pub mod Entered

@@ -1,21 +1,22 @@
 -- What a tenure makes of a cache that it finds, creates or destroys.
-use Rattle.std.proofs.Common.{◌≡◌, ℕ, Bool, true, false, if◌then◌else◌, List, [], ◌∷◌, ◌++◌, length, take, Option, Some, None, refl, sym, ◌∙◌, ap, subst}
+use Rattle.std.proofs.Common.{◌≡◌, ℕ, false, if◌then◌else◌, List, [], ◌∷◌, ◌++◌, length, take, Option, Some, None, refl, sym, ◌∙◌, ap, subst}
 use Rattle.std.specs.Prelude.{◌+◌, IsSome}
 use Rattle.std.specs.Str.{bytes_eq}
 use Rattle.jc_model.specs.declared.config.CacheConfig.{CacheConfig}
 use Rattle.jc_model.specs.declared.event.CreateRefusal.{CreateRefusal}
-use Rattle.jc_model.specs.declared.event.CreateRefusal.TheVariants as create
 use Rattle.jc_model.specs.declared.event.Event.TheVariants as event
 use Rattle.jc_model.specs.declared.event.Life.{Life}
 use Rattle.jc_model.specs.declared.event.Outcome.{Outcome}
 use Rattle.jc_model.specs.declared.event.Outcome.TheVariants as outcome
 use Rattle.jc_model.specs.Places.{named_from}
-use Rattle.jc_model.specs.Runs.{Status, Lives, live_at, opened, create_refusal, answer_to_create, answer_to_destroy, answer_to, lives_after}
+use Rattle.jc_model.specs.Runs.{Status, Lives, live_at, opened, create_refusal, answer_to_create, answer_to_destroy}
 use Rattle.jc_model.specs.Legal.{History, IsLegal, Tells, config_of, numbered, recorded}
 use Rattle.jc_model.proofs.Lives.{live_same, live_last}
 use Rattle.jc_engine.specs.Caches.{Cache, lives_of}
 use Rattle.jc_shared.specs.Sessions.{Sight, BeginsWith, Sees}
-use Rattle.jc_shared.specs.Living.{IsCreated, HasGone}
+use Rattle.jc_engine.specs.Recording.{Recording}
+use Rattle.jc_shared.specs.Living.{IsToldOf, IsCreated, HasGone}
+use Rattle.jc_shared.specs.Tenures.{IsTenure}
 
 -- names are found among the lives as among the caches
 pub named_lives : (name : List ℕ) (i : ℕ) (caches : List (Option Cache)) → named_from (λ (k : Cache). k.config.name) name i caches ≡ named_from (λ (k : Status). k.config.name) name i (lives_of caches)
@@ -54,44 +55,46 @@ destroyed_begins configs t new session id o first written = subst (BeginsWith co
     by (outcome.GivenUp notices) = first
     by outcome.Destroyed = first
 
-module _ (configs : List CacheConfig) (t new : History) (lives lives' : Lives) (session : ℕ) (first : BeginsWith configs t) where
+module _ (configs : List CacheConfig) (old new : Recording) (was : IsToldOf configs old) where
   -- a cache that was created
-  pub is_created : (config : CacheConfig) (id : ℕ) (m : Bool) → new ≡ recorded session (event.Create config) (outcome.Created id) t → lives' ≡ lives_after lives (event.Create config) (outcome.Created id)
-      → outcome.Created id ≡ answer_to lives (event.Create config) m → IsLegal new → Tells new lives' → IsCreated configs id config
-  is_created config id m written after is legal tells = record {
-    transcript = new;
-    lives = lives';
-    told = record { legal = legal; begins = created_begins configs t new session config (outcome.Created id) first written; tells = tells };
-    before = t.lives;
-    last = ap (λ (h : History). h.lives) written;
-    there = subst (λ (ls : Lives). IsSome (live_at ls id)) (sym after) (subst (λ (i : ℕ). IsSome (live_at (lives ++ Some (opened config) ∷ []) i)) (sym next) (subst IsSome (sym (live_last lives (Some (opened config)))) refl));
+  pub is_created : (config : CacheConfig) (id : ℕ) → ((session : ℕ) → IsTenure old new session (event.Create config) (outcome.Created id)) → IsLegal new.transcript → Tells new.transcript (lives_of new.caches) → IsCreated configs id config
+  is_created config id tenure legal tells = record {
+    old = old;
+    was = was;
+    new = new;
+    told = record { legal = legal; begins = created_begins configs old.transcript new.transcript 0 config (outcome.Created id) was.begins (tenure 0).transcript; tells = tells };
+    tenure = tenure;
+    there = subst (λ (ls : Lives). IsSome (live_at ls id)) (sym (tenure 0).lives) (subst (λ (i : ℕ). IsSome (live_at (lives ++ Some (opened config) ∷ []) i)) (sym next) (subst IsSome (sym (live_last lives (Some (opened config)))) refl));
   }
     where
-      by_memory : (m : Bool) → outcome.Created id ≡ (if m then outcome.CreateRefused create.OutOfMemory else outcome.Created (length lives)) → id ≡ length lives
-      by_memory true is = absurd cc
-      by_memory false is = cc
+      lives : Lives
+      lives = lives_of old.caches
 
-      by : (refusal : Option CreateRefusal) → outcome.Created id ≡ answer_to_create refusal (length lives) m → id ≡ length lives
+      by : (refusal : Option CreateRefusal) → outcome.Created id ≡ answer_to_create refusal (length lives) false → id ≡ length lives
       by (Some refusal) is = absurd cc
-      by None is = by_memory m is
+      by None is = cc
 
       next : id ≡ length lives
-      next = by (create_refusal lives config) is
+      next = by (create_refusal lives config) (tenure 0).answered
 
   -- a cache that was destroyed
-  pub has_gone : (id : ℕ) (pass : Sight) → new ≡ recorded session (event.Destroy id) outcome.Destroyed t → lives' ≡ lives_after lives (event.Destroy id) outcome.Destroyed → outcome.Destroyed ≡ answer_to lives (event.Destroy id) false
-      → Tells t lives → Sees new lives' pass → HasGone configs id pass
-  has_gone id pass written after is tells sees = at (live_at lives id) refl is
+  pub has_gone : (id : ℕ) (pass : Sight) → ((session : ℕ) → IsTenure old new session (event.Destroy id) outcome.Destroyed) → Sees new.transcript (lives_of new.caches) pass → HasGone configs id pass
+  has_gone id pass tenure sees = at (live_at lives id) refl (tenure 0).answered
     where
+      lives : Lives
+      lives = lives_of old.caches
+
       at : (found : Option Status) → live_at lives id ≡ found → outcome.Destroyed ≡ answer_to_destroy found → HasGone configs id pass
       at None live is = absurd cc
       at (Some k) live is =
-          let lived : IsSome (config_of id t.lives) = subst IsSome (sym (tells.each id k live).0) refl in
+          let lived : IsSome (config_of id old.transcript.lives) = subst IsSome (sym (was.tells.each id k live).0) refl in
           record {
-            transcript = new;
-            lives = lives';
-            told = record { legal = sees.tells.legal; begins = destroyed_begins configs t new session id outcome.Destroyed first written; tells = sees.tells };
+            old = old;
+            was = was;
+            new = new;
+            told = record { legal = sees.tells.legal; begins = destroyed_begins configs old.transcript new.transcript 0 id outcome.Destroyed was.begins (tenure 0).transcript; tells = sees.tells };
+            tenure = tenure;
             sees = sees;
-            lived = subst (λ (h : History). IsSome (config_of id h.lives)) (sym written) lived;
-            gone = ap (λ (ls : Lives). live_at ls id) after ∙ live_same lives id k None live;
+            lived = subst (λ (h : History). IsSome (config_of id h.lives)) (sym (tenure 0).transcript) lived;
+            gone = ap (λ (ls : Lives). live_at ls id) (tenure 0).lives ∙ live_same lives id k None live;
           }

@@ -11,6 +11,8 @@ use Rattle.jc_engine.proofs.Names.{at_place_map}
 use Rattle.jc_engine.specs.Caches.{Cache, status_of, lives_of, holds_in}
 use Rattle.jc_engine.specs.Watching.{ShowsStates, expiry_at, states_of}
 use Rattle.jc_engine.proofs.Watching.{state_is, state_at}
+use Rattle.jc_index.specs.declared.lookup.Lookup.{Lookup}
+use Rattle.jc_index.specs.declared.lookup.Lookup.TheVariants.{Sure, Unsure}
 use Rattle.jc_index.specs.Found.{found, first_seen, answer}
 use Rattle.jc_index.proofs.Found.{seen_some, seen_none, got}
 use Rattle.jc_shared.specs.Living.{has_live_row}
@@ -75,3 +77,8 @@ module _ (caches : List (Option Cache)) (image : Image) (id : ℕ) (key : List �
 
   pub has_agrees : found image id key now ≡ Some b → holds_in now key (at_place caches id) ≡ b
   has_agrees is = by_seen (first_seen id key now image.slots) refl is
+
+-- a lookup that is sure has met the table
+pub surely_met : {P : Type 0} (old new : Bool) (r : Lookup) (b : Bool) → r ≡ Sure b → (old ≡ false → (r ≡ Unsure) × P) → new ≡ old → new ≡ true
+surely_met true new r b is unmet same = same
+surely_met false new r b is unmet same = let no : Sure b ≡ Unsure = sym is ∙ (unmet refl).0 in absurd cc

@@ -1,15 +1,17 @@
 -- What a tenure of the lock makes of the call that it brings on.
-use Rattle.std.proofs.Common.{◌≡◌, ℕ, zero, suc, Bool, true, false, if◌then◌else◌, List, [], ◌∷◌, length, take, Option, Some, None, refl, sym, ◌∙◌, ap, subst, arith}
-use Rattle.std.specs.Prelude.{◌==◌, ◌+◌, slice_get, IsSome}
+use Rattle.std.proofs.Common.{◌≡◌, ℕ, zero, suc, Bool, true, false, if◌then◌else◌, List, [], ◌∷◌, length, take, Option, Some, None, Result, Err, inl, inr, refl, sym, ◌∙◌, ap, subst, arith}
+use Rattle.std.specs.Prelude.{◌==◌, ◌+◌, slice_get, IsSome, IfErr}
 use Rattle.std.proofs.lemmas.Bool.Decides.{nat_tests}
 use Rattle.jc_model.specs.declared.call.Answer.{Answer}
 use Rattle.jc_model.specs.declared.call.Call.{Call}
+use Rattle.jc_model.specs.declared.call.Call.TheVariants.{Invoke, InvokeAll}
 use Rattle.jc_model.specs.declared.call.Notice.{Notice}
 use Rattle.jc_model.specs.declared.call.Reply.{Reply}
 use Rattle.jc_model.specs.declared.event.End.TheVariants as ends
 use Rattle.jc_model.specs.declared.config.CacheConfig.{CacheConfig}
 use Rattle.jc_model.specs.declared.event.Cause.{Cause}
 use Rattle.jc_model.specs.declared.event.Cause.TheVariants as causes
+use Rattle.jc_model.specs.declared.event.Event.{Event}
 use Rattle.jc_model.specs.declared.event.Event.TheVariants as event
 use Rattle.jc_model.specs.declared.event.Entry.{Entry}
 use Rattle.jc_model.specs.declared.event.Outcome.{Outcome}
@@ -19,7 +21,7 @@ use Rattle.jc_model.specs.declared.event.Step.TheVariants.{Done, Need}
 use Rattle.jc_model.specs.State.{State}
 use Rattle.jc_model.specs.Run.{Run, ended, waiting, answered, fits, awaited_by}
 use Rattle.jc_model.specs.Whole.{whole}
-use Rattle.jc_model.specs.Runs.{Standing, idle, busy, Status, Lives, live_at, Said, says, begins as begins_with, answers, gives_up, has_processor, standing_of, shown, reply_of, is_refused, refuse_last, answer_of, answer_to, moved, put_moved, lives_by}
+use Rattle.jc_model.specs.Runs.{Standing, idle, busy, Status, Lives, live_at, Said, says, begins as begins_with, answers, gives_up, has_processor, standing_of, shown, reply_of, is_refused, refuse_last, for_memory, answer_of, answer_to, moved, put_moved, lives_by, lives_after}
 use Rattle.jc_model.specs.Solo.{run_of}
 use Rattle.jc_model.specs.Legal.{played, History, IsLegal, Tells, config_of, numbered, entries_of, on_open, lives_with, accepted_in, recorded, with_outcome, with_answer}
 use Rattle.jc_model.specs.Everywhere.{AtEach}
@@ -27,13 +29,20 @@ use Rattle.jc_model.proofs.Everywhere.{at_each-answered}
 use Rattle.jc_model.specs.declared.event.Life.{Life}
 use Rattle.jc_model.proofs.Lives.{live_same}
 use Rattle.jc_model.proofs.Recording.{event_of}
-use Rattle.jc_engine.specs.Recording.{HasOpen, blank}
-use Rattle.jc_model.specs.Asking.{AsksOf, AsksIn}
+use Rattle.jc_engine.specs.Caches.{lives_of}
+use Rattle.jc_engine.specs.Recording.{Recording, HasOpen, blank}
+use Rattle.jc_model.specs.Asking.{AsksOf, AsksIn, invoked_by}
+use Rattle.jc_shared.specs.declared.fault.CallFault.{CallFault}
+use Rattle.jc_shared.specs.declared.fault.CallFault.TheVariants as faults
+use Rattle.jc_shared.specs.declared.fault.Halt.{Halt}
+use Rattle.jc_shared.specs.declared.fault.Halt.TheVariants as halts
 use Rattle.jc_shared.specs.declared.turned.Turned.{Turned}
 use Rattle.jc_shared.specs.declared.turned.Turned.TheVariants.{Asked, Replied}
 use Rattle.jc_shared.specs.Sessions.{Sight, BeginsWith, Sees}
-use Rattle.jc_shared.specs.Calls.{Stands, GoesOn, IsBeginFault}
-use Rattle.jc_shared.specs.Finding.{fault_of, IsOpenFor, StandsAt, Turns, IsReplied}
+use Rattle.jc_shared.specs.Calls.{Stands, GoesOn, MayLack, IsBeginFault}
+use Rattle.jc_shared.specs.Finding.{fault_of, halt_of, IsOpenFor, IsOpen, StandsAt, Turns, IsReplied}
+use Rattle.jc_shared.specs.Living.{Refuses}
+use Rattle.jc_shared.specs.Tenures.{IsTenure, IsRefusedFor, Stops, Strays, step_of}
 use Rattle.jc_model.proofs.Asking.{whole_asks}
 use Rattle.jc_shared.proofs.Last.{open_last, open_stands, changed_last, added_last}
 
@@ -109,7 +118,47 @@ resumed_asks lives transcript tells id place there a step m is = at (live_at liv
         goes_on k.config run (at_each-answered (λ q p. AsksOf e.call q) (λ p r. Unit {0}) (run_of k.config s (played e)) e.answers (whole_asks k.config e.at e.call s))
         (not_refused step m (reply_of k.config k.standing (answers a)) is ∙ ap (λ (t : Standing). reply_of k.config t (answers a)) (open_stands lives transcript tells id place there k here))
 
+-- the step that a tenure tells is the engine's
+turns_step : (draft draft' : Entry) (step : Step) (turned : Turned) → Turns draft step turned draft' → step ≡ step_of turned
+turns_step draft draft' (Need q) (Asked q') turns = ap Need (sym turns.0)
+turns_step draft draft' (Need q) (Replied r) turns = absurd turns
+turns_step draft draft' (Done r) (Asked q') turns = absurd turns
+turns_step draft draft' (Done r) (Replied r') turns = ap Done (sym turns.0)
+
+pub is_tenure : (old mid new : Recording) (session : ℕ) (event : Event) (step : Step) (turned : Turned) (draft draft' : Entry) → Turns draft step turned draft' → new ≡ mid → outcome.Step step ≡ answer_to (lives_of old.caches) event false
+    → mid.transcript ≡ recorded session event (outcome.Step step) old.transcript → lives_of mid.caches ≡ lives_after (lives_of old.caches) event (outcome.Step step) → IsTenure old new session event (outcome.Step (step_of turned))
+is_tenure old mid new session event step turned draft draft' turns same answered written after =
+    subst (λ (r : Recording). IsTenure old r session event (outcome.Step (step_of turned))) (sym same)
+    (subst (λ (s : Step). IsTenure old mid session event (outcome.Step s)) (turns_step draft draft' step turned turns) (record { answered = answered; transcript = written; lives = after }))
+
+-- why an answer was not taken
+pub stops : (old new : Recording) (draft : Entry) (a : Answer) (cause : Cause) → new ≡ old → IsOpen (lives_of old.caches) old.transcript draft → IsRefusedFor (lives_of old.caches) (event.Answer draft.id a) cause → Stops old new draft a (halt_of cause)
+stops old new draft a causes.NoSuchCache same here refusal = inl same
+stops old new draft a causes.NoSuchProcessor same here refusal = inl same
+stops old new draft a causes.Busy same here refusal = inl same
+stops old new draft a causes.NoTurn same here refusal = inl same
+stops old new draft a causes.WrongAnswer same here refusal = inl same
+stops old new draft a causes.OutOfMemory same here refusal = (same, here, refusal)
+
+pub strays : {T : Type 0} (old new : Recording) (draft : Entry) (a : Answer) (r : Result T Halt) (halt : Halt) → (y : Halt) × (r ≡ Err y) × (y ≡ halt) → halt ≡ halts.Overtaken → Strays old new draft a → IfErr r (λ h. Stops old new draft a h)
+strays old new draft a r halt passed overtaken stray =
+    subst (λ s. IfErr s (λ h. Stops old new draft a h)) (sym passed.1) (subst (λ (h : Halt). Stops old new draft a h) (sym (passed.2 ∙ overtaken)) (inr stray))
+
 -- Why a call does not begin.
+
+-- one that lacks its processor names it
+lacking_names : (c : CacheConfig) (call : Call) → has_processor c call ≡ false → IsSome (invoked_by call)
+lacking_names c (Invoke key n argument) lacks = refl
+lacking_names c (InvokeAll keys n argument) lacks = refl
+lacking_names c call lacks = absurd cc
+
+-- what a fault comes to, without the moment at which the engine tells it
+abbrev MayFail : List CacheConfig → ℕ → Call → CallFault → Type 0
+MayFail configs id call faults.NoSuchCache = Unit {0}
+MayFail configs id call faults.NoSuchProcessor = MayLack configs id call
+MayFail configs id call faults.Busy = Unit {0}
+MayFail configs id call faults.Overtaken = ⊥
+MayFail configs id call faults.OutOfMemory = Unit {0}
 
 -- the configurations of the opening are those of the first lives
 config_at : (first : ℕ) (configs : List CacheConfig) (lives : List Life) (i : ℕ) (c : CacheConfig) → take (length configs) lives ≡ numbered first configs → slice_get configs i ≡ Some c → config_of (first + i) lives ≡ Some c
@@ -142,34 +191,48 @@ opening_config configs h lives begins tells id k c live at =
     let both : Some k.config ≡ Some c = sym now ∙ first in
     cc
 
-pub begin_faults : (lives : Lives) (configs : List CacheConfig) (h : History) → BeginsWith configs h → Tells h lives → (id now : ℕ) (call : Call) → (cause : Cause) (m : Bool)
-    → outcome.Refused cause ≡ answer_to lives (event.Begin id now call) m → IsBeginFault configs id call (fault_of cause)
-begin_faults lives configs h begins tells id now call cause m is = at (live_at lives id) refl is
+may_fail : (lives : Lives) (configs : List CacheConfig) (h : History) → BeginsWith configs h → Tells h lives → (id now : ℕ) (call : Call) → (cause : Cause) (m : Bool)
+    → outcome.Refused cause ≡ answer_to lives (event.Begin id now call) m → MayFail configs id call (fault_of cause)
+may_fail lives configs h begins tells id now call cause m is = at (live_at lives id) refl is
   where
-    is_for : (d : Cause) → cause ≡ d → IsBeginFault configs id call (fault_of d) → IsBeginFault configs id call (fault_of cause)
-    is_for d same h = subst (λ (e : Cause). IsBeginFault configs id call (fault_of e)) (sym same) h
+    is_for : (d : Cause) → cause ≡ d → MayFail configs id call (fault_of d) → MayFail configs id call (fault_of cause)
+    is_for d same h = subst (λ (e : Cause). MayFail configs id call (fault_of e)) (sym same) h
 
-    by_memory : (step : Step) (m : Bool) → outcome.Refused cause ≡ (if m then outcome.Refused causes.OutOfMemory else outcome.Step step) → IsBeginFault configs id call (fault_of cause)
+    by_memory : (step : Step) (m : Bool) → outcome.Refused cause ≡ (if m then outcome.Refused causes.OutOfMemory else outcome.Step step) → MayFail configs id call (fault_of cause)
     by_memory step true is = let same : cause ≡ causes.OutOfMemory = cc in is_for causes.OutOfMemory same tt
     by_memory step false is = absurd cc
 
-    by_run : (run : Run) → outcome.Refused cause ≡ refuse_last m (shown run) → IsBeginFault configs id call (fault_of cause)
+    by_run : (run : Run) → outcome.Refused cause ≡ refuse_last m (shown run) → MayFail configs id call (fault_of cause)
     by_run (ended p r) is = by_memory (Done r) m is
     by_run (waiting q p resumed) is = by_memory (Need q) m is
 
-    here : (k : Status) → live_at lives id ≡ Some k → (standing : Standing) → outcome.Refused cause ≡ refuse_last m (reply_of k.config standing (begins_with now call)) → IsBeginFault configs id call (fault_of cause)
+    here : (k : Status) → live_at lives id ≡ Some k → (standing : Standing) → outcome.Refused cause ≡ refuse_last m (reply_of k.config standing (begins_with now call)) → MayFail configs id call (fault_of cause)
     here k live (idle s) is = go (has_processor k.config call) refl is
       where
-        go : (b : Bool) → has_processor k.config call ≡ b → outcome.Refused cause ≡ refuse_last m (if b then shown (whole k.config now call s) else outcome.Refused causes.NoSuchProcessor) → IsBeginFault configs id call (fault_of cause)
+        go : (b : Bool) → has_processor k.config call ≡ b → outcome.Refused cause ≡ refuse_last m (if b then shown (whole k.config now call s) else outcome.Refused causes.NoSuchProcessor) → MayFail configs id call (fault_of cause)
         go true has is = by_run (whole k.config now call s) is
         go false has is =
             let same : cause ≡ causes.NoSuchProcessor = cc in
-            is_for causes.NoSuchProcessor same (λ c at. ap (λ (d : CacheConfig). has_processor d call) (sym (opening_config configs h lives begins tells id k c live at)) ∙ has)
+            is_for causes.NoSuchProcessor same (record { names = lacking_names k.config call has; lacks = λ c at. ap (λ (d : CacheConfig). has_processor d call) (sym (opening_config configs h lives begins tells id k c live at)) ∙ has })
     here k live (busy w p resumed) is = let same : cause ≡ causes.Busy = cc in is_for causes.Busy same tt
 
-    at : (found : Option Status) → live_at lives id ≡ found → outcome.Refused cause ≡ answer_of found (begins_with now call) m → IsBeginFault configs id call (fault_of cause)
+    at : (found : Option Status) → live_at lives id ≡ found → outcome.Refused cause ≡ answer_of found (begins_with now call) m → MayFail configs id call (fault_of cause)
     at None live is = let same : cause ≡ causes.NoSuchCache = cc in is_for causes.NoSuchCache same tt
     at (Some k) live is = here k live k.standing is
+
+pub begin_faults : (lives : Lives) (configs : List CacheConfig) (h : History) → BeginsWith configs h → Tells h lives → (id now : ℕ) (call : Call) → (cause : Cause) → IsRefusedFor lives (event.Begin id now call) cause → IsBeginFault configs id now call (fault_of cause)
+begin_faults lives configs h begins tells id now call cause is = by cause is (may_fail lives configs h begins tells id now call cause (for_memory (outcome.Refused cause)) is)
+  where
+    refuses : (d : Cause) → IsRefusedFor lives (event.Begin id now call) d → Refuses configs (event.Begin id now call) d
+    refuses d is = record { transcript = h; lives = lives; told = record { legal = tells.legal; begins = begins; tells = tells }; refusal = is }
+
+    by : (d : Cause) → IsRefusedFor lives (event.Begin id now call) d → MayFail configs id call (fault_of d) → IsBeginFault configs id now call (fault_of d)
+    by causes.NoSuchCache is may = refuses causes.NoSuchCache is
+    by causes.NoSuchProcessor is may = (refuses causes.NoSuchProcessor is, may)
+    by causes.Busy is may = refuses causes.Busy is
+    by causes.NoTurn is may = absurd may
+    by causes.WrongAnswer is may = absurd may
+    by causes.OutOfMemory is may = refuses causes.OutOfMemory is
 
 -- A tenure in which a call is not refused leaves its cache live.
 

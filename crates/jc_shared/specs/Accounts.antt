@@ -1,11 +1,13 @@
 -- What an audit compares.
-use Rattle.std.specs.Prelude.{◌≡◌, ◌≢◌, ℕ, ◌<◌, ◌≤◌, ◌==◌, if◌then◌else◌, List, [], ◌∷◌, length, take, slice_get, Option, Some, None}
+use Rattle.std.specs.Prelude.{◌≡◌, ◌≢◌, ◌⊎◌, ℕ, ◌<◌, ◌≤◌, ◌==◌, if◌then◌else◌, List, [], ◌∷◌, length, take, slice_get, Option, Some, None}
 use Rattle.std.specs.List.{filter, count_by, All}
 use Rattle.jc_model.specs.declared.event.End.TheVariants.{Waiting}
 use Rattle.jc_model.specs.declared.event.Entry.{Entry}
+use Rattle.jc_model.specs.declared.config.CacheConfig.{CacheConfig}
+use Rattle.jc_model.specs.Legal.{History, IsLegal}
 use Rattle.jc_shared.specs.declared.fault.CloseFault.{CloseFault}
 use Rattle.jc_shared.specs.declared.fault.CloseFault.TheVariants.{Missing, StillOpen, Differs, OutOfMemory}
-use Rattle.jc_shared.specs.Sessions.{Own}
+use Rattle.jc_shared.specs.Sessions.{Own, BeginsWith}
 
 -- the entries of a session
 abbrev pub calls_of : ℕ → List Entry → List Entry
@@ -67,3 +69,15 @@ IsFault given logs transcript OutOfMemory = ⊥
 abbrev pub IsCloseFault : ℕ → List Own → List Entry → CloseFault → Type 0
 IsCloseFault given logs transcript OutOfMemory = Accounts given logs transcript
 IsCloseFault given logs transcript fault = IsFault given logs transcript fault
+
+-- a manager that is not closed does not close so, with a legal transcript that begins with these caches
+pub record CannotClose (configs : List CacheConfig) (logs : List Own) (fault : CloseFault) : Type 0 where
+  pub given : ℕ
+  pub transcript : History
+  pub legal : IsLegal transcript
+  pub begins : BeginsWith configs transcript
+  pub fails : IsCloseFault given logs transcript.entries fault
+
+-- why a manager does not close: it is closed already, or it can't
+abbrev pub IsCloseRefusal : List CacheConfig → List Own → CloseFault → Type 0
+IsCloseRefusal configs logs fault = (fault ≡ Missing) ⊎ CannotClose configs logs fault

@@ -9,3 +9,11 @@ Admits closed given room (Ok number) after = (closed ≡ false) × (given < 64) 
 Admits closed given room (Err Closed) after = (closed ≡ true) × (after ≡ given)
 Admits closed given room (Err TooManySessions) after = (closed ≡ false) × (64 ≤ given) × (after ≡ given)
 Admits closed given room (Err OutOfMemory) after = (closed ≡ false) × (given < 64) × (room ≡ false) × (after ≡ given)
+
+-- what a manager says at some moment to one who asks for a session
+pub record IsAdmission (answer : Result ℕ SessionRefusal) : Type 0 where
+  pub closed : Bool
+  pub given : ℕ
+  pub room : Bool
+  pub after : ℕ
+  pub admits : Admits closed given room answer after

@@ -1,21 +1,25 @@
 -- What a session knows of its calls.
-use Rattle.std.specs.Prelude.{◌≡◌, ◌⊎◌, ℕ, false, List, [], ◌∷◌, ◌++◌, slice_get, Some, IsSome, ⊤}
+use Rattle.std.specs.Prelude.{◌≡◌, ◌⊎◌, ℕ, false, List, [], ◌∷◌, ◌++◌, slice_get, Some, IsSome, Result, Ok, Err, ⊤}
 use Rattle.jc_model.specs.declared.call.Answer.{Answer}
 use Rattle.jc_model.specs.declared.call.Call.{Call}
 use Rattle.jc_model.specs.declared.call.Notice.{Notice}
+use Rattle.jc_model.specs.declared.call.Reply.{Reply}
 use Rattle.jc_model.specs.declared.call.Request.{Request}
 use Rattle.jc_model.specs.declared.config.CacheConfig.{CacheConfig}
+use Rattle.jc_model.specs.declared.event.Cause.TheVariants as causes
 use Rattle.jc_model.specs.declared.event.End.{End}
 use Rattle.jc_model.specs.declared.event.End.TheVariants as end
 use Rattle.jc_model.specs.declared.event.Entry.{Entry}
+use Rattle.jc_model.specs.declared.event.Event.TheVariants as event
 use Rattle.jc_model.specs.Runs.{Lives, live_at, has_processor}
 use Rattle.jc_model.specs.Legal.{History, IsLegal, entries_of}
 use Rattle.jc_shared.specs.declared.fault.CallFault.{CallFault}
 use Rattle.jc_shared.specs.declared.fault.CallFault.TheVariants.{NoSuchCache, NoSuchProcessor, Busy, Overtaken, OutOfMemory}
 use Rattle.jc_shared.specs.declared.turned.Turned.{Turned}
 use Rattle.jc_shared.specs.declared.turned.Turned.TheVariants.{Asked, Replied}
-use Rattle.jc_model.specs.Asking.{AsksOf}
+use Rattle.jc_model.specs.Asking.{AsksOf, invoked_by}
 use Rattle.jc_shared.specs.Sessions.{Sitting, Sight, BeginsWith, Sees}
+use Rattle.jc_shared.specs.Living.{Refuses}
 use Rattle.jc_shared.specs.Stated.{Stated, AreStated}
 
 -- the cache is one of the opening, and has not the processor that the call names
@@ -24,17 +28,27 @@ pub record Lacks (configs : List CacheConfig) (id : ℕ) (call : Call) : Type 0 
   pub there : slice_get configs id ≡ Some config
   pub lacks : has_processor config call ≡ false
 
--- the cache has not the processor, where it is one of the opening
-abbrev pub MayLack : List CacheConfig → ℕ → Call → Type 0
-MayLack configs id call = (c : CacheConfig) → slice_get configs id ≡ Some c → has_processor c call ≡ false
+-- the call names a processor, which the cache has not, where it is one of the opening
+pub record MayLack (configs : List CacheConfig) (id : ℕ) (call : Call) : Type 0 where
+  pub names : IsSome (invoked_by call)
+  pub lacks : (c : CacheConfig) → slice_get configs id ≡ Some c → has_processor c call ≡ false
 
 -- why a call does not begin
-abbrev pub IsBeginFault : List CacheConfig → ℕ → Call → CallFault → Type 0
-IsBeginFault configs id call NoSuchCache = ⊤
-IsBeginFault configs id call NoSuchProcessor = MayLack configs id call
-IsBeginFault configs id call Busy = ⊤
-IsBeginFault configs id call Overtaken = ⊥
-IsBeginFault configs id call OutOfMemory = ⊤
+abbrev pub IsBeginFault : List CacheConfig → ℕ → ℕ → Call → CallFault → Type 0
+IsBeginFault configs id at call NoSuchCache = Refuses configs (event.Begin id at call) causes.NoSuchCache
+IsBeginFault configs id at call NoSuchProcessor = Refuses configs (event.Begin id at call) causes.NoSuchProcessor × MayLack configs id call
+IsBeginFault configs id at call Busy = Refuses configs (event.Begin id at call) causes.Busy
+IsBeginFault configs id at call Overtaken = ⊥
+IsBeginFault configs id at call OutOfMemory = Refuses configs (event.Begin id at call) causes.OutOfMemory
+
+-- how a lacking processor is told: as that, unless the cache is not found or its callbacks can't be shared
+abbrev pub TellsLack : Result Reply CallFault → Type 0
+TellsLack (Ok reply) = ⊥
+TellsLack (Err NoSuchCache) = ⊤
+TellsLack (Err NoSuchProcessor) = ⊤
+TellsLack (Err Busy) = ⊥
+TellsLack (Err Overtaken) = ⊥
+TellsLack (Err OutOfMemory) = ⊤
 
 -- the entry is the last of its cache in a legal transcript that begins with these caches, and of which the pass has
 -- seen all
@@ -103,6 +117,6 @@ pub record AddsWaiting (old new : Sitting) (id at : ℕ) (call : Call) : Type 0 
 abbrev pub Fails : List CacheConfig → List Stated → Sitting → Sitting → ℕ → ℕ → Call → CallFault → Type 0
 Fails configs stated old new id at call OutOfMemory = (new ≡ old) ⊎ Adds configs stated old new id at call end.GivenUp
 Fails configs stated old new id at call Overtaken = AddsWaiting old new id at call
-Fails configs stated old new id at call Busy = new ≡ old
+Fails configs stated old new id at call Busy = (new ≡ old) × Refuses configs (event.Begin id at call) causes.Busy
 Fails configs stated old new id at call NoSuchCache = new ≡ old
 Fails configs stated old new id at call NoSuchProcessor = (new ≡ old) × MayLack configs id call

@@ -3,7 +3,9 @@ pub mod Sessions
 pub mod Calls
 pub mod Accounts
 pub mod Opening
+pub mod Tenures
 pub mod Living
 pub mod Finding
 pub mod Admitting
 pub mod Serving
+pub mod Entering

@@ -1,27 +1,38 @@
 -- What a session is told of caches that are created and destroyed, and of their rows.
-use Rattle.std.specs.Prelude.{◌≡◌, ℕ, Bool, false, List, [], ◌∷◌, ◌++◌, Option, Some, None, IsSome}
+use Rattle.std.specs.Prelude.{◌≡◌, ℕ, Bool, true, false, List, Option, Some, None, IsSome, ⊤}
 use Rattle.jc_model.specs.declared.config.CacheConfig.{CacheConfig}
 use Rattle.jc_model.specs.declared.event.Cause.{Cause}
 use Rattle.jc_model.specs.declared.event.Cause.TheVariants as cause
 use Rattle.jc_model.specs.declared.event.CreateRefusal.{CreateRefusal}
-use Rattle.jc_model.specs.declared.event.Life.{Life}
 use Rattle.jc_model.specs.Places.{named_from}
-use Rattle.jc_model.specs.declared.event.Outcome.TheVariants.{Refused}
-use Rattle.jc_model.specs.Runs.{Status, Lives, live_at, create_refusal, answer_to_destroy}
+use Rattle.jc_model.specs.declared.event.Event.{Event}
+use Rattle.jc_model.specs.declared.event.Event.TheVariants as event
+use Rattle.jc_model.specs.declared.event.Outcome.TheVariants.{Created, Destroyed}
+use Rattle.jc_model.specs.Runs.{Status, Lives, live_at, create_refusal}
 use Rattle.jc_model.specs.Solo.{state_of}
 use Rattle.jc_model.specs.Whole.{holds}
 use Rattle.jc_model.specs.Legal.{History, IsLegal, Tells, config_of}
+use Rattle.jc_engine.specs.Caches.{lives_of}
+use Rattle.jc_engine.specs.Recording.{Recording}
+use Rattle.jc_rows.specs.Images.{last_image}
+use Rattle.jc_stripes.specs.Stripes.{Stayed}
+use Rattle.jc_index.specs.Found.{found}
 use Rattle.jc_shared.specs.declared.fault.CreateFault.{CreateFault}
 use Rattle.jc_shared.specs.declared.fault.CreateFault.TheVariants.{Cache, HooksDiffer, OutOfMemory}
 use Rattle.jc_shared.specs.declared.fault.DestroyFault.{DestroyFault}
 use Rattle.jc_shared.specs.declared.fault.DestroyFault.TheVariants as destroying
 use Rattle.jc_shared.specs.Sessions.{Sight, BeginsWith, Sees}
+use Rattle.jc_shared.specs.Tenures.{IsTenure, IsRefusedFor}
 
 -- these caches are live, and stand as a legal transcript leaves them, which begins with the caches of the opening
 pub record AreTold (configs : List CacheConfig) (transcript : History) (lives : Lives) : Type 0 where
   pub legal : IsLegal transcript
   pub begins : BeginsWith configs transcript
   pub tells : Tells transcript lives
+
+-- so it is of a recorded engine
+abbrev pub IsToldOf : List CacheConfig → Recording → Type 0
+IsToldOf configs r = AreTold configs r.transcript (lives_of r.caches)
 
 -- the id of the live cache with this name
 pub record IsNamed (configs : List CacheConfig) (name : List ℕ) (id : Option ℕ) : Type 0 where
@@ -30,14 +41,14 @@ pub record IsNamed (configs : List CacheConfig) (name : List ℕ) (id : Option �
   pub told : AreTold configs transcript lives
   pub named : id ≡ named_from (λ k. k.config.name) name 0 lives
 
--- a cache has this id and this configuration, and its life is the last
+-- a tenure has created a cache with this id and this configuration
 pub record IsCreated (configs : List CacheConfig) (id : ℕ) (config : CacheConfig) : Type 0 where
-  pub transcript : History
-  pub lives : Lives
-  pub told : AreTold configs transcript lives
-  pub before : List Life
-  pub last : transcript.lives ≡ before ++ record { id = id; config = config } ∷ []
-  pub there : IsSome (live_at lives id)
+  pub old : Recording
+  pub was : IsToldOf configs old
+  pub new : Recording
+  pub told : IsToldOf configs new
+  pub tenure : (session : ℕ) → IsTenure old new session (event.Create config) (Created id)
+  pub there : IsSome (live_at (lives_of new.caches) id)
 
 -- what the engine says to a configuration
 pub record Answers (configs : List CacheConfig) (config : CacheConfig) (answer : Option CreateRefusal) : Type 0 where
@@ -52,36 +63,63 @@ IsCreateFault configs config Suits (Cache refusal) = Answers configs config (Som
 IsCreateFault configs config Suits HooksDiffer = Answers configs config None × (Suits → ⊥)
 IsCreateFault configs config Suits OutOfMemory = Answers configs config None × Suits
 
--- a cache that has lived is not live, and where the pass's last meeting succeeded it has seen no row of it
-pub record HasGone (configs : List CacheConfig) (id : ℕ) (pass : Sight) : Type 0 where
-  pub transcript : History
-  pub lives : Lives
-  pub told : AreTold configs transcript lives
-  pub sees : Sees transcript lives pass
-  pub lived : IsSome (config_of id transcript.lives)
-  pub gone : live_at lives id ≡ None
+-- why a configuration creates no cache where these are live; whether the callbacks suit it
+abbrev pub IsRefusedConfig : Lives → CacheConfig → Bool → CreateFault → Type 0
+IsRefusedConfig lives config suited (Cache refusal) = create_refusal lives config ≡ Some refusal
+IsRefusedConfig lives config suited HooksDiffer = (create_refusal lives config ≡ None) × (suited ≡ false)
+IsRefusedConfig lives config suited OutOfMemory = (create_refusal lives config ≡ None) × (suited ≡ true)
 
--- what the engine says to the destroying of a cache
-pub record Refuses (configs : List CacheConfig) (id : ℕ) (why : Cause) : Type 0 where
+-- a tenure has destroyed a cache, which was live, and where the pass's last meeting succeeded it has seen no row of it
+pub record HasGone (configs : List CacheConfig) (id : ℕ) (pass : Sight) : Type 0 where
+  pub old : Recording
+  pub was : IsToldOf configs old
+  pub new : Recording
+  pub told : IsToldOf configs new
+  pub tenure : (session : ℕ) → IsTenure old new session (event.Destroy id) Destroyed
+  pub sees : Sees new.transcript (lives_of new.caches) pass
+  pub lived : IsSome (config_of id new.transcript.lives)
+  pub gone : live_at (lives_of new.caches) id ≡ None
+
+-- how a tenure is told that destroys no cache, where these are live
+abbrev pub IsRefusedDestroy : Lives → ℕ → DestroyFault → Type 0
+IsRefusedDestroy lives id destroying.NoSuchCache = IsRefusedFor lives (event.Destroy id) cause.NoSuchCache
+IsRefusedDestroy lives id destroying.Busy = IsRefusedFor lives (event.Destroy id) cause.Busy
+IsRefusedDestroy lives id destroying.OutOfMemory = ⊥
+
+-- why the engine refuses an event
+pub record Refuses (configs : List CacheConfig) (event : Event) (why : Cause) : Type 0 where
   pub transcript : History
   pub lives : Lives
   pub told : AreTold configs transcript lives
-  pub refusal : answer_to_destroy (live_at lives id) ≡ Refused why
+  pub refusal : IsRefusedFor lives event why
 
 -- why the engine destroys no cache; it takes no memory
 abbrev pub IsDestroyFault : List CacheConfig → ℕ → DestroyFault → Type 0
-IsDestroyFault configs id destroying.NoSuchCache = Refuses configs id cause.NoSuchCache
-IsDestroyFault configs id destroying.Busy = Refuses configs id cause.Busy
+IsDestroyFault configs id destroying.NoSuchCache = Refuses configs (event.Destroy id) cause.NoSuchCache
+IsDestroyFault configs id destroying.Busy = Refuses configs (event.Destroy id) cause.Busy
 IsDestroyFault configs id destroying.OutOfMemory = ⊥
+
+-- why a session destroys no cache: by the engine, or because its callbacks are not found or can't be shared
+abbrev pub IsDestroyRefusal : List CacheConfig → ℕ → DestroyFault → Type 0
+IsDestroyRefusal configs id destroying.NoSuchCache = ⊤
+IsDestroyRefusal configs id destroying.Busy = Refuses configs (event.Destroy id) cause.Busy
+IsDestroyRefusal configs id destroying.OutOfMemory = ⊤
 
 -- whether a cache that may be live has a live row of this key
 abbrev pub has_live_row : ℕ → List ℕ → Option Status → Bool
 has_live_row now key None = false
 has_live_row now key (Some k) = holds k.config now key (state_of k.standing)
 
--- whether the cache has one, as a legal transcript leaves it
-pub record IsHeld (configs : List CacheConfig) (id : ℕ) (key : List ℕ) (now : ℕ) (b : Bool) : Type 0 where
+-- whether the cache has one, as a legal transcript leaves it, and these are the caches that the pass sees
+pub record IsHeld (configs : List CacheConfig) (id : ℕ) (key : List ℕ) (now : ℕ) (pass : Sight) (b : Bool) : Type 0 where
   pub transcript : History
   pub lives : Lives
   pub told : AreTold configs transcript lives
+  pub sees : Sees transcript lives pass
   pub held : b ≡ has_live_row now key (live_at lives id)
+
+-- whether the last image that the pass has seen tells so, in a lookup whose versions stayed
+pub record IsSeen (id : ℕ) (key : List ℕ) (now : ℕ) (pass : Sight) (b : Bool) : Type 0 where
+  pub met : pass.met ≡ true
+  pub stayed : Stayed pass.begun pass.checked
+  pub seen : found (last_image pass.images) id key now ≡ Some b

@@ -1,10 +1,13 @@
 -- What a call does to the callbacks that it uses alone.
-use Rattle.std.specs.Prelude.{◌≡◌, ℕ, List, [], ◌∷◌, ◌++◌, ⊤}
+use Rattle.std.specs.Prelude.{◌≡◌, ℕ, Bool, true, false, IsTrue, List, [], ◌∷◌, ◌++◌, map, ⊤}
+use Rattle.std.specs.List.{filter, All}
 use Rattle.jc_hooks.specs.Asking.{MayGiveBy, states_after}
 use Rattle.jc_model.specs.declared.call.Answer.{Answer}
+use Rattle.jc_model.specs.declared.call.Answer.TheVariants.{Written, WriteFailed}
 use Rattle.jc_model.specs.declared.call.Notice.{Notice}
 use Rattle.jc_model.specs.declared.call.Request.{Request}
 use Rattle.jc_model.specs.declared.call.Request.TheVariants.{Write, Delete, Tell}
+use Rattle.jc_model.specs.Run.{is_answer_to}
 use Rattle.jc_shared.specs.declared.hooks.LockedHooks.{LockedHooks}
 
 -- what has been told of a call, behind a request
@@ -16,6 +19,22 @@ told_behind _ told = told
 abbrev pub TellsOnce : Request → List Notice → Type 0
 TellsOnce (Tell notices) told = told ≡ []
 TellsOnce _ told = ⊤
+
+-- the writer's requests, and its answers
+abbrev pub is_write : Request → Bool
+is_write (Write key value) = true
+is_write (Delete key) = true
+is_write _ = false
+
+abbrev pub is_of_writer : Answer → Bool
+is_of_writer Written = true
+is_of_writer WriteFailed = true
+is_of_writer _ = false
+
+-- requests of the writer, with its answers among these
+pub record AreWritten (answers : List Answer) (given : List (Request × Answer)) : Type 0 where
+  pub writes : All (λ x. IsTrue (is_write x.0)) given
+  pub answered : map (λ x. x.1) given ≡ filter is_of_writer answers
 
 module _ {W K : Type 0} (state_after : K → List Notice → List ℕ) where
   -- the listeners were told these notices, and no others
@@ -37,3 +56,31 @@ module _ {W K : Type 0} (may : W → List (Request × Answer) → Type 0) (state
   Serves old new (Write key value) a = Writes old new (Write key value) a × (new.listeners ≡ old.listeners)
   Serves old new (Delete key) a = Writes old new (Delete key) a × (new.listeners ≡ old.listeners)
   Serves old new _ a = new ≡ old
+
+  -- the callbacks answered this request, and their answer is the next one
+  pub record TakesIn (old new : LockedHooks W K) (request : Request) (answers answers' : List Answer) : Type 0 where
+    pub answer : Answer
+    pub fits : IsTrue (is_answer_to request answer)
+    pub serves : Serves old new request answer
+    pub added : answers' ≡ answers ++ answer ∷ []
+
+module _ {W K : Type 0} (may : W → List (Request × Answer) → Type 0) where
+  -- the writer stated at first that it may give those of these answers that are its own
+  pub record HasStated (first : LockedHooks W K) (answers : List Answer) : Type 0 where
+    pub given : List (Request × Answer)
+    pub are : AreWritten answers given
+    pub stated : MayGiveBy may first.writer given
+
+  -- and what it states afterwards it stated behind them
+  pub record HasWritten (first new : LockedHooks W K) (answers : List Answer) : Type 0 where
+    pub given : List (Request × Answer)
+    pub are : AreWritten answers given
+    pub stated : (rest : List (Request × Answer)) → MayGiveBy may new.writer rest → MayGiveBy may first.writer (given ++ rest)
+
+  -- where it had given a call's answers, it has given those that the call has now
+  abbrev pub WritesOn : LockedHooks W K → LockedHooks W K → List Answer → List Answer → Type 0
+  WritesOn old new answers answers' = (first : LockedHooks W K) → HasWritten first old answers → HasWritten first new answers'
+
+  -- or has stated them, at least
+  abbrev pub StatesOn : LockedHooks W K → List Answer → List Answer → Type 0
+  StatesOn old answers answers' = (first : LockedHooks W K) → HasWritten first old answers → HasStated first answers'

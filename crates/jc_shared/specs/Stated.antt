@@ -10,6 +10,7 @@ use Rattle.jc_model.specs.declared.config.CacheConfig.{CacheConfig}
 use Rattle.jc_hooks.specs.Answers.{load_answer_of}
 use Rattle.jc_hooks.specs.declared.cache_hooks.CacheHooks.{CacheHooks}
 use Rattle.jc_hooks.specs.declared.loader.Loaded.{Loaded}
+use Rattle.jc_shared.specs.declared.hooks.LockedHooks.{LockedHooks}
 use Rattle.jc_shared.specs.declared.hooks.SharedHooks.{SharedHooks}
 use Rattle.jc_model.specs.Asking.{IsKeyOf, invoked_by}
 
@@ -33,9 +34,12 @@ processor_counts shared = map (λ h. length h.processors.items) shared
 abbrev pub wanted_counts : List CacheConfig → List ℕ
 wanted_counts configs = map (λ c. length c.processors) configs
 
--- of all callbacks of a cache, as they are handed in
+-- of all callbacks of a cache, as they are handed in: those that are asked side by side, and those under its lock
 abbrev pub shared_of : {L W P K : Type 0} → CacheHooks L W P K → SharedHooks L P
 shared_of h = record { loader = h.loader; processors = h.processors }
+
+abbrev pub locked_of : {L W P K : Type 0} → CacheHooks L W P K → LockedHooks W K
+locked_of h = record { writer = h.writer; listeners = h.listeners }
 
 -- where there is a loader, it answers so for a key of the call
 abbrev pub LoadsBy : Option (List ℕ → Loaded) → Call → Answer → Type 0

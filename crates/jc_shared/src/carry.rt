@@ -6,7 +6,7 @@ ghost use Rattle.jc_model.specs.declared.event.End.TheVariants.{Waiting};
 ghost use Rattle.jc_model.specs.Run.{is_answer_to};
 ghost use Rattle.jc_model.specs.Asking.{AsksOf};
 ghost use Rattle.jc_shared.specs.Calls.{IsSameCall, Stays, EndsFaulty};
-ghost use Rattle.jc_shared.specs.Serving.{Serves, TellsOn, TellsOnce, told_behind};
+ghost use Rattle.jc_shared.specs.Serving.{Serves, TellsOn, TellsOnce, told_behind, TakesIn, WritesOn, StatesOn};
 ghost use Rattle.jc_shared.specs.declared.turned.Turned.TheVariants.{Asked, Replied};
 ghost use Rattle.jc_shared.specs.Stated.{AreOf, IsStatedBy, AreStated};
 
@@ -17,7 +17,7 @@ use crate::name::Name;
 use crate::tables::TablePass;
 use crate::turned::Turned;
 use jc_hooks::{
-    Listener, Loader, Processor, Writer, ask_loader, ask_processor, ask_to_delete, ask_to_write,
+    Hearer, Loader, Processor, Writer, ask_loader, ask_processor, ask_to_delete, ask_to_write,
     tell_all,
 };
 use jc_model::OutOfMemory;
@@ -62,7 +62,7 @@ fn keep_told(draft: &mut Entry, request: Request)
     }
 }
 
-impl<N: Name, L: Loader, W: Writer, P: Processor, K: Listener> Manager<N, L, W, P, K> {
+impl<N: Name, L: Loader, W: Writer, P: Processor, K: Hearer> Manager<N, L, W, P, K> {
     /// The answer of a cache's callbacks to a request. One that is not there fails.
     fn answer(
         &self,
@@ -102,7 +102,8 @@ impl<N: Name, L: Loader, W: Writer, P: Processor, K: Listener> Manager<N, L, W, 
         }
     }
 
-    /// Brings the draft's call on by the answer to a request. An answer that was not taken is not kept.
+    /// Brings the draft's call on by the callbacks' answer to a request, which the draft then has. An answer that was
+    /// not taken is not kept.
     fn advance<R: Wait>(
         &self,
         rt: &R,
@@ -115,6 +116,7 @@ impl<N: Name, L: Loader, W: Writer, P: Processor, K: Listener> Manager<N, L, W, 
         requires shared { AreOf L.load_of P.verdict_of N.stated draft.old.id asked.now }
         requires asked { Stays N.configs N.stated (Asked request) draft.old pass.old }
         ensures same { IsSameCall draft.old draft.new }
+        ensures served { OnOk result (TakesIn W.may K.state_after hooks.old hooks.new request draft.old.answers draft.new.answers) }
         ensures kept { OnErr result (draft.new.answers ≡ draft.old.answers) }
         ensures brought { MatchResult result (λ turned. Stays N.configs N.stated turned draft.new pass.new) (λ fault. EndsFaulty N.configs N.stated fault draft.new pass.new) }
         ensures front { IsPrefix pass.old.images pass.new.images }
@@ -163,6 +165,7 @@ impl<N: Name, L: Loader, W: Writer, P: Processor, K: Listener> Manager<N, L, W, 
         ensures ends { MatchResult result (λ reply. Stays N.configs N.stated (Replied reply) draft.new pass.new) (λ fault. EndsFaulty N.configs N.stated fault draft.new pass.new) }
         ensures front { IsPrefix pass.old.images pass.new.images }
         ensures told { TellsOn K.state_after hooks.old hooks.new draft.old.told draft.new.told }
+        ensures wrote { MatchResult result (λ _. WritesOn W.may hooks.old hooks.new draft.old.answers draft.new.answers) (λ _. StatesOn W.may hooks.old draft.old.answers draft.new.answers) }
     {
         let mut turned = begun;
         for _ in rt.forever() {

@@ -1,6 +1,7 @@
 //! The hooks locks of the live caches, by id.
-ghost use Rattle.std.specs.Prelude.{◌≡◌, ◌≤◌, OnOk, IfErr, nat_eq};
-ghost use Rattle.std.specs.HashMap.{get, spare};
+ghost use Rattle.std.specs.Prelude.{◌≡◌, ◌≤◌, ℕ, None, Some, IsSome, OnOk, IfErr, nat_eq};
+ghost use Rattle.std.specs.HashMap.{get, spare, Updates};
+ghost use Rattle.jc_shared.specs.Entering.{Enters};
 ghost use Rattle.jc_shared.specs.Finding.{unfound_at};
 
 use crate::fault::Unfound;
@@ -21,7 +22,9 @@ pub(crate) struct Directory<L, W, P, K> {
 }
 
 impl<L: Drop, W: Drop, P: Drop, K: Drop> Directory<L, W, P, K> {
-    pub(crate) fn new(alloc: Global) -> Directory<L, W, P, K> {
+    pub(crate) fn new(alloc: Global) -> Directory<L, W, P, K>
+        ensures { (id : ℕ) → get nat_eq result.locks id ≡ None }
+    {
         Directory {
             locks: HashMap::new(alloc),
         }
@@ -29,7 +32,8 @@ impl<L: Drop, W: Drop, P: Drop, K: Drop> Directory<L, W, P, K> {
 
     /// The hooks lock of a cache.
     pub(crate) fn find(&self, id: CacheId) -> Result<HooksLock<L, W, P, K>, Unfound>
-        ensures { IfErr result (λ why. why ≡ unfound_at (get nat_eq self.now.locks id)) }
+        ensures found { OnOk result (IsSome (get nat_eq self.now.locks id)) }
+        ensures unfound { IfErr result (λ why. why ≡ unfound_at (get nat_eq self.now.locks id)) }
     {
         let number = id.number();
         let Some(lock) = self.locks.get(&number) else {
@@ -43,7 +47,8 @@ impl<L: Drop, W: Drop, P: Drop, K: Drop> Directory<L, W, P, K> {
 
     /// A hooks lock over no callbacks, for which there is room now.
     pub(crate) fn make_room(&mut self, alloc: Global) -> Result<HooksLock<L, W, P, K>, OutOfMemory>
-        ensures { OnOk result (1 ≤ spare self.new.locks) }
+        ensures room { OnOk result (1 ≤ spare self.new.locks) }
+        ensures same { (id : ℕ) → get nat_eq self.new.locks id ≡ get nat_eq self.old.locks id }
     {
         self.locks.reserve(1)?;
         let lock = Arc::new(alloc, Mutex::new(OwnHooks::none(alloc)))?;
@@ -53,6 +58,7 @@ impl<L: Drop, W: Drop, P: Drop, K: Drop> Directory<L, W, P, K> {
     /// Enters a cache's hooks lock, for which there is room.
     pub(crate) fn enter(&mut self, id: CacheId, lock: HooksLock<L, W, P, K>)
         requires { 1 ≤ spare self.old.locks }
+        ensures { Updates nat_eq self.old.locks self.new.locks id (Some lock) }
     {
         let number = id.number();
         if self.locks.insert(number, lock).is_err() {
@@ -66,14 +72,18 @@ impl<L: Drop, W: Drop, P: Drop, K: Drop> Directory<L, W, P, K> {
         alloc: Global,
         id: CacheId,
         own: OwnHooks<L, W, P, K>,
-    ) -> Result<(), OutOfMemory> {
+    ) -> Result<(), OutOfMemory>
+        ensures { OnOk result (Enters self.old.locks self.new.locks id) }
+    {
         let lock = Arc::new(alloc, Mutex::new(own))?;
         self.locks.insert(id.number(), lock)?;
         Ok(())
     }
 
     /// Takes a cache's hooks lock out.
-    pub(crate) fn remove(&mut self, id: CacheId) {
+    pub(crate) fn remove(&mut self, id: CacheId)
+        ensures { Updates nat_eq self.old.locks self.new.locks id None }
+    {
         let number = id.number();
         self.locks.remove(&number);
     }

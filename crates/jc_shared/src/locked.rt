@@ -1,20 +1,24 @@
 //! What lies under the manager's lock: the recorded engine, and which sessions there are. Each tenure begins a call,
 //! brings it on or gives it up, or creates or destroys a cache, and no callback runs in it.
-ghost use Rattle.std.specs.Prelude.{◌≡◌, ◌≢◌, ◌⊎◌, Bool, true, false, Ok, None, [], IsTrue, IfOk, IfErr, IfSome, OnOk, OnErr, Err, Some, map, slice_get};
+ghost use Rattle.std.specs.Prelude.{◌≡◌, ◌≢◌, ◌⊎◌, Bool, true, false, Ok, None, [], IsTrue, IfOk, IfErr, IfSome, OnOk, OnErr, Err, Some, map, option_map, slice_get};
 ghost use mathlib.Core.List.{IsPrefix};
-ghost use Rattle.jc_model.specs.declared.event.End.TheVariants.{Waiting, GivenUp};
+ghost use Rattle.jc_model.specs.declared.event.End.TheVariants.{Waiting, GivenUp, Replied as RepliedSo};
+ghost use Rattle.jc_model.specs.declared.event.Event.TheVariants.{Begin, Answer as Answered};
+ghost use Rattle.jc_model.specs.declared.event.Outcome.TheVariants.{Step as Stepped};
 ghost use Rattle.jc_model.specs.Legal.{IsLegal};
+ghost use Rattle.jc_model.specs.Runs.{live_at};
 ghost use Rattle.jc_rows.specs.Images.{last_image};
 ghost use Rattle.jc_index.specs.Found.{found};
 ghost use Rattle.jc_engine.specs.Recording.{blank};
 ghost use Rattle.jc_engine.specs.Caches.{lives_of};
 ghost use Rattle.jc_engine.specs.Results.{reply_in};
-ghost use Rattle.jc_shared.specs.Accounts.{Accounts, IsCloseFault};
+ghost use Rattle.jc_shared.specs.Accounts.{Accounts, IsCloseFault, IsCloseRefusal};
 ghost use Rattle.jc_shared.specs.Admitting.{Admits};
 ghost use Rattle.jc_shared.specs.Calls.{Stands, GoesOn, IsBeginFault};
-ghost use Rattle.jc_shared.specs.Living.{IsHeld};
+ghost use Rattle.jc_shared.specs.Living.{IsHeld, has_live_row};
 ghost use Rattle.jc_shared.specs.Sessions.{BeginsWith, Sees, SeesSome};
 ghost use Rattle.jc_shared.specs.Finding.{fault_of, halt_of, IsOfCall, IsOpenFor, IsOpen, StandsAt, Turns, IsReplied};
+ghost use Rattle.jc_shared.specs.Tenures.{IsTenure, IsRefusedCall, Stops, GivesUp, GivesUpApart, EndsApart, IsApart, step_of, told_or_left};
 
 mod living;
 
@@ -24,6 +28,7 @@ use crate::name::Name;
 use crate::tables::{ShownTable, TablePass};
 use crate::turned::Turned;
 use jc_engine::recorded::Recorded;
+use jc_model::OutOfMemory;
 use jc_model::call::{Answer, Call, Notice, Reply};
 use jc_model::event::{CacheId, Cause, End, Entry, Step};
 use jc_model::exact::Exact;
@@ -70,7 +75,7 @@ fn halt_of(cause: Cause) -> Halt
 
 /// The entry at a place.
 fn entry_at(entries: &[Entry], place: usize) -> Option<&Entry>
-    ensures { IfSome result (λ e. slice_get entries.now place ≡ Some e.now) }
+    ensures { option_map (λ e. e.now) result ≡ slice_get entries.now place }
 {
     entries.get(place)
 }
@@ -91,6 +96,7 @@ fn end_with(draft: &mut Entry, end: End)
 /// Keeps the notices that a give-up hands out. Where the call has told its notices, none are left.
 fn keep_left(draft: &mut Entry, left: Sequence<Notice>)
     ensures kept { draft.new ≡ record draft.old { told = draft.new.told } }
+    ensures notices { draft.new.told ≡ told_or_left draft.old.told left }
     ensures told { (draft.old.told ≡ []) ⊎ (draft.new.told ≡ draft.old.told) }
 {
     if draft.told.items().is_empty() {
@@ -117,7 +123,7 @@ fn turned(step: Step, copy: Option<Reply>, draft: &mut Entry) -> Turned
 impl<N: Name> Locked<N> {
     pub(crate) fn new(recorded: Recorded<ShownTable<N>, LinkRing>) -> Locked<N>
         requires { BeginsWith N.configs recorded.transcript }
-        ensures { (result.given ≡ 0) × (result.closed ≡ false) }
+        ensures { (result.recorded ≡ recorded) × (result.given ≡ 0) × (result.closed ≡ false) }
     {
         Locked {
             recorded,
@@ -142,7 +148,8 @@ impl<N: Name> Locked<N> {
 
     /// Whether the draft stands at a place of the transcript, just as it is.
     fn stands_at(&self, place: usize, draft: &Entry) -> bool
-        ensures { IsTrue result → StandsAt N.configs self.now.recorded.transcript draft.now place }
+        ensures stands { IsTrue result → StandsAt N.configs self.now.recorded.transcript draft.now place }
+        ensures apart { result ≡ false → IsApart self.now.recorded place draft.now }
     {
         match entry_at(self.recorded.transcript().entries(), place) {
             Some(entry) => entry.same(draft),
@@ -162,6 +169,7 @@ impl<N: Name> Locked<N> {
         requires copy { copy ≡ reply_in step }
         ensures ok { IfOk result (λ t. Turns draft.old step t draft.new × (IsReplied t → StandsAt N.configs self.now.recorded.transcript draft.new place)) }
         ensures err { IfErr result (λ halt. (halt ≡ Halt.Overtaken) × (draft.new ≡ draft.old)) }
+        ensures apart { OnErr result (EndsApart self.now.recorded place draft.old step) }
     {
         match turned(step, copy, draft) {
             Turned::Asked(request) => Ok(Turned::Asked(request)),
@@ -176,13 +184,25 @@ impl<N: Name> Locked<N> {
         }
     }
 
+    /// The pass sees the table as it is now, or memory for the meeting was refused.
+    pub(crate) fn refresh(&mut self, pass: &mut TablePass<N>) -> Result<(), OutOfMemory>
+        ensures same { (self.new.recorded ≡ self.old.recorded) × (self.new.given ≡ self.old.given) × (self.new.closed ≡ self.old.closed) }
+        ensures front { IsPrefix pass.old.images pass.new.images }
+        ensures shows { Sees self.old.recorded.transcript (lives_of self.old.recorded.caches) pass.new }
+        ensures sees { SeesSome N.configs pass.new }
+        ensures met { OnOk result (pass.new.met ≡ true) }
+        ensures refused { OnErr result (pass.new.met ≡ false) }
+    {
+        self.recorded.meet(pass)
+    }
+
     /// The pass sees the table as it is now, where memory allows it.
     fn show(&mut self, pass: &mut TablePass<N>)
         ensures same { (self.new.recorded ≡ self.old.recorded) × (self.new.given ≡ self.old.given) × (self.new.closed ≡ self.old.closed) }
         ensures front { IsPrefix pass.old.images pass.new.images }
         ensures sees { Sees self.old.recorded.transcript (lives_of self.old.recorded.caches) pass.new }
     {
-        let _ = self.recorded.meet(pass);
+        let _ = self.refresh(pass);
     }
 
     /// At a reply the pass sees the table as it is now, where memory allows it.
@@ -206,16 +226,19 @@ impl<N: Name> Locked<N> {
     ) -> Result<Turned, CallFault>
         requires { draft.old ≡ blank draft.old.session draft.old.id draft.old.at call }
         ensures ok { IfOk result (λ turned. GoesOn N.configs draft.old turned draft.new pass.new) }
+        ensures tenure { IfOk result (λ turned. IsTenure self.old.recorded self.new.recorded draft.old.session (Begin draft.old.id draft.old.at call) (Stepped (step_of turned))) }
         ensures front { IsPrefix pass.old.images pass.new.images }
-        ensures err { IfErr result (λ fault. IsBeginFault N.configs draft.old.id call fault) }
-        ensures same { OnErr result ((draft.new ≡ draft.old) × (pass.new ≡ pass.old)) }
+        ensures err { IfErr result (λ fault. IsBeginFault N.configs draft.old.id draft.old.at call fault) }
+        ensures refused { IfErr result (λ fault. IsRefusedCall (lives_of self.old.recorded.caches) (Begin draft.old.id draft.old.at call) fault) }
+        ensures same { OnErr result ((self.new.recorded ≡ self.old.recorded) × (draft.new ≡ draft.old) × (pass.new ≡ pass.old)) }
+        ensures kept { (self.new.given ≡ self.old.given) × (self.new.closed ≡ self.old.closed) }
     {
-        // Read for its clauses: the transcript is legal.
+        // Read for its clauses: the transcript is legal, before and after.
         let _told = self.recorded.transcript();
         match self.recorded.begin(draft.session, draft.id, draft.at, call) {
             Ok(pair) => {
                 let (step, copy) = pair;
-                let _legal = self.recorded.transcript();
+                let _after = self.recorded.transcript();
                 let turned = turned(step, copy, draft);
                 self.show_reply(&turned, pass);
                 Ok(turned)
@@ -234,9 +257,12 @@ impl<N: Name> Locked<N> {
     ) -> Result<Turned, Halt>
         requires { draft.old.end ≡ Waiting }
         ensures ok { IfOk result (λ turned. GoesOn N.configs draft.old turned draft.new pass.new) }
+        ensures tenure { IfOk result (λ turned. IsTenure self.old.recorded self.new.recorded draft.old.session (Answered draft.old.id answer) (Stepped (step_of turned))) }
         ensures front { IsPrefix pass.old.images pass.new.images }
         ensures err { IfErr result (λ halt. halt ≡ Halt.OutOfMemory → IsOpen (lives_of self.old.recorded.caches) self.old.recorded.transcript draft.old) }
+        ensures stopped { IfErr result (λ halt. Stops self.old.recorded self.new.recorded draft.old answer halt) }
         ensures same { OnErr result (draft.new ≡ draft.old) }
+        ensures kept { (self.new.given ≡ self.old.given) × (self.new.closed ≡ self.old.closed) }
     {
         let Some(place) = self.open_place(draft) else {
             return Err(Halt::Overtaken);
@@ -261,9 +287,12 @@ impl<N: Name> Locked<N> {
     ) -> Result<(), CallFault>
         requires { draft.old.end ≡ Waiting }
         ensures ok { OnOk result ((draft.new ≡ record draft.old { told = draft.new.told; end = GivenUp }) × Stands N.configs draft.new pass.new) }
+        ensures given_up { OnOk result (GivesUp self.old.recorded self.new.recorded draft.old draft.new.told) }
         ensures front { IsPrefix pass.old.images pass.new.images }
         ensures err { IfErr result (λ fault. (fault ≡ CallFault.Overtaken) × (draft.new ≡ record draft.old { told = draft.new.told })) }
+        ensures stopped { OnErr result ((self.new.recorded ≡ self.old.recorded) ⊎ GivesUpApart self.old.recorded self.new.recorded draft.old draft.new.told) }
         ensures told { (draft.old.told ≡ []) ⊎ (draft.new.told ≡ draft.old.told) }
+        ensures kept { (self.new.given ≡ self.old.given) × (self.new.closed ≡ self.old.closed) }
     {
         let Some(place) = self.open_place(draft) else {
             return Err(CallFault::Overtaken);
@@ -286,7 +315,8 @@ impl<N: Name> Locked<N> {
     pub(crate) fn has(&mut self, id: CacheId, key: &Key, now: u64, pass: &mut TablePass<N>) -> bool
         ensures same { (self.new.recorded ≡ self.old.recorded) × (self.new.given ≡ self.old.given) × (self.new.closed ≡ self.old.closed) }
         ensures front { IsPrefix pass.old.images pass.new.images }
-        ensures held { IsHeld N.configs id key.now now result }
+        ensures exact { result ≡ has_live_row now key.now (live_at (lives_of self.old.recorded.caches) id) }
+        ensures held { IsHeld N.configs id key.now now pass.new result }
         ensures agrees { pass.new.met ≡ true → (b : Bool) → found (last_image pass.new.images) id key.now now ≡ Some b → result ≡ b }
     {
         self.show(pass);
@@ -296,7 +326,7 @@ impl<N: Name> Locked<N> {
     /// Gives a session its number, where there is room for its list. Numbers go upward from 0.
     pub(crate) fn admit(&mut self, room: bool) -> Result<u32, SessionRefusal>
         ensures admits { Admits self.old.closed self.old.given room result self.new.given }
-        ensures kept { self.new.closed ≡ self.old.closed }
+        ensures kept { (self.new.recorded ≡ self.old.recorded) × (self.new.closed ≡ self.old.closed) }
     {
         if self.closed {
             return Err(SessionRefusal::Closed);
@@ -315,9 +345,10 @@ impl<N: Name> Locked<N> {
     /// Gives a session its number and a pass, where there is room for its list.
     pub(crate) fn enter(&mut self, room: bool) -> Result<(u32, TablePass<N>), SessionRefusal>
         ensures sees { IfOk result (λ s. SeesSome N.configs s.1 × (s.1.met ≡ true)) }
+        ensures shows { IfOk result (λ s. Sees self.old.recorded.transcript (lives_of self.old.recorded.caches) s.1) }
         ensures admits { IfOk result (λ s. Admits self.old.closed self.old.given room (Ok s.0) self.new.given) }
         ensures refused { IfErr result (λ fault. (roomy : Bool) × Admits self.old.closed self.old.given roomy (Err fault) self.new.given) }
-        ensures kept { self.new.closed ≡ self.old.closed }
+        ensures kept { (self.new.recorded ≡ self.old.recorded) × (self.new.closed ≡ self.old.closed) }
     {
         // Read for its clauses: the transcript is legal.
         let _legal = self.recorded.transcript();
@@ -335,8 +366,10 @@ impl<N: Name> Locked<N> {
         ensures begins { IfOk result (λ t. BeginsWith N.configs t) }
         ensures accounts { IfOk result (λ t. Accounts self.old.given (map S.log logs.now) t.entries) }
         ensures whole { IfOk result (λ t. t ≡ self.old.recorded.transcript) }
+        ensures refused { IfErr result (λ f. IsCloseRefusal N.configs (map S.log logs.now) f) }
         ensures fault { self.old.closed ≡ false → IfErr result (λ f. IsCloseFault self.old.given (map S.log logs.now) self.old.recorded.transcript.entries f) }
         ensures closed { OnOk result ((self.old.closed ≡ false) × (self.new.closed ≡ true)) }
+        ensures kept { (self.new.recorded ≡ self.old.recorded) × (self.new.given ≡ self.old.given) }
         ensures again { self.old.closed ≡ true → result ≡ Err CloseFault.Missing }
         ensures same { OnErr result (self.new ≡ self.old) }
     {

@@ -1,8 +1,9 @@
 //! The manager that threads share.
-ghost use Rattle.std.specs.Prelude.{◌≡◌, ℕ, true, [], Some, IfOk, IfErr, length, map, option_map, slice_get};
+ghost use Rattle.std.specs.Prelude.{◌≡◌, ℕ, true, [], Ok, Err, Some, IfOk, IfErr, length, map, option_map, slice_get};
 ghost use Rattle.jc_model.specs.declared.config.CacheConfig.{CacheConfig};
 ghost use Rattle.jc_model.specs.Legal.{IsLegal};
-ghost use Rattle.jc_shared.specs.Accounts.{Accounts};
+ghost use Rattle.jc_shared.specs.Accounts.{Accounts, IsCloseRefusal};
+ghost use Rattle.jc_shared.specs.Admitting.{IsAdmission};
 ghost use Rattle.jc_shared.specs.Living.{IsNamed};
 ghost use Rattle.jc_shared.specs.Sessions.{BeginsWith, SeesSome, log_of};
 ghost use Rattle.jc_shared.specs.Stated.{stated_by, AreOf, processor_counts, wanted_counts};
@@ -13,7 +14,7 @@ use crate::hooks::SharedHooks;
 use crate::locked::Locked;
 use crate::name::Name;
 use crate::session::Session;
-use jc_hooks::{Listener, Loader, Processor, Writer};
+use jc_hooks::{Hearer, Loader, Processor, Writer};
 use jc_model::event::CacheId;
 use jc_model::key::Key;
 use jc_model::transcript::Transcript;
@@ -26,7 +27,7 @@ use std::sync::{Mutex, Wait};
 /// callbacks stand under a lock for each cache, which a call on the cache holds from its begin to its end, and the way
 /// from a cache to that lock stands under a lock of its own.
 #[derive(Drop)]
-pub struct Manager<N: Name, L: Loader, W: Writer, P: Processor, K: Listener> {
+pub struct Manager<N: Name, L: Loader, W: Writer, P: Processor, K: Hearer> {
     pub(crate) alloc: Global,
     pub(crate) shared: Vec<SharedHooks<L, P>>,
     pub(crate) directory: Mutex<Directory<L, W, P, K>>,
@@ -35,7 +36,7 @@ pub struct Manager<N: Name, L: Loader, W: Writer, P: Processor, K: Listener> {
     ghost counted: { processor_counts shared.items ≡ wanted_counts N.configs },
 }
 
-impl<N: Name, L: Loader, W: Writer, P: Processor, K: Listener> Manager<N, L, W, P, K> {
+impl<N: Name, L: Loader, W: Writer, P: Processor, K: Hearer> Manager<N, L, W, P, K> {
     /// The id of the live cache with this name.
     pub fn cache<R: Wait>(&self, rt: &R, name: &Key) -> Option<CacheId>
         ensures { IsNamed N.configs name.now result }
@@ -50,6 +51,8 @@ impl<N: Name, L: Loader, W: Writer, P: Processor, K: Listener> Manager<N, L, W, 
     pub fn session<R: Wait>(&self, rt: &R) -> Result<Session<'_, N, L, W, P, K>, SessionRefusal>
         ensures calls { IfOk result (λ s. s.calls ≡ []) }
         ensures sees { IfOk result (λ s. SeesSome N.configs s.pass × (s.pass.met ≡ true)) }
+        ensures admitted { IfOk result (λ s. IsAdmission (Ok s.number)) }
+        ensures refused { IfErr result (λ refusal. IsAdmission (Err refusal)) }
     {
         let own = Vec::with_capacity(self.alloc, FIRST_CALLS);
         let (number, pass) = self.locked.lock(rt).enter(own.is_ok())?;
@@ -72,6 +75,7 @@ impl<N: Name, L: Loader, W: Writer, P: Processor, K: Listener> Manager<N, L, W, 
         ensures legal { IfOk result (λ t. IsLegal t) }
         ensures begins { IfOk result (λ t. BeginsWith N.configs t) }
         ensures accounts { IfOk result (λ t. (given : ℕ) × Accounts given (map log_of sessions.entry.items) t.entries) }
+        ensures refused { IfErr result (λ e. IsCloseRefusal N.configs (map log_of sessions.entry.items) e.0) }
         ensures back { IfErr result (λ e. e.1.items ≡ sessions.entry.items) }
     {
         let finished = self.locked.lock(rt).finish(sessions.as_slice());

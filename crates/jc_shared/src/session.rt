@@ -7,14 +7,14 @@ ghost use Rattle.jc_engine.specs.Recording.{blank};
 ghost use Rattle.jc_hooks.specs.Suits.{Suits};
 ghost use Rattle.jc_place.specs.Seeded.{seeded_place};
 ghost use Rattle.jc_rows.specs.Images.{last_image};
-ghost use Rattle.jc_stripes.specs.Stripes.{SomeOdd, stripes_in};
+ghost use Rattle.jc_stripes.specs.Stripes.{SomeOdd, Stayed, stripes_in};
 ghost use Rattle.jc_index.specs.Spelling.{buckets_of};
 ghost use Rattle.jc_index.specs.Found.{found};
 ghost use Rattle.jc_index.specs.Versions.{read_for};
 ghost use Rattle.jc_index.specs.declared.lookup.Lookup.TheVariants.{Sure, Unsure};
-ghost use Rattle.jc_shared.specs.Calls.{Adds, Fails, Lacks};
-ghost use Rattle.jc_shared.specs.Living.{IsCreated, IsCreateFault, HasGone, IsHeld};
-ghost use Rattle.jc_shared.specs.Sessions.{log_of};
+ghost use Rattle.jc_shared.specs.Calls.{Adds, Fails, Lacks, TellsLack};
+ghost use Rattle.jc_shared.specs.Living.{IsCreated, IsCreateFault, IsDestroyRefusal, HasGone, IsHeld, IsSeen};
+ghost use Rattle.jc_shared.specs.Sessions.{SeesSome, log_of};
 
 use crate::auditing::Logged;
 use crate::fault::{CallFault, CreateFault, DestroyFault};
@@ -22,7 +22,7 @@ use crate::hooks::OwnHooks;
 use crate::manager::Manager;
 use crate::name::Name;
 use crate::tables::TablePass;
-use jc_hooks::{CacheHooks, Listener, Loader, Processor, Writer, suits};
+use jc_hooks::{CacheHooks, Hearer, Loader, Processor, Writer, suits};
 use jc_index::lookup::Lookup;
 use jc_model::OutOfMemory;
 use jc_model::call::{Call, Reply};
@@ -38,14 +38,14 @@ use std::sync::Wait;
 /// A session of a manager, with the entries of its own calls, and a pass, in which it looks keys up. Contracts see its
 /// number, these, and what the pass has seen.
 #[derive(Drop)]
-pub struct Session<'a, N: Name, L: Loader, W: Writer, P: Processor, K: Listener> {
+pub struct Session<'a, N: Name, L: Loader, W: Writer, P: Processor, K: Hearer> {
     manager: &'a Manager<N, L, W, P, K>,
     number: u32,
     own: Vec<Entry>,
     pass: TablePass<N>,
 }
 
-impl<'a, N: Name, L: Loader, W: Writer, P: Processor, K: Listener> Model
+impl<'a, N: Name, L: Loader, W: Writer, P: Processor, K: Hearer> Model
     for Session<'a, N, L, W, P, K> {
     ghost use Rattle.jc_shared.specs.Sessions.{Sitting};
 
@@ -54,7 +54,7 @@ impl<'a, N: Name, L: Loader, W: Writer, P: Processor, K: Listener> Model
     ghost view = { λ s. record { number = s.number; calls = s.own.items; pass = s.pass } };
 }
 
-impl<'a, N: Name, L: Loader, W: Writer, P: Processor, K: Listener> Logged
+impl<'a, N: Name, L: Loader, W: Writer, P: Processor, K: Hearer> Logged
     for Session<'a, N, L, W, P, K> {
     ghost use Rattle.jc_shared.specs.Sessions.{log_of};
 
@@ -95,7 +95,7 @@ fn draft_of(
     })
 }
 
-impl<'a, N: Name, L: Loader, W: Writer, P: Processor, K: Listener> Session<'a, N, L, W, P, K> {
+impl<'a, N: Name, L: Loader, W: Writer, P: Processor, K: Hearer> Session<'a, N, L, W, P, K> {
     pub(crate) fn new(
         manager: &'a Manager<N, L, W, P, K>,
         number: u32,
@@ -136,7 +136,7 @@ impl<'a, N: Name, L: Loader, W: Writer, P: Processor, K: Listener> Session<'a, N
     ) -> Result<Reply, CallFault>
         ensures number { self.new.number ≡ self.old.number }
         ensures ok { IfOk result (λ reply. Adds N.configs N.stated self.old self.new id now call (Replied reply)) }
-        ensures refused { Lacks N.configs id call → OnOk result ⊥ × (self.new ≡ self.old) }
+        ensures refused { Lacks N.configs id call → TellsLack result × (self.new ≡ self.old) }
         ensures err { IfErr result (λ fault. Fails N.configs N.stated self.old self.new id now call fault) }
         ensures front { IsPrefix self.old.pass.images self.new.pass.images }
     {
@@ -214,6 +214,7 @@ impl<'a, N: Name, L: Loader, W: Writer, P: Processor, K: Listener> Session<'a, N
     /// then as it was. By the locks none should come to `Busy`; no clause says so.
     pub fn destroy<R: Wait>(&mut self, rt: &R, id: CacheId) -> Result<(), DestroyFault>
         ensures gone { OnOk result (HasGone N.configs id self.new.pass) }
+        ensures fault { IfErr result (λ fault. IsDestroyRefusal N.configs id fault) }
         ensures refused { OnErr result (self.new ≡ self.old) }
         ensures front { IsPrefix self.old.pass.images self.new.pass.images }
         ensures same { log_of self.new ≡ log_of self.old }
@@ -226,10 +227,24 @@ impl<'a, N: Name, L: Loader, W: Writer, P: Processor, K: Listener> Session<'a, N
         Ok(())
     }
 
+    /// Sees the table as it is now without a call, for a session that only looks keys up: what others have put, and a
+    /// table that has doubled since. `OutOfMemory`: lookups are unsure until a meeting succeeds.
+    pub fn refresh<R: Wait>(&mut self, rt: &R) -> Result<(), OutOfMemory>
+        ensures sees { SeesSome N.configs self.new.pass }
+        ensures met { OnOk result (self.new.pass.met ≡ true) }
+        ensures refused { OnErr result (self.new.pass.met ≡ false) }
+        ensures front { IsPrefix self.old.pass.images self.new.pass.images }
+        ensures same { log_of self.new ≡ log_of self.old }
+    {
+        let manager = self.manager;
+        manager.locked.lock(rt).refresh(&mut self.pass)
+    }
+
     /// Whether a cache has a live row of this key, without waiting: it takes no lock. It is sure only of the last image
     /// that the session has seen, which is no older than its own last call. An unknown cache has no rows.
     pub fn contains_key(&mut self, id: CacheId, key: &Key, now: u64) -> Lookup
         ensures sure { (b : Bool) → result ≡ Sure b → found (last_image self.new.pass.images) id key.now now ≡ Some b }
+        ensures stays { (b : Bool) → result ≡ Sure b → Stayed self.new.pass.begun self.new.pass.checked }
         ensures unmet { self.old.pass.met ≡ false → (result ≡ Unsure) × (self.new.pass ≡ self.old.pass) }
         ensures unsure { result ≡ Unsure → (self.old.pass.met ≡ false) ⊎ ((SomeOdd self.new.pass.begun ⊎ (self.new.pass.begun ≢ self.new.pass.checked)) ⊎ (found (last_image self.new.pass.images) id key.now now ≡ None)) }
         ensures stripes { self.old.pass.met ≡ true → (stripes_in self.new.pass.begun ≡ read_for (buckets_of (seeded_place self.old.pass.placer) self.old.pass.buckets (id, key.now))) × (stripes_in self.new.pass.checked ≡ stripes_in self.new.pass.begun) }
@@ -244,7 +259,8 @@ impl<'a, N: Name, L: Loader, W: Writer, P: Processor, K: Listener> Session<'a, N
     /// Whether a cache has a live row of this key: by a lookup where that is sure, else under the lock. It is no use of
     /// the row, and the session keeps no entry of it.
     pub fn contains<R: Wait>(&mut self, rt: &R, id: CacheId, key: &Key, now: u64) -> bool
-        ensures unmet { self.old.pass.met ≡ false → IsHeld N.configs id key.now now result }
+        ensures told { IsSeen id key.now now self.new.pass result ⊎ IsHeld N.configs id key.now now self.new.pass result }
+        ensures unmet { self.old.pass.met ≡ false → IsHeld N.configs id key.now now self.new.pass result }
         ensures agrees { self.new.pass.met ≡ true → (b : Bool) → found (last_image self.new.pass.images) id key.now now ≡ Some b → result ≡ b }
         ensures front { IsPrefix self.old.pass.images self.new.pass.images }
         ensures same { log_of self.new ≡ log_of self.old }

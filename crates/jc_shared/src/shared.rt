@@ -16,7 +16,7 @@ use crate::name::Name;
 use crate::tables::BlankTable;
 use jc_engine::open::open_refusal;
 use jc_engine::recorded::Recorded;
-use jc_hooks::{CacheHooks, Listener, Loader, Processor, Writer, first_unsuited};
+use jc_hooks::{CacheHooks, Hearer, Loader, Processor, Writer, first_unsuited};
 use jc_model::OutOfMemory;
 use jc_model::config::CacheConfig;
 use jc_model::share::Share;
@@ -74,7 +74,7 @@ fn recorded(
 }
 
 /// All that a manager has, where memory suffices.
-fn opened<L: Loader, W: Writer, P: Processor, K: Listener>(
+fn opened<L: Loader, W: Writer, P: Processor, K: Hearer>(
     alloc: Global,
     configs: Vec<CacheConfig>,
     hooks: Vec<CacheHooks<L, W, P, K>>,
@@ -98,7 +98,7 @@ fn opened<L: Loader, W: Writer, P: Processor, K: Listener>(
     })
 }
 
-impl<L: Loader, W: Writer, P: Processor, K: Listener> Shared<L, W, P, K> {
+impl<L: Loader, W: Writer, P: Processor, K: Hearer> Shared<L, W, P, K> {
     /// Opens a manager with these caches and their callbacks, over an empty table. The seed picks the places there.
     ///
     /// Refused as `Caches`, with the engine's refusal; as `HooksDiffer`; as `OutOfMemory`.

@@ -1,7 +1,12 @@
 //! Tenures in which caches are found, created and destroyed.
-ghost use Rattle.std.specs.Prelude.{◌≡◌, ◌≢◌, true, IfOk, IfErr, OnOk};
+ghost use Rattle.std.specs.Prelude.{◌≡◌, ◌≢◌, ℕ, true, IfOk, IfErr, OnOk, OnErr};
 ghost use mathlib.Core.List.{IsPrefix};
-ghost use Rattle.jc_shared.specs.Living.{IsNamed, IsCreated, IsCreateFault, IsDestroyFault, HasGone};
+ghost use Rattle.jc_model.specs.declared.event.Event.TheVariants.{Create, Destroy};
+ghost use Rattle.jc_model.specs.declared.event.Outcome.TheVariants.{Created, Destroyed};
+ghost use Rattle.jc_model.specs.Places.{named_from};
+ghost use Rattle.jc_engine.specs.Caches.{lives_of};
+ghost use Rattle.jc_shared.specs.Living.{IsNamed, IsCreated, IsCreateFault, IsDestroyFault, HasGone, IsRefusedConfig, IsRefusedDestroy};
+ghost use Rattle.jc_shared.specs.Tenures.{IsTenure};
 
 use super::Locked;
 use crate::fault::{CreateFault, DestroyFault};
@@ -14,7 +19,8 @@ use jc_model::key::Key;
 impl<N: Name> Locked<N> {
     /// The id of the live cache with this name.
     pub(crate) fn cache(&self, name: &Key) -> Option<CacheId>
-        ensures { IsNamed N.configs name.now result }
+        ensures exact { result ≡ named_from (λ k. k.config.name) name.now 0 (lives_of self.now.recorded.caches) }
+        ensures named { IsNamed N.configs name.now result }
     {
         // Read for its clauses: the transcript is legal.
         let _legal = self.recorded.transcript();
@@ -29,7 +35,11 @@ impl<N: Name> Locked<N> {
         room: bool,
     ) -> Result<CacheId, (CreateFault, CacheConfig)>
         ensures created { IfOk result (λ id. IsCreated N.configs id config) }
+        ensures tenure { IfOk result (λ id. (session : ℕ) → IsTenure self.old.recorded self.new.recorded session (Create config) (Created id)) }
         ensures refused { IfErr result (λ e. IsCreateFault N.configs config (suited ≡ true) e.0) }
+        ensures exact { IfErr result (λ e. IsRefusedConfig (lives_of self.old.recorded.caches) config suited e.0) }
+        ensures same { OnErr result (self.new.recorded ≡ self.old.recorded) }
+        ensures kept { (self.new.given ≡ self.old.given) × (self.new.closed ≡ self.old.closed) }
         ensures may { OnOk result ((suited ≡ true) × (room ≡ true)) }
         ensures back { IfErr result (λ e. e.1 ≡ config) }
     {
@@ -46,7 +56,7 @@ impl<N: Name> Locked<N> {
         }
         match self.recorded.create(config) {
             Ok(id) => {
-                let _legal = self.recorded.transcript();
+                let _after = self.recorded.transcript();
                 Ok(id)
             }
             Err((_, config)) => Err((CreateFault::OutOfMemory, config)),
@@ -60,9 +70,12 @@ impl<N: Name> Locked<N> {
         pass: &mut TablePass<N>,
     ) -> Result<(), DestroyFault>
         ensures gone { OnOk result (HasGone N.configs id pass.new) }
+        ensures tenure { OnOk result ((session : ℕ) → IsTenure self.old.recorded self.new.recorded session (Destroy id) Destroyed) }
         ensures front { IsPrefix pass.old.images pass.new.images }
         ensures refused { IfErr result (λ fault. IsDestroyFault N.configs id fault) }
-        ensures err { IfErr result (λ fault. (fault ≢ DestroyFault.OutOfMemory) × (pass.new ≡ pass.old)) }
+        ensures exact { IfErr result (λ fault. IsRefusedDestroy (lives_of self.old.recorded.caches) id fault) }
+        ensures same { OnErr result ((self.new.recorded ≡ self.old.recorded) × (pass.new ≡ pass.old)) }
+        ensures kept { (self.new.given ≡ self.old.given) × (self.new.closed ≡ self.old.closed) }
     {
         // Read for its clauses: the transcript is legal.
         let _legal = self.recorded.transcript();

@@ -13,5 +13,5 @@ invariant_of-result g c =
     record {
       unused = c.in_ok-recorded.ensures.opened ∙ ap (λ (cs : List CacheConfig). opened_from 0 cs) same;
       uncalled = c.in_ok-recorded.ensures.uncalled ∙ ap (λ (cs : List CacheConfig). at_first 0 cs) same;
-      counted = ap (λ (shared : List (SharedHooks _ _)). processor_counts shared) {y = map shared_of c.args.hooks.items} c.in_ok-hooks.ensures ∙ counted g.P.Processor.wants c.args.configs.items c.args.hooks.items c.requires.suit;
+      counted = ap (λ (shared : List (SharedHooks _ _)). processor_counts shared) {y = map shared_of c.args.hooks.items} c.in_ok-hooks.ensures.shared ∙ counted g.P.Processor.wants c.args.configs.items c.args.hooks.items c.requires.suit;
     }

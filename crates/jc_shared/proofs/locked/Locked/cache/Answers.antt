@@ -3,8 +3,11 @@ use Rattle.jc_engine.specs.Caches.{lives_of}
 use Rattle.jc_shared.proofs.Livings.{named_lives}
 use Rattle.jc_shared.proofs.locked.Locked.cache.Goals as goal
 
-pub returns : goal.returns
-returns g c =
+pub returns-clause-exact : goal.returns-clause-exact
+returns-clause-exact g c = c.cache.ensures ∙ named_lives c.args.name.now 0 c.args.self.now.recorded.caches
+
+pub returns-clause-named : goal.returns-clause-named
+returns-clause-named g c =
     let recorded = c.args.self.now.recorded in
     let told = c.transcript-legal.ensures in
     record {

@@ -14,3 +14,6 @@ returns-in-Ok-clause-sees g c =
       },
       shown.1,
     )
+
+pub returns-in-Ok-clause-shows : goal.returns-in-Ok-clause-shows
+returns-in-Ok-clause-shows g c = record { tells = c.in-Ok.ensures.tells; shows = λ _. c.in-Ok.ensures.watcher.0 }

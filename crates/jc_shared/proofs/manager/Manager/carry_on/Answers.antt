@@ -1,5 +1,9 @@
+use Rattle.std.proofs.Common.{sym, subst}
+use Rattle.std.proofs.lemmas.Result.{err_from_is_err_and}
 use Rattle.jc_stripes.proofs.Lists.{prefix_trans}
+use Rattle.jc_shared.specs.Serving.{HasStated}
 use Rattle.jc_shared.proofs.Carrying.{same_call}
+use Rattle.jc_shared.proofs.Writing.{has_stated, takes_in}
 use Rattle.jc_shared.proofs.manager.Manager.carry_on.Goals as goal
 
 pub loop-preserved : goal.loop-preserved
@@ -12,4 +16,10 @@ loop-preserved g c =
       step.brought,
       prefix_trans c.args.pass.now.images c.loop.pass.images c.advance.new.pass.images before.4 step.front,
       λ first h. step.told first (before.5 first h),
+      λ first h. takes_in g.W.Writer.may g.K.Hearer.state_after c.loop.hooks c.advance.new.hooks c.loop.draft.answers _ c.advance.new.draft.answers step.served first (before.6 first h),
     )
+
+pub returns-in_err-turned-in-Asked-clause-wrote : goal.returns-in_err-turned-in-Asked-clause-wrote
+returns-in_err-turned-in-Asked-clause-wrote g c =
+    let p = err_from_is_err_and c.from_residual.result c.from_residual.ensures.1 in
+    rw p.1 (λ first h. subst (HasStated g.W.Writer.may first) (sym c.in_err-turned-in-Asked.ensures.kept) (has_stated g.W.Writer.may first c.loop.hooks c.loop.draft.answers (c.loop.invariant.6 first h)))

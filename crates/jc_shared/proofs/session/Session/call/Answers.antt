@@ -32,11 +32,11 @@ pub returns-in-Err-begun-clause-err : goal.returns-in-Err-begun-clause-err
 returns-in-Err-begun-clause-err g c =
     rw (← c.self.view_is)
     (begin_fails g.N.Name.configs g.N.Name.stated (record { number = c.self.inside.number; calls = c.self.inside.own.items; pass = c.self.inside.pass }) (record { number = c.self.inside.number; calls = c.draft_of-drafted.new.own.items; pass = c.begin-begun.new.pass }) c.args.id c.args.now c.args.call
-    c.in-Ok-drafted.draft c.in-Err-begun.fault c.in-Ok-drafted.ensures.drafted (λ i. record { number = c.self.inside.number; calls = c.draft_of-drafted.ensures.same i; pass = c.in-Err-begun.ensures.same.1 i }) c.in-Err-begun.ensures.err)
+    c.in-Ok-drafted.draft c.in-Err-begun.fault c.in-Ok-drafted.ensures.drafted (λ i. record { number = c.self.inside.number; calls = c.draft_of-drafted.ensures.same i; pass = c.in-Err-begun.ensures.same.2 i }) c.in-Err-begun.ensures.err)
 
 pub returns-in-Err-accepted-clause-err : goal.returns-in-Err-accepted-clause-err
 returns-in-Err-accepted-clause-err g c =
     let own : Sitting = record { number = c.self.inside.number; calls = c.self.inside.own.items; pass = c.self.inside.pass } in
     let refused = c.in-Err-accepted.ensures in
     rw (← c.self.view_is)
-    (unaccepted_fails g.N.Name.configs g.N.Name.stated own own c.args.id c.args.now c.args.call c.in-Err-accepted.fault refused.err refl (λ k at. not_accepted (has_processor k c.args.call) c.in-Err-accepted.fault (refused.agrees k (c.asked-asked.ensures.counted k at))))
+    (unaccepted_fails g.N.Name.configs g.N.Name.stated own own c.args.id c.args.now c.args.call c.in-Err-accepted.fault refused.err refl (record { names = refused.names; lacks = λ k at. not_accepted (has_processor k c.args.call) c.in-Err-accepted.fault (refused.agrees k (c.asked-asked.ensures.counted k at)) }))

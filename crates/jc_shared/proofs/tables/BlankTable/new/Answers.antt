@@ -5,7 +5,7 @@ use Rattle.jc_shared.proofs.tables.BlankTable.new.Goals as goal
 pub invariant_of-result : goal.invariant_of-result
 invariant_of-result c =
     let table = c.in_ok-table.ensures in
-    let words = c.in_ok-words.ensures in
+    let words = c.in_ok-words.ensures.words in
     record {
       cells_are = table.slots.0;
       placer_is = words.1 ∙ (c.new.ensures ∙ sym table.placer);
