@@ -1,5 +1,5 @@
 -- What callbacks have answered, one after the other.
-use Rattle.std.proofs.Common.{◌≡◌, ℕ, List, [], ◌∷◌, ◌++◌, Option, Some, None, Result, refl, sym, ap, ◌∙◌, subst, append_assoc, append-nil}
+use Rattle.std.proofs.Common.{◌≡◌, ℕ, List, [], ◌∷◌, ◌++◌, Option, Some, None, Result, refl, sym, ap, ◌∙◌, subst, append_assoc}
 use Rattle.std.proofs.lemmas.List.Elements.{filter-append}
 use Rattle.std.proofs.lemmas.Grind.{flat_map-append}
 use Rattle.jc_model.specs.declared.call.Answer.{Answer}
@@ -11,7 +11,8 @@ use Rattle.jc_model.specs.Run.{told_by}
 use Rattle.jc_hooks.specs.declared.cache_hooks.CacheHooks.{CacheHooks}
 use Rattle.jc_hooks.specs.declared.loader.Loaded.{Loaded}
 use Rattle.jc_hooks.specs.Asking.{MayGiveBy, states_after}
-use Rattle.jc_runner.specs.Answering.{is_write, written_in, notices_in, AllStated, Served, ServedAt, Heard, HeardAt}
+use Rattle.jc_shared.specs.Serving.{is_write}
+use Rattle.jc_runner.specs.Answering.{written_in, notices_in, AllStated, Heard, HeardAt}
 use Rattle.jc_runner.specs.Hooks.{HasNone}
 
 written-append : (xs ys : List (Request × Answer)) → written_in (xs ++ ys) ≡ written_in xs ++ written_in ys
@@ -49,18 +50,6 @@ module _ {L W P K : Type 0} (load_of : L → List ℕ → Loaded) (may : W → L
         y.tells rest ∙ x.tells (notices_in ys ++ rest) ∙ ap (states_after state_after h.listeners.items) joined;
   }
 
-  may_give_none : (o : Option W) → MayGiveBy may o []
-  may_give_none None = tt
-  may_give_none (Some w) = tt
-
-  -- in the end
-  has_served : (h h' : CacheHooks L W P K) (given : List (Request × Answer)) → HeardHere h h' given → Served load_of may verdict_of state_after h h' given
-  has_served h h' given x = record {
-    stated = x.stated;
-    writes = subst (MayGiveBy may h.writer) (append-nil (written_in given)) (x.writes [] (may_give_none h'.writer));
-    tells = x.tells;
-  }
-
   -- of the callbacks of a cache that has them or has none
 
   abbrev HeardThere : Option (CacheHooks L W P K) → Option (CacheHooks L W P K) → List (Request × Answer) → Type 0
@@ -77,12 +66,6 @@ module _ {L W P K : Type 0} (load_of : L → List ℕ → Loaded) (may : W → L
   more_heard (Some h) None o2 xs ys x y = absurd x
   more_heard (Some h) (Some h1) None xs ys x y = absurd y
   more_heard (Some h) (Some h1) (Some h2) xs ys x y = heard_more h h1 h2 xs ys x y
-
-  pub served_there : (o o' : Option (CacheHooks L W P K)) (given : List (Request × Answer)) → HeardThere o o' given → ServedAt load_of may verdict_of state_after o o' given
-  served_there None None given x = x
-  served_there None (Some h') given x = absurd x
-  served_there (Some h) None given x = absurd x
-  served_there (Some h) (Some h') given x = has_served h h' given x
 
   pub none_heard : (h h' : CacheHooks L W P K) (given : List (Request × Answer)) → HasNone h → HeardHere h h' given → HeardThere None None given
   none_heard h h' given none x = subst (λ (ps : List P). AllStatedHere None ps given) none.processors (subst (λ (o : Option L). AllStatedHere o h.processors.items given) none.loader x.stated)

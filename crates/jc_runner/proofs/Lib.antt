@@ -17,3 +17,4 @@ pub mod Suiting
 pub mod Gathering
 pub mod Sessions
 pub mod Apart
+pub mod Kept

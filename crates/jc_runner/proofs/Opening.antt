@@ -25,12 +25,11 @@ use Rattle.jc_config.specs.declared.kinds.ProcessorKind.{ProcessorKind}
 use Rattle.jc_config.specs.declared.kinds.ProcessorKind.TheVariants as kind
 use Rattle.jc_engine.specs.Opening.{is_taken, limit_refusal, refusal_from, capacities, open_refusal}
 use Rattle.jc_hooks.specs.Processors.{wants_of}
-use Rattle.jc_hooks.specs.Tallies.{no_notices}
 use Rattle.jc_model.specs.Limits.{most_rows, most_listeners, most_processors, most_caches, most_rows_together, text_bytes}
 use Rattle.jc_model.specs.declared.config.CacheConfig.{CacheConfig}
 use Rattle.jc_hooks.specs.Suits.{Suits}
 use Rattle.jc_hooks.specs.Suits.{AllSuit}
-use Rattle.jc_runner.specs.Naming.{ProgramHooks, loader_named, writer_named, processor_named, IsNamed, AllNamed}
+use Rattle.jc_runner.specs.Naming.{ProgramHooks, loader_named, writer_named, processor_named, fresh_listener, IsNamed, AllNamed}
 use Rattle.jc_runner.specs.Opens.{HasKinds, AllHaveKinds, Opens}
 use Rattle.jc_runner.specs.Program.{demonstration}
 
@@ -237,7 +236,7 @@ named_suits c k h has named = record {
   loads = has.loads ∙ sym (same_loader k.loader) ∙ ap is_some (sym named.loader);
   writes = has.writes ∙ sym (same_writer k.writer) ∙ ap is_some (sym named.writer);
   processes = has.processes ∙ sym (same_wants k.processors) ∙ ap (map wants_of) (sym named.processors);
-  listens = sym (length-replicate c.listeners no_notices) ∙ ap length (sym named.listeners);
+  listens = sym (length-replicate c.listeners fresh_listener) ∙ ap length (sym named.listeners);
 }
 
 pub all_named_suit : (caches : List CacheConfig) (kinds : List HookKinds) (hooks : List ProgramHooks) → AllHaveKinds caches kinds → AllNamed caches kinds hooks → AllSuit wants_of caches hooks

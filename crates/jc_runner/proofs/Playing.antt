@@ -1,7 +1,7 @@
 -- A script that is run with the callbacks that its configuration names.
 use Rattle.std.proofs.Common.{◌≡◌, ◌≢◌, ℕ, ◌<◌, true, false, List, length, Option, Some, None, Result, Ok, Err, refl, sym, subst}
 use Rattle.std.specs.Prelude.{IfSome, IfErr, OnOk, IsSome}
-use Rattle.std.specs.Io.KnownBytes.{Appends, Keeps}
+use Rattle.std.specs.Io.KnownBytes.{Appends, Keeps, IsAtEnd}
 use Rattle.std.proofs.lemmas.Bool.{false≢true}
 use mathlib.Core.Logic.{inl, inr}
 use Rattle.jc_config.specs.declared.kinds.Configuration.{Configuration}
@@ -12,13 +12,12 @@ use Rattle.jc_engine.specs.Opening.{open_refusal}
 use Rattle.jc_engine.specs.declared.open.OpenRefusal.{OpenRefusal}
 use Rattle.jc_hooks.specs.Processors.{verdict_by, wants_of}
 use Rattle.jc_hooks.specs.Program.{echoed, AllChecked}
-use Rattle.jc_hooks.specs.Tallies.{numbers, tallied}
 use Rattle.jc_script.specs.declared.line.Line.{Line}
 use Rattle.jc_script.specs.Script.{lines}
 use Rattle.jc_script.specs.declared.fault.ScriptFault.{ScriptFault}
 use Rattle.jc_runner.specs.Hooks.{CannotOpen}
 use Rattle.jc_runner.specs.Meters.{next}
-use Rattle.jc_runner.specs.Naming.{ProgramHooks, AllNamed}
+use Rattle.jc_runner.specs.Naming.{ProgramHooks, AllNamed, heard_by}
 use Rattle.jc_runner.specs.Opens.{Opens}
 use Rattle.jc_runner.specs.Program.{Reported, Gathered, RunEnds}
 use Rattle.jc_runner.specs.Reports.{ReportsOf}
@@ -45,7 +44,7 @@ opens_so c hooks named opens (inr refused) = not_refused c.settings (open_refusa
 
 module _ (c : Configuration) (hooks hooks' : List ProgramHooks) (named : AllNamed c.settings c.hooks hooks) where
   abbrev ReportsHere : List ℕ → (List ℕ → Type 0) → Type 0
-  ReportsHere script IsSo = ReportsOf (λ l. echoed) (λ w given. AllChecked given) verdict_by (λ t notices. numbers (tallied t notices)) c.settings script hooks hooks' IsSo
+  ReportsHere script IsSo = ReportsOf (λ l. echoed) (λ w given. AllChecked given) verdict_by heard_by c.settings script hooks hooks' IsSo
 
   reported : (left : Option (List ℕ)) (IsSo : List ℕ → Type 0) → IfSome left (λ script. ReportsHere script IsSo) → IfSome left (λ script. Reported c script IsSo)
   reported None IsSo r = tt
@@ -54,6 +53,7 @@ module _ (c : Configuration) (hooks hooks' : List ProgramHooks) (named : AllName
   module _ {I O : Type 0} (remaining : I → Option (List ℕ)) (contents : O → Option (List ℕ)) (reader reader' : Watched I) (writer writer' : WatchedWriter O) (opens : Opens c) where
     pub run_ends : (result : Result (Unit {0}) RunFault)
         → OnOk result (IfSome (remaining reader.inner) (λ script. ReportsHere script (Appends (contents writer.inner) (contents writer'.inner))))
+        → OnOk result (IsAtEnd (remaining reader'.inner))
         → OnOk result ((writer'.flushed ≡ true) × (writer'.failures ≡ writer.failures))
         → ((f : ScriptFault) → result ≡ Err (run.Script f) → IfSome (remaining reader.inner) (λ script. lines c.settings script ≡ Err f))
         → (result ≡ Err run.TooLong → IfSome (remaining reader.inner) (λ script. text_bytes < length script))
@@ -64,14 +64,14 @@ module _ (c : Configuration) (hooks hooks' : List ProgramHooks) (named : AllName
         → (result ≡ Err run.Read → reader'.failures ≡ next reader.failures)
         → IfErr result (λ e. e ≢ run.Write → Keeps (contents writer.inner) (contents writer'.inner))
         → RunEnds remaining contents true c reader reader' writer writer' result
-    run_ends (Ok done) ok flushed script long opening closed front write read nothing = (reported (remaining reader.inner) (Appends (contents writer.inner) (contents writer'.inner)) ok, flushed.1, flushed.0)
-    run_ends (Err run.Read) ok flushed script long opening closed front write read nothing = (read refl, nothing (λ e. cc))
-    run_ends (Err run.TooLong) ok flushed script long opening closed front write read nothing = (long refl, nothing (λ e. cc))
-    run_ends (Err (run.Script f)) ok flushed script long opening closed front write read nothing = (script f refl, nothing (λ e. cc))
-    run_ends (Err run.Open) ok flushed script long opening closed front write read nothing = opens_so c hooks named opens (opening refl)
-    run_ends (Err run.Close) ok flushed script long opening closed front write read nothing = absurd (closed refl)
-    run_ends (Err run.Write) ok flushed script long opening closed front write read nothing = (reported (remaining reader.inner) (WritesFront (contents writer.inner) (contents writer'.inner)) (front refl), write refl)
-    run_ends (Err run.Memory) ok flushed script long opening closed front write read nothing = nothing (λ e. cc)
+    run_ends (Ok done) ok end flushed script long opening closed front write read nothing = (reported (remaining reader.inner) (Appends (contents writer.inner) (contents writer'.inner)) ok, end, flushed.1, flushed.0)
+    run_ends (Err run.Read) ok end flushed script long opening closed front write read nothing = (read refl, nothing (λ e. cc))
+    run_ends (Err run.TooLong) ok end flushed script long opening closed front write read nothing = (long refl, nothing (λ e. cc))
+    run_ends (Err (run.Script f)) ok end flushed script long opening closed front write read nothing = (script f refl, nothing (λ e. cc))
+    run_ends (Err run.Open) ok end flushed script long opening closed front write read nothing = opens_so c hooks named opens (opening refl)
+    run_ends (Err run.Close) ok end flushed script long opening closed front write read nothing = absurd (closed refl)
+    run_ends (Err run.Write) ok end flushed script long opening closed front write read nothing = (reported (remaining reader.inner) (WritesFront (contents writer.inner) (contents writer'.inner)) (front refl), write refl)
+    run_ends (Err run.Memory) ok end flushed script long opening closed front write read nothing = nothing (λ e. cc)
 
 -- The same on worker threads.
 
@@ -85,6 +85,7 @@ module _ (c : Configuration) (hooks : List ProgramHooks) (named : AllNamed c.set
 
   module _ {I O : Type 0} (remaining : I → Option (List ℕ)) (contents : O → Option (List ℕ)) (reader reader' : Watched I) (writer writer' : WatchedWriter O) (opens : Opens c) (read : IfSome (remaining reader.inner) (λ script. lines c.settings script ≡ Ok all)) where
     pub threads_end : (result : Result (Unit {0}) RunFault)
+        → IsAtEnd (remaining reader'.inner)
         → OnOk result (GathersHere (Appends (contents writer.inner) (contents writer'.inner)))
         → OnOk result ((writer'.flushed ≡ true) × (writer'.failures ≡ writer.failures))
         → (result ≡ Err run.Open → CannotOpen wants_of c.settings hooks)
@@ -93,11 +94,11 @@ module _ (c : Configuration) (hooks : List ProgramHooks) (named : AllNamed c.set
         → IfErr result (λ e. e ≢ run.Write → Keeps (contents writer.inner) (contents writer'.inner))
         → IfErr result (λ e. e ≢ run.Write → IsOfThreads e)
         → RunEnds remaining contents false c reader reader' writer writer' result
-    threads_end (Ok done) ok flushed opening front write nothing others = (gathered (remaining reader.inner) (Appends (contents writer.inner) (contents writer'.inner)) read ok, flushed.1, flushed.0)
-    threads_end (Err run.Read) ok flushed opening front write nothing others = absurd (others (λ e. cc))
-    threads_end (Err run.TooLong) ok flushed opening front write nothing others = absurd (others (λ e. cc))
-    threads_end (Err (run.Script f)) ok flushed opening front write nothing others = absurd (others (λ e. cc))
-    threads_end (Err run.Open) ok flushed opening front write nothing others = opens_so c hooks named opens (opening refl)
-    threads_end (Err run.Close) ok flushed opening front write nothing others = (refl, nothing (λ e. cc))
-    threads_end (Err run.Write) ok flushed opening front write nothing others = (gathered (remaining reader.inner) (WritesFront (contents writer.inner) (contents writer'.inner)) read (front refl), write refl)
-    threads_end (Err run.Memory) ok flushed opening front write nothing others = nothing (λ e. cc)
+    threads_end (Ok done) end ok flushed opening front write nothing others = (gathered (remaining reader.inner) (Appends (contents writer.inner) (contents writer'.inner)) read ok, end, flushed.1, flushed.0)
+    threads_end (Err run.Read) end ok flushed opening front write nothing others = absurd (others (λ e. cc))
+    threads_end (Err run.TooLong) end ok flushed opening front write nothing others = absurd (others (λ e. cc))
+    threads_end (Err (run.Script f)) end ok flushed opening front write nothing others = absurd (others (λ e. cc))
+    threads_end (Err run.Open) end ok flushed opening front write nothing others = opens_so c hooks named opens (opening refl)
+    threads_end (Err run.Close) end ok flushed opening front write nothing others = (refl, nothing (λ e. cc))
+    threads_end (Err run.Write) end ok flushed opening front write nothing others = (gathered (remaining reader.inner) (WritesFront (contents writer.inner) (contents writer'.inner)) read (front refl), write refl)
+    threads_end (Err run.Memory) end ok flushed opening front write nothing others = nothing (λ e. cc)

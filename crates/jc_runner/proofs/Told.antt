@@ -28,7 +28,7 @@ use Rattle.jc_runner.specs.Alone.{line_of, exchanges, alone_from}
 use Rattle.jc_runner.specs.Halfway.{lives_now, as_read, NoneOpen, IsAtRest, Goes, Halfway}
 use Rattle.jc_runner.specs.Reports.{Reports, ReportsOf}
 use Rattle.jc_runner.specs.Streams.{IsAll}
-use Rattle.jc_runner.proofs.Hearing.{nothing_heard, served_there}
+use Rattle.jc_runner.proofs.Hearing.{nothing_heard}
 
 -- Opened caches, as a reader follows them.
 
@@ -95,7 +95,7 @@ module _ {L W P K : Type 0} (load_of : L → List ℕ → Loaded) (may : W → L
                 legal = legal.each id c at';
                 replied = g.replied;
               };
-              served = served_there load_of may verdict_of state_after (slice_get handed id) (slice_get hooks id) (exchanges c fresh (entries_of id entries)) g.heard;
+              heard = g.heard;
             };
       }
 

@@ -1,5 +1,5 @@
 -- What the callbacks of a cache answer to its requests, and how that leaves them.
-use Rattle.std.specs.Prelude.{◌≡◌, ℕ, Bool, true, false, IsTrue, List, [], ◌∷◌, ◌++◌, slice_get, Option, Some, None, Result, ⊤}
+use Rattle.std.specs.Prelude.{◌≡◌, ℕ, IsTrue, List, [], ◌∷◌, ◌++◌, slice_get, Option, Some, None, Result, ⊤}
 use Rattle.std.specs.List.{filter, flat_map}
 use Rattle.jc_model.specs.declared.call.Answer.{Answer}
 use Rattle.jc_model.specs.declared.call.Answer.TheVariants.{Told}
@@ -8,15 +8,11 @@ use Rattle.jc_model.specs.declared.call.ProcessorFault.{ProcessorFault}
 use Rattle.jc_model.specs.declared.call.Request.{Request}
 use Rattle.jc_model.specs.declared.call.Request.TheVariants.{Load, Write, Delete, Process, Tell}
 use Rattle.jc_model.specs.declared.call.Verdict.{Verdict}
+use Rattle.jc_shared.specs.Serving.{is_write}
 use Rattle.jc_model.specs.Run.{for_write, fits, told_by}
 use Rattle.jc_hooks.specs.Asking.{load_by, verdict_by, MayGiveBy, states_after}
 use Rattle.jc_hooks.specs.declared.cache_hooks.CacheHooks.{CacheHooks}
 use Rattle.jc_hooks.specs.declared.loader.Loaded.{Loaded}
-
-abbrev pub is_write : Request → Bool
-is_write (Write key value) = true
-is_write (Delete key) = true
-is_write _ = false
 
 -- the writer's requests among these
 abbrev pub written_in : List (Request × Answer) → List (Request × Answer)
@@ -43,20 +39,8 @@ module _ {L W P K : Type 0} (load_of : L → List ℕ → Loaded) (may : W → L
   abbrev pub Unheard : List (Request × Answer) → Type 0
   Unheard given = AllStated None [] given
 
-  -- the callbacks have answered these requests so, and stand as they stated before
-  pub record Served (old new : CacheHooks L W P K) (given : List (Request × Answer)) : Type 0 where
-    pub stated : AllStated old.loader old.processors.items given
-    pub writes : MayGiveBy may old.writer (written_in given)
-    pub tells : (rest : List Notice) → states_after state_after new.listeners.items rest ≡ states_after state_after old.listeners.items (notices_in given ++ rest)
-
-  -- of the callbacks of a cache that has them or has none
-  abbrev pub ServedAt : Option (CacheHooks L W P K) → Option (CacheHooks L W P K) → List (Request × Answer) → Type 0
-  ServedAt None None given = Unheard given
-  ServedAt None (Some new) given = ⊥
-  ServedAt (Some old) None given = ⊥
-  ServedAt (Some old) (Some new) given = Served old new given
-
-  -- the same in the midst of a run: what they may answer and state from now on, they stated behind this
+  -- The callbacks have answered these requests so. Loader and processors are the same, and what writer and listeners
+  -- state from now on, they stated behind this.
   pub record Heard (old new : CacheHooks L W P K) (given : List (Request × Answer)) : Type 0 where
     pub loader : new.loader ≡ old.loader
     pub processors : new.processors.items ≡ old.processors.items
@@ -64,6 +48,7 @@ module _ {L W P K : Type 0} (load_of : L → List ℕ → Loaded) (may : W → L
     pub writes : (rest : List (Request × Answer)) → MayGiveBy may new.writer rest → MayGiveBy may old.writer (written_in given ++ rest)
     pub tells : (rest : List Notice) → states_after state_after new.listeners.items rest ≡ states_after state_after old.listeners.items (notices_in given ++ rest)
 
+  -- of the callbacks of a cache that has them or has none
   abbrev pub HeardAt : Option (CacheHooks L W P K) → Option (CacheHooks L W P K) → List (Request × Answer) → Type 0
   HeardAt None None given = Unheard given
   HeardAt None (Some new) given = ⊥

@@ -1,6 +1,6 @@
 -- How the program ends: the status, and what standard error says.
 use Rattle.std.specs.Bool.{OnTrue}
-use Rattle.std.specs.Prelude.{Bool, true, not, ◌≡◌, ◌≢◌, ◌⊎◌, ℕ, Option, List, Result, Ok, Err, codes}
+use Rattle.std.specs.Prelude.{Bool, true, not, if◌then◌else◌, ◌≡◌, ◌≢◌, ◌⊎◌, ℕ, Option, List, Result, Ok, Err, codes}
 use Rattle.std.specs.Io.KnownBytes.{Appends}
 use Rattle.clap.specs.Words.{kind_of}
 use Rattle.clap.specs.declared.error.kind.ErrorKind.TheVariants as kinds
@@ -20,13 +20,14 @@ ending_of (Err fault) = Faulty fault
 abbrev pub no_memory : Ending
 no_memory = Faulty (Run Memory)
 
--- help and the version are no mistakes
-abbrev pub HasStatus : Ending → ℕ → Type 0
-HasStatus Printed status = status ≡ 0
-HasStatus (Faulty fault) status = status ≡ 1
-HasStatus (Refused e) status =
-    ((kind_of e ≡ kinds.DisplayHelp) ⊎ (kind_of e ≡ kinds.DisplayVersion) → status ≡ 0) × (kind_of e ≢ kinds.DisplayHelp → kind_of e ≢ kinds.DisplayVersion → status ≡ 2)
-HasStatus NotText status = status ≡ 2
+-- help and the version are no mistakes, and a success where they were written
+abbrev pub HasStatus : Ending → Bool → ℕ → Type 0
+HasStatus Printed told status = status ≡ 0
+HasStatus (Faulty fault) told status = status ≡ 1
+HasStatus (Refused e) told status =
+    ((kind_of e ≡ kinds.DisplayHelp) ⊎ (kind_of e ≡ kinds.DisplayVersion) → status ≡ (if told then 0 else 1))
+    × (kind_of e ≢ kinds.DisplayHelp → kind_of e ≢ kinds.DisplayVersion → status ≡ 2)
+HasStatus NotText told status = status ≡ 2
 
 -- What standard error says, or that its writer failed; what a refusal says is `clap`'s.
 module _ {E : Type 0} (said : E → Option (List ℕ)) where
@@ -41,8 +42,13 @@ module _ {E : Type 0} (said : E → Option (List ℕ)) where
       ((kind_of e ≡ kinds.DisplayHelp) ⊎ (kind_of e ≡ kinds.DisplayVersion) → new ≡ old) × (kind_of e ≢ kinds.DisplayHelp → kind_of e ≢ kinds.DisplayVersion → new.failures ≡ next_if (not told) old.failures)
   SaysSo NotText told old new = TellsLine (codes "error: a word is not UTF-8\n") told old new
 
+-- it was written and flushed, or its writer failed
+abbrev pub IsPrinted : {O : Type 0} → Bool → WatchedWriter O → WatchedWriter O → Type 0
+IsPrinted told old new = OnTrue told (new.flushed ≡ true) × (new.failures ≡ next_if (not told) old.failures)
+
 -- only help and the version go to standard output
 abbrev pub Leaves : {O : Type 0} → Ending → Bool → WatchedWriter O → WatchedWriter O → Type 0
 Leaves (Refused e) told old new =
-    ((kind_of e ≡ kinds.DisplayHelp) ⊎ (kind_of e ≡ kinds.DisplayVersion) → new.failures ≡ next_if (not told) old.failures) × (kind_of e ≢ kinds.DisplayHelp → kind_of e ≢ kinds.DisplayVersion → new ≡ old)
+    ((kind_of e ≡ kinds.DisplayHelp) ⊎ (kind_of e ≡ kinds.DisplayVersion) → IsPrinted told old new)
+    × (kind_of e ≢ kinds.DisplayHelp → kind_of e ≢ kinds.DisplayVersion → new ≡ old)
 Leaves _ told old new = new ≡ old

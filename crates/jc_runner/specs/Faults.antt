@@ -1,4 +1,4 @@
--- The line that says why the program ends.
+-- Why a run ends, and the line that says why the program does.
 use Rattle.std.specs.Prelude.{ℕ, List, ◌++◌, codes, decimal}
 use Rattle.jc_config.specs.declared.fault.ConfigFault.{ConfigFault}
 use Rattle.jc_config.specs.declared.fault.ConfigFault.TheVariants as config
@@ -6,10 +6,17 @@ use Rattle.jc_config.specs.Faults.{name_of}
 use Rattle.jc_script.specs.declared.fault.ScriptFault.{ScriptFault}
 use Rattle.jc_script.specs.declared.fault.ScriptFault.TheVariants as script
 use Rattle.jc_script.specs.Member.{member_name}
+use Rattle.jc_threads.specs.declared.fault.WorkFault.{WorkFault}
+use Rattle.jc_threads.specs.declared.fault.WorkFault.TheVariants.{Close, OutOfMemory}
 use Rattle.jc_runner.specs.declared.fault.RunFault.{RunFault}
 use Rattle.jc_runner.specs.declared.fault.RunFault.TheVariants as run
 use Rattle.jc_runner.specs.declared.fault.ProgramFault.{ProgramFault}
 use Rattle.jc_runner.specs.declared.fault.ProgramFault.TheVariants.{ConfigRead, Config, Run}
+
+-- a run on threads that came to no transcript
+abbrev pub of_work : WorkFault → RunFault
+of_work Close = run.Close
+of_work OutOfMemory = run.Memory
 
 abbrev pub at_line : ℕ → List ℕ → List ℕ
 at_line n text = codes "script line " ++ decimal n ++ text

@@ -1,5 +1,5 @@
 -- Callbacks that are those which the configurations name.
-use Rattle.std.specs.Prelude.{◌≡◌, ◌⊎◌, Bool, None, IsSome, List, []}
+use Rattle.std.specs.Prelude.{◌≡◌, ◌⊎◌, Bool, Option, None, IsSome, List, [], map}
 use Rattle.jc_hooks.specs.Suits.{AllSuit}
 use Rattle.jc_hooks.specs.declared.cache_hooks.CacheHooks.{CacheHooks}
 use Rattle.jc_model.specs.declared.config.CacheConfig.{CacheConfig}
@@ -11,6 +11,14 @@ pub record HasNone {L W P K : Type 0} (h : CacheHooks L W P K) : Type 0 where
   pub writer : h.writer ≡ None
   pub processors : h.processors.items ≡ []
   pub listeners : h.listeners.items ≡ []
+
+-- the loader and the processors
+abbrev pub asked_of : {L W P K : Type 0} → CacheHooks L W P K → Option L × List P
+asked_of h = (h.loader, h.processors.items)
+
+-- each cache has those that it had
+abbrev pub AreKept : {L W P K : Type 0} → List (CacheHooks L W P K) → List (CacheHooks L W P K) → Type 0
+AreKept old new = map asked_of new ≡ map asked_of old
 
 module _ {L W P K : Type 0} (wants : P → Bool) where
   -- each cache has the callbacks that its configuration names: one fact, which a search does not take apart

@@ -1,5 +1,5 @@
 -- The callbacks that a configuration names.
-use Rattle.std.specs.Prelude.{◌≡◌, Option, Some, None, List, [], ◌∷◌, map, replicate, ⊤}
+use Rattle.std.specs.Prelude.{◌≡◌, ℕ, true, Option, Some, None, List, [], ◌∷◌, map, replicate, ⊤}
 use Rattle.jc_config.specs.declared.kinds.HookKinds.{HookKinds}
 use Rattle.jc_config.specs.declared.kinds.LoaderKind.{LoaderKind}
 use Rattle.jc_config.specs.declared.kinds.LoaderKind.TheVariants.{Echo}
@@ -12,13 +12,29 @@ use Rattle.jc_hooks.specs.declared.program.EchoLoader.{EchoLoader}
 use Rattle.jc_hooks.specs.declared.program.CheckWriter.{CheckWriter}
 use Rattle.jc_hooks.specs.declared.program.ProgramProcessor.{ProgramProcessor}
 use Rattle.jc_hooks.specs.declared.program.ProgramProcessor.TheVariants.{Append, Fail, Drop, Peek}
+use Rattle.jc_hooks.specs.declared.filter.AdmitAll.{AdmitAll}
+use Rattle.jc_hooks.specs.declared.hook.ListenerHook.{ListenerHook}
 use Rattle.jc_hooks.specs.declared.tally.Tally.{Tally}
-use Rattle.jc_hooks.specs.Tallies.{no_notices}
+use Rattle.jc_hooks.specs.Asking.{admitted}
+use Rattle.jc_hooks.specs.Tallies.{no_notices, numbers, tallied}
+use Rattle.jc_model.specs.declared.call.Notice.{Notice}
 use Rattle.jc_model.specs.declared.config.CacheConfig.{CacheConfig}
+
+-- a listener of the program, behind its filter
+abbrev pub ProgramListener : Type 0
+ProgramListener = ListenerHook AdmitAll Tally
+
+-- one that was told nothing so far
+abbrev pub fresh_listener : ProgramListener
+fresh_listener = record { filter = record {}; listener = no_notices }
+
+-- what such a listener states for a list of notices: it is told all that its filter admits
+abbrev pub heard_by : ProgramListener → List Notice → List ℕ
+heard_by h notices = numbers (tallied h.listener (admitted (λ _. true) notices))
 
 -- the program's callbacks of a cache
 abbrev pub ProgramHooks : Type 0
-ProgramHooks = CacheHooks EchoLoader CheckWriter ProgramProcessor Tally
+ProgramHooks = CacheHooks EchoLoader CheckWriter ProgramProcessor ProgramListener
 
 abbrev pub loader_named : Option LoaderKind → Option EchoLoader
 loader_named None = None
@@ -39,7 +55,7 @@ pub record IsNamed (c : CacheConfig) (k : HookKinds) (h : ProgramHooks) : Type 0
   pub loader : h.loader ≡ loader_named k.loader
   pub writer : h.writer ≡ writer_named k.writer
   pub processors : h.processors.items ≡ map processor_named k.processors
-  pub listeners : h.listeners.items ≡ replicate c.listeners no_notices
+  pub listeners : h.listeners.items ≡ replicate c.listeners fresh_listener
 
 abbrev pub AllNamed : List CacheConfig → List HookKinds → List ProgramHooks → Type 0
 AllNamed [] kinds [] = ⊤

@@ -1,6 +1,6 @@
 -- What the program does with its words, its files and its streams.
 use Rattle.std.specs.Prelude.{Bool, true, false, ◌≡◌, ◌≢◌, ◌⊎◌, ℕ, ◌<◌, List, [], ◌∷◌, length, Option, Some, None, IfSome, Result, Ok, Err, string_bytes}
-use Rattle.std.specs.Io.KnownBytes.{Appends, Keeps}
+use Rattle.std.specs.Io.KnownBytes.{Appends, Keeps, IsAtEnd}
 use Rattle.clap.specs.Words.{Text, kind_of}
 use Rattle.clap.specs.declared.error.Error.{Error}
 use Rattle.clap.specs.declared.error.kind.ErrorKind.TheVariants.{OutOfMemory}
@@ -9,7 +9,6 @@ use Rattle.jc_config.specs.declared.kinds.Configuration.{Configuration}
 use Rattle.jc_config.specs.declared.kinds.HookKinds.{HookKinds}
 use Rattle.jc_hooks.specs.Processors.{verdict_by}
 use Rattle.jc_hooks.specs.Program.{echoed, AllChecked}
-use Rattle.jc_hooks.specs.Tallies.{numbers, tallied}
 use Rattle.jc_model.specs.Limits.{text_bytes}
 use Rattle.jc_script.specs.declared.line.Line.{Line}
 use Rattle.jc_script.specs.Script.{lines}
@@ -19,7 +18,7 @@ use Rattle.jc_runner.specs.Demonstration.{demonstration_caches}
 use Rattle.jc_runner.specs.Disks.{IsFound, MayBeMissing, Asks}
 use Rattle.jc_runner.specs.Endings.{ending_of, no_memory, HasStatus, SaysSo, Leaves}
 use Rattle.jc_runner.specs.Meters.{next, most_reads, AddsAtMost}
-use Rattle.jc_runner.specs.Naming.{ProgramHooks, AllNamed}
+use Rattle.jc_runner.specs.Naming.{ProgramHooks, AllNamed, heard_by}
 use Rattle.jc_runner.specs.Reports.{ReportsOf}
 use Rattle.jc_runner.specs.Streams.{WritesFront}
 use Rattle.jc_runner.specs.Together.{stated_of, GathersSo}
@@ -42,7 +41,7 @@ pub record Reported (c : Configuration) (script : List ℕ) (IsSo : List ℕ →
   pub hooks : List ProgramHooks
   pub hooks' : List ProgramHooks
   pub named : AllNamed c.settings c.hooks hooks
-  pub reports : ReportsOf (λ l. echoed) (λ w given. AllChecked given) verdict_by (λ t notices. numbers (tallied t notices)) c.settings script hooks hooks' IsSo
+  pub reports : ReportsOf (λ l. echoed) (λ w given. AllChecked given) verdict_by heard_by c.settings script hooks hooks' IsSo
 
 -- the same of a run on worker threads
 pub record Gathered (c : Configuration) (script : List ℕ) (IsSo : List ℕ → Type 0) : Type 0 where
@@ -71,7 +70,9 @@ HasNotFailed fault result old new = result ≢ Err fault → new.failures ≡ ol
 -- A script that is read and run, by one thread or by workers: how that ends.
 module _ {I O : Type 0} (remaining : I → Option (List ℕ)) (contents : O → Option (List ℕ)) (serial : Bool) (c : Configuration) (reader reader' : Watched I) (writer writer' : WatchedWriter O) where
   abbrev pub RunEnds : Result (Unit {0}) RunFault → Type 0
-  RunEnds (Ok done) = IfSome (remaining reader.inner) (λ script. Tells serial c script (Appends (contents writer.inner) (contents writer'.inner))) × (writer'.failures ≡ writer.failures) × (writer'.flushed ≡ true)
+  RunEnds (Ok done) =
+      IfSome (remaining reader.inner) (λ script. Tells serial c script (Appends (contents writer.inner) (contents writer'.inner)))
+      × IsAtEnd (remaining reader'.inner) × (writer'.failures ≡ writer.failures) × (writer'.flushed ≡ true)
   RunEnds (Err run.Read) = failed_once reader reader' × Keeps (contents writer.inner) (contents writer'.inner)
   RunEnds (Err run.TooLong) = IfSome (remaining reader.inner) (λ script. text_bytes < length script) × Keeps (contents writer.inner) (contents writer'.inner)
   RunEnds (Err (run.Script fault)) = IfSome (remaining reader.inner) (λ script. lines c.settings script ≡ Err fault) × Keeps (contents writer.inner) (contents writer'.inner)
@@ -83,7 +84,7 @@ module _ {I O : Type 0} (remaining : I → Option (List ℕ)) (contents : O → 
 -- A configuration that is read from a file.
 module _ {F : Type 0} (remaining : F → Option (List ℕ)) (held : Option (Option (List ℕ))) where
   abbrev pub ConfigRead : F → Watched F → Result Configuration ProgramFault → Type 0
-  ConfigRead file reader (Ok c) = IfSome (remaining file) (λ bytes. configuration_of bytes ≡ Ok c)
+  ConfigRead file reader (Ok c) = IfSome (remaining file) (λ bytes. configuration_of bytes ≡ Ok c) × IsAtEnd (remaining reader.inner)
   ConfigRead file reader (Err program.ConfigRead) = failed_once (unread file) reader
   ConfigRead file reader (Err (program.Config fault)) = IfSome (remaining file) (λ bytes. configuration_of bytes ≡ Err fault)
   ConfigRead file reader (Err (program.Run fault)) = fault ≡ run.Memory
@@ -156,6 +157,6 @@ module _ {F I O E : Type 0} (of_file : F → Option (List ℕ)) (of_input : I �
     pub ending : Ending
     pub written : WatchedWriter O
     pub obeys : Obeys of_file of_input contents holds asked asked' opened opened' standard.input standard'.input standard.output written words ending
-    pub status : HasStatus ending result.status
+    pub status : HasStatus ending result.told result.status
     pub says : SaysSo said ending result.told standard.errors standard'.errors
     pub leaves : Leaves ending result.told written standard'.output

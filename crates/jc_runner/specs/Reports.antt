@@ -15,14 +15,14 @@ use Rattle.jc_script.specs.declared.line.Line.{Line}
 use Rattle.jc_script.specs.Managing.{lives_of}
 use Rattle.jc_script.specs.Script.{lines}
 use Rattle.jc_runner.specs.Alone.{calls_on, IsAlone, exchanges, alone}
-use Rattle.jc_runner.specs.Answering.{ServedAt}
+use Rattle.jc_runner.specs.Answering.{HeardAt}
 use Rattle.jc_script.specs.declared.line.LineCall.{LineCall}
 
 module _ {L W P K : Type 0} (load_of : L → List ℕ → Loaded) (may : W → List (Request × Answer) → Type 0) (verdict_of : P → Option (List ℕ) → List ℕ → Result Verdict ProcessorFault) (state_after : K → List Notice → List ℕ) where
-  -- the entries of a life alone, its callbacks having answered their requests
+  -- the entries of a life alone, its callbacks having answered their requests, and what they state afterwards
   pub record AnswersBy (c : CacheConfig) (own : List LineCall) (entries : List Entry) (old new : Option (CacheHooks L W P K)) : Type 0 where
     pub alone : IsAlone c own entries
-    pub served : ServedAt load_of may verdict_of state_after old new (exchanges c fresh entries)
+    pub heard : HeardAt load_of may verdict_of state_after old new (exchanges c fresh entries)
 
   -- a text that is the report of each life alone, under the answers of its callbacks, and of the manager's lines
   pub record Reports (caches : List CacheConfig) (all : List Line) (old new : List (CacheHooks L W P K)) (text : List ℕ) : Type 0 where

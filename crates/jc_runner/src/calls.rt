@@ -3,12 +3,13 @@ ghost use Rattle.std.specs.Prelude.{◌≡◌, ℕ, Some, IfOk, IfErr, OnOk};
 ghost use Rattle.jc_model.specs.declared.event.Event.TheVariants.{Answer as Answered};
 ghost use Rattle.jc_model.specs.declared.event.Outcome.TheVariants.{Step as Stepped};
 ghost use Rattle.jc_runner.specs.Halfway.{event_of, CanMove, Moves, IsReady, Replies, RepliesAt};
+ghost use Rattle.jc_runner.specs.Hooks.{asked_of, AreKept};
 ghost use Rattle.jc_runner.specs.declared.fault.RunFault.TheVariants as faults;
 
 use crate::fault::RunFault;
 use crate::hooks::{answer, no_hooks};
 use jc_engine::recorded::Recorded;
-use jc_hooks::{CacheHooks, Listener, Loader, Processor, Writer};
+use jc_hooks::{CacheHooks, Hearer, Loader, Processor, Writer};
 use jc_model::call::Answer;
 use jc_model::event::{CacheId, Cause, Step};
 use jc_ring::ring::Ring;
@@ -53,7 +54,7 @@ fn resume<R: Rows, G: Ring>(
 }
 
 /// Makes the call of a line: these callbacks answer each of its requests, until it replies.
-fn carry_out<R: Rows, G: Ring, L: Loader, W: Writer, P: Processor, K: Listener>(
+fn carry_out<R: Rows, G: Ring, L: Loader, W: Writer, P: Processor, K: Hearer>(
     alloc: Global,
     recorded: &mut Recorded<R, G>,
     hooks: &mut CacheHooks<L, W, P, K>,
@@ -61,6 +62,7 @@ fn carry_out<R: Rows, G: Ring, L: Loader, W: Writer, P: Processor, K: Listener>(
 ) -> Result<(), RunFault>
     requires ready { IsReady recorded.old line }
     ensures replies { OnOk result (Replies L.load_of W.may P.verdict_of K.state_after recorded.old recorded.new (Some hooks.old) (Some hooks.new) line) }
+    ensures kept { asked_of hooks.new ≡ asked_of hooks.old }
     ensures faults { IfErr result (λ e. e ≡ faults.Memory) }
 {
     let id = line.id;
@@ -73,7 +75,7 @@ fn carry_out<R: Rows, G: Ring, L: Loader, W: Writer, P: Processor, K: Listener>(
 }
 
 /// Makes the call of a line with the callbacks of its cache, or with none where it has none.
-pub(crate) fn run_call<R: Rows, G: Ring, L: Loader, W: Writer, P: Processor, K: Listener>(
+pub(crate) fn run_call<R: Rows, G: Ring, L: Loader, W: Writer, P: Processor, K: Hearer>(
     alloc: Global,
     recorded: &mut Recorded<R, G>,
     hooks: &mut [CacheHooks<L, W, P, K>],
@@ -81,6 +83,7 @@ pub(crate) fn run_call<R: Rows, G: Ring, L: Loader, W: Writer, P: Processor, K: 
 ) -> Result<(), RunFault>
     requires { IsReady recorded.old line }
     ensures replies { OnOk result (RepliesAt L.load_of W.may P.verdict_of K.state_after recorded.old recorded.new hooks.old hooks.new line) }
+    ensures kept { AreKept hooks.old hooks.new }
     ensures faults { IfErr result (λ e. e ≡ faults.Memory) }
 {
     let place = line.id.number() as usize;

@@ -3,12 +3,13 @@ ghost use Rattle.std.specs.Prelude.{◌≡◌, not, is_err, OnOk};
 ghost use Rattle.std.specs.Bool.{OnTrue};
 ghost use Rattle.std.specs.Io.KnownBytes.{Appends};
 ghost use Rattle.jc_runner.specs.declared.fault.RunFault.TheVariants.{Memory};
-ghost use Rattle.jc_runner.specs.Faults.{bad_line, bad_cache_line, script_line, config_line, run_line, fault_line};
+ghost use Rattle.jc_runner.specs.Faults.{of_work, bad_line, bad_cache_line, script_line, config_line, run_line, fault_line};
 ghost use Rattle.jc_runner.specs.Meters.{next_if};
 
 use crate::watched::WatchedWriter;
 use jc_config::ConfigFault;
 use jc_script::ScriptFault;
+use jc_threads::WorkFault;
 use std::alloc::{AllocError, AllocFailed};
 use std::io;
 use std::io::Write;
@@ -46,6 +47,17 @@ impl<T: Drop> From<AllocFailed<T>> for RunFault {
 
     fn from(_e: AllocFailed<T>) -> RunFault {
         RunFault::Memory
+    }
+}
+
+impl From<WorkFault> for RunFault {
+    ghost from_gives = { λ fault e. e ≡ of_work fault };
+
+    fn from(fault: WorkFault) -> RunFault {
+        match fault {
+            WorkFault::Close => RunFault::Close,
+            WorkFault::OutOfMemory => RunFault::Memory,
+        }
     }
 }
 

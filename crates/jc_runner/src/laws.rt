@@ -12,7 +12,7 @@ ghost use Rattle.jc_runner.specs.Apart.{AreApart, TellsAlone, AnswerAlike};
 ghost use Rattle.jc_runner.specs.Reports.{Reports};
 ghost use Rattle.jc_runner.specs.Together.{IsMade};
 
-use jc_hooks::{Listener, Loader, Processor, Writer};
+use jc_hooks::{Hearer, Loader, Processor, Writer};
 
 /// Where no two sessions call the same life, a run on worker threads tells each life alone.
 pub fn apart_is_alone()
@@ -22,7 +22,7 @@ pub fn apart_is_alone()
 {}
 
 /// A run in the lines' order tells each life alone.
-pub fn serial_is_alone<L: Loader, W: Writer, P: Processor, K: Listener>()
+pub fn serial_is_alone<L: Loader, W: Writer, P: Processor, K: Hearer>()
     ensures { (caches : List CacheConfig) (all : List Line) (old new : List (Callbacks L W P K)) (text : List ℕ)
         → (told : Reports L.load_of W.may P.verdict_of K.state_after caches all old new text)
         → TellsAlone caches all told.entries text }

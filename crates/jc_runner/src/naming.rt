@@ -1,11 +1,10 @@
 //! The callbacks that a configuration names.
 ghost use Rattle.std.specs.Prelude.{◌≡◌, ◌≤◌, IfOk, length, map, replicate};
-ghost use Rattle.jc_hooks.specs.Tallies.{no_notices};
-ghost use Rattle.jc_runner.specs.Naming.{loader_named, writer_named, processor_named, IsNamed, AllNamed};
+ghost use Rattle.jc_runner.specs.Naming.{loader_named, writer_named, processor_named, fresh_listener, IsNamed, AllNamed};
 
 use jc_config::{HookKinds, LoaderKind, ProcessorKind, WriterKind};
-use jc_hooks::program::{CheckWriter, EchoLoader, ProgramHooks, ProgramProcessor};
-use jc_hooks::{CacheHooks, TallyListener};
+use jc_hooks::program::{CheckWriter, EchoLoader, ProgramHooks, ProgramListener, ProgramProcessor};
+use jc_hooks::{CacheHooks, ListenerHook, TallyListener};
 use jc_model::OutOfMemory;
 use jc_model::config::CacheConfig;
 use std::alloc::Global;
@@ -52,12 +51,12 @@ fn processors_of(
     Ok(processors)
 }
 
-fn listeners_of(alloc: Global, count: u8) -> Result<Vec<TallyListener>, OutOfMemory>
-    ensures { IfOk result (λ v. v.items ≡ replicate count no_notices) }
+fn listeners_of(alloc: Global, count: u8) -> Result<Vec<ProgramListener>, OutOfMemory>
+    ensures { IfOk result (λ v. v.items ≡ replicate count fresh_listener) }
 {
     let mut listeners = Vec::with_capacity(alloc, count as usize)?;
     for _ in 0..count {
-        listeners.push(TallyListener::new())?;
+        listeners.push(ListenerHook::unfiltered(TallyListener::new()))?;
     }
     Ok(listeners)
 }

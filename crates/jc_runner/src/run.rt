@@ -10,7 +10,7 @@ ghost use Rattle.jc_model.specs.Limits.{text_bytes};
 ghost use Rattle.jc_model.specs.Legal.{at_first};
 ghost use Rattle.jc_model.specs.Runs.{opened_from};
 ghost use Rattle.jc_runner.specs.Halfway.{lives_now};
-ghost use Rattle.jc_runner.specs.Hooks.{AreSuited, CannotOpen};
+ghost use Rattle.jc_runner.specs.Hooks.{AreKept, AreSuited, CannotOpen};
 ghost use Rattle.jc_runner.specs.Reports.{Reports, ReportsOf};
 ghost use Rattle.jc_runner.specs.Meters.{next, most_reads, AddsAtMost};
 ghost use Rattle.jc_runner.specs.Streams.{WritesFront, IsOfRunning, IsOfScript, IsBeforeCalls, HasRun};
@@ -25,7 +25,7 @@ use crate::writing::write_text;
 use jc_config::Settings;
 use jc_engine::open::OpenRefusal;
 use jc_engine::recorded::Recorded;
-use jc_hooks::{CacheHooks, Listener, Loader, Processor, Writer};
+use jc_hooks::{CacheHooks, Hearer, Loader, Processor, Writer};
 use jc_ring::link_ring::LinkRing;
 use jc_rows::rows::Rows;
 use jc_script::{Line, ScriptFault, read_script, report};
@@ -74,7 +74,7 @@ fn opened<T: Rows>(
 /// line creates has no callbacks.
 ///
 /// `Memory`, also where a callback finds none; `Open` where the manager does not open.
-pub fn report_on<T: Rows, L: Loader, W: Writer, P: Processor, K: Listener>(
+pub fn report_on<T: Rows, L: Loader, W: Writer, P: Processor, K: Hearer>(
     alloc: Global,
     rows: T,
     settings: Settings,
@@ -84,6 +84,7 @@ pub fn report_on<T: Rows, L: Loader, W: Writer, P: Processor, K: Listener>(
     requires empty { T.contents rows ≡ finite.empty }
     requires named { AllName (opened_from 0 settings) lines.items }
     requires suit { AreSuited P.wants settings hooks.old }
+    ensures kept { AreKept hooks.old hooks.new }
     ensures untouched { result ≡ Err faults.Open → hooks.new ≡ hooks.old }
     ensures text { IfOk result (λ s. Reports L.load_of W.may P.verdict_of K.state_after settings lines.items hooks.old hooks.new (string_bytes s)) }
     ensures faults { IfErr result IsOfRunning }
@@ -101,7 +102,7 @@ pub fn report_on<T: Rows, L: Loader, W: Writer, P: Processor, K: Listener>(
 /// `Read`, `TooLong`; `Script` with the first fault; `Open` where the callbacks are not those that the settings name,
 /// or where the manager does not open; `Memory`, also where a callback finds none; `Write`. Only after `Write` may a
 /// part of the report have been written. The seed picks the places in the table and changes nothing of the report.
-pub fn serial<L: Loader, W: Writer, P: Processor, K: Listener, R: Read, O: Write>(
+pub fn serial<L: Loader, W: Writer, P: Processor, K: Hearer, R: Read, O: Write>(
     alloc: Global,
     settings: Settings,
     hooks: &mut [CacheHooks<L, W, P, K>],
@@ -115,6 +116,7 @@ pub fn serial<L: Loader, W: Writer, P: Processor, K: Listener, R: Read, O: Write
     ensures long { result ≡ Err faults.TooLong → IfSome (R.remaining reader.old.inner) (λ input. text_bytes < length input) }
     ensures open { result ≡ Err faults.Open → CannotOpen P.wants settings hooks.old }
     ensures good { result ≡ Err faults.Open → IfSome (R.remaining reader.old.inner) (λ input. IsOk (lines settings input)) }
+    ensures kept { AreKept hooks.old hooks.new }
     ensures untouched { IfErr result (λ e. IsBeforeCalls e → hooks.new ≡ hooks.old) }
     ensures suit { HasRun result → AreSuited P.wants settings hooks.old }
     ensures flushed { OnOk result ((writer.new.flushed ≡ true) × (writer.new.failures ≡ writer.old.failures)) }

@@ -6,20 +6,21 @@ ghost use Rattle.jc_script.specs.declared.line.Line.{Line as ScriptLine};
 ghost use Rattle.jc_script.specs.Managing.{managed_by};
 ghost use Rattle.jc_script.specs.Named.{Names, AllName};
 ghost use Rattle.jc_runner.specs.Halfway.{lives_now, as_read, IsAtRest, RunsLine, Halfway};
+ghost use Rattle.jc_runner.specs.Hooks.{AreKept};
 ghost use Rattle.jc_runner.specs.declared.fault.RunFault.TheVariants as faults;
 
 use crate::calls::run_call;
 use crate::fault::RunFault;
 use crate::managing::{run_create, run_destroy};
 use jc_engine::recorded::Recorded;
-use jc_hooks::{CacheHooks, Listener, Loader, Processor, Writer};
+use jc_hooks::{CacheHooks, Hearer, Loader, Processor, Writer};
 use jc_ring::ring::Ring;
 use jc_rows::rows::Rows;
 use jc_script::{Line, Managed};
 use std::alloc::Global;
 
 /// Runs a line. What became of it is noted where it creates or destroys a cache.
-fn run_line<R: Rows, G: Ring, L: Loader, W: Writer, P: Processor, K: Listener>(
+fn run_line<R: Rows, G: Ring, L: Loader, W: Writer, P: Processor, K: Hearer>(
     alloc: Global,
     recorded: &mut Recorded<R, G>,
     hooks: &mut [CacheHooks<L, W, P, K>],
@@ -29,6 +30,7 @@ fn run_line<R: Rows, G: Ring, L: Loader, W: Writer, P: Processor, K: Listener>(
     requires rest { IsAtRest recorded.old }
     requires named { Names (as_read (lives_now recorded.old)) line }
     ensures ran { OnOk result (RunsLine L.load_of W.may P.verdict_of K.state_after recorded.old recorded.new hooks.old hooks.new line) }
+    ensures kept { AreKept hooks.old hooks.new }
     ensures managed { OnOk result (managed.new.items ≡ managed.old.items ++ managed_by (as_read (lives_now recorded.old)) line) }
     ensures faults { IfErr result (λ e. e ≡ faults.Memory) }
 {
@@ -40,7 +42,7 @@ fn run_line<R: Rows, G: Ring, L: Loader, W: Writer, P: Processor, K: Listener>(
 }
 
 /// Runs all lines in their order. The result is what became of those that create and destroy caches.
-pub(crate) fn run_all<R: Rows, G: Ring, L: Loader, W: Writer, P: Processor, K: Listener>(
+pub(crate) fn run_all<R: Rows, G: Ring, L: Loader, W: Writer, P: Processor, K: Hearer>(
     alloc: Global,
     recorded: &mut Recorded<R, G>,
     hooks: &mut [CacheHooks<L, W, P, K>],
@@ -48,6 +50,7 @@ pub(crate) fn run_all<R: Rows, G: Ring, L: Loader, W: Writer, P: Processor, K: L
 ) -> Result<Vec<Managed>, RunFault>
     requires rest { IsAtRest recorded.old }
     requires named { AllName (as_read (lives_now recorded.old)) lines.items }
+    ensures kept { AreKept hooks.old hooks.new }
     ensures done { (caches : List CacheConfig) (handed : List (Callbacks L W P K)) (all : List ScriptLine) → Halfway L.load_of W.may P.verdict_of K.state_after caches handed all lines.items recorded.old hooks.old [] → IfOk result (λ managed. Halfway L.load_of W.may P.verdict_of K.state_after caches handed all [] recorded.new hooks.new managed.items) }
     ensures faults { IfErr result (λ e. e ≡ faults.Memory) }
 {

@@ -1,7 +1,7 @@
 //! What the program says in the end.
 ghost use Rattle.std.specs.Prelude.{◌≡◌, is_err, OnOk, codes};
 ghost use Rattle.std.specs.Io.KnownBytes.{Appends};
-ghost use Rattle.jc_runner.specs.Endings.{HasStatus, SaysSo, Leaves, ending_of};
+ghost use Rattle.jc_runner.specs.Endings.{HasStatus, SaysSo, IsPrinted, Leaves, ending_of};
 ghost use Rattle.jc_runner.specs.Meters.{next_if};
 
 use crate::ending::{Ended, Ending};
@@ -28,26 +28,31 @@ fn write_no_text<E: Write>(errors: &mut WatchedWriter<E>) -> io::Result<()>
     writeln!(errors, "error: a word is not UTF-8")
 }
 
-/// Prints help, or tells a mistake on standard error.
+/// Prints help, or the version: whether it was written and flushed.
+fn print_help<O: Write>(error: &Error, output: &mut WatchedWriter<O>) -> bool
+    ensures { IsPrinted result output.old output.new }
+{
+    write!(output, "{error}").is_ok() && output.flush().is_ok()
+}
+
+/// Prints help, or tells a mistake on standard error. Help that could not be written is no success.
 fn refuse<O: Write, E: Write>(
     error: &Error,
     output: &mut WatchedWriter<O>,
     errors: &mut WatchedWriter<E>,
 ) -> Ended
-    ensures status { HasStatus (Ending.Refused error.now) result.status }
+    ensures status { HasStatus (Ending.Refused error.now) result.told result.status }
     ensures says { SaysSo E.contents (Ending.Refused error.now) result.told errors.old errors.new }
     ensures leaves { Leaves (Ending.Refused error.now) result.told output.old output.new }
 {
     if error.use_stderr() {
-        Ended {
-            status: 2,
-            told: write!(errors, "{error}").is_ok(),
-        }
-    } else {
-        Ended {
-            status: 0,
-            told: write!(output, "{error}").is_ok(),
-        }
+        let told = write!(errors, "{error}").is_ok();
+        return Ended { status: 2, told };
+    }
+    let told = print_help(error, output);
+    Ended {
+        status: if told { 0 } else { 1 },
+        told,
     }
 }
 
@@ -57,7 +62,7 @@ pub fn say<O: Write, E: Write>(
     output: &mut WatchedWriter<O>,
     errors: &mut WatchedWriter<E>,
 ) -> Ended
-    ensures status { HasStatus ending.now result.status }
+    ensures status { HasStatus ending.now result.told result.status }
     ensures says { SaysSo E.contents ending.now result.told errors.old errors.new }
     ensures leaves { Leaves ending.now result.told output.old output.new }
 {

@@ -1,5 +1,5 @@
 //! One run on worker threads: the lines of a script in, a report out.
-ghost use Rattle.std.specs.Prelude.{◌≡◌, ◌≢◌, ◌<◌, ◌↔◌, true, IsTrue, IfOk, IfErr, OnOk, Err, map, string_bytes};
+ghost use Rattle.std.specs.Prelude.{◌≡◌, ◌≢◌, ◌<◌, ◌↔◌, true, IsTrue, IfOk, IfErr, OnOk, OnErr, Err, map, string_bytes};
 ghost use Rattle.std.specs.Io.KnownBytes.{Appends, Keeps};
 ghost use Rattle.jc_model.specs.Legal.{IsLegal};
 ghost use Rattle.jc_model.specs.Runs.{opened_from};
@@ -18,12 +18,12 @@ use crate::fault::RunFault;
 use crate::watched::WatchedWriter;
 use crate::writing::write_text;
 use jc_config::Settings;
-use jc_hooks::{CacheHooks, Listener, Loader, Processor, Writer};
+use jc_hooks::{CacheHooks, Hearer, Loader, Processor, Writer};
 use jc_model::event::CreateRefusal;
 use jc_model::transcript::Transcript;
 use jc_script::{Followed, Line, Managed, follow, report, same_lives};
 use jc_shared::{Name, Shared, SharedRefusal};
-use jc_threads::{Gate, Transcription, WorkFault, transcribed};
+use jc_threads::{Gate, Transcription, transcribed};
 use std::alloc::Global;
 use std::io::Write;
 use std::marker::Brand;
@@ -46,7 +46,7 @@ pub struct Crew<'a, G> {
 }
 
 /// The manager, before it has a name.
-fn unnamed<L: Loader, W: Writer, P: Processor, K: Listener>(
+fn unnamed<L: Loader, W: Writer, P: Processor, K: Hearer>(
     alloc: Global,
     setup: Setup<L, W, P, K>,
 ) -> Result<Shared<L, W, P, K>, RunFault>
@@ -76,7 +76,7 @@ fn made_under<
     L: Loader,
     W: Writer,
     P: Processor,
-    K: Listener,
+    K: Hearer,
     G: Gate,
     R: Threads + Wait + Sync,
 >(
@@ -99,13 +99,12 @@ fn made_under<
     let manager = shared.named::<N>();
     match transcribed(rt, alloc, &manager, crew.gate, crew.workers, lines) {
         Ok(made) => Ok(made),
-        Err(WorkFault::Close) => Err(RunFault::Close),
-        Err(WorkFault::OutOfMemory) => Err(RunFault::Memory),
+        Err(fault) => Err(RunFault::from(fault)),
     }
 }
 
 /// The same, under a name that this call picks.
-fn made<L: Loader, W: Writer, P: Processor, K: Listener, G: Gate, R: Threads + Wait + Sync>(
+fn made<L: Loader, W: Writer, P: Processor, K: Hearer, G: Gate, R: Threads + Wait + Sync>(
     rt: &R,
     alloc: Global,
     shared: Shared<L, W, P, K>,
@@ -143,6 +142,7 @@ fn compared(followed: &Followed, made: Transcription) -> Result<Transcript, RunF
     ensures lives { IfOk result (λ t. t.lives ≡ followed.now.lives.items) }
     ensures refusals { OnOk result (map (λ m. m.refusal) followed.now.managed.items ≡ made.refusals.items) }
     ensures faults { IfErr result (λ e. e ≡ faults.Close) }
+    ensures differ { OnErr result (made.transcript.lives ≡ followed.now.lives.items → map (λ m. m.refusal) followed.now.managed.items ≡ made.refusals.items → ⊥) }
 {
     let Transcription {
         transcript,
@@ -158,7 +158,7 @@ fn compared(followed: &Followed, made: Transcription) -> Result<Transcript, RunF
 }
 
 /// The report of a run on threads.
-fn gathered<L: Loader, W: Writer, P: Processor, K: Listener, G: Gate, R: Threads + Wait + Sync>(
+fn gathered<L: Loader, W: Writer, P: Processor, K: Hearer, G: Gate, R: Threads + Wait + Sync>(
     rt: &R,
     alloc: Global,
     setup: Setup<L, W, P, K>,
@@ -191,7 +191,7 @@ pub fn threaded<
     L: Loader,
     W: Writer,
     P: Processor,
-    K: Listener,
+    K: Hearer,
     G: Gate,
     R: Threads + Wait + Sync,
     O: Write,

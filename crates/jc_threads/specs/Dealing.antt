@@ -22,6 +22,10 @@ abbrev pub AreSeated : ℕ → ℕ → List Sitting → Type 0
 AreSeated workers worker sessions =
     (place : ℕ) (o : Sitting) → slice_get sessions place ≡ Some o → (o.number % workers ≡ worker) × (o.number / workers ≡ place)
 
+-- the next place of its worker is that of a session with this number
+abbrev pub IsNext : ℕ → List Share → Type 0
+IsNext number crew = (share : Share) → slice_get crew (number % length crew) ≡ Some share → length share.sessions ≡ number / length crew
+
 -- and that with this number is there
 pub record HasSeat (workers number : ℕ) (crew : List Share) : Type 0 where
   pub share : Share

@@ -1,11 +1,11 @@
 //! Dealing sessions and calls to workers.
-ghost use Rattle.std.specs.Prelude.{◌≡◌, ◌≢◌, ℕ, ◌<◌, ◌++◌, ◌∷◌, [], List, Err, IfOk, OnOk, length, replicate};
+ghost use Rattle.std.specs.Prelude.{◌≡◌, ℕ, ◌<◌, ◌++◌, ◌∷◌, [], List, Err, IfOk, OnOk, length, replicate};
 ghost use Rattle.jc_script.specs.declared.line.LineCall.{LineCall as CallValue};
-ghost use Rattle.jc_threads.specs.Dealing.{idle, session_in, sessions_in, HasSeat, AreIdle, AreUnderWay};
+ghost use Rattle.jc_threads.specs.Dealing.{idle, session_in, sessions_in, IsNext, HasSeat, AreIdle, AreUnderWay};
 
-use crate::fault::{WorkFault, of_session};
+use crate::fault::WorkFault;
 use crate::worker::Worker;
-use jc_hooks::{Listener, Loader, Processor, Writer};
+use jc_hooks::{Hearer, Loader, Processor, Writer};
 use jc_model::OutOfMemory;
 use jc_script::{Line, LineCall};
 use jc_shared::{Manager, Name, Session};
@@ -33,7 +33,7 @@ fn sessions_of(lines: &[Line]) -> usize
 }
 
 /// Workers that have nothing.
-fn idle<'a, N: Name, L: Loader, W: Writer, P: Processor, K: Listener>(
+fn idle<'a, N: Name, L: Loader, W: Writer, P: Processor, K: Hearer>(
     alloc: Global,
     workers: usize,
 ) -> Result<Vec<Worker<'a, N, L, W, P, K>>, OutOfMemory>
@@ -50,7 +50,7 @@ fn idle<'a, N: Name, L: Loader, W: Writer, P: Processor, K: Listener>(
 }
 
 /// Gives a session that has made no call to its worker, if it has this number.
-fn seat<'a, N: Name, L: Loader, W: Writer, P: Processor, K: Listener>(
+fn seat<'a, N: Name, L: Loader, W: Writer, P: Processor, K: Hearer>(
     crew: &mut [Worker<'a, N, L, W, P, K>],
     session: Session<'a, N, L, W, P, K>,
     number: usize,
@@ -58,7 +58,8 @@ fn seat<'a, N: Name, L: Loader, W: Writer, P: Processor, K: Listener>(
     requires some { 0 < length crew.old }
     requires fresh { session.calls ≡ [] }
     ensures counted { length crew.new ≡ length crew.old }
-    ensures other { session.entry.number ≢ number → result ≡ Err WorkFault.Close }
+    ensures close { result ≡ Err WorkFault.Close → session.entry.number ≡ number → IsNext number crew.old → ⊥ }
+    ensures memory { result ≡ Err WorkFault.OutOfMemory → (session.entry.number ≡ number) × IsNext number crew.old }
     ensures own { OnOk result (HasSeat (length crew.old) number crew.new) }
     ensures kept { OnOk result ((n : ℕ) → HasSeat (length crew.old) n crew.old → HasSeat (length crew.old) n crew.new) }
     ensures seated { OnOk result (AreIdle crew.old → AreIdle crew.new) }
@@ -71,7 +72,7 @@ fn seat<'a, N: Name, L: Loader, W: Writer, P: Processor, K: Listener>(
 }
 
 /// Opens so many sessions, the numbers from 0 upward, and gives each to its worker.
-fn seat_all<'a, N: Name, L: Loader, W: Writer, P: Processor, K: Listener, R: Wait>(
+fn seat_all<'a, N: Name, L: Loader, W: Writer, P: Processor, K: Hearer, R: Wait>(
     rt: &R,
     manager: &'a Manager<N, L, W, P, K>,
     crew: &mut [Worker<'a, N, L, W, P, K>],
@@ -83,20 +84,17 @@ fn seat_all<'a, N: Name, L: Loader, W: Writer, P: Processor, K: Listener, R: Wai
     ensures seated { OnOk result (AreIdle crew.old → AreIdle crew.new) }
 {
     for number in 0..sessions {
-        let session = match manager.session(rt) {
-            Ok(session) => session,
-            Err(refusal) => return Err(of_session(refusal)),
-        };
+        let session = manager.session(rt)?;
         seat(crew, session, number)?;
     }
     Ok(())
 }
 
 /// Gives a call to the worker that has its session.
-pub(crate) fn hand<'a, N: Name, L: Loader, W: Writer, P: Processor, K: Listener>(
+pub(crate) fn hand<'a, N: Name, L: Loader, W: Writer, P: Processor, K: Hearer>(
     crew: &mut [Worker<'a, N, L, W, P, K>],
     line: LineCall,
-) -> Result<(), WorkFault>
+) -> Result<(), OutOfMemory>
     requires some { 0 < length crew.old }
     ensures counted { length crew.new ≡ length crew.old }
     ensures handed { OnOk result ((all : List CallValue) → AreUnderWay N.stated all crew.old → AreUnderWay N.stated (all ++ line ∷ []) crew.new) }
@@ -106,7 +104,7 @@ pub(crate) fn hand<'a, N: Name, L: Loader, W: Writer, P: Processor, K: Listener>
 }
 
 /// Opens the sessions that the lines need, and gives each to its worker.
-pub(crate) fn dealt<'a, N: Name, L: Loader, W: Writer, P: Processor, K: Listener, R: Wait>(
+pub(crate) fn dealt<'a, N: Name, L: Loader, W: Writer, P: Processor, K: Hearer, R: Wait>(
     rt: &R,
     alloc: Global,
     manager: &'a Manager<N, L, W, P, K>,

@@ -1,6 +1,7 @@
 //! Why a run on threads comes to no transcript.
-ghost use Rattle.std.specs.Prelude.{◌≡◌, ◌≢◌, Ok, Err, IfOk};
+ghost use Rattle.std.specs.Prelude.{◌≡◌, Ok, Err, IfOk};
 ghost use Rattle.jc_model.specs.declared.event.CreateRefusal.{CreateRefusal as Refused};
+ghost use Rattle.jc_threads.specs.Faults.{of_session, of_call, of_destroy, of_close};
 ghost use Rattle.jc_threads.specs.declared.fault.WorkFault.TheVariants.{OutOfMemory};
 
 use jc_model::event::CreateRefusal;
@@ -33,23 +34,47 @@ impl<T: Drop> From<AllocFailed<T>> for WorkFault {
     }
 }
 
-pub(crate) fn of_session(refusal: SessionRefusal) -> WorkFault
-    ensures memory { refusal ≡ SessionRefusal.OutOfMemory → result ≡ WorkFault.OutOfMemory }
-    ensures others { refusal ≢ SessionRefusal.OutOfMemory → result ≡ WorkFault.Close }
-{
-    match refusal {
-        SessionRefusal::OutOfMemory => WorkFault::OutOfMemory,
-        SessionRefusal::Closed | SessionRefusal::TooManySessions => WorkFault::Close,
+impl From<SessionRefusal> for WorkFault {
+    ghost from_gives = { λ refusal e. e ≡ of_session refusal };
+
+    fn from(refusal: SessionRefusal) -> WorkFault {
+        match refusal {
+            SessionRefusal::OutOfMemory => WorkFault::OutOfMemory,
+            SessionRefusal::Closed | SessionRefusal::TooManySessions => WorkFault::Close,
+        }
     }
 }
 
-pub(crate) fn of_call(fault: CallFault) -> WorkFault
-    ensures memory { fault ≡ CallFault.OutOfMemory → result ≡ WorkFault.OutOfMemory }
-    ensures others { fault ≢ CallFault.OutOfMemory → result ≡ WorkFault.Close }
-{
-    match fault {
-        CallFault::OutOfMemory => WorkFault::OutOfMemory,
-        _ => WorkFault::Close,
+impl From<CallFault> for WorkFault {
+    ghost from_gives = { λ fault e. e ≡ of_call fault };
+
+    fn from(fault: CallFault) -> WorkFault {
+        match fault {
+            CallFault::OutOfMemory => WorkFault::OutOfMemory,
+            _ => WorkFault::Close,
+        }
+    }
+}
+
+impl From<DestroyFault> for WorkFault {
+    ghost from_gives = { λ fault e. e ≡ of_destroy fault };
+
+    fn from(fault: DestroyFault) -> WorkFault {
+        match fault {
+            DestroyFault::OutOfMemory => WorkFault::OutOfMemory,
+            DestroyFault::NoSuchCache | DestroyFault::Busy => WorkFault::Close,
+        }
+    }
+}
+
+impl From<CloseFault> for WorkFault {
+    ghost from_gives = { λ fault e. e ≡ of_close fault };
+
+    fn from(fault: CloseFault) -> WorkFault {
+        match fault {
+            CloseFault::OutOfMemory => WorkFault::OutOfMemory,
+            _ => WorkFault::Close,
+        }
     }
 }
 
@@ -64,25 +89,5 @@ pub(crate) fn of_create(fault: CreateFault) -> Result<CreateRefusal, WorkFault>
         CreateFault::Cache(refusal) => Ok(refusal),
         CreateFault::HooksDiffer => Err(WorkFault::Close),
         CreateFault::OutOfMemory => Err(WorkFault::OutOfMemory),
-    }
-}
-
-pub(crate) fn of_destroy(fault: DestroyFault) -> WorkFault
-    ensures memory { fault ≡ DestroyFault.OutOfMemory → result ≡ WorkFault.OutOfMemory }
-    ensures others { fault ≢ DestroyFault.OutOfMemory → result ≡ WorkFault.Close }
-{
-    match fault {
-        DestroyFault::OutOfMemory => WorkFault::OutOfMemory,
-        DestroyFault::NoSuchCache | DestroyFault::Busy => WorkFault::Close,
-    }
-}
-
-pub(crate) fn of_close(fault: CloseFault) -> WorkFault
-    ensures memory { fault ≡ CloseFault.OutOfMemory → result ≡ WorkFault.OutOfMemory }
-    ensures others { fault ≢ CloseFault.OutOfMemory → result ≡ WorkFault.Close }
-{
-    match fault {
-        CloseFault::OutOfMemory => WorkFault::OutOfMemory,
-        _ => WorkFault::Close,
     }
 }

@@ -6,9 +6,9 @@ ghost use Rattle.jc_shared.specs.Sessions.{Sitting, log_of};
 ghost use Rattle.jc_threads.specs.Dealing.{HasSeat, AreAtRest, HaveRested};
 ghost use Rattle.jc_threads.specs.Managing.{IsCreating, IsDestroying};
 
-use crate::fault::{WorkFault, of_create, of_destroy};
+use crate::fault::{WorkFault, of_create};
 use crate::worker::Worker;
-use jc_hooks::{CacheHooks, Listener, Loader, Processor, Writer};
+use jc_hooks::{CacheHooks, Hearer, Loader, Processor, Writer};
 use jc_model::config::CacheConfig;
 use jc_model::event::{CacheId, CreateRefusal};
 use jc_shared::{Name, Session};
@@ -16,7 +16,7 @@ use std::alloc::Global;
 use std::sync::Wait;
 
 /// Creates a cache without callbacks by a session, and says why not, if it is refused.
-fn create_by<'a, N: Name, L: Loader, W: Writer, P: Processor, K: Listener, R: Wait>(
+fn create_by<'a, N: Name, L: Loader, W: Writer, P: Processor, K: Hearer, R: Wait>(
     rt: &R,
     alloc: Global,
     session: &Session<'a, N, L, W, P, K>,
@@ -41,7 +41,7 @@ fn create_by<'a, N: Name, L: Loader, W: Writer, P: Processor, K: Listener, R: Wa
 }
 
 /// The session of this number, where it stands at its place in the crew.
-fn own_session<'s, 'a, N: Name, L: Loader, W: Writer, P: Processor, K: Listener>(
+fn own_session<'s, 'a, N: Name, L: Loader, W: Writer, P: Processor, K: Hearer>(
     crew: &'s [Worker<'a, N, L, W, P, K>],
     session: u32,
 ) -> Result<&'s Session<'a, N, L, W, P, K>, WorkFault>
@@ -60,7 +60,7 @@ fn own_session<'s, 'a, N: Name, L: Loader, W: Writer, P: Processor, K: Listener>
 }
 
 /// Creates a cache by the session of this number, once the round has ended.
-pub(crate) fn create<'a, N: Name, L: Loader, W: Writer, P: Processor, K: Listener, R: Wait>(
+pub(crate) fn create<'a, N: Name, L: Loader, W: Writer, P: Processor, K: Hearer, R: Wait>(
     rt: &R,
     alloc: Global,
     crew: &[Worker<'a, N, L, W, P, K>],
@@ -76,7 +76,7 @@ pub(crate) fn create<'a, N: Name, L: Loader, W: Writer, P: Processor, K: Listene
 }
 
 /// Destroys a cache by the session at a place, if it has this number.
-pub(crate) fn destroy_by<'a, N: Name, L: Loader, W: Writer, P: Processor, K: Listener, R: Wait>(
+pub(crate) fn destroy_by<'a, N: Name, L: Loader, W: Writer, P: Processor, K: Hearer, R: Wait>(
     rt: &R,
     sessions: &mut [Session<'a, N, L, W, P, K>],
     place: usize,
@@ -93,12 +93,12 @@ pub(crate) fn destroy_by<'a, N: Name, L: Loader, W: Writer, P: Processor, K: Lis
     }
     match sessions[place].destroy(rt, id) {
         Ok(()) => Ok(()),
-        Err(fault) => Err(of_destroy(fault)),
+        Err(fault) => Err(WorkFault::from(fault)),
     }
 }
 
 /// Destroys a cache by the session of this number, once the round has ended.
-pub(crate) fn destroy<'a, N: Name, L: Loader, W: Writer, P: Processor, K: Listener, R: Wait>(
+pub(crate) fn destroy<'a, N: Name, L: Loader, W: Writer, P: Processor, K: Hearer, R: Wait>(
     rt: &R,
     crew: &mut [Worker<'a, N, L, W, P, K>],
     session: u32,

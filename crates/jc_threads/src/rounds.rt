@@ -1,5 +1,6 @@
 //! A script in rounds: the workers make calls side by side, and are all done before a cache is created or destroyed.
-ghost use Rattle.std.specs.Prelude.{◌≡◌, ◌↔◌, ◌<◌, ◌++◌, ◌∷◌, [], List, Ok, None, IsTrue, IfOk, OnOk, length, map};
+ghost use Rattle.std.specs.Prelude.{◌≡◌, ◌↔◌, ◌⊎◌, ◌<◌, ◌++◌, ◌∷◌, [], List, Ok, Err, None, IsTrue, IfOk, IfErr, OnOk, length, map};
+ghost use Rattle.std.specs.List.{Contains};
 ghost use Rattle.jc_script.specs.Calls.{call_in, calls_in};
 ghost use Rattle.jc_script.specs.declared.line.Line.{Line as LineValue};
 ghost use Rattle.jc_script.specs.declared.line.Line.TheVariants as lines;
@@ -12,7 +13,8 @@ use crate::fault::WorkFault;
 use crate::gate::Gate;
 use crate::managing::{create, destroy};
 use crate::worker::{Worker, work};
-use jc_hooks::{Listener, Loader, Processor, Writer};
+use jc_hooks::{Hearer, Loader, Processor, Writer};
+use jc_model::OutOfMemory;
 use jc_model::config::CacheConfig;
 use jc_model::event::{CacheId, CreateRefusal};
 use jc_script::{Line, LineCall};
@@ -28,7 +30,7 @@ fn work_all<
     L: Loader,
     W: Writer,
     P: Processor,
-    K: Listener,
+    K: Hearer,
     G: Gate,
     R: Threads + Wait + Sync,
 >(
@@ -36,7 +38,7 @@ fn work_all<
     alloc: Global,
     gate: &G,
     crew: Vec<Worker<'a, N, L, W, P, K>>,
-) -> Result<Vec<Result<Worker<'a, N, L, W, P, K>, WorkFault>>, WorkFault>
+) -> Result<Vec<Result<Worker<'a, N, L, W, P, K>, WorkFault>>, OutOfMemory>
     ensures { IfOk result (λ v. HaveWorked N.stated crew.entry.items v.items) }
 {
     let workers = crew.len();
@@ -51,12 +53,13 @@ fn work_all<
     Ok(results)
 }
 
-/// The workers, if each has done its work.
-fn gathered<'a, N: Name, L: Loader, W: Writer, P: Processor, K: Listener>(
+/// The workers, if each has done its work; else the fault of one that has not.
+fn gathered<'a, N: Name, L: Loader, W: Writer, P: Processor, K: Hearer>(
     alloc: Global,
     results: Vec<Result<Worker<'a, N, L, W, P, K>, WorkFault>>,
 ) -> Result<Vec<Worker<'a, N, L, W, P, K>>, WorkFault>
-    ensures { IfOk result (λ crew. map Ok crew.items ≡ results.entry.items) }
+    ensures ok { IfOk result (λ crew. map Ok crew.items ≡ results.entry.items) }
+    ensures fault { IfErr result (λ fault. (fault ≡ WorkFault.OutOfMemory) ⊎ Contains results.entry.items (Err fault)) }
 {
     let mut crew = Vec::new(alloc);
     for result in results {
@@ -67,7 +70,7 @@ fn gathered<'a, N: Name, L: Loader, W: Writer, P: Processor, K: Listener>(
 }
 
 /// Whether no worker holds a call.
-fn are_at_rest<'a, N: Name, L: Loader, W: Writer, P: Processor, K: Listener>(
+fn are_at_rest<'a, N: Name, L: Loader, W: Writer, P: Processor, K: Hearer>(
     crew: &[Worker<'a, N, L, W, P, K>],
 ) -> bool
     ensures { IsTrue result ↔ AreAtRest crew.now }
@@ -87,7 +90,7 @@ pub(crate) fn end_round<
     L: Loader,
     W: Writer,
     P: Processor,
-    K: Listener,
+    K: Hearer,
     G: Gate,
     R: Threads + Wait + Sync,
 >(
@@ -109,10 +112,10 @@ pub(crate) fn end_round<
 }
 
 /// Takes a line that makes a call.
-fn take_call<'a, N: Name, L: Loader, W: Writer, P: Processor, K: Listener>(
+fn take_call<'a, N: Name, L: Loader, W: Writer, P: Processor, K: Hearer>(
     crew: Vec<Worker<'a, N, L, W, P, K>>,
     line: LineCall,
-) -> Result<Vec<Worker<'a, N, L, W, P, K>>, WorkFault>
+) -> Result<Vec<Worker<'a, N, L, W, P, K>>, OutOfMemory>
     requires some { 0 < length crew.items }
     ensures counted { IfOk result (λ v. length v.items ≡ length crew.entry.items) }
     ensures made { IfOk result (λ v. (all : List CallValue) → AreUnderWay N.stated all crew.entry.items → AreUnderWay N.stated (all ++ line ∷ []) v.items) }
@@ -129,7 +132,7 @@ fn take_create<
     L: Loader,
     W: Writer,
     P: Processor,
-    K: Listener,
+    K: Hearer,
     G: Gate,
     R: Threads + Wait + Sync,
 >(
@@ -159,7 +162,7 @@ fn take_destroy<
     L: Loader,
     W: Writer,
     P: Processor,
-    K: Listener,
+    K: Hearer,
     G: Gate,
     R: Threads + Wait + Sync,
 >(
@@ -189,7 +192,7 @@ fn take<
     L: Loader,
     W: Writer,
     P: Processor,
-    K: Listener,
+    K: Hearer,
     G: Gate,
     R: Threads + Wait + Sync,
 >(
@@ -206,7 +209,7 @@ fn take<
     ensures managed { OnOk result ((done : List LineValue) → AreManaged N.configs done refusals.old.items → AreManaged N.configs (done ++ line ∷ []) refusals.new.items) }
 {
     match line {
-        Line::Call(call) => take_call(crew, call),
+        Line::Call(call) => Ok(take_call(crew, call)?),
         Line::Create { session, config } => {
             take_create(rt, alloc, gate, crew, refusals, session, config)
         }
@@ -223,7 +226,7 @@ pub(crate) fn take_all<
     L: Loader,
     W: Writer,
     P: Processor,
-    K: Listener,
+    K: Hearer,
     G: Gate,
     R: Threads + Wait + Sync,
 >(

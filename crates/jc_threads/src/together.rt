@@ -8,11 +8,12 @@ ghost use Rattle.jc_threads.specs.Lines.{AreMade};
 ghost use Rattle.jc_threads.specs.Managing.{AreManaged};
 
 use crate::dealing::dealt;
-use crate::fault::{WorkFault, of_close};
+use crate::fault::WorkFault;
 use crate::gate::Gate;
 use crate::rounds::{end_round, take_all};
 use crate::worker::Worker;
-use jc_hooks::{Listener, Loader, Processor, Writer};
+use jc_hooks::{Hearer, Loader, Processor, Writer};
+use jc_model::OutOfMemory;
 use jc_model::event::CreateRefusal;
 use jc_model::transcript::Transcript;
 use jc_script::Line;
@@ -30,10 +31,10 @@ pub struct Transcription {
 }
 
 /// All sessions of the workers.
-fn all_sessions<'a, N: Name, L: Loader, W: Writer, P: Processor, K: Listener>(
+fn all_sessions<'a, N: Name, L: Loader, W: Writer, P: Processor, K: Hearer>(
     alloc: Global,
     crew: Vec<Worker<'a, N, L, W, P, K>>,
-) -> Result<Vec<Session<'a, N, L, W, P, K>>, WorkFault>
+) -> Result<Vec<Session<'a, N, L, W, P, K>>, OutOfMemory>
     ensures { IfOk result (λ v. v.items ≡ flat_map (λ share. share.sessions) crew.entry.items) }
 {
     let mut all = Vec::new(alloc);
@@ -57,7 +58,7 @@ pub fn transcribed<
     L: Loader,
     W: Writer,
     P: Processor,
-    K: Listener,
+    K: Hearer,
     G: Gate,
     R: Threads + Wait + Sync,
 >(
@@ -84,6 +85,6 @@ pub fn transcribed<
             transcript,
             refusals,
         }),
-        Err((fault, _)) => Err(of_close(fault)),
+        Err((fault, _)) => Err(WorkFault::from(fault)),
     }
 }

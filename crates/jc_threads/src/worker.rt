@@ -3,13 +3,15 @@ ghost use Rattle.std.specs.Prelude.{◌≡◌, ◌≢◌, ◌↔◌, ℕ, ◌<�
 ghost use Rattle.jc_script.specs.declared.line.LineCall.{LineCall as CallValue};
 ghost use Rattle.jc_shared.specs.Sessions.{log_of};
 ghost use Rattle.jc_threads.specs.Dealing.{IsAtWork, HasWorked};
+ghost use Rattle.jc_threads.specs.Faults.{of_call};
 ghost use Rattle.jc_threads.specs.Lines.{HasMade};
 ghost use Rattle.jc_threads.specs.Managing.{IsDestroying};
 
-use crate::fault::{WorkFault, of_call};
+use crate::fault::WorkFault;
 use crate::gate::Gate;
 use crate::managing::destroy_by;
-use jc_hooks::{Listener, Loader, Processor, Writer};
+use jc_hooks::{Hearer, Loader, Processor, Writer};
+use jc_model::OutOfMemory;
 use jc_model::call::Reply;
 use jc_model::event::CacheId;
 use jc_script::LineCall;
@@ -20,12 +22,12 @@ use std::sync::Wait;
 
 /// A worker's sessions, session s being at place s / workers, and the calls that it is to make.
 #[derive(Drop)]
-pub(crate) struct Worker<'a, N: Name, L: Loader, W: Writer, P: Processor, K: Listener> {
+pub(crate) struct Worker<'a, N: Name, L: Loader, W: Writer, P: Processor, K: Hearer> {
     pub(crate) sessions: Vec<Session<'a, N, L, W, P, K>>,
     pub(crate) lines: Vec<LineCall>,
 }
 
-impl<'a, N: Name, L: Loader, W: Writer, P: Processor, K: Listener> Model
+impl<'a, N: Name, L: Loader, W: Writer, P: Processor, K: Hearer> Model
     for Worker<'a, N, L, W, P, K> {
     ghost use Rattle.jc_threads.specs.Dealing.{Share};
 
@@ -34,7 +36,7 @@ impl<'a, N: Name, L: Loader, W: Writer, P: Processor, K: Listener> Model
     ghost view = { λ w. record { sessions = w.sessions.items; lines = w.lines.items } };
 }
 
-impl<'a, N: Name, L: Loader, W: Writer, P: Processor, K: Listener> Worker<'a, N, L, W, P, K> {
+impl<'a, N: Name, L: Loader, W: Writer, P: Processor, K: Hearer> Worker<'a, N, L, W, P, K> {
     /// Takes a session, where this is the next place.
     pub(crate) fn seat(
         &mut self,
@@ -54,9 +56,8 @@ impl<'a, N: Name, L: Loader, W: Writer, P: Processor, K: Listener> Worker<'a, N,
     }
 
     /// Takes a call.
-    pub(crate) fn hand(&mut self, line: LineCall) -> Result<(), WorkFault>
+    pub(crate) fn hand(&mut self, line: LineCall) -> Result<(), OutOfMemory>
         ensures handed { OnOk result (self.new ≡ record self.old { lines = self.old.lines ++ line ∷ [] }) }
-        ensures memory { IfErr result (λ fault. fault ≡ WorkFault.OutOfMemory) }
     {
         self.lines.push(line)?;
         Ok(())
@@ -103,17 +104,16 @@ impl<'a, N: Name, L: Loader, W: Writer, P: Processor, K: Listener> Worker<'a, N,
 fn outcome(replied: Result<Reply, CallFault>) -> Result<(), WorkFault>
     ensures replied { OnOk result (IsOk replied) }
     ensures ok { OnOk replied (IsOk result) }
-    ensures memory { replied ≡ Err CallFault.OutOfMemory → result ≡ Err WorkFault.OutOfMemory }
-    ensures others { IfErr replied (λ fault. fault ≢ CallFault.OutOfMemory → result ≡ Err WorkFault.Close) }
+    ensures fault { IfErr replied (λ fault. result ≡ Err (of_call fault)) }
 {
     match replied {
         Ok(_) => Ok(()),
-        Err(fault) => Err(of_call(fault)),
+        Err(fault) => Err(WorkFault::from(fault)),
     }
 }
 
 /// Makes a call by its session.
-fn make_call<'a, N: Name, L: Loader, W: Writer, P: Processor, K: Listener, G: Gate, R: Wait>(
+fn make_call<'a, N: Name, L: Loader, W: Writer, P: Processor, K: Hearer, G: Gate, R: Wait>(
     rt: &R,
     gate: &G,
     session: &mut Session<'a, N, L, W, P, K>,
@@ -142,7 +142,7 @@ fn make_call<'a, N: Name, L: Loader, W: Writer, P: Processor, K: Listener, G: Ga
 }
 
 /// Makes a call by that of the worker's sessions whose call it is.
-fn make_line<'a, N: Name, L: Loader, W: Writer, P: Processor, K: Listener, G: Gate, R: Wait>(
+fn make_line<'a, N: Name, L: Loader, W: Writer, P: Processor, K: Hearer, G: Gate, R: Wait>(
     rt: &R,
     gate: &G,
     workers: usize,
@@ -162,7 +162,7 @@ fn make_line<'a, N: Name, L: Loader, W: Writer, P: Processor, K: Listener, G: Ga
 }
 
 /// Makes these calls.
-fn make_all<'a, N: Name, L: Loader, W: Writer, P: Processor, K: Listener, G: Gate, R: Wait>(
+fn make_all<'a, N: Name, L: Loader, W: Writer, P: Processor, K: Hearer, G: Gate, R: Wait>(
     rt: &R,
     gate: &G,
     workers: usize,
@@ -179,7 +179,7 @@ fn make_all<'a, N: Name, L: Loader, W: Writer, P: Processor, K: Listener, G: Gat
 }
 
 /// Makes the calls that a worker holds.
-pub(crate) fn work<'a, N: Name, L: Loader, W: Writer, P: Processor, K: Listener, G: Gate, R: Wait>(
+pub(crate) fn work<'a, N: Name, L: Loader, W: Writer, P: Processor, K: Hearer, G: Gate, R: Wait>(
     rt: &R,
     alloc: Global,
     gate: &G,

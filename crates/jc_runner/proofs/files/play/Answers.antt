@@ -16,4 +16,4 @@ returns-clause-ends g c =
     run_ends c.args.configuration c.as_mut_slice.result.now c.serial.new.hooks
     (named_as _ _ _ _ _ _ c.caches.ensures.same c.items.ensures c.as_mut_slice.ensures.value c.in_ok-hooks.ensures)
     g.I.Read.remaining g.O.Write.contents c.args.reader.now c.serial.new.reader c.args.writer.now c.serial.new.writer c.requires c.serial.result
-    c.serial.ensures.ok c.serial.ensures.flushed c.serial.ensures.script c.serial.ensures.long c.serial.ensures.open c.serial.ensures.closed c.serial.ensures.front c.serial.ensures.write_failed c.serial.ensures.read_failed c.serial.ensures.nothing
+    c.serial.ensures.ok c.serial.ensures.end c.serial.ensures.flushed c.serial.ensures.script c.serial.ensures.long c.serial.ensures.open c.serial.ensures.closed c.serial.ensures.front c.serial.ensures.write_failed c.serial.ensures.read_failed c.serial.ensures.nothing

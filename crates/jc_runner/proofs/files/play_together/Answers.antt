@@ -18,4 +18,4 @@ returns-clause-ends g c =
     (named_as _ _ _ _ _ _ c.caches.ensures.same c.items.ensures refl c.in_ok-hooks.ensures)
     c.in_ok-lines.lines.items g.I.Read.remaining g.O.Write.contents c.args.reader.now c.read_bytes.new.reader c.args.writer.now c.threaded.new.writer c.requires.opens
     (lines_of_all c.args.configuration.settings c.in_ok-lines.lines.items _ _ c.in_ok-bytes.bytes.items c.as_slice.result.now c.in_ok-bytes.ensures.all c.as_slice.ensures.value c.in_ok-lines.ensures.ok)
-    c.threaded.result c.threaded.ensures.ok c.threaded.ensures.flushed c.threaded.ensures.refused c.threaded.ensures.front c.threaded.ensures.write_failed c.threaded.ensures.nothing c.threaded.ensures.others
+    c.threaded.result c.in_ok-bytes.ensures.all.1 c.threaded.ensures.ok c.threaded.ensures.flushed c.threaded.ensures.refused c.threaded.ensures.front c.threaded.ensures.write_failed c.threaded.ensures.nothing c.threaded.ensures.others

@@ -17,8 +17,8 @@ returns-clause-text g c =
     let last = c.run_all.new.recorded in
     let managed = c.in_ok-managed.managed.items in
     let told = c.in_ok-managed.ensures.done c.args.settings c.args.hooks.now c.args.lines.items
-    (first_moment c.args.settings c.in_ok-recorded.recorded c.in_ok-recorded.ensures.fresh c.in_ok-recorded.ensures.unrecorded g.L.Loader.load_of g.W.Writer.may g.P.Processor.verdict_of g.K.Listener.state_after c.args.hooks.now c.args.lines.items) in
+    (first_moment c.args.settings c.in_ok-recorded.recorded c.in_ok-recorded.ensures.fresh c.in_ok-recorded.ensures.unrecorded g.L.Loader.load_of g.W.Writer.may g.P.Processor.verdict_of g.K.Hearer.state_after c.args.hooks.now c.args.lines.items) in
     let same : string_bytes c.in_ok-text.text ≡ text last.transcript managed =
     c.in_ok-text.ensures ∙ ap (λ (h : History). text h c.as_slice.result.now) c.transcript.ensures.value ∙ ap (λ (ms : List Managed). text last.transcript ms) c.as_slice.ensures.value in
-    subst (λ (bytes : List ℕ). Reports g.L.Loader.load_of g.W.Writer.may g.P.Processor.verdict_of g.K.Listener.state_after c.args.settings c.args.lines.items c.args.hooks.now c.run_all.new.hooks bytes) (sym same)
-    (last_moment g.L.Loader.load_of g.W.Writer.may g.P.Processor.verdict_of g.K.Listener.state_after c.args.settings c.args.hooks.now c.args.lines.items last c.run_all.new.hooks managed told c.transcript.ensures.legal)
+    subst (λ (bytes : List ℕ). Reports g.L.Loader.load_of g.W.Writer.may g.P.Processor.verdict_of g.K.Hearer.state_after c.args.settings c.args.lines.items c.args.hooks.now c.run_all.new.hooks bytes) (sym same)
+    (last_moment g.L.Loader.load_of g.W.Writer.may g.P.Processor.verdict_of g.K.Hearer.state_after c.args.settings c.args.hooks.now c.args.lines.items last c.run_all.new.hooks managed told c.transcript.ensures.legal)

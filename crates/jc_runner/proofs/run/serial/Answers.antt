@@ -8,14 +8,14 @@ use Rattle.jc_runner.proofs.run.serial.Goals as goal
 pub returns-clause-ok : goal.returns-clause-ok
 returns-clause-ok g c =
     on_ok_weaker c.write_text.result
-    (λ written. reports_of_all g.L.Loader.load_of g.W.Writer.may g.P.Processor.verdict_of g.K.Listener.state_after c.args.settings c.in_ok-lines.lines.items c.args.hooks.now c.report_on.new.hooks _ _ c.in_ok-bytes.bytes.items c.as_slice.result.now _ _
+    (λ written. reports_of_all g.L.Loader.load_of g.W.Writer.may g.P.Processor.verdict_of g.K.Hearer.state_after c.args.settings c.in_ok-lines.lines.items c.args.hooks.now c.report_on.new.hooks _ _ c.in_ok-bytes.bytes.items c.as_slice.result.now _ _
     c.in_ok-bytes.ensures.all c.as_slice.ensures.value c.in_ok-lines.ensures.ok c.in_ok-text.ensures.text
     (subst (λ (bytes : List ℕ). Appends (g.O.Write.contents c.args.writer.now.inner) (g.O.Write.contents c.write_text.new.writer.inner) bytes) c.as_bytes.ensures.value written))
     c.write_text.ensures.all
 
 pub returns-clause-front : goal.returns-clause-front
 returns-clause-front g c = λ failed.
-    reports_of_all g.L.Loader.load_of g.W.Writer.may g.P.Processor.verdict_of g.K.Listener.state_after c.args.settings c.in_ok-lines.lines.items c.args.hooks.now c.report_on.new.hooks _ _ c.in_ok-bytes.bytes.items c.as_slice.result.now _ _
+    reports_of_all g.L.Loader.load_of g.W.Writer.may g.P.Processor.verdict_of g.K.Hearer.state_after c.args.settings c.in_ok-lines.lines.items c.args.hooks.now c.report_on.new.hooks _ _ c.in_ok-bytes.bytes.items c.as_slice.result.now _ _
     c.in_ok-bytes.ensures.all c.as_slice.ensures.value c.in_ok-lines.ensures.ok c.in_ok-text.ensures.text
     (subst (λ (bytes : List ℕ). WritesFront (g.O.Write.contents c.args.writer.now.inner) (g.O.Write.contents c.write_text.new.writer.inner) bytes) c.as_bytes.ensures.value (c.write_text.ensures.front failed))
 
