@@ -1,92 +1,29 @@
-//! Events on a manager, one a line: a call begins, what it asks is answered, or it is given up; a cache is created or
-//! destroyed.
+//! Events on a manager, one a line: a line of a script, `NAME ANSWER` for the open call on the cache of that name, or
+//! `NAME given up`. `NAME` alone tells which cache has it. `on 2 LINE` makes its call on the cache of that number; `again
+//! LINE` tells, where it is refused for want of memory at first. `anew` begins with another manager.
+ghost use Rattle.std.specs.Prelude.{◌≡◌};
+ghost use Rattle.std.specs.FinMap as finite;
 
+use crate::answers::answer_of;
 use crate::texts::{asked_text, notices_text};
 use jc_config::{Settings, read_config};
 use jc_cuckoo::cuckoo::Cuckoo;
 use jc_cuckoo::mirror::NoMirror;
 use jc_engine::recorded::Recorded;
-use jc_model::call::{Action, Answer, ProcessorFault, Reply, Verdict};
+use jc_model::call::Reply;
 use jc_model::event::{CacheId, Cause, Step};
 use jc_model::key::Key;
-use jc_model::value::Value;
+use jc_model::share::Share;
 use jc_ring::link_ring::LinkRing;
 use jc_ring::list_ring::ListRing;
 use jc_ring::ring::Ring;
 use jc_rows::list_rows::ListRows;
 use jc_rows::rows::Rows;
-use jc_script::{Line, read_script, reply_text, report};
+use jc_script::{Line, LineCall, read_script, reply_text, report};
 use jc_trials::{ConstantPlacer, RefusingRows};
 use std::alloc::{AllocError, Global};
 use std::fs::Files;
 use std::{fs, io};
-
-/// The value with this text; nothing where it is too long.
-fn value_of(alloc: Global, text: &str) -> Result<Option<Value>, AllocError> {
-    let bytes = text.as_bytes().to_vec(alloc)?;
-    Ok(Value::new(alloc, bytes).ok())
-}
-
-/// A processor's verdict with this answer.
-fn verdict(action: Action, answer: Option<Value>) -> Answer {
-    Answer::Processed(Ok(Verdict { action, answer }))
-}
-
-/// The answer of a callback that failed to do what is said.
-fn failure(what: &str) -> Option<Answer> {
-    if what == "loaded" {
-        Some(Answer::LoadFailed)
-    } else if what == "written" {
-        Some(Answer::WriteFailed)
-    } else if what == "processed" {
-        Some(Answer::Processed(Err(ProcessorFault {})))
-    } else {
-        None
-    }
-}
-
-/// The answer that a word gives.
-fn answer_of_word(word: &str) -> Option<Answer> {
-    if word == "written" {
-        Some(Answer::Written)
-    } else if word == "told" {
-        Some(Answer::Told)
-    } else if word == "kept" {
-        Some(verdict(Action::Keep, None))
-    } else if word == "removed" {
-        Some(verdict(Action::Remove, None))
-    } else {
-        None
-    }
-}
-
-/// The answer of a loader that found a value, or nothing.
-fn loaded(alloc: Global, text: &str) -> Result<Answer, AllocError> {
-    if text == "nothing" {
-        Ok(Answer::Loaded(None))
-    } else {
-        Ok(Answer::Loaded(value_of(alloc, text)?))
-    }
-}
-
-/// The answer of a processor that sets a value, and hands it back.
-fn set(alloc: Global, text: &str) -> Result<Option<Answer>, AllocError> {
-    match value_of(alloc, text)? {
-        Some(value) => Ok(Some(verdict(Action::Set(value), value_of(alloc, text)?))),
-        None => Ok(None),
-    }
-}
-
-/// The answer that these words give.
-fn answer_of(alloc: Global, words: &[&str]) -> Result<Option<Answer>, AllocError> {
-    match words {
-        [word] => Ok(answer_of_word(word)),
-        [first, text] if *first == "loaded" => Ok(Some(loaded(alloc, text)?)),
-        [first, text] if *first == "set" => set(alloc, text),
-        [first, what] if *first == "not" => Ok(failure(what)),
-        _ => Ok(None),
-    }
-}
 
 /// The id of the cache with this name, else one that no cache has.
 fn id_of<R: Rows, G: Ring>(manager: &Recorded<R, G>, name: &str) -> CacheId {
@@ -109,32 +46,83 @@ fn refused_text(alloc: Global, cause: Cause) -> Result<String, AllocError> {
     format!(in alloc; "refused: {cause:?}")
 }
 
-/// What becomes of a call or an answer.
-fn taken_text<T: Drop>(
+/// What becomes of a call or an answer. Where it is refused it is handed back as it was.
+fn taken_text<T: PartialEq + Drop>(
     alloc: Global,
     taken: Result<(Step, Option<Reply>), (Cause, T)>,
+    given: &T,
 ) -> Result<String, AllocError> {
     match taken {
         Ok((step, _)) => step_text(alloc, &step),
-        Err((cause, _)) => refused_text(alloc, cause),
+        Err((cause, back)) => {
+            let is_same = back == *given;
+            drop(back);
+            if is_same {
+                refused_text(alloc, cause)
+            } else {
+                format!(in alloc; "another one is handed back")
+            }
+        }
     }
 }
 
-/// What becomes of what a line asks for. A call that is refused for want of memory is made again.
+/// A line of a script as an event: on which cache, where that is not the one of its name, and whether it is told that
+/// the line is refused for want of memory at first.
+#[derive(Clone, Copy)]
+struct Asked<'a> {
+    line: &'a str,
+    id: Option<u32>,
+    tells: bool,
+}
+
+/// The line that these words ask for.
+fn asked_by<'a>(words: &[&'a str]) -> Option<Asked<'a>> {
+    let (line, id, tells) = match words {
+        [line] => (line, None, false),
+        [first, line] if *first == "again" => (line, None, true),
+        [first, id, line] if *first == "on" => (line, id.parse::<u32>().ok(), false),
+        _ => return None,
+    };
+    if line.starts_with("{") {
+        Some(Asked { line, id, tells })
+    } else {
+        None
+    }
+}
+
+/// What becomes of a call. Where it is refused for want of memory it is made again.
+fn called<R: Rows, G: Ring>(
+    alloc: Global,
+    manager: &mut Recorded<R, G>,
+    made: LineCall,
+    asked: Asked<'_>,
+) -> Result<String, AllocError> {
+    let (session, at) = (made.session, made.at);
+    let id = asked.id.map_or(made.id, CacheId::new);
+    let given = made.call.share()?;
+    match manager.begin(session, id, at, made.call) {
+        Err((Cause::OutOfMemory, call)) => {
+            let again = manager.begin(session, id, at, call);
+            let text = taken_text(alloc, again, &given)?;
+            if asked.tells {
+                format!(in alloc; "refused: OutOfMemory\n{text}")
+            } else {
+                Ok(text)
+            }
+        }
+        begun => taken_text(alloc, begun, &given),
+    }
+}
+
+/// What becomes of what a line asks for.
 fn done<R: Rows, G: Ring>(
     alloc: Global,
     manager: &mut Recorded<R, G>,
     line: Line,
+    asked: Asked<'_>,
 ) -> Result<String, AllocError> {
     match line {
-        Line::Call(made) => {
-            let (session, id, at) = (made.session, made.id, made.at);
-            let begun = match manager.begin(session, id, at, made.call) {
-                Err((Cause::OutOfMemory, call)) => manager.begin(session, id, at, call),
-                begun => begun,
-            };
-            taken_text(alloc, begun)
-        }
+        Line::Call(made) => called(alloc, manager, made, asked),
         Line::Create { config, .. } => match manager.create(config) {
             Ok(id) => format!(in alloc; "created {}", id.number()),
             Err((refusal, _)) => format!(in alloc; "refused: {refusal:?}"),
@@ -151,40 +139,51 @@ fn begun<R: Rows, G: Ring>(
     alloc: Global,
     manager: &mut Recorded<R, G>,
     settings: &Settings,
-    text: &str,
+    asked: Asked<'_>,
 ) -> Result<String, AllocError> {
-    let mut lines = match read_script(alloc, text.as_bytes(), settings) {
+    let mut lines = match read_script(alloc, asked.line.as_bytes(), settings) {
         Ok(lines) => lines,
         Err(fault) => return format!(in alloc; "{fault:?}"),
     };
     match lines.pop() {
-        Some(line) => done(alloc, manager, line),
+        Some(line) => done(alloc, manager, line, asked),
         None => format!(in alloc; "no line"),
     }
 }
 
-/// What becomes of an open call. An answer that is refused for want of memory is given again.
-fn resumed<R: Rows, G: Ring>(
+/// What becomes of an answer. Where it is refused for want of memory it is given again.
+fn answered<R: Rows, G: Ring>(
     alloc: Global,
     manager: &mut Recorded<R, G>,
     id: CacheId,
     words: &[&str],
 ) -> Result<String, AllocError> {
+    let Some(given) = answer_of(alloc, words)? else {
+        return format!(in alloc; "no answer");
+    };
+    let resumed = match manager.resume(id, given.share()?) {
+        Err((Cause::OutOfMemory, answer)) => manager.resume(id, answer),
+        resumed => resumed,
+    };
+    taken_text(alloc, resumed, &given)
+}
+
+/// What becomes of an open call, or which cache has a name.
+fn resumed<R: Rows, G: Ring>(
+    alloc: Global,
+    manager: &mut Recorded<R, G>,
+    name: &str,
+    words: &[&str],
+) -> Result<String, AllocError> {
+    let id = id_of(manager, name);
     match words {
+        [] if id == CacheId::new(u32::MAX) => format!(in alloc; "no cache"),
+        [] => format!(in alloc; "id {}", id.number()),
         [first, second] if *first == "given" && *second == "up" => match manager.give_up(id) {
             Ok(left) => format!(in alloc; "gave up{}", notices_text(alloc, left.items())?),
             Err(cause) => refused_text(alloc, cause),
         },
-        words => match answer_of(alloc, words)? {
-            Some(answer) => {
-                let resumed = match manager.resume(id, answer) {
-                    Err((Cause::OutOfMemory, answer)) => manager.resume(id, answer),
-                    resumed => resumed,
-                };
-                taken_text(alloc, resumed)
-            }
-            None => format!(in alloc; "no answer"),
-        },
+        words => answered(alloc, manager, id, words),
     }
 }
 
@@ -195,15 +194,12 @@ fn outcome<R: Rows, G: Ring>(
     settings: &Settings,
     event: &str,
 ) -> Result<String, AllocError> {
-    if event.starts_with("{") {
-        return begun(alloc, manager, settings, event);
-    }
     let words: Vec<&str> = event.split_whitespace().collect(alloc)?;
+    if let Some(asked) = asked_by(words.as_slice()) {
+        return begun(alloc, manager, settings, asked);
+    }
     match words.split_first() {
-        Some((name, words)) => {
-            let id = id_of(manager, name);
-            resumed(alloc, manager, id, words)
-        }
+        Some((name, words)) => resumed(alloc, manager, name, words),
         None => format!(in alloc; "no event"),
     }
 }
@@ -232,31 +228,18 @@ fn settings_of(alloc: Global, config: &[u8]) -> Option<Settings> {
     }
 }
 
-/// What events come to over the plain table and ring; nothing where the manager does not open.
-fn plain_text(
+/// What events come to over such a table, where room for new rows is refused at first, and how often it was refused;
+/// nothing where the manager does not open.
+fn poor_text<R: Rows, G: Ring>(
     alloc: Global,
     settings: &Settings,
     own: Settings,
+    rows: R,
     events: &str,
-) -> Result<Option<String>, AllocError> {
-    match Recorded::<_, ListRing>::open(alloc, ListRows::new(alloc), own.into_caches()) {
-        Ok(mut manager) => Ok(Some(played(alloc, &mut manager, settings, events)?)),
-        Err(_) => Ok(None),
-    }
-}
-
-/// The same over the linked ring and a cuckoo table where all keys share two buckets and room for new rows is refused
-/// at first, and how often it was refused.
-fn poor_text(
-    alloc: Global,
-    settings: &Settings,
-    own: Settings,
-    events: &str,
-) -> Result<Option<(String, u32)>, AllocError> {
-    let Ok(table) = Cuckoo::new(alloc, ConstantPlacer, NoMirror, 16) else {
-        return Ok(None);
-    };
-    match Recorded::<_, LinkRing>::open(alloc, RefusingRows::new(table), own.into_caches()) {
+) -> Result<Option<(String, u32)>, AllocError>
+    requires { R.contents rows ≡ finite.empty }
+{
+    match Recorded::<_, G>::open(alloc, RefusingRows::new(rows), own.into_caches()) {
         Ok(mut manager) => {
             let text = played(alloc, &mut manager, settings, events)?;
             Ok(Some((text, manager.rows().refusals())))
@@ -265,8 +248,44 @@ fn poor_text(
     }
 }
 
-/// Prints what each event of a file comes to, and the report. Over another table and ring it is the same, also where
-/// each call and answer is made again that was refused for want of room.
+/// What events come to over a list of rows and of their order, and over the linked ring and a cuckoo table where all
+/// keys share two buckets; nothing where it is not the same, or no room was refused.
+fn text_of(alloc: Global, config: &[u8], events: &str) -> Result<Option<String>, AllocError> {
+    let all = || settings_of(alloc, config);
+    let (Some(settings), Some(first), Some(second)) = (all(), all(), all()) else {
+        return Ok(None);
+    };
+    let Ok(table) = Cuckoo::new(alloc, ConstantPlacer, NoMirror, 16) else {
+        return Ok(None);
+    };
+    let rows = ListRows::new(alloc);
+    let plain = poor_text::<_, ListRing>(alloc, &settings, first, rows, events)?;
+    let linked = poor_text::<_, LinkRing>(alloc, &settings, second, table, events)?;
+    match (plain, linked) {
+        (Some(plain), Some(linked)) if plain == linked && plain.1 > 0 => Ok(Some(plain.0)),
+        _ => Ok(None),
+    }
+}
+
+/// The events of each manager: a line `anew` begins another one.
+fn sections(alloc: Global, events: &str) -> Result<Vec<String>, AllocError> {
+    let mut sections = Vec::new(alloc);
+    let mut section = String::new(alloc);
+    for event in events.lines() {
+        if event == "anew" {
+            sections.push(section)?;
+            section = String::new(alloc);
+        } else {
+            section.push_str(event)?;
+            section.push_str("\n")?;
+        }
+    }
+    sections.push(section)?;
+    Ok(sections)
+}
+
+/// Prints what each event of a file comes to, and the report. Over another table and ring it is the same; each call and
+/// answer that is refused for want of room is handed back, and made again.
 pub fn play_events<R: Files + Print + AllocGlobal>(
     rt: &R,
     config: &str,
@@ -275,16 +294,11 @@ pub fn play_events<R: Files + Print + AllocGlobal>(
     let alloc = rt.alloc();
     let config = fs::read(rt, config)?;
     let events = fs::read_to_string(rt, events)?;
-    let all = || settings_of(alloc, config.as_slice());
-    let (Some(settings), Some(first), Some(second)) = (all(), all(), all()) else {
-        return println!(rt; "a faulty configuration");
-    };
-    let Some(text) = plain_text(alloc, &settings, first, events.as_str())? else {
-        return println!(rt; "the manager does not open");
-    };
-    print!(rt; "{text}")?;
-    match poor_text(alloc, &settings, second, events.as_str())? {
-        Some((other, refusals)) if other == text && refusals > 0 => Ok(()),
-        _ => println!(rt; "another text over the cuckoo table, or no room was refused"),
+    for section in sections(alloc, events.as_str())? {
+        match text_of(alloc, config.as_slice(), section.as_str())? {
+            Some(text) => print!(rt; "{text}")?,
+            None => println!(rt; "another text over the cuckoo table, or no room was refused")?,
+        }
     }
+    Ok(())
 }

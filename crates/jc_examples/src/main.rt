@@ -7,6 +7,7 @@
 //! CONFIG`, for calls whose requests the file answers. Empty lines and those that begin with `#` are passed over.
 #![tactic(auto)]
 
+mod answers;
 mod case;
 mod events;
 mod over;

@@ -1,11 +1,15 @@
-//! A run over a table in which all keys share two buckets.
+//! A run over another table than the program's: one in which all keys share two buckets, and a list.
+ghost use Rattle.std.specs.Prelude.{◌≡◌};
+ghost use Rattle.std.specs.FinMap as finite;
 
 use jc_config::{Configuration, HookKinds, ProcessorKind, read_config};
 use jc_cuckoo::cuckoo::Cuckoo;
 use jc_cuckoo::mirror::NoMirror;
 use jc_hooks::program::{CheckWriter, EchoLoader, ProgramHooks, ProgramProcessor};
-use jc_hooks::{CacheHooks, TallyListener};
+use jc_hooks::{CacheHooks, ListenerHook, TallyListener};
 use jc_model::OutOfMemory;
+use jc_rows::list_rows::ListRows;
+use jc_rows::rows::Rows;
 use jc_runner::{RunFault, all_suit, report_on};
 use jc_script::read_script;
 use jc_trials::ConstantPlacer;
@@ -28,7 +32,7 @@ fn hooks_of(alloc: Global, kinds: &HookKinds, listeners: u8) -> Result<ProgramHo
     }
     let mut tallies = Vec::new(alloc);
     for _ in 0..listeners {
-        tallies.push(TallyListener::new())?;
+        tallies.push(ListenerHook::unfiltered(TallyListener::new()))?;
     }
     Ok(CacheHooks {
         loader: kinds.loader.map(|_| EchoLoader),
@@ -38,10 +42,17 @@ fn hooks_of(alloc: Global, kinds: &HookKinds, listeners: u8) -> Result<ProgramHo
     })
 }
 
-/// The report of a script on caches of a configuration, over a table in which all keys share two buckets.
+/// The report of a script on caches of a configuration, over an empty table.
 ///
 /// `Open` where the configuration is faulty.
-pub fn reported(alloc: Global, config: &[u8], script: &[u8]) -> Result<String, RunFault> {
+fn reported<T: Rows>(
+    alloc: Global,
+    rows: T,
+    config: &[u8],
+    script: &[u8],
+) -> Result<String, RunFault>
+    requires { T.contents rows ≡ finite.empty }
+{
     let Ok(Configuration { settings, hooks }) = read_config(alloc, config) else {
         return Err(RunFault::Open);
     };
@@ -53,8 +64,26 @@ pub fn reported(alloc: Global, config: &[u8], script: &[u8]) -> Result<String, R
     if !all_suit(&settings, own.as_slice()) {
         return Err(RunFault::Open);
     }
+    report_on(alloc, rows, settings, own.as_mut_slice(), lines)
+}
+
+/// The report over a cuckoo table in which all keys share two buckets.
+pub fn one_bucket_for_all_keys(
+    alloc: Global,
+    config: &[u8],
+    script: &[u8],
+) -> Result<String, RunFault> {
     match Cuckoo::new(alloc, ConstantPlacer, NoMirror, 16) {
-        Ok(rows) => report_on(alloc, rows, settings, own.as_mut_slice(), lines),
+        Ok(rows) => reported(alloc, rows, config, script),
         Err(_) => Err(RunFault::Memory),
     }
+}
+
+/// The report over a list of rows.
+pub fn a_list_for_all_keys(
+    alloc: Global,
+    config: &[u8],
+    script: &[u8],
+) -> Result<String, RunFault> {
+    reported(alloc, ListRows::new(alloc), config, script)
 }

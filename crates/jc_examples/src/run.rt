@@ -1,7 +1,7 @@
 //! Runs of the program, over the words of an example.
 
-use crate::over::reported;
-use jc_runner::{Disk, HostDisk, OpenFault, Opened, Standard, program};
+use crate::over::{a_list_for_all_keys, one_bucket_for_all_keys};
+use jc_runner::{Disk, HostDisk, OpenFault, Opened, RunFault, Standard, program};
 use std::fs::Files;
 use std::sync::Wait;
 use std::thread::Threads;
@@ -111,8 +111,8 @@ fn worded<'a, R: Files + Threads + Wait + Sync + AllocGlobal>(
     printed(rt, &words, &mut disk, &[])
 }
 
-/// Runs a configuration and a script. With other seeds, in the order of the lines, and where all keys share two
-/// buckets, the report is the same.
+/// Runs a configuration and a script. With other seeds, in the order of the lines, where all keys share two buckets, and
+/// over a list of rows, the report is the same.
 pub fn run_files<'a, R: Files + Print + Threads + Wait + Sync + AllocGlobal>(
     rt: &R,
     config: &'a str,
@@ -127,9 +127,23 @@ pub fn run_files<'a, R: Files + Print + Threads + Wait + Sync + AllocGlobal>(
     }
     let config = fs::read(rt, config)?;
     let script = fs::read(rt, script)?;
-    match reported(rt.alloc(), config.as_slice(), script.as_slice()) {
+    let (config, script) = (config.as_slice(), script.as_slice());
+    let crowded = one_bucket_for_all_keys(rt.alloc(), config, script);
+    compare(rt, &run, crowded, "where all keys share two buckets")?;
+    let listed = a_list_for_all_keys(rt.alloc(), config, script);
+    compare(rt, &run, listed, "over a list")
+}
+
+/// Prints where a run gave another report elsewhere.
+fn compare<R: Print>(
+    rt: &R,
+    run: &Written,
+    report: Result<String, RunFault>,
+    place: &str,
+) -> io::Result<()> {
+    match report {
         Ok(report) if report.as_bytes() == run.output.as_slice() => Ok(()),
-        Ok(_) => println!(rt; "another report where all keys share two buckets"),
+        Ok(_) => println!(rt; "another report {place}"),
         Err(fault) => println!(rt; "{fault:?}"),
     }
 }

@@ -6,8 +6,8 @@ use crate::sessions::seated;
 use crate::trouble::{Trouble, done, is, key, no_hooks, plain_cache, value_of};
 use jc_engine::open::OpenRefusal;
 use jc_engine::recorded::Recorded;
-use jc_hooks::program::{CheckWriter, EchoLoader, ProgramProcessor};
-use jc_hooks::{CacheHooks, Listener, Loader, Processor, TallyListener, Writer};
+use jc_hooks::program::{CheckWriter, EchoLoader, ProgramListener, ProgramProcessor};
+use jc_hooks::{CacheHooks, Hearer, ListenerHook, Loader, Processor, TallyListener, Writer};
 use jc_model::call::{Answer, Call, Reply};
 use jc_model::config::CacheConfig;
 use jc_model::event::{CacheId, End, Entry};
@@ -24,7 +24,7 @@ use std::alloc::Global;
 use std::marker::Brand;
 use std::sync::Wait;
 
-type Hooks = CacheHooks<EchoLoader, CheckWriter, ProgramProcessor, TallyListener>;
+type Hooks = CacheHooks<EchoLoader, CheckWriter, ProgramProcessor, ProgramListener>;
 
 /// A cache with a loader, a writer, a processor that wants the value, and a listener.
 fn full_cache(alloc: Global, name: &str, capacity: u32) -> Result<CacheConfig, Trouble> {
@@ -43,7 +43,9 @@ fn hooks_but(alloc: Global, left_out: u32) -> Result<Hooks, Trouble> {
         hooks.processors.push(ProgramProcessor::Append)?;
     }
     if left_out != 3 {
-        hooks.listeners.push(TallyListener::new())?;
+        hooks
+            .listeners
+            .push(ListenerHook::unfiltered(TallyListener::new()))?;
     }
     if left_out != 0 {
         hooks.loader = Some(EchoLoader);
@@ -103,7 +105,7 @@ fn managers_open_over_the_callbacks_that_are_named(rt: HostRuntime) -> Result<()
 }
 
 /// What a session of a manager of one plain cache is answered, at calls that are refused and one that is not.
-fn answers<N: Name, L: Loader, W: Writer, P: Processor, K: Listener, R: Wait>(
+fn answers<N: Name, L: Loader, W: Writer, P: Processor, K: Hearer, R: Wait>(
     rt: &R,
     alloc: Global,
     session: &mut Session<'_, N, L, W, P, K>,
@@ -132,7 +134,7 @@ fn answers<N: Name, L: Loader, W: Writer, P: Processor, K: Listener, R: Wait>(
 }
 
 /// Whether a manager is not closed without the last of its sessions and hands the others back, and all of them.
-fn without_last<'a, N: Name, L: Loader, W: Writer, P: Processor, K: Listener, R: Wait>(
+fn without_last<'a, N: Name, L: Loader, W: Writer, P: Processor, K: Hearer, R: Wait>(
     rt: &R,
     manager: &'a Manager<N, L, W, P, K>,
     mut sessions: Vec<Session<'a, N, L, W, P, K>>,
@@ -152,7 +154,7 @@ fn without_last<'a, N: Name, L: Loader, W: Writer, P: Processor, K: Listener, R:
 
 /// A manager gives out 64 sessions and no more; is not closed without all of them, which are handed back; is closed
 /// with them, once; and gives out no session then.
-fn closes<'a, N: Name, L: Loader, W: Writer, P: Processor, K: Listener, R: Wait>(
+fn closes<'a, N: Name, L: Loader, W: Writer, P: Processor, K: Hearer, R: Wait>(
     rt: &R,
     alloc: Global,
     manager: &'a Manager<N, L, W, P, K>,
@@ -184,7 +186,7 @@ fn closes<'a, N: Name, L: Loader, W: Writer, P: Processor, K: Listener, R: Wait>
 }
 
 /// The same, under this name.
-fn orders<N: Name, L: Loader, W: Writer, P: Processor, K: Listener, R: Wait>(
+fn orders<N: Name, L: Loader, W: Writer, P: Processor, K: Hearer, R: Wait>(
     rt: &R,
     alloc: Global,
     shared: Shared<L, W, P, K>,
@@ -198,7 +200,7 @@ fn orders<N: Name, L: Loader, W: Writer, P: Processor, K: Listener, R: Wait>(
 }
 
 /// The same, under a name that this call picks.
-fn order<L: Loader, W: Writer, P: Processor, K: Listener, R: Wait>(
+fn order<L: Loader, W: Writer, P: Processor, K: Hearer, R: Wait>(
     rt: &R,
     alloc: Global,
     shared: Shared<L, W, P, K>,

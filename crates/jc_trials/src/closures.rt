@@ -1,15 +1,18 @@
-//! The program's loader and its processors as stored closures.
+//! The program's loader, its processors and a filter as stored closures.
 
 ghost use Rattle.std.specs.Prelude.{◌≡◌, IfOk};
 ghost use Rattle.jc_hooks.specs.Program.{echoed};
 ghost use Rattle.jc_hooks.specs.Processors.{verdict_by};
+ghost use Rattle.jc_trials.specs.Filters.{has_kind};
 
+use crate::fakes::KindFilter;
 use jc_hooks::program::{EchoLoader, ProgramProcessor};
 use jc_hooks::{
-    ClosureLoader, ClosureProcessor, LoadClosure, Loaded, Loader, ProcessClosure, Processor,
+    ClosureFilter, ClosureLoader, ClosureProcessor, Filter, FilterClosure, LoadClosure, Loaded,
+    Loader, ProcessClosure, Processor,
 };
 use jc_model::OutOfMemory;
-use jc_model::call::{ProcessorFault, Verdict};
+use jc_model::call::{Notice, ProcessorFault, Verdict};
 use jc_model::key::Key;
 use jc_model::value::Value;
 use std::alloc::Global;
@@ -41,4 +44,15 @@ pub fn processor_closure(
         { processor.process(alloc, value.as_ref(), argument) },
     )?;
     Ok(ClosureProcessor::new(wants_value, closure))
+}
+
+/// A closure that admits changes of these kinds.
+pub fn kind_closure(alloc: Global, kinds: KindFilter) -> Result<ClosureFilter, OutOfMemory> {
+    let closure: FilterClosure = Box::new(
+        alloc,
+        move |notice: &Notice| -> bool
+            ensures { result ≡ has_kind kinds notice.now.kind }
+        { kinds.admits(notice) },
+    )?;
+    Ok(ClosureFilter::new(closure))
 }

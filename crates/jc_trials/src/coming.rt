@@ -5,7 +5,9 @@ ghost use Rattle.jc_hooks.specs.Program.{echoed};
 ghost use Rattle.jc_hooks.specs.Processors.{verdict_by};
 ghost use Rattle.jc_shared.specs.Stated.{stated_by};
 
-use crate::fakes::{NotedListener, NotedLoader, NotedProcessor, NotedWriter, noted_listeners};
+use crate::fakes::{
+    EVERY_KIND, NotedHook, NotedLoader, NotedProcessor, NotedWriter, noted_listeners,
+};
 use crate::log::Log;
 use crate::sessions::seated;
 use crate::trouble::{Trouble, done, is, key, no_hooks, plain_cache, value_of};
@@ -28,11 +30,11 @@ type NotedCheck = NotedWriter<CheckWriter>;
 
 type NotedAppend = NotedProcessor<ProgramProcessor>;
 
-type Hooks = CacheHooks<NotedEcho, NotedCheck, NotedAppend, NotedListener>;
+type Hooks = CacheHooks<NotedEcho, NotedCheck, NotedAppend, NotedHook>;
 
-type Caches<N> = Manager<N, NotedEcho, NotedCheck, NotedAppend, NotedListener>;
+type Caches<N> = Manager<N, NotedEcho, NotedCheck, NotedAppend, NotedHook>;
 
-type Caller<'a, N> = Session<'a, N, NotedEcho, NotedCheck, NotedAppend, NotedListener>;
+type Caller<'a, N> = Session<'a, N, NotedEcho, NotedCheck, NotedAppend, NotedHook>;
 
 /// A cache with a loader, a writer, a processor and a listener.
 fn full_cache(alloc: Global, name: &str) -> Result<CacheConfig, Trouble> {
@@ -48,7 +50,7 @@ fn full_cache(alloc: Global, name: &str) -> Result<CacheConfig, Trouble> {
 fn full_hooks(alloc: Global, log: &Log) -> Result<Hooks, OutOfMemory> {
     let append = NotedProcessor::new(b"a", ProgramProcessor::Append, log)?;
     let processors = Vec::from_array(alloc, [append])?;
-    let listeners = noted_listeners(alloc, 1, log)?;
+    let listeners = noted_listeners(alloc, 1, EVERY_KIND, log)?;
     let loader = NotedLoader::new(EchoLoader, log)?;
     let writer = NotedWriter::new(CheckWriter, log)?;
     Ok(CacheHooks {
@@ -214,7 +216,7 @@ fn outlived<N: Name, R: Wait>(
     }
 }
 
-type Opened = Shared<NotedEcho, NotedCheck, NotedAppend, NotedListener>;
+type Opened = Shared<NotedEcho, NotedCheck, NotedAppend, NotedHook>;
 
 /// A manager of two caches without callbacks.
 fn two_caches(alloc: Global) -> Result<Opened, Trouble> {

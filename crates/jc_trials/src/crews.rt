@@ -1,13 +1,11 @@
-//! Runs on worker threads: callbacks of one cache go on beside those of another, a worker asks as its sessions do, and
-//! many sessions share one cache.
+//! Runs on worker threads: callbacks of one cache go on beside those of another, and many sessions share one cache.
 ghost use Rattle.std.specs.Prelude.{◌<◌};
 
 use crate::log::{Log, Text};
-use crate::sessions::{SCENES as NOTED, Scene as Noted, noting_hooks};
 use crate::trouble::{Trouble, no_hooks};
 use jc_config::{Configuration, read_config};
-use jc_hooks::program::{CheckWriter, EchoLoader, ProgramHooks, ProgramProcessor};
-use jc_hooks::{CacheHooks, Listener, Loaded, Loader, Processor, TallyListener, Writer};
+use jc_hooks::program::{CheckWriter, EchoLoader, ProgramHooks, ProgramListener, ProgramProcessor};
+use jc_hooks::{CacheHooks, Hearer, Loaded, Loader, Processor, Writer};
 use jc_model::OutOfMemory;
 use jc_model::key::Key;
 use jc_runner::{Crew, RunFault, Setup, WatchedWriter, threaded};
@@ -88,7 +86,7 @@ impl Gate for RaisingGate {
     }
 }
 
-type Hooks = CacheHooks<WaitingLoader, CheckWriter, ProgramProcessor, TallyListener>;
+type Hooks = CacheHooks<WaitingLoader, CheckWriter, ProgramProcessor, ProgramListener>;
 
 /// Caches, for which flag the loader of each waits, a script for two workers, and the report.
 struct Scene {
@@ -149,7 +147,14 @@ cache b
 ];
 
 /// What a script reports, run by this crew.
-fn gathered<L: Loader, W: Writer, P: Processor, K: Listener, G: Gate, R: Threads + Wait + Sync>(
+pub(crate) fn gathered<
+    L: Loader,
+    W: Writer,
+    P: Processor,
+    K: Hearer,
+    G: Gate,
+    R: Threads + Wait + Sync,
+>(
     rt: &R,
     alloc: Global,
     caches: &str,
@@ -227,8 +232,8 @@ fn callbacks_of_two_caches_run_side_by_side(rt: HostRuntime) -> Result<(), Troub
 
 /// Notes a point after each call.
 #[derive(Drop)]
-struct PointGate {
-    log: Log,
+pub(crate) struct PointGate {
+    pub(crate) log: Log,
 }
 
 impl Gate for PointGate {
@@ -237,43 +242,6 @@ impl Gate for PointGate {
     fn after(&self, _session: u32, _line: usize) {
         self.log.note(Text::of(b"."));
     }
-}
-
-/// What a worker reports of a scene of sessions, or why it does not, and what the callbacks are asked.
-fn asked_of<R: Threads + Wait + Sync>(
-    rt: &R,
-    alloc: Global,
-    scene: &Noted,
-) -> Result<(Result<Vec<u8>, Trouble>, Vec<u8>), Trouble> {
-    let log = Log::new(alloc, 32)?;
-    let gate = PointGate { log: log.share()? };
-    let crew = Crew {
-        workers: 1,
-        gate: &gate,
-    };
-    let hooks = noting_hooks(alloc, scene, &log)?;
-    let text = gathered(
-        rt,
-        alloc,
-        scene.caches,
-        scene.calls.as_bytes(),
-        hooks,
-        &crew,
-    );
-    Ok((text, log.text(alloc)?))
-}
-
-#[test]
-fn a_worker_asks_as_its_sessions_do(rt: HostRuntime) -> Result<(), Trouble> {
-    let (text, asked) = asked_of(&rt, rt.alloc(), &NOTED[0])?;
-    assert_eq!(rt; text?.as_slice(), NOTED[0].report.as_bytes());
-    assert_eq!(rt; asked.as_slice(), NOTED[0].asked.as_bytes());
-    // A callback without memory ends the run.
-    for scene in &NOTED[1..] {
-        let (text, _) = asked_of(&rt, rt.alloc(), scene)?;
-        assert_eq!(rt; text.err(), Some(Trouble::Running(RunFault::Memory)));
-    }
-    Ok(())
 }
 
 /// Callbacks that the settings do not name.

@@ -1,7 +1,7 @@
 //! Callbacks that note what they are asked, and then do as another.
 
 use crate::log::{Log, Text};
-use jc_hooks::{Listener, Loaded, Loader, Processor, Writer};
+use jc_hooks::{Filter, Listener, ListenerHook, Loaded, Loader, Processor, Writer};
 use jc_model::OutOfMemory;
 use jc_model::call::{Kind, Notice, ProcessorFault, Verdict};
 use jc_model::key::Key;
@@ -118,16 +118,68 @@ pub struct NotedListener {
     log: Log,
 }
 
-/// So many listeners, with the names `1`, `2` and so on.
+impl NotedListener {
+    /// It has this name, and notes in a share of `log`.
+    pub fn new(name: u8, log: &Log) -> Result<NotedListener, OutOfMemory> {
+        let log = log.share()?;
+        Ok(NotedListener { name, log })
+    }
+}
+
+/// Which kinds of change a listener is told of.
+#[derive(Clone, Copy)]
+pub struct KindFilter {
+    pub created: bool,
+    pub updated: bool,
+    pub removed: bool,
+    pub expired: bool,
+}
+
+/// Admits changes of every kind.
+pub const EVERY_KIND: KindFilter = KindFilter {
+    created: true,
+    updated: true,
+    removed: true,
+    expired: true,
+};
+
+/// Admits only that a row has expired.
+pub const EXPIRED_ALONE: KindFilter = KindFilter {
+    created: false,
+    updated: false,
+    removed: false,
+    expired: true,
+};
+
+impl Filter for KindFilter {
+    ghost use Rattle.jc_trials.specs.Filters.{has_kind};
+
+    ghost lets = { λ filter notice. has_kind filter notice.kind };
+
+    fn admits(&self, notice: &Notice) -> bool {
+        match notice.kind {
+            Kind::Created => self.created,
+            Kind::Updated => self.updated,
+            Kind::Removed => self.removed,
+            Kind::Expired => self.expired,
+        }
+    }
+}
+
+/// A listener that notes the kinds that its filter has.
+pub type NotedHook = ListenerHook<KindFilter, NotedListener>;
+
+/// So many listeners, with the names `1`, `2` and so on, each behind the filter.
 pub fn noted_listeners(
     alloc: Global,
     count: u8,
+    filter: KindFilter,
     log: &Log,
-) -> Result<Vec<NotedListener>, OutOfMemory> {
+) -> Result<Vec<NotedHook>, OutOfMemory> {
     let mut listeners = Vec::new(alloc);
     for name in b'1'..b'1'.saturating_add(count) {
-        let log = log.share()?;
-        listeners.push(NotedListener { name, log })?;
+        let listener = NotedListener::new(name, log)?;
+        listeners.push(ListenerHook { filter, listener })?;
     }
     Ok(listeners)
 }
@@ -149,20 +201,6 @@ impl Listener for NotedListener {
     fn tell(&mut self, notice: &Notice) {
         let told = Text::of(&[self.name]).and(letter(notice.kind));
         self.log.note(told.and(notice.key.text().as_bytes()));
-    }
-}
-
-/// A loader that never finds memory.
-#[derive(Drop)]
-pub struct PoorLoader;
-
-impl Loader for PoorLoader {
-    ghost use Rattle.jc_hooks.specs.declared.loader.Loaded.TheVariants.{Failed};
-
-    ghost load_of = { λ _ _. Failed };
-
-    fn load(&self, _alloc: Global, _key: &Key) -> Result<Loaded, OutOfMemory> {
-        Err(AllocError)
     }
 }
 

@@ -9,7 +9,8 @@ mod refusing;
 mod trouble;
 
 pub use fakes::{
-    NotedListener, NotedLoader, NotedProcessor, NotedWriter, OncePoor, PoorLoader, noted_listeners,
+    EVERY_KIND, EXPIRED_ALONE, KindFilter, NotedHook, NotedListener, NotedLoader, NotedProcessor,
+    NotedWriter, OncePoor, noted_listeners,
 };
 pub use log::{Log, Text};
 pub use placers::{ConstantPlacer, TablePlacer};
@@ -29,6 +30,8 @@ mod crews;
 #[cfg(test)]
 mod large;
 #[cfg(test)]
+mod limits;
+#[cfg(test)]
 mod lives;
 #[cfg(test)]
 mod lookups;
@@ -43,6 +46,8 @@ mod quiet;
 #[cfg(test)]
 mod rings;
 #[cfg(test)]
+mod scenes;
+#[cfg(test)]
 mod seeking;
 #[cfg(test)]
 mod sessions;
@@ -54,6 +59,8 @@ mod streams;
 mod tables;
 #[cfg(test)]
 mod vacated;
+#[cfg(test)]
+mod ways;
 #[cfg(test)]
 mod wearing;
 #[cfg(test)]

@@ -1,6 +1,6 @@
 //! Managers at their limits: they open, create their last cache, and give no id beyond the last.
 
-use crate::trouble::{Trouble, is, plain_cache};
+use crate::trouble::{Trouble, is, key, plain_cache};
 use jc_engine::open::OpenRefusal;
 use jc_engine::recorded::Recorded;
 use jc_model::config::CacheConfig;
@@ -46,7 +46,7 @@ fn opened(alloc: Global, first: u32, count: u32, parts: Parts) -> Result<Manager
 /// and why it is refused.
 type Asked = (u32, u32, Parts, Parts, Option<CreateRefusal>);
 
-static ASKED: [Asked; 7] = [
+static ASKED: [Asked; 8] = [
     (0, 0, (1, 0, 0), (65_536, 8, 16), None),
     (0, 3, (65_536, 8, 16), (65_536, 8, 16), None),
     (LAST - 1023, 1023, (256, 8, 16), (256, 8, 16), None),
@@ -59,13 +59,22 @@ static ASKED: [Asked; 7] = [
     ),
     (LAST - 3, 4, (65_536, 8, 16), (1, 0, 0), Some(TotalCapacity)),
     (LAST - 3, 4, (65_535, 8, 16), (4, 8, 16), Some(IdsSpent)),
+    (LAST, 1, (1, 0, 0), (1, 0, 0), Some(IdsSpent)),
     (LAST + 1, 0, (1, 0, 0), (1, 0, 0), Some(IdsSpent)),
 ];
 
-/// Whether what is asked for is created, or refused so and handed back.
+/// Whether the first cache has its id, and what is asked for is created, or refused so and handed back.
 fn is_answered(alloc: Global, asked: &Asked) -> Result<bool, Trouble> {
     let (first, count, parts, wanted, refusal) = *asked;
     let mut manager = opened(alloc, first, count, parts)?;
+    let id = if count == 0 {
+        None
+    } else {
+        Some(CacheId::new(first))
+    };
+    if manager.cache(&key("0")?) != id {
+        return Ok(false);
+    }
     let answer = match refusal {
         Some(refusal) => Err((refusal, numbered(alloc, count, wanted)?)),
         None => Ok(CacheId::new(first.wrapping_add(count))),

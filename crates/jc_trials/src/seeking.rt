@@ -4,8 +4,8 @@ ghost use Rattle.jc_shared.specs.Stated.{stated_by};
 
 use crate::sessions::seated;
 use crate::trouble::{Trouble, done, no_hooks, plain_cache, value_of};
-use jc_hooks::program::{CheckWriter, EchoLoader, ProgramProcessor};
-use jc_hooks::{Listener, Loader, Processor, TallyListener, Writer};
+use jc_hooks::program::{CheckWriter, EchoLoader, ProgramListener, ProgramProcessor};
+use jc_hooks::{Hearer, Loader, Processor, Writer};
 use jc_index::lookup::Lookup;
 use jc_model::call::Call;
 use jc_model::config::Policy;
@@ -20,14 +20,30 @@ use std::sync::Wait;
 use std::thread::{Threads, join};
 
 /// The manager of the trials: rows of cache 0 live for 10 ms, those of cache 1 for ever.
-type Plain = Shared<EchoLoader, CheckWriter, ProgramProcessor, TallyListener>;
+type Plain = Shared<EchoLoader, CheckWriter, ProgramProcessor, ProgramListener>;
 
 /// The seed of its table.
 const SEED: u64 = 7;
 
+/// The number of a key of 63 letters, the most that one has.
+const LONGEST: u32 = u32::MAX - 1;
+
+/// The number of a key that differs from it in its last letter alone.
+const NEARLY: u32 = u32::MAX - 2;
+
 /// The key of a number.
 fn numbered(alloc: Global, number: u32) -> Result<Key, Trouble> {
-    let name = format!(in alloc; "k{number}")?;
+    let name = match number {
+        LONGEST => format!(in alloc;
+            "{}",
+            "kkkkkkkkkkkkkkkkkkkkkkkkkkkkkkkkkkkkkkkkkkkkkkkkkkkkkkkkkkkkkkk"
+        )?,
+        NEARLY => format!(in alloc;
+            "{}",
+            "kkkkkkkkkkkkkkkkkkkkkkkkkkkkkkkkkkkkkkkkkkkkkkkkkkkkkkkkkkkkkkj"
+        )?,
+        _ => format!(in alloc; "k{number}")?,
+    };
     Ok(Key::from_text(name.as_str())?)
 }
 
@@ -50,7 +66,7 @@ enum Act {
 }
 
 /// By the number of the session.
-static ACTS: [(usize, Act); 24] = [
+static ACTS: [(usize, Act); 27] = [
     (0, Act::Look(0, 0, 5, Lookup::Sure(false))),
     (0, Act::Put(0, 0, 1)),
     (0, Act::Look(0, 0, 5, Lookup::Sure(true))),
@@ -62,6 +78,10 @@ static ACTS: [(usize, Act); 24] = [
     (1, Act::Look(1, 0, 5, Lookup::Sure(false))),
     (1, Act::Look(7, 0, 5, Lookup::Sure(false))),
     (1, Act::Has(7, 0, 5, false)),
+    // A key is compared to its last letter.
+    (0, Act::Put(1, LONGEST, LONGEST + 1)),
+    (0, Act::Look(1, LONGEST, 5, Lookup::Sure(true))),
+    (0, Act::Look(1, NEARLY, 5, Lookup::Sure(false))),
     // The table doubles, and a session is unsure until it meets.
     (0, Act::Put(1, 0, 100)),
     (0, Act::Look(0, 0, 5, Lookup::Sure(true))),
@@ -79,8 +99,18 @@ static ACTS: [(usize, Act); 24] = [
     (0, Act::Look(0, 1, 5, Lookup::Sure(true))),
 ];
 
+/// A session that has not met since others doubled the table is unsure of a key in a slot, until its next call.
+static DOUBLED: [(usize, Act); 6] = [
+    (0, Act::Put(1, 0, 1)),
+    (1, Act::Look(1, 0, 5, Lookup::Sure(true))),
+    (0, Act::Put(1, 1, 300)),
+    (1, Act::Look(1, 0, 5, Lookup::Unsure)),
+    (1, Act::Put(0, 1, 2)),
+    (1, Act::Look(1, 0, 5, Lookup::Sure(true))),
+];
+
 /// Puts the keys of these numbers, with one value.
-fn put<N: Name, L: Loader, W: Writer, P: Processor, K: Listener, R: Wait>(
+fn put<N: Name, L: Loader, W: Writer, P: Processor, K: Hearer, R: Wait>(
     rt: &R,
     alloc: Global,
     session: &mut Session<'_, N, L, W, P, K>,
@@ -96,7 +126,7 @@ fn put<N: Name, L: Loader, W: Writer, P: Processor, K: Listener, R: Wait>(
 }
 
 /// Whether a session's act comes to what it should.
-fn acts<N: Name, L: Loader, W: Writer, P: Processor, K: Listener, R: Wait>(
+fn acts<N: Name, L: Loader, W: Writer, P: Processor, K: Hearer, R: Wait>(
     rt: &R,
     alloc: Global,
     session: &mut Session<'_, N, L, W, P, K>,
@@ -119,13 +149,14 @@ fn acts<N: Name, L: Loader, W: Writer, P: Processor, K: Listener, R: Wait>(
 }
 
 /// The number of the first act that comes to something else, if there is one.
-fn first_other<N: Name, L: Loader, W: Writer, P: Processor, K: Listener, R: Wait>(
+fn first_other<N: Name, L: Loader, W: Writer, P: Processor, K: Hearer, R: Wait>(
     rt: &R,
     alloc: Global,
     manager: &Manager<N, L, W, P, K>,
+    list: &[(usize, Act)],
 ) -> Result<Option<usize>, Trouble> {
     let mut sessions = seated(rt, alloc, manager, 2)?;
-    for (number, (by, act)) in ACTS.iter().enumerate() {
+    for (number, (by, act)) in list.iter().enumerate() {
         let Some(session) = sessions.get_mut(*by) else {
             return Err(Trouble::Unexpected);
         };
@@ -137,32 +168,43 @@ fn first_other<N: Name, L: Loader, W: Writer, P: Processor, K: Listener, R: Wait
 }
 
 /// The same, under this name.
-fn first_other_named<N: Name, L: Loader, W: Writer, P: Processor, K: Listener, R: Wait>(
+fn first_other_named<N: Name, L: Loader, W: Writer, P: Processor, K: Hearer, R: Wait>(
     rt: &R,
     alloc: Global,
     shared: Shared<L, W, P, K>,
+    list: &[(usize, Act)],
 ) -> Result<Option<usize>, Trouble>
     requires configs { shared.configs ≡ N.configs }
     requires stated { map (stated_by L.load_of P.verdict_of) shared.shared ≡ N.stated }
     requires index { shared.index ≡ N.index }
 {
     let manager = shared.named::<N>();
-    first_other(rt, alloc, &manager)
+    first_other(rt, alloc, &manager, list)
 }
 
 /// The same, under a name that this call picks.
-fn first_other_act<L: Loader, W: Writer, P: Processor, K: Listener, R: Wait>(
+fn first_other_act<L: Loader, W: Writer, P: Processor, K: Hearer, R: Wait>(
     rt: &R,
     alloc: Global,
     shared: Shared<L, W, P, K>,
+    list: &[(usize, Act)],
 ) -> Result<Option<usize>, Trouble> {
-    first_other_named::<Brand, L, W, P, K, R>(rt, alloc, shared)
+    first_other_named::<Brand, L, W, P, K, R>(rt, alloc, shared, list)
 }
 
 #[test]
 fn lookups_see_what_calls_have_changed(rt: HostRuntime) -> Result<(), Trouble> {
     let shared = plain(rt.alloc())?;
-    assert_eq!(rt; first_other_act(&rt, rt.alloc(), shared)?, None);
+    let other = first_other_act(&rt, rt.alloc(), shared, &ACTS)?;
+    assert_eq!(rt; other, None);
+    Ok(())
+}
+
+#[test]
+fn lookup_after_others_doubled(rt: HostRuntime) -> Result<(), Trouble> {
+    let shared = plain(rt.alloc())?;
+    let other = first_other_act(&rt, rt.alloc(), shared, &DOUBLED)?;
+    assert_eq!(rt; other, None);
     Ok(())
 }
 
@@ -188,63 +230,71 @@ fn crowd(alloc: Global) -> Result<Vec<Key>, Trouble> {
     Ok(keys)
 }
 
-/// Puts nine keys of two buckets. The result is how many of ten are found by a lookup, and how many are there.
-fn found_in_crowd<N: Name, L: Loader, W: Writer, P: Processor, K: Listener, R: Wait>(
+/// Puts nine keys of two buckets, which have eight slots. The number of the first of ten keys of which a lookup is sure
+/// where it should not be or the other way round, or of which it is not told exactly whether it is there; if there is
+/// one.
+fn first_misjudged<N: Name, L: Loader, W: Writer, P: Processor, K: Hearer, R: Wait>(
     rt: &R,
     alloc: Global,
     session: &mut Session<'_, N, L, W, P, K>,
-) -> Result<(usize, usize), Trouble> {
+) -> Result<Option<usize>, Trouble> {
     let id = CacheId::new(1);
     let keys = crowd(alloc)?;
     for key in keys.iter().take(9) {
         let call = Call::Put(*key, value_of(alloc, "1")?);
         done(session.call(rt, id, 0, call))?;
     }
-    let (mut sure, mut there) = (0usize, 0usize);
-    for key in &keys {
-        if session.contains_key(id, key, 0) == Lookup::Sure(true) {
-            sure = sure.saturating_add(1);
-        }
-        if session.contains(rt, id, key, 0) {
-            there = there.saturating_add(1);
+    for number in 0..10usize {
+        let Some(key) = keys.get(number) else {
+            return Err(Trouble::Unexpected);
+        };
+        let told = if number < 8 {
+            Lookup::Sure(true)
+        } else {
+            Lookup::Unsure
+        };
+        if session.contains_key(id, key, 0) != told
+            || session.contains(rt, id, key, 0) != (number < 9)
+        {
+            return Ok(Some(number));
         }
     }
-    Ok((sure, there))
+    Ok(None)
 }
 
 /// The same, by a session under this name.
-fn found_named<N: Name, L: Loader, W: Writer, P: Processor, K: Listener, R: Wait>(
+fn first_misjudged_named<N: Name, L: Loader, W: Writer, P: Processor, K: Hearer, R: Wait>(
     rt: &R,
     alloc: Global,
     shared: Shared<L, W, P, K>,
-) -> Result<(usize, usize), Trouble>
+) -> Result<Option<usize>, Trouble>
     requires configs { shared.configs ≡ N.configs }
     requires stated { map (stated_by L.load_of P.verdict_of) shared.shared ≡ N.stated }
     requires index { shared.index ≡ N.index }
 {
     let manager = shared.named::<N>();
     let mut session = manager.session(rt)?;
-    found_in_crowd(rt, alloc, &mut session)
+    first_misjudged(rt, alloc, &mut session)
 }
 
 /// The same, under a name that this call picks.
-fn found_of_ten<L: Loader, W: Writer, P: Processor, K: Listener, R: Wait>(
+fn first_misjudged_of_ten<L: Loader, W: Writer, P: Processor, K: Hearer, R: Wait>(
     rt: &R,
     alloc: Global,
     shared: Shared<L, W, P, K>,
-) -> Result<(usize, usize), Trouble> {
-    found_named::<Brand, L, W, P, K, R>(rt, alloc, shared)
+) -> Result<Option<usize>, Trouble> {
+    first_misjudged_named::<Brand, L, W, P, K, R>(rt, alloc, shared)
 }
 
 #[test]
-fn contains_is_exact_where_a_lookup_is_unsure(rt: HostRuntime) -> Result<(), Trouble> {
+fn exact_where_the_image_is_open(rt: HostRuntime) -> Result<(), Trouble> {
     let shared = plain(rt.alloc())?;
-    assert_eq!(rt; found_of_ten(&rt, rt.alloc(), shared)?, (8, 9));
+    assert_eq!(rt; first_misjudged_of_ten(&rt, rt.alloc(), shared)?, None);
     Ok(())
 }
 
 /// How often a session is told that a key is not there, of 1,000 times.
-fn denials<N: Name, L: Loader, W: Writer, P: Processor, K: Listener>(
+fn denials<N: Name, L: Loader, W: Writer, P: Processor, K: Hearer>(
     session: &mut Session<'_, N, L, W, P, K>,
     key: &Key,
 ) -> u32 {
@@ -264,7 +314,7 @@ fn raced<
     L: Loader,
     W: Writer,
     P: Processor,
-    K: Listener,
+    K: Hearer,
     R: Threads + Wait + Sync,
 >(
     rt: &R,
@@ -289,7 +339,7 @@ fn raced_named<
     L: Loader,
     W: Writer,
     P: Processor,
-    K: Listener,
+    K: Hearer,
     R: Threads + Wait + Sync,
 >(rt: &R, alloc: Global, shared: Shared<L, W, P, K>) -> Result<(bool, Lookup, u32), Trouble>
     requires configs { shared.configs ≡ N.configs }
@@ -303,7 +353,7 @@ fn raced_named<
 }
 
 /// The same, under a name that this call picks.
-fn race<L: Loader, W: Writer, P: Processor, K: Listener, R: Threads + Wait + Sync>(
+fn race<L: Loader, W: Writer, P: Processor, K: Hearer, R: Threads + Wait + Sync>(
     rt: &R,
     alloc: Global,
     shared: Shared<L, W, P, K>,
@@ -312,7 +362,7 @@ fn race<L: Loader, W: Writer, P: Processor, K: Listener, R: Threads + Wait + Syn
 }
 
 #[test]
-fn a_settled_key_is_never_denied(rt: HostRuntime) -> Result<(), Trouble> {
+fn readers_beside_a_writer(rt: HostRuntime) -> Result<(), Trouble> {
     let shared = plain(rt.alloc())?;
     let seen = race(&rt, rt.alloc(), shared)?;
     assert_eq!(rt; seen, (true, Lookup::Sure(true), 0));

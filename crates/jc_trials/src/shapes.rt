@@ -1,12 +1,17 @@
-//! The shapes that the cuckoo table takes: displacement, stash, doubling, and doubling that finds no memory.
+//! The shapes that the cuckoo table takes: displacement, stash, doubling, and doubling that finds no memory; over words
+//! that others watch too.
+ghost use Rattle.std.specs.Prelude.{◌≡◌, [], ◌∷◌, None, replicate};
+ghost use Rattle.jc_cuckoo.specs.Images.{image_of};
 
 use crate::placers::{ConstantPlacer, TablePlacer};
 use crate::refusing::RefusingMirror;
 use crate::trouble::{Trouble, done, is, key, plain_cache, value_of};
 use jc_cuckoo::cuckoo::Cuckoo;
-use jc_cuckoo::held::{Shape, Work};
-use jc_cuckoo::mirror::NoMirror;
+use jc_cuckoo::held::Shape;
+use jc_cuckoo::mirror::{Mirror, NoMirror};
 use jc_engine::engine::Engine;
+use jc_index::lookup::Lookup;
+use jc_index::naming::{Naming, Unnamed};
 use jc_model::call::{Answer, Call, Reply, Request};
 use jc_model::config::Expiry;
 use jc_model::event::{CacheId, Step};
@@ -15,7 +20,9 @@ use jc_ring::link_ring::LinkRing;
 use jc_ring::ring::Ring;
 use jc_rows::list_rows::ListRows;
 use jc_rows::rows::Rows;
+use jc_rows::watched::Watched;
 use std::alloc::Global;
+use std::marker::Brand;
 
 /// The names of forty keys.
 pub static NAMES: [&str; 40] = [
@@ -53,90 +60,120 @@ fn holds_all<R: Rows>(rows: &mut R, keys: usize, caches: u32) -> Result<bool, Tr
     Ok(true)
 }
 
-/// How many keys in how many caches, where all keys share two buckets; how often doubling finds no memory; and the
-/// shape that comes of it: buckets, rows in buckets, rows in the stash.
-static SHARED: [(usize, u32, u32, u32, usize, usize); 6] = [
-    (9, 1, 0, 16, 8, 1),
-    (16, 2, 0, 16, 8, 24),
-    (33, 1, 0, 32, 8, 25),
-    (20, 2, 0, 32, 8, 32),
-    (20, 2, 1, 32, 8, 32),
-    (20, 2, 40, 16, 8, 32),
-];
-
-#[test]
-fn one_bucket_for_all_keys(rt: HostRuntime) -> Result<(), Trouble> {
-    for (keys, caches, refusals, buckets, in_buckets, in_stash) in &SHARED {
-        let mirror = RefusingMirror {
-            refusals: *refusals,
-        };
-        let mut table = Cuckoo::new(rt.alloc(), ConstantPlacer, mirror, 16)?;
-        assert!(rt; holds_all(&mut table, *keys, *caches)?);
-        let wanted = Shape {
-            buckets: *buckets,
-            in_buckets: *in_buckets,
-            in_stash: *in_stash,
-        };
-        assert_eq!(rt; table.shape(), wanted);
-        assert!(rt; holds_all(&mut ListRows::new(rt.alloc()), *keys, *caches)?);
-    }
-    Ok(())
+/// Where keys have their places: the first of their two buckets and their tag, by the number of the key.
+#[derive(Clone, Copy)]
+enum Places {
+    /// All have the first bucket 3.
+    Shared,
+    /// The first four have the first bucket 0, the next four 5; the ninth finds both of its buckets full, 0 and 5.
+    TwoFull,
+    /// One key after the other has the next of 16 buckets as its first.
+    Spread,
+    /// All share two of 16 buckets. Of 32 buckets, even and odd keys have two each.
+    Parting,
 }
 
-/// The first four keys have the first bucket 0, the next four 5; the ninth finds both of its buckets full, 0 and 5.
-fn two_full_buckets() -> TablePlacer {
-    let mut firsts = [0; 128];
-    let mut tags = [1; 128];
-    for letter in *b"efgh" {
-        firsts[(letter % 128) as usize] = 5;
-        tags[(letter % 128) as usize] = 2;
+/// The place of the key with this number.
+fn place_of(places: Places, number: u32) -> (u32, u8) {
+    match places {
+        Places::Shared => (3, 1),
+        Places::TwoFull if 4 <= number && number < 8 => (5, 2),
+        Places::TwoFull => (0, 1),
+        Places::Spread => (number % 16, 1),
+        Places::Parting => (16 * (number % 2), 1),
     }
-    TablePlacer { firsts, tags }
 }
 
-/// One key after the other has the next of 16 buckets as its first.
-fn spread() -> TablePlacer {
-    let mut firsts = [0; 128];
-    for (bucket, name) in (0u32..).zip(&NAMES) {
+fn placer_of(places: Places) -> TablePlacer {
+    let mut placer = TablePlacer {
+        firsts: [0; 128],
+        tags: [1; 128],
+    };
+    for (number, name) in (0u32..).zip(&NAMES) {
         if let Some(letter) = name.as_bytes().first() {
-            firsts[(*letter % 128) as usize] = bucket % 16;
+            let (first, tag) = place_of(places, number);
+            placer.firsts[(*letter % 128) as usize] = first;
+            placer.tags[(*letter % 128) as usize] = tag;
         }
     }
-    TablePlacer {
-        firsts,
-        tags: [1; 128],
+    placer
+}
+
+/// How many buckets a table has, rows in them, and rows in the stash; and of its last put how many searches it made,
+/// slots it looked at, and rows it moved.
+type Form = ((u32, usize, usize), (u32, u32, u32));
+
+/// How many keys are put into each of how many caches, and how often doubling finds no memory.
+type Filling = (usize, u32, u32);
+
+/// Fillings of 16 buckets, and what comes of them.
+static FILLINGS: [(Places, Filling, Form); 9] = [
+    (Places::Shared, (9, 1, 0), ((16, 8, 1), (1, 8, 0))),
+    (Places::Shared, (16, 2, 0), ((16, 8, 24), (1, 8, 0))),
+    // The 33rd row finds half as many rows as there are slots, and the buckets double.
+    (Places::Shared, (33, 1, 0), ((32, 8, 25), (2, 16, 0))),
+    (Places::Shared, (20, 2, 0), ((32, 8, 32), (1, 8, 0))),
+    (Places::Shared, (20, 2, 1), ((32, 8, 32), (1, 8, 0))),
+    (Places::Shared, (20, 2, 40), ((16, 8, 32), (1, 8, 0))),
+    // The ninth row moves one of bucket 5 to bucket 14.
+    (Places::TwoFull, (9, 1, 0), ((16, 9, 0), (1, 9, 1))),
+    (Places::Spread, (40, 1, 0), ((16, 40, 0), (1, 3, 0))),
+    // Doubling leaves two rows in each of four buckets, and brings eight rows of the stash there.
+    (Places::Parting, (33, 1, 0), ((32, 16, 17), (2, 16, 0))),
+];
+
+/// Whether all rows of a filling are found then, and what comes of it.
+fn filled<M: Mirror>(
+    table: &mut Cuckoo<TablePlacer, M>,
+    (keys, caches, _): Filling,
+) -> Result<(bool, Form), Trouble> {
+    let holds = holds_all(table, keys, caches)?;
+    let (shape, work) = (table.shape(), table.work());
+    let shape = (shape.buckets, shape.in_buckets, shape.in_stash);
+    Ok((holds, (shape, (work.searches, work.looked, work.moves))))
+}
+
+/// The same over words that others watch, and of how many rows these are sure.
+fn filled_in_words<N: Naming>(
+    alloc: Global,
+    placer: TablePlacer,
+    words: Unnamed<TablePlacer>,
+    filling: Filling,
+) -> Result<((bool, Form), usize), Trouble>
+    requires name { words.name ≡ N.name }
+    requires placer { words.placer ≡ placer }
+    requires images { words.images ≡ image_of 16 (replicate 64 None) ∷ [] }
+{
+    let (keys, caches, _) = filling;
+    let mut table = Cuckoo::new(alloc, placer, words.named::<N>(), 16)?;
+    let filled = filled(&mut table, filling)?;
+    let mut pass = table.watch()?;
+    let mut sure = 0usize;
+    for name in NAMES.iter().take(keys) {
+        for cache in 0..caches {
+            if pass.lookup(CacheId::new(cache), &key(name)?, 0) == Lookup::Sure(true) {
+                sure = sure.saturating_add(1);
+            }
+        }
     }
+    Ok((filled, sure))
 }
 
 #[test]
-fn a_row_moves_to_its_other_bucket(rt: HostRuntime) -> Result<(), Trouble> {
-    let mut table = Cuckoo::new(rt.alloc(), two_full_buckets(), NoMirror, 16)?;
-    assert!(rt; holds_all(&mut table, 9, 1)?);
-    let shape = Shape {
-        buckets: 16,
-        in_buckets: 9,
-        in_stash: 0,
-    };
-    let work = Work {
-        searches: 1,
-        looked: 9,
-        moves: 1,
-    };
-    assert_eq!(rt; table.shape(), shape);
-    assert_eq!(rt; table.work(), work);
-    Ok(())
-}
-
-#[test]
-fn rows_that_find_slots_stay_out_of_the_stash(rt: HostRuntime) -> Result<(), Trouble> {
-    let mut table = Cuckoo::new(rt.alloc(), spread(), NoMirror, 16)?;
-    assert!(rt; holds_all(&mut table, 40, 1)?);
-    let shape = Shape {
-        buckets: 16,
-        in_buckets: 40,
-        in_stash: 0,
-    };
-    assert_eq!(rt; table.shape(), shape);
+fn tables_take_the_shapes_of_their_places(rt: HostRuntime) -> Result<(), Trouble> {
+    let alloc = rt.alloc();
+    for (number, (places, filling, form)) in FILLINGS.iter().enumerate() {
+        let (placer, (keys, caches, refusals)) = (placer_of(*places), *filling);
+        let mut table = Cuckoo::new(alloc, placer, RefusingMirror { refusals }, 16)?;
+        assert_eq!(rt; filled(&mut table, *filling)?, (true, *form), "{number}");
+        assert!(rt; holds_all(&mut ListRows::new(alloc), keys, caches)?);
+        if refusals == 0 {
+            let words = Unnamed::new(alloc, placer, 16)?;
+            let (filled, sure) = filled_in_words::<Brand>(alloc, placer, words, *filling)?;
+            assert_eq!(rt; filled, (true, *form), "{number}");
+            assert_eq!(rt; sure, form.0.1);
+        }
+    }
     Ok(())
 }
 

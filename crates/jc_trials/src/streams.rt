@@ -15,18 +15,24 @@ use std::io::{ErrorKind, Read, Write};
 use std::sync::Wait;
 use std::thread::Threads;
 
-/// A script for the demonstration's caches.
+/// A script for the demonstration's caches, three lines for each.
 const SCRIPT: &str = r#"{"s":0,"c":"a","at":0,"op":"put","k":"x","v":"1"}
 {"s":0,"c":"a","at":1,"op":"get","k":"x"}
 {"s":0,"c":"a","at":1,"op":"stats"}
+{"s":1,"c":"b","at":0,"op":"put","k":"x","v":"9"}
+{"s":1,"c":"b","at":100,"op":"get","k":"x"}
+{"s":1,"c":"b","at":100,"op":"stats"}
 "#;
 
 /// What its first lines report, from none to all.
-const REPORTS: [&str; 4] = [
+const REPORTS: [&str; 7] = [
     "cache a\ncache b\n",
     "cache a\n0 put ok\ncache b\n",
     "cache a\n0 put ok\n0 get some \"1\"\ncache b\n",
     "cache a\n0 put ok\n0 get some \"1\"\n0 stats 1 0 1 0 0\ncache b\n",
+    "cache a\n0 put ok\n0 get some \"1\"\n0 stats 1 0 1 0 0\ncache b\n1 put ok\n",
+    "cache a\n0 put ok\n0 get some \"1\"\n0 stats 1 0 1 0 0\ncache b\n1 put ok\n1 get none\n",
+    "cache a\n0 put ok\n0 get some \"1\"\n0 stats 1 0 1 0 0\ncache b\n1 put ok\n1 get none\n1 stats 0 1 1 0 0\n",
 ];
 
 /// The fault of a run of the demonstration's caches, with the callbacks of so many caches.
@@ -68,7 +74,7 @@ fn cut(front: &str) -> (Option<RunFault>, &'static str) {
 }
 
 #[test]
-fn every_front_of_a_script_runs_or_is_faulty(rt: HostRuntime) -> Result<(), Trouble> {
+fn every_prefix_of_a_script(rt: HostRuntime) -> Result<(), Trouble> {
     for end in 0..=SCRIPT.len() {
         let front = SCRIPT.get(0..end).unwrap_or("");
         let (wanted, report) = cut(front);
@@ -89,41 +95,46 @@ fn callbacks_of_other_caches_do_not_open(rt: HostRuntime) -> Result<(), Trouble>
     Ok(())
 }
 
-/// A reader that gives a space so often, and then fails.
+/// A reader that gives bytes, one at a time, and then fails.
 #[derive(Drop)]
 struct FailingReader {
-    left: u64,
+    left: &'static [u8],
 }
 
 impl Read for FailingReader {
     fn read(&mut self, buf: &mut [u8]) -> io::Result<usize> {
-        if self.left == 0 {
+        let Some((byte, left)) = self.left.split_first() else {
             return Err(io::Error::from(ErrorKind::BrokenPipe));
-        }
+        };
         if buf.is_empty() {
             return Ok(0);
         }
-        self.left -= 1;
-        buf[0] = b' ';
+        self.left = left;
+        buf[0] = *byte;
         Ok(1)
     }
 }
 
-#[test]
-fn a_reader_fails_at_each_read(rt: HostRuntime) -> Result<(), Trouble> {
-    let alloc = rt.alloc();
-    for left in 0..20 {
-        let mut config = Watched::new(FailingReader { left });
-        let fault = read_configuration(alloc, &mut config).err();
-        assert_eq!(rt; fault, Some(ProgramFault::ConfigRead));
-        let mut script = Watched::new(FailingReader { left });
-        let mut writer = WatchedWriter::new(Vec::new(alloc));
-        let fault = fault_of(alloc, 2, &mut script, &mut writer)?;
-        assert_eq!(rt; fault, Some(RunFault::Read));
-        assert_eq!(rt; (config.reads(), script.reads()), (left + 1, left + 1));
-        assert!(rt; writer.into_inner().is_empty());
-    }
-    Ok(())
+/// What comes of a configuration and of a script whose readers fail behind so many bytes.
+#[derive(Drop)]
+struct FailedReads {
+    faults: (Option<ProgramFault>, Option<RunFault>),
+    reads: (u64, u64),
+    written: Vec<u8>,
+}
+
+fn failed_reads(alloc: Global, count: usize) -> Result<FailedReads, Trouble> {
+    let left = SCRIPT.as_bytes().get(0..count).unwrap_or(&[]);
+    let mut config = Watched::new(FailingReader { left });
+    let mut script = Watched::new(FailingReader { left });
+    let mut writer = WatchedWriter::new(Vec::new(alloc));
+    let unread = read_configuration(alloc, &mut config).err();
+    let fault = fault_of(alloc, 2, &mut script, &mut writer)?;
+    Ok(FailedReads {
+        faults: (unread, fault),
+        reads: (config.reads(), script.reads()),
+        written: writer.into_inner(),
+    })
 }
 
 /// A reader of so many spaces.
@@ -226,20 +237,41 @@ fn fault_of_workers<O: Write, R: Threads + Wait + Sync>(
     Ok(threaded(rt, alloc, setup, &crew, lines, writer).err())
 }
 
+/// The fault of a run of the script whose writer fails behind so many bytes, and what it took.
+fn failed_write<R: Threads + Wait + Sync>(
+    rt: &R,
+    alloc: Global,
+    by_workers: bool,
+    left: usize,
+) -> Result<(Option<RunFault>, Vec<u8>), Trouble> {
+    let mut reader = Watched::new(SCRIPT.as_bytes());
+    let mut writer = WatchedWriter::new(failing(alloc, left));
+    let fault = if by_workers {
+        fault_of_workers(rt, alloc, &mut writer)?
+    } else {
+        fault_of(alloc, 2, &mut reader, &mut writer)?
+    };
+    Ok((fault, writer.into_inner().taken))
+}
+
 #[test]
-fn a_writer_fails_at_each_byte(rt: HostRuntime) -> Result<(), Trouble> {
+fn readers_and_writers_that_fail(rt: HostRuntime) -> Result<(), Trouble> {
     let alloc = rt.alloc();
-    let report = REPORTS[3].as_bytes();
+    for count in 0..=SCRIPT.len() {
+        let failed = failed_reads(alloc, count)?;
+        let faults = (Some(ProgramFault::ConfigRead), Some(RunFault::Read));
+        let reads = count as u64 + 1;
+        assert_eq!(rt; failed.faults, faults);
+        assert_eq!(rt; failed.reads, (reads, reads));
+        assert!(rt; failed.written.is_empty());
+    }
+    let report = REPORTS[6].as_bytes();
     for left in 0..report.len() {
-        let mut writer = WatchedWriter::new(failing(alloc, left));
-        let fault = fault_of_workers(&rt, alloc, &mut writer)?;
-        assert_eq!(rt; fault, Some(RunFault::Write));
-        assert_eq!(rt; writer.into_inner().taken.as_slice(), &report[..left]);
-        let mut reader = Watched::new(SCRIPT.as_bytes());
-        let mut writer = WatchedWriter::new(failing(alloc, left));
-        let fault = fault_of(alloc, 2, &mut reader, &mut writer)?;
-        assert_eq!(rt; fault, Some(RunFault::Write));
-        assert_eq!(rt; writer.into_inner().taken.as_slice(), &report[..left]);
+        for by_workers in [false, true] {
+            let (fault, taken) = failed_write(&rt, alloc, by_workers, left)?;
+            assert_eq!(rt; fault, Some(RunFault::Write));
+            assert_eq!(rt; taken.as_slice(), &report[..left]);
+        }
     }
     Ok(())
 }
