@@ -261,10 +261,11 @@ fn text_of(alloc: Global, config: &[u8], events: &str) -> Result<Option<String>,
     let rows = ListRows::new(alloc);
     let plain = poor_text::<_, ListRing>(alloc, &settings, first, rows, events)?;
     let linked = poor_text::<_, LinkRing>(alloc, &settings, second, table, events)?;
-    match (plain, linked) {
-        (Some(plain), Some(linked)) if plain == linked && plain.1 > 0 => Ok(Some(plain.0)),
-        _ => Ok(None),
-    }
+    let (Some((plain, refusals)), Some((linked, others))) = (plain, linked) else {
+        return Ok(None);
+    };
+    let is_same = plain == linked && refusals == others && refusals > 0;
+    Ok(if is_same { Some(plain) } else { None })
 }
 
 /// The events of each manager: a line `anew` begins another one.
