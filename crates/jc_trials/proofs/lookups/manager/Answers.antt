@@ -1,7 +1,6 @@
 use Rattle.std.proofs.Common.{ap, sym, refl, ◌∙◌}
 use Rattle.jc_rows.specs.Images.{last_image}
 use Rattle.jc_cuckoo.specs.Images.{image_of}
-use Rattle.jc_cuckoo.specs.Table.{IsMirrored}
 use Rattle.jc_trials.proofs.lookups.manager.Goals as goal
 
 pub with_mirror-requires : goal.with_mirror-requires
