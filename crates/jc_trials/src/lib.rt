@@ -48,6 +48,8 @@ mod rings;
 #[cfg(test)]
 mod scenes;
 #[cfg(test)]
+mod seats;
+#[cfg(test)]
 mod seeking;
 #[cfg(test)]
 mod sessions;

@@ -1,0 +1,75 @@
+//! The functions of `jcache.h`, as they stand there.
+
+/// A manager, or none where it is null.
+#[repr(C)]
+pub struct Handle {
+    pub at: *mut u8,
+}
+
+#[repr(C)]
+pub struct Settings {
+    pub duration: u64,
+    pub capacity: u32,
+    pub policy: u32,
+    pub loader: u8,
+    pub writer: u8,
+    pub listeners: u8,
+}
+
+#[repr(C)]
+pub struct PairLengths {
+    pub key: u32,
+    pub value: u32,
+}
+
+pub type Whole = unsafe extern "C" fn(*mut Handle, u32, u64) -> u32;
+pub type One = unsafe extern "C" fn(*mut Handle, u32, u64, *const u8, usize) -> u32;
+pub type Two = unsafe extern "C" fn(*mut Handle, u32, u64, *const u8, usize, *const u8, usize) -> u32;
+pub type Many = unsafe extern "C" fn(*mut Handle, u32, u64, *const u32, usize, *const u8, usize) -> u32;
+pub type Part = unsafe extern "C" fn(*mut Handle, u32, usize, *mut u8, usize, *mut usize) -> u32;
+
+#[rustfmt::skip]
+extern "C" {
+    pub fn jc_open(m: *mut Handle, seed: u64) -> u32;
+    pub fn jc_close(m: *mut Handle) -> u32;
+    pub fn jc_create(m: *mut Handle, name: *const u8, name_len: usize, settings: *const Settings, wants: *const u8, wants_len: usize, id: *mut u32) -> u32;
+    pub fn jc_destroy(m: *mut Handle, id: u32) -> u32;
+    pub fn jc_find(m: *mut Handle, name: *const u8, name_len: usize, id: *mut u32) -> u32;
+    pub fn jc_get(m: *mut Handle, id: u32, now: u64, key: *const u8, key_len: usize) -> u32;
+    pub fn jc_contains(m: *mut Handle, id: u32, now: u64, key: *const u8, key_len: usize) -> u32;
+    pub fn jc_put(m: *mut Handle, id: u32, now: u64, key: *const u8, key_len: usize, value: *const u8, value_len: usize) -> u32;
+    pub fn jc_get_and_put(m: *mut Handle, id: u32, now: u64, key: *const u8, key_len: usize, value: *const u8, value_len: usize) -> u32;
+    pub fn jc_put_if_absent(m: *mut Handle, id: u32, now: u64, key: *const u8, key_len: usize, value: *const u8, value_len: usize) -> u32;
+    pub fn jc_replace(m: *mut Handle, id: u32, now: u64, key: *const u8, key_len: usize, value: *const u8, value_len: usize) -> u32;
+    pub fn jc_replace_if(m: *mut Handle, id: u32, now: u64, key: *const u8, key_len: usize, expected: *const u8, expected_len: usize, value: *const u8, value_len: usize) -> u32;
+    pub fn jc_get_and_replace(m: *mut Handle, id: u32, now: u64, key: *const u8, key_len: usize, value: *const u8, value_len: usize) -> u32;
+    pub fn jc_remove(m: *mut Handle, id: u32, now: u64, key: *const u8, key_len: usize) -> u32;
+    pub fn jc_remove_if(m: *mut Handle, id: u32, now: u64, key: *const u8, key_len: usize, expected: *const u8, expected_len: usize) -> u32;
+    pub fn jc_get_and_remove(m: *mut Handle, id: u32, now: u64, key: *const u8, key_len: usize) -> u32;
+    pub fn jc_invoke(m: *mut Handle, id: u32, now: u64, key: *const u8, key_len: usize, processor: u8, argument: *const u8, argument_len: usize) -> u32;
+    pub fn jc_get_all(m: *mut Handle, id: u32, now: u64, lengths: *const u32, count: usize, keys: *const u8, keys_len: usize) -> u32;
+    pub fn jc_put_all(m: *mut Handle, id: u32, now: u64, lengths: *const PairLengths, count: usize, pairs: *const u8, pairs_len: usize) -> u32;
+    pub fn jc_remove_keys(m: *mut Handle, id: u32, now: u64, lengths: *const u32, count: usize, keys: *const u8, keys_len: usize) -> u32;
+    pub fn jc_load_all(m: *mut Handle, id: u32, now: u64, lengths: *const u32, count: usize, keys: *const u8, keys_len: usize, replace: u32) -> u32;
+    pub fn jc_invoke_all(m: *mut Handle, id: u32, now: u64, lengths: *const u32, count: usize, keys: *const u8, keys_len: usize, processor: u8, argument: *const u8, argument_len: usize) -> u32;
+    pub fn jc_remove_all(m: *mut Handle, id: u32, now: u64) -> u32;
+    pub fn jc_clear(m: *mut Handle, id: u32, now: u64) -> u32;
+    pub fn jc_entries(m: *mut Handle, id: u32, now: u64) -> u32;
+    pub fn jc_stats(m: *mut Handle, id: u32, now: u64) -> u32;
+    pub fn jc_clear_stats(m: *mut Handle, id: u32, now: u64) -> u32;
+    pub fn jc_loaded(m: *mut Handle, id: u32, value: *const u8, value_len: usize) -> u32;
+    pub fn jc_loaded_nothing(m: *mut Handle, id: u32) -> u32;
+    pub fn jc_load_failed(m: *mut Handle, id: u32) -> u32;
+    pub fn jc_written(m: *mut Handle, id: u32) -> u32;
+    pub fn jc_write_failed(m: *mut Handle, id: u32) -> u32;
+    pub fn jc_processed(m: *mut Handle, id: u32, action: u32, value: *const u8, value_len: usize, answers: u32, answer: *const u8, answer_len: usize) -> u32;
+    pub fn jc_process_failed(m: *mut Handle, id: u32) -> u32;
+    pub fn jc_told(m: *mut Handle, id: u32) -> u32;
+    pub fn jc_give_up(m: *mut Handle, id: u32) -> u32;
+    pub fn jc_items(m: *mut Handle, id: u32, count: *mut usize) -> u32;
+    pub fn jc_key(m: *mut Handle, id: u32, item: usize, out: *mut u8, room: usize, len: *mut usize) -> u32;
+    pub fn jc_value(m: *mut Handle, id: u32, item: usize, out: *mut u8, room: usize, len: *mut usize) -> u32;
+    pub fn jc_before(m: *mut Handle, id: u32, item: usize, out: *mut u8, room: usize, len: *mut usize) -> u32;
+    pub fn jc_argument(m: *mut Handle, id: u32, item: usize, out: *mut u8, room: usize, len: *mut usize) -> u32;
+    pub fn jc_number(m: *mut Handle, id: u32, place: usize, number: *mut u64) -> u32;
+}

@@ -1,0 +1,95 @@
+//! Managers, and caches that are created and destroyed.
+ghost use Rattle.std.specs.Prelude.{◌≡◌, None};
+ghost use Rattle.jc_model.specs.declared.event.Event.TheVariants.{Create, Destroy};
+ghost use Rattle.jc_seat.specs.Parts.{or_before, find_status, found};
+ghost use Rattle.jc_seat.specs.Reading.{key_of, config_of};
+ghost use Rattle.jc_seat.specs.Seated.{Answered, CreatesOr};
+ghost use Rattle.jc_seat.specs.Status.{number_of};
+ghost use Rattle.jc_c.specs.Held.{OnSeat, Opens, caches_in, closing};
+
+use crate::handle::Handle;
+use jc_model::event::CacheId;
+use jc_seat::seat::Seat;
+use jc_seat::settings::{Settings, read_config};
+use jc_seat::status::Status;
+use std::alloc::Global;
+
+#[unsafe(no_mangle)]
+pub extern "C" fn jc_open(alloc: Global, h: &mut Handle, seed: u64) -> u32
+    ensures { Opens h.old.held result h.new.held }
+{
+    if let Some(seat) = h.take(alloc) {
+        h.put_in(seat);
+        return Status::InUse.number();
+    }
+    let Some(seat) = Seat::open(alloc, seed) else {
+        return Status::OutOfMemory.number();
+    };
+    match Box::new(alloc, seat) {
+        Ok(seat) => {
+            h.put_in(seat);
+            Status::Done.number()
+        }
+        Err(_) => Status::OutOfMemory.number(),
+    }
+}
+
+#[unsafe(no_mangle)]
+pub extern "C" fn jc_close(alloc: Global, h: &mut Handle) -> u32
+    ensures empty { h.new.held ≡ None }
+    ensures status { result ≡ number_of (closing h.old.held) }
+{
+    match h.take(alloc) {
+        Some(seat) => {
+            drop(seat);
+            Status::Done.number()
+        }
+        None => Status::Closed.number(),
+    }
+}
+
+#[unsafe(no_mangle)]
+pub extern "C" fn jc_create(
+    alloc: Global,
+    h: &mut Handle,
+    name: &[u8],
+    settings: &Settings,
+    wants: &[u8],
+    id: &mut u32,
+) -> u32
+    ensures created { OnSeat h.old.held (λ old status new. CreatesOr old (config_of name.now settings.now wants.now) status id.old id.new new) result h.new.held }
+    ensures closed { h.old.held ≡ None → id.new ≡ id.old }
+{
+    let Some(mut seat) = h.take(alloc) else {
+        return Status::Closed.number();
+    };
+    let status = seat.create_cache(read_config(alloc, name, settings, wants), id);
+    h.put_in(seat);
+    status.number()
+}
+
+#[unsafe(no_mangle)]
+pub extern "C" fn jc_destroy(alloc: Global, h: &mut Handle, id: u32) -> u32
+    ensures { OnSeat h.old.held (λ old status new. Answered old (Destroy id) status new) result h.new.held }
+{
+    let Some(mut seat) = h.take(alloc) else {
+        return Status::Closed.number();
+    };
+    let status = seat.destroy(CacheId::new(id));
+    h.put_in(seat);
+    status.number()
+}
+
+#[unsafe(no_mangle)]
+pub extern "C" fn jc_find(alloc: Global, h: &mut Handle, name: &[u8], id: &mut u32) -> u32
+    ensures same { h.new.held ≡ h.old.held }
+    ensures status { OnSeat h.old.held (λ old status new. status ≡ find_status (key_of name.now) old.caches) result h.new.held }
+    ensures id { id.new ≡ or_before id.old (found (key_of name.now) (caches_in h.old.held)) }
+{
+    let Some(seat) = h.take(alloc) else {
+        return Status::Closed.number();
+    };
+    let status = seat.find_cache(name, id);
+    h.put_in(seat);
+    status.number()
+}

@@ -1,0 +1,5 @@
+pub mod Numbers
+pub mod Listing
+pub mod Keys
+pub mod Slots
+pub mod Saying

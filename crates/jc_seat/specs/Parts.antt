@@ -1,0 +1,65 @@
+-- What is read of what was shown last.
+use Rattle.std.specs.Prelude.{ℕ, length, slice_get, Result, Ok, Err, List}
+use Rattle.std.specs.Prelude.{Option, Some, None}
+use Rattle.jc_model.specs.declared.event.Outcome.{Outcome}
+use Rattle.jc_engine.specs.Caches.{Cache, id_of}
+use Rattle.jc_seat.specs.declared.items.Part.{Part}
+use Rattle.jc_seat.specs.declared.items.Part.TheVariants as part
+use Rattle.jc_seat.specs.declared.status.Fault.{Fault}
+use Rattle.jc_seat.specs.declared.status.Status.{Status}
+use Rattle.jc_seat.specs.declared.status.Status.TheVariants.{Done, NoItem, NoSuchCache}
+use Rattle.jc_seat.specs.Status.{of_fault}
+use Rattle.jc_seat.specs.Items.{Bytes, Item, items_of, numbers_of, copied}
+
+abbrev pub part_of : Part → Item → Bytes
+part_of part.Key x = x.key
+part_of part.Value x = x.value
+part_of part.Before x = x.before
+part_of part.Argument x = x.argument
+
+abbrev pub part_in : Part → Option Item → Bytes
+part_in p None = None
+part_in p (Some x) = part_of p x
+
+-- of a cache that may be none
+abbrev pub part_shown : Part → ℕ → Option Outcome → Bytes
+part_shown p place None = None
+part_shown p place (Some outcome) = part_in p (slice_get (items_of outcome) place)
+
+abbrev pub part_status : Part → ℕ → ℕ → Option Outcome → Status
+part_status p place room None = NoSuchCache
+part_status p place room (Some outcome) = copied (part_in p (slice_get (items_of outcome) place)) room
+
+abbrev pub count_shown : ℕ → Option Outcome → ℕ
+count_shown before None = before
+count_shown before (Some outcome) = length (items_of outcome)
+
+abbrev pub count_status : Option Outcome → Status
+count_status None = NoSuchCache
+count_status (Some outcome) = Done
+
+-- a number that is there, or the one that was
+abbrev pub or_before : ℕ → Option ℕ → ℕ
+or_before before None = before
+or_before before (Some n) = n
+
+abbrev pub status_there : Status → Option ℕ → Status
+status_there missing None = missing
+status_there missing (Some n) = Done
+
+abbrev pub number_shown : ℕ → Option Outcome → Option ℕ
+number_shown place None = None
+number_shown place (Some outcome) = slice_get (numbers_of outcome) place
+
+abbrev pub number_status : ℕ → Option Outcome → Status
+number_status place None = NoSuchCache
+number_status place (Some outcome) = status_there NoItem (slice_get (numbers_of outcome) place)
+
+-- the live cache of a name that bytes say
+abbrev pub found : Result (List ℕ) Fault → List (Option Cache) → Option ℕ
+found (Ok name) caches = id_of name caches
+found (Err fault) caches = None
+
+abbrev pub find_status : Result (List ℕ) Fault → List (Option Cache) → Status
+find_status (Ok name) caches = status_there NoSuchCache (id_of name caches)
+find_status (Err fault) caches = of_fault fault

@@ -1,0 +1,81 @@
+-- A manager with what was shown last of each cache, and what it does at an event.
+use Rattle.std.specs.Prelude.{◌≡◌, ℕ, true, false, is_some, if◌then◌else◌, ◌⊎◌, Result, Ok, Err, List, [], ◌∷◌, ◌++◌, slice_set}
+use Rattle.std.specs.Prelude.{Option, Some, None}
+use Rattle.jc_model.specs.declared.event.Event.{Event}
+use Rattle.jc_model.specs.declared.event.Event.TheVariants.{Begin, Answer, GiveUp, Create, Destroy}
+use Rattle.jc_model.specs.declared.config.CacheConfig.{CacheConfig}
+use Rattle.jc_model.specs.declared.event.Outcome.{Outcome}
+use Rattle.jc_model.specs.declared.event.Outcome.TheVariants.{Created}
+use Rattle.jc_model.specs.Places.{at_place}
+use Rattle.jc_model.specs.Runs.{answer_to, lives_after, for_memory, is_refused}
+use Rattle.jc_engine.specs.Caches.{Cache, lives_of}
+use Rattle.jc_engine.specs.Free.{takes_none}
+use Rattle.jc_seat.specs.declared.status.Fault.{Fault}
+use Rattle.jc_seat.specs.declared.status.Status.{Status}
+use Rattle.jc_seat.specs.declared.status.Status.TheVariants.{OutOfMemory}
+use Rattle.jc_seat.specs.Status.{of_fault, status_of}
+
+-- by id, the live caches as the engine has them, and of each the outcome of the last event that it accepted
+pub record Seated : Type 0 where
+  pub caches : List (Option Cache)
+  pub shown : List (Option Outcome)
+
+-- what is shown of a cache has a place exactly where a cache is live
+abbrev pub HaveSlots : List (Option Cache) → (ℕ → Option Outcome) → Type 0
+HaveSlots caches shown = (id : ℕ) → is_some (shown id) ≡ is_some (at_place caches id)
+
+-- what is shown after an event that was not refused
+abbrev pub shown_by : List (Option Outcome) → Event → Outcome → List (Option Outcome)
+shown_by shown (Begin id now call) outcome = slice_set shown id (Some outcome)
+shown_by shown (Answer id answer) outcome = slice_set shown id (Some outcome)
+shown_by shown (GiveUp id) outcome = slice_set shown id (Some outcome)
+shown_by shown (Create config) outcome = shown ++ Some outcome ∷ []
+shown_by shown (Destroy id) outcome = slice_set shown id None
+
+abbrev pub shown_after : List (Option Outcome) → Event → Outcome → List (Option Outcome)
+shown_after shown event outcome = if is_refused outcome then shown else shown_by shown event outcome
+
+-- The outcome is the engine's, and so are the lives after it; what takes no memory is not refused for want of it; of
+-- its cache it is shown; what is refused leaves all as it was.
+pub record Does (old : Seated) (event : Event) (outcome : Outcome) (new : Seated) : Type 0 where
+  pub outcome_is : outcome ≡ answer_to (lives_of old.caches) event (for_memory outcome)
+  pub lives : lives_of new.caches ≡ lives_after (lives_of old.caches) event outcome
+  pub free : takes_none event ≡ true → outcome ≡ answer_to (lives_of old.caches) event false
+  pub shows : new.shown ≡ shown_after old.shown event outcome
+  pub refused : is_refused outcome ≡ true → new ≡ old
+
+-- and the status is its outcome's
+pub record Answered (old : Seated) (event : Event) (status : Status) (new : Seated) : Type 0 where
+  pub outcome : Outcome
+  pub does : Does old event outcome new
+  pub status_is : status ≡ status_of outcome
+
+-- what bytes say was asked; where they say nothing, that is told and nothing is done
+abbrev pub Called : {A : Type 0} → Seated → (A → Event) → Result A Fault → Status → Seated → Type 0
+Called old event (Ok said) status new = Answered old (event said) status new
+Called old event (Err fault) status new = (status ≡ of_fault fault) × (new ≡ old)
+
+-- the same, or memory was wanting before the manager was asked
+abbrev pub CalledOr : {A : Type 0} → Seated → (A → Event) → Result A Fault → Status → Seated → Type 0
+CalledOr old event said status new = Called old event said status new ⊎ ((status ≡ OutOfMemory) × (new ≡ old))
+
+-- a cache was created with this id, or the id stays as it was
+abbrev pub given : Outcome → ℕ → ℕ
+given (Created id) before = id
+given _ before = before
+
+pub record CreatesBy (old : Seated) (config : CacheConfig) (status : Status) (id id' : ℕ) (new : Seated) : Type 0 where
+  pub outcome : Outcome
+  pub does : Does old (Create config) outcome new
+  pub status_is : status ≡ status_of outcome
+  pub id_is : id' ≡ given outcome id
+
+-- a configuration that bytes say was created, or is refused; where they say none, that is told; memory may be wanting
+-- before the manager is asked
+abbrev pub Creates : Seated → Result CacheConfig Fault → Status → ℕ → ℕ → Seated → Type 0
+Creates old (Ok config) status id id' new = CreatesBy old config status id id' new ⊎ ((status ≡ OutOfMemory) × (id' ≡ id) × (new ≡ old))
+Creates old (Err fault) status id id' new = (status ≡ of_fault fault) × (id' ≡ id) × (new ≡ old)
+
+-- what was read of these bytes, or memory was wanting
+abbrev pub CreatesOr : Seated → Result CacheConfig Fault → Status → ℕ → ℕ → Seated → Type 0
+CreatesOr old what status id id' new = Creates old what status id id' new ⊎ ((status ≡ OutOfMemory) × (id' ≡ id) × (new ≡ old))

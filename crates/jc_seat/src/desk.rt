@@ -1,0 +1,128 @@
+//! The manager as bytes and numbers ask it, and its answers in the caller's places.
+ghost use Rattle.std.specs.Prelude.{◌≡◌, Result, length};
+ghost use Rattle.jc_model.specs.declared.call.Answer.{Answer as SomeAnswer};
+ghost use Rattle.jc_model.specs.declared.call.Call.{Call as SomeCall};
+ghost use Rattle.jc_model.specs.declared.config.CacheConfig.{CacheConfig as SomeConfig};
+ghost use Rattle.jc_model.specs.declared.event.Event.TheVariants.{Begin, Answer as Answers};
+ghost use Rattle.jc_model.specs.Places.{at_place};
+ghost use Rattle.jc_seat.specs.declared.status.Fault.{Fault as SomeFault};
+ghost use Rattle.jc_seat.specs.Items.{filled, length_told};
+ghost use Rattle.jc_seat.specs.Parts.{part_shown, part_status, count_shown, count_status, or_before, number_shown, number_status, found, find_status};
+ghost use Rattle.jc_seat.specs.Reading.{IsRead, key_of};
+ghost use Rattle.jc_seat.specs.Seated.{Called, CalledOr, Creates, CreatesOr};
+
+use crate::items::{self, Part};
+use crate::reading::read_key;
+use crate::seat::Seat;
+use crate::status::{Fault, Status};
+use jc_model::call::{Answer, Call};
+use jc_model::config::CacheConfig;
+use jc_model::event::CacheId;
+
+impl Seat {
+    /// Begins the call that bytes say, if they say one.
+    pub fn call(&mut self, id: u32, now: u64, said: Result<Call, Fault>) -> Status
+        ensures called { Called self.old (λ call. Begin id now call) said result self.new }
+        ensures or_memory { (what : Result SomeCall SomeFault) → IsRead what said → CalledOr self.old (λ call. Begin id now call) what result self.new }
+    {
+        match said {
+            Ok(call) => self.begin(CacheId::new(id), now, call),
+            Err(fault) => Status::of_fault(fault),
+        }
+    }
+
+    /// Answers the open call's request as bytes say, if they say an answer.
+    pub fn answer(&mut self, id: u32, said: Result<Answer, Fault>) -> Status
+        ensures called { Called self.old (λ answer. Answers id answer) said result self.new }
+        ensures or_memory { (what : Result SomeAnswer SomeFault) → IsRead what said → CalledOr self.old (λ answer. Answers id answer) what result self.new }
+    {
+        match said {
+            Ok(answer) => self.resume(CacheId::new(id), answer),
+            Err(fault) => Status::of_fault(fault),
+        }
+    }
+
+    /// Creates the cache that bytes say, if they say one, and tells its id.
+    pub fn create_cache(&mut self, said: Result<CacheConfig, Fault>, id: &mut u32) -> Status
+        ensures called { Creates self.old said result id.old id.new self.new }
+        ensures or_memory { (what : Result SomeConfig SomeFault) → IsRead what said → CreatesOr self.old what result id.old id.new self.new }
+    {
+        match said {
+            Ok(config) => match self.create(config) {
+                Ok(given) => {
+                    *id = given.number();
+                    Status::Done
+                }
+                Err(status) => status,
+            },
+            Err(fault) => Status::of_fault(fault),
+        }
+    }
+
+    /// Tells the id of the live cache with this name.
+    pub fn find_cache(&self, name: &[u8], id: &mut u32) -> Status
+        ensures status { result ≡ find_status (key_of name.now) self.now.caches }
+        ensures id { id.new ≡ or_before id.old (found (key_of name.now) self.now.caches) }
+    {
+        match read_key(name) {
+            Ok(name) => match self.find(&name) {
+                Some(given) => {
+                    *id = given.number();
+                    Status::Done
+                }
+                None => Status::NoSuchCache,
+            },
+            Err(fault) => Status::of_fault(fault),
+        }
+    }
+
+    /// Tells how many items a cache shows.
+    pub fn count_items(&self, id: u32, count: &mut usize) -> Status
+        ensures status { result ≡ count_status (at_place self.now.shown id) }
+        ensures count { count.new ≡ count_shown count.old (at_place self.now.shown id) }
+    {
+        match self.shown(CacheId::new(id)) {
+            Some(outcome) => {
+                *count = items::count(outcome);
+                Status::Done
+            }
+            None => Status::NoSuchCache,
+        }
+    }
+
+    /// Copies the first bytes of a part of an item into a buffer, as many as it takes, and tells how many there are.
+    pub fn copy_part(
+        &self,
+        id: u32,
+        place: usize,
+        part: Part,
+        out: &mut [u8],
+        len: &mut usize,
+    ) -> Status
+        ensures status { result ≡ part_status part place (length out.old) (at_place self.now.shown id) }
+        ensures out { out.new ≡ filled (part_shown part place (at_place self.now.shown id)) out.old }
+        ensures len { len.new ≡ length_told (part_shown part place (at_place self.now.shown id)) len.old }
+    {
+        match self.shown(CacheId::new(id)) {
+            Some(outcome) => items::copy(items::part_at(outcome, place, part), out, len),
+            None => Status::NoSuchCache,
+        }
+    }
+
+    /// Tells a number that a cache shows.
+    pub fn tell_number(&self, id: u32, place: usize, number: &mut u64) -> Status
+        ensures status { result ≡ number_status place (at_place self.now.shown id) }
+        ensures number { number.new ≡ or_before number.old (number_shown place (at_place self.now.shown id)) }
+    {
+        let Some(outcome) = self.shown(CacheId::new(id)) else {
+            return Status::NoSuchCache;
+        };
+        match items::number(outcome, place) {
+            Some(shown) => {
+                *number = shown;
+                Status::Done
+            }
+            None => Status::NoItem,
+        }
+    }
+}
