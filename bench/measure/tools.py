@@ -1,0 +1,117 @@
+"""The programs that are measured: ours, as they are proved, and the peers, built from Debian's packages."""
+
+import os
+import shutil
+import subprocess
+import sys
+from dataclasses import dataclass
+
+BENCH = os.path.dirname(os.path.dirname(os.path.abspath(__file__)))
+CRATES = os.path.join(os.path.dirname(BENCH), "crates")
+COMMANDS = ("cargo", "g++", "java", "javac", "time", "valgrind")
+JARS = {
+    "libcaffeine-java": ("caffeine.jar",),
+    "libehcache-java": ("ehcache.jar",),
+    "libjackson2-core-java": ("jackson-core.jar",),
+    "libslf4j-java": ("slf4j-api.jar", "slf4j-nop.jar"),
+}
+CRATE_PACKAGES = ("librust-serde-json-dev", "librust-serde-derive-dev", "librust-dashmap-dev")
+SERIAL = "--serial"
+PACKAGES = (*JARS, *CRATE_PACKAGES, "libcuckoo-dev")
+
+
+@dataclass(frozen=True)
+class Tools:
+    """Our two programs, and the words that start the peers, before what they are asked."""
+
+    jcache: str
+    jc_bench: str
+    runners: dict
+    maps: dict
+
+
+def version_of(package):
+    """The version of an installed package, or nothing."""
+    asked = ["dpkg-query", "-W", "-f", "${Version}", package]
+    return subprocess.run(asked, capture_output=True, text=True).stdout
+
+
+def demand():
+    """Stops where something is not installed, and says all of it."""
+    lacking = [it for it in PACKAGES if not version_of(it)]
+    lacking += [it for it in COMMANDS if not shutil.which(it)]
+    if lacking:
+        sys.exit(f"not installed: {' '.join(lacking)}")
+
+
+def files_of(package):
+    listed = subprocess.run(["dpkg", "-L", package], check=True, capture_output=True, text=True)
+    return listed.stdout.splitlines()
+
+
+def file_of(package, name):
+    """The path of a package's file of this name."""
+    return next(it for it in files_of(package) if os.path.basename(it) == name)
+
+
+def build_java(folder):
+    """The class path of the peers of the JVM."""
+    built = os.path.join(folder, "java")
+    path = [file_of(package, name) for package, names in JARS.items() for name in names]
+    sources = os.path.join(BENCH, "peers", "java")
+    named = [os.path.join(sources, it) for it in os.listdir(sources)]
+    subprocess.run(["javac", "-d", built, "-cp", os.pathsep.join(path), *named], check=True)
+    return os.pathsep.join([built, *path])
+
+
+def build_rust(folder):
+    """The folder of the peers in Rust, whose dependencies are those crates that the packages have."""
+    built = os.path.join(folder, "rust")
+    registry = os.path.dirname(os.path.dirname(file_of(CRATE_PACKAGES[0], "Cargo.toml")))
+    source = f'source.debian.directory="{registry}"'
+    shutil.copytree(os.path.join(BENCH, "peers", "rust"), built, dirs_exist_ok=True)
+    replaced = ["--config", 'source.crates-io.replace-with="debian"', "--config", source]
+    subprocess.run(["cargo", *replaced, "build", "--quiet", "--release", "--offline"], cwd=built, check=True)
+    return os.path.join(built, "target", "release")
+
+
+def build_cuckoo(folder):
+    """The peer over libcuckoo."""
+    built = os.path.join(folder, "cuckoo")
+    source = os.path.join(BENCH, "peers", "cuckoo", "cuckoo.cc")
+    subprocess.run(["g++", "-O2", "-std=c++17", "-pthread", "-o", built, source], check=True)
+    return built
+
+
+def ours(name):
+    """One of our programs. Where it is not built yet, it is proved and built first."""
+    built = os.path.join(CRATES, name, "out", name)
+    if not os.path.exists(built):
+        subprocess.run(["rt", "run", "--", "--help"], cwd=os.path.join(CRATES, name), check=True, stdout=sys.stderr)
+    return built
+
+
+def build(folder):
+    """Builds all that is measured, the peers into a folder."""
+    demand()
+    path, rust, cuckoo = build_java(folder), build_rust(folder), build_cuckoo(folder)
+    java = ["java", "-cp", path]
+    quick = ["java", "-XX:+UseSerialGC", "-XX:TieredStopAtLevel=1", "-cp", path]
+    runner, maps = os.path.join(rust, "runner"), os.path.join(rust, "maps")
+    return Tools(
+        jcache=ours("jcache"),
+        jc_bench=ours("jc_bench"),
+        runners={
+            "plain Rust": [runner],
+            "typed Rust": [runner, "--typed"],
+            "Caffeine": [*java, "CaffeineRunner"],
+            "quick Caffeine": [*quick, "CaffeineRunner"],
+            "Ehcache": [*java, "EhcacheRunner"],
+        },
+        maps={
+            "dashmap": [maps, "dashmap"],
+            "libcuckoo": [cuckoo],
+            "mutex": [maps, "mutex"],
+            "Caffeine": [*java, "CaffeineMap"],
+        },
+    )

@@ -1,0 +1,154 @@
+//! What one thread does, and what comes of it.
+use crate::caches::{Seat, cache, put};
+use crate::words::Kind;
+use jc_index::lookup::Lookup;
+use jc_model::call::Call;
+use jc_model::key::Key;
+use jc_shared::Name;
+use std::alloc::Global;
+use std::sync::Wait;
+use std::sync::atomic::{AtomicU32, Ordering};
+
+/// The most rounds of a writer.
+const ROUNDS: u64 = 200_000;
+
+/// How many keys a writer has. Half of them have a row at any time.
+pub const WRITTEN: u32 = 64;
+
+/// What came of one try.
+#[derive(Clone, Copy)]
+enum Outcome {
+    /// The key has a row, or the call was answered.
+    Yes,
+    /// The key has no row.
+    No,
+    /// The lookup was not sure.
+    Unsure,
+    /// The call was refused.
+    Refused,
+}
+
+/// How often each came.
+#[derive(Clone, Copy)]
+pub struct Counts {
+    pub yes: u64,
+    pub no: u64,
+    pub unsure: u64,
+    pub refused: u64,
+}
+
+impl Counts {
+    /// None yet.
+    pub fn none() -> Counts {
+        Counts {
+            yes: 0,
+            no: 0,
+            unsure: 0,
+            refused: 0,
+        }
+    }
+
+    fn add(&mut self, outcome: Outcome) {
+        let count = match outcome {
+            Outcome::Yes => &mut self.yes,
+            Outcome::No => &mut self.no,
+            Outcome::Unsure => &mut self.unsure,
+            Outcome::Refused => &mut self.refused,
+        };
+        *count = count.wrapping_add(1);
+    }
+}
+
+fn held(holds: bool) -> Outcome {
+    if holds { Outcome::Yes } else { Outcome::No }
+}
+
+fn answered<T: Drop, E: Drop>(answer: Result<T, E>) -> Outcome {
+    match answer {
+        Ok(_) => Outcome::Yes,
+        Err(_) => Outcome::Refused,
+    }
+}
+
+fn looked_up(lookup: Lookup) -> Outcome {
+    match lookup {
+        Lookup::Sure(holds) => held(holds),
+        Lookup::Unsure => Outcome::Unsure,
+    }
+}
+
+fn ask<N: Name, R: Wait>(
+    rt: &R,
+    alloc: Global,
+    seat: &mut Seat<'_, N>,
+    kind: Kind,
+    key: &Key,
+) -> Outcome {
+    match kind {
+        Kind::Lookup | Kind::Miss => looked_up(seat.contains_key(cache(), key, 0)),
+        Kind::Contains => held(seat.contains(rt, cache(), key, 0)),
+        Kind::Get => answered(seat.call(rt, cache(), 0, Call::Get(*key))),
+        Kind::Put | Kind::Write => answered(put(rt, alloc, seat, key)),
+    }
+}
+
+/// The next number of a sequence without a pattern (Knuth's constants for 64 bits).
+fn following(number: u64) -> u64 {
+    number
+        .wrapping_mul(6_364_136_223_846_793_005)
+        .wrapping_add(1_442_695_040_888_963_407)
+}
+
+/// The key that a number picks, by its upper bits.
+fn picked(keys: &[Key], number: u64) -> Option<&Key> {
+    let count = keys.len() as u64;
+    if count == 0 {
+        return None;
+    }
+    keys.get(((number >> 33) % count) as usize)
+}
+
+/// Does it so often, each time for one of the keys, picked by numbers that follow `first`.
+pub fn ask_often<N: Name, R: Wait>(
+    rt: &R,
+    alloc: Global,
+    seat: &mut Seat<'_, N>,
+    kind: Kind,
+    keys: &[Key],
+    calls: u32,
+    first: u64,
+) -> Counts {
+    let mut counts = Counts::none();
+    let mut number = first;
+    for _ in 0..calls {
+        number = following(number);
+        if let Some(key) = picked(keys, number) {
+            counts.add(ask(rt, alloc, seat, kind, key));
+        }
+    }
+    counts
+}
+
+/// Puts one of its keys and removes another, in turn, while any other thread is busy.
+pub fn write_meanwhile<N: Name, R: Wait>(
+    rt: &R,
+    alloc: Global,
+    seat: &mut Seat<'_, N>,
+    keys: &[Key],
+    busy: &AtomicU32,
+) -> Counts {
+    let mut counts = Counts::none();
+    let half = WRITTEN as u64 / 2;
+    for round in 0..ROUNDS {
+        if busy.load(Ordering::SeqCst) == 0 {
+            return counts;
+        }
+        if let Some(key) = keys.get((round % WRITTEN as u64) as usize) {
+            counts.add(ask(rt, alloc, seat, Kind::Write, key));
+        }
+        if let Some(key) = keys.get(((round + half) % WRITTEN as u64) as usize) {
+            counts.add(answered(seat.call(rt, cache(), 0, Call::Remove(*key))));
+        }
+    }
+    counts
+}

@@ -1,0 +1,157 @@
+//! The threads of a run, each with a session of its own.
+ghost use Rattle.std.specs.Prelude.{◌≡◌, map};
+ghost use Rattle.jc_hooks.specs.Program.{echoed};
+ghost use Rattle.jc_hooks.specs.Processors.{verdict_by};
+ghost use Rattle.jc_shared.specs.Stated.{stated_by};
+
+use crate::asking::{Counts, WRITTEN, ask_often, write_meanwhile};
+use crate::caches::{Caches, Seat, Unnamed, fill, numbered, opened};
+use crate::fault::Fault;
+use crate::timing::Moment;
+use crate::words::{Kind, Size};
+use jc_model::key::Key;
+use jc_shared::Name;
+use std::alloc::Global;
+use std::marker::Brand;
+use std::sync::Wait;
+use std::sync::atomic::{AtomicU32, Ordering};
+use std::thread::{Threads, map_vec};
+use std::time::{Clock, CpuClock};
+
+/// What one thread is given.
+#[derive(Drop)]
+struct Job<'a, N: Name> {
+    seat: Seat<'a, N>,
+    kind: Kind,
+    keys: &'a [Key],
+    calls: u32,
+    /// The number that its picks follow.
+    first: u64,
+    /// How many threads that are no writers are not done yet.
+    busy: &'a AtomicU32,
+}
+
+/// What one thread did, and how long it took.
+#[derive(Clone, Copy)]
+pub struct Done {
+    pub kind: Kind,
+    pub counts: Counts,
+    pub took: Moment,
+}
+
+fn work<N: Name, R: Wait + Clock + CpuClock>(rt: &R, alloc: Global, job: Job<'_, N>) -> Done {
+    let Job {
+        mut seat,
+        kind,
+        keys,
+        calls,
+        first,
+        busy,
+    } = job;
+    let began = Moment::now(rt);
+    let counts = match kind {
+        Kind::Write => write_meanwhile(rt, alloc, &mut seat, keys, busy),
+        _ => ask_often(rt, alloc, &mut seat, kind, keys, calls, first),
+    };
+    let took = Moment::now(rt).since(began);
+    if kind != Kind::Write {
+        busy.fetch_sub(1, Ordering::SeqCst);
+    }
+    Done { kind, counts, took }
+}
+
+/// The keys of a run.
+#[derive(Drop)]
+struct Keys {
+    /// Those that are asked for.
+    asked: Vec<Key>,
+    /// Those of the writers.
+    written: Vec<Key>,
+}
+
+fn keys_of(alloc: Global, kind: Kind, size: Size) -> Result<Keys, Fault> {
+    let front = if kind == Kind::Miss { "mis" } else { "key" };
+    Ok(Keys {
+        asked: numbered(alloc, front, size.rows)?,
+        written: numbered(alloc, "own", WRITTEN)?,
+    })
+}
+
+/// A job for each thread. The sessions have seen the table as it is now.
+fn jobs<'a, N: Name, R: Wait>(
+    rt: &R,
+    alloc: Global,
+    manager: &'a Caches<N>,
+    (kind, size): (Kind, Size),
+    keys: &'a Keys,
+    busy: &'a AtomicU32,
+) -> Result<Vec<Job<'a, N>>, Fault> {
+    let mut jobs = Vec::new(alloc);
+    for number in 0..size.threads.wrapping_add(size.writers) {
+        let asks = number < size.threads;
+        jobs.push(Job {
+            seat: manager.session(rt)?,
+            kind: if asks { kind } else { Kind::Write },
+            keys: if asks {
+                keys.asked.as_slice()
+            } else {
+                keys.written.as_slice()
+            },
+            calls: size.calls,
+            first: number as u64,
+            busy,
+        })?;
+    }
+    Ok(jobs)
+}
+
+/// Fills the manager, and does it on all threads.
+fn timed<N: Name + Send + Sync, R: Threads + Wait + Clock + CpuClock + Sync>(
+    rt: &R,
+    alloc: Global,
+    manager: &Caches<N>,
+    kind: Kind,
+    size: Size,
+) -> Result<Vec<Done>, Fault> {
+    fill(rt, alloc, manager, size)?;
+    let keys = keys_of(alloc, kind, size)?;
+    let busy = AtomicU32::new(size.threads);
+    let jobs = jobs(rt, alloc, manager, (kind, size), &keys, &busy)?;
+    Ok(map_vec(rt, jobs, &|job| work(rt, alloc, job))?)
+}
+
+fn played_by<N: Name + Send + Sync, R: Threads + Wait + Clock + CpuClock + Sync>(
+    rt: &R,
+    alloc: Global,
+    unnamed: Unnamed,
+    kind: Kind,
+    size: Size,
+) -> Result<Vec<Done>, Fault>
+    requires configs { unnamed.configs ≡ N.configs }
+    requires stated { map (stated_by (λ _. echoed) verdict_by) unnamed.shared ≡ N.stated }
+    requires index { unnamed.index ≡ N.index }
+{
+    let manager = unnamed.named::<N>();
+    timed(rt, alloc, &manager, kind, size)
+}
+
+/// The same, under a name that this call picks.
+fn named<R: Threads + Wait + Clock + CpuClock + Sync>(
+    rt: &R,
+    alloc: Global,
+    unnamed: Unnamed,
+    kind: Kind,
+    size: Size,
+) -> Result<Vec<Done>, Fault> {
+    played_by::<Brand, R>(rt, alloc, unnamed, kind, size)
+}
+
+/// Does one kind on a manager of its own. The result has what each thread did, the writers last.
+pub fn play<R: Threads + Wait + Clock + CpuClock + Sync>(
+    rt: &R,
+    alloc: Global,
+    kind: Kind,
+    size: Size,
+) -> Result<Vec<Done>, Fault> {
+    named(rt, alloc, opened(alloc)?, kind, size)
+}

@@ -1,0 +1,22 @@
+//! Lookups and calls of a shared manager by many threads: how many, and how much time they took.
+//!
+//! `jc_bench KIND.. [--rows N] [--threads N] [--calls N] [--writers N] [--stashed] [--counts]` prints a line for each
+//! thread: what came of what it did, and in nanoseconds the time by the clock and of the processor, but for `--counts`.
+#![tactic(auto)]
+
+mod asking;
+mod caches;
+mod fault;
+mod jobs;
+mod report;
+mod timing;
+mod words;
+
+use std::process::ExitCode;
+
+fn main(rt: HostRuntime) -> ExitCode {
+    match report::run(&rt) {
+        Ok(()) => ExitCode::SUCCESS,
+        Err(fault) => fault.tell(&rt),
+    }
+}

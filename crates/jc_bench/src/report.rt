@@ -1,0 +1,49 @@
+//! A run from its words to its lines.
+use crate::fault::Fault;
+use crate::jobs::{Done, play};
+use crate::words::read_words;
+use std::alloc::AllocGlobal;
+use std::env::Env;
+use std::io::Print;
+use std::sync::Wait;
+use std::thread::Threads;
+use std::time::{Clock, CpuClock};
+use std::{env, io};
+
+fn print_counts<R: Print>(rt: &R, done: &Done) -> io::Result<()> {
+    let counts = done.counts;
+    print!(rt;
+        "{} yes={} no={} unsure={} refused={}",
+        done.kind.word(),
+        counts.yes,
+        counts.no,
+        counts.unsure,
+        counts.refused
+    )
+}
+
+fn print_times<R: Print>(rt: &R, done: &Done) -> io::Result<()> {
+    print!(rt;
+        " wall={} processor={}",
+        done.took.wall, done.took.processor
+    )
+}
+
+/// Does what the words ask for, and prints a line for each thread.
+pub fn run<R: Threads + Wait + Clock + CpuClock + Sync + Env + Print + AllocGlobal>(
+    rt: &R,
+) -> Result<(), Fault> {
+    let alloc = rt.alloc();
+    let words: Vec<String> = env::args(rt)?.collect(alloc)?;
+    let asked = read_words(alloc, words.as_slice())?;
+    for kind in &asked.kinds {
+        for done in &play(rt, alloc, *kind, asked.size)? {
+            print_counts(rt, done)?;
+            if !asked.counts {
+                print_times(rt, done)?;
+            }
+            println!(rt)?;
+        }
+    }
+    Ok(())
+}

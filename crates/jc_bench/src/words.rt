@@ -1,0 +1,162 @@
+//! What is asked of the program, as `clap` reads its words.
+use crate::fault::Fault;
+use clap::error::ErrorKind;
+use clap::{Arg, ArgAction, ArgMatches, Command, value_parser};
+use std::alloc::{AllocError, Global};
+
+/// What a thread does again and again, in a session of its own.
+#[derive(Clone, Copy, PartialEq, Eq)]
+pub enum Kind {
+    /// `Session::contains_key` of a key that has a row.
+    Lookup,
+    /// The same of a key that has none.
+    Miss,
+    /// `Session::contains` of a key that has a row.
+    Contains,
+    /// A call `Get` of a key that has a row.
+    Get,
+    /// A call `Put` of a key that has a row.
+    Put,
+    /// Puts and removals of keys of its own, until all other threads are done.
+    Write,
+}
+
+/// The kinds that words may name, in the order of `kind_named`.
+static KINDS: [&str; 5] = ["lookup", "miss", "contains", "get", "put"];
+
+fn kind_named(word: &str) -> Kind {
+    match word {
+        "lookup" => Kind::Lookup,
+        "miss" => Kind::Miss,
+        "contains" => Kind::Contains,
+        "get" => Kind::Get,
+        _ => Kind::Put,
+    }
+}
+
+impl Kind {
+    /// The word that names it.
+    pub fn word(self) -> &'static str {
+        match self {
+            Kind::Lookup => "lookup",
+            Kind::Miss => "miss",
+            Kind::Contains => "contains",
+            Kind::Get => "get",
+            Kind::Put => "put",
+            Kind::Write => "write",
+        }
+    }
+}
+
+/// How large a run is.
+#[derive(Clone, Copy)]
+pub struct Size {
+    /// Rows of the one cache.
+    pub rows: u32,
+    /// Threads that do what is asked.
+    pub threads: u32,
+    /// Threads that write meanwhile.
+    pub writers: u32,
+    /// How often each thread does it.
+    pub calls: u32,
+    /// Whether some rows are in the table's stash.
+    pub stashed: bool,
+}
+
+/// What the words ask for: these kinds, one after the other, each on a manager of its own.
+#[derive(Drop)]
+pub struct Asked {
+    pub kinds: Vec<Kind>,
+    pub size: Size,
+    /// Whether lines are printed without times, and so are the same in each run that has no writers.
+    pub counts: bool,
+}
+
+/// An option that takes a number within these limits.
+fn number<'a>(
+    alloc: Global,
+    name: &'a str,
+    help: &'a str,
+    limits: (i64, i64),
+    default: &'a str,
+) -> Arg<'a> {
+    Arg::new(alloc, name)
+        .long(name)
+        .value_name("N")
+        .help(help)
+        .action(ArgAction::Set)
+        .value_parser(value_parser!(u32).range(limits.0..=limits.1))
+        .default_value(default)
+}
+
+/// An option that is there or not.
+fn flag<'a>(alloc: Global, name: &'a str, help: &'a str) -> Arg<'a> {
+    Arg::new(alloc, name)
+        .long(name)
+        .help(help)
+        .action(ArgAction::SetTrue)
+}
+
+/// The program's command. A manager has 64 sessions in its life: one fills its table, and each thread has one.
+fn command<'a>(alloc: Global) -> Result<Command<'a>, AllocError> {
+    let kinds = Arg::new(alloc, "KIND")
+        .help("What each thread does, on a manager of its own for each kind")
+        .required(true)
+        .num_args(1..)
+        .value_parser(KINDS.as_slice());
+    Command::new(alloc, "jc_bench")
+        .about("Lookups and calls of a shared manager by many threads")
+        .arg(kinds)?
+        .arg(number(alloc, "rows", "Rows of the cache", (1, 65_000), "1000"))?
+        .arg(number(alloc, "threads", "Threads that do it", (1, 32), "1"))?
+        .arg(number(
+            alloc,
+            "writers",
+            "Threads that write meanwhile",
+            (0, 8),
+            "0",
+        ))?
+        .arg(number(
+            alloc,
+            "calls",
+            "How often each thread does it",
+            (1, 100_000_000),
+            "100000",
+        ))?
+        .arg(flag(alloc, "stashed", "Some rows are in the table's stash"))?
+        .arg(flag(alloc, "counts", "Print no times"))
+}
+
+fn size_of(matches: &ArgMatches<'_>) -> Option<Size> {
+    Some(Size {
+        rows: matches.get_one::<u32>("rows")?,
+        threads: matches.get_one::<u32>("threads")?,
+        writers: matches.get_one::<u32>("writers")?,
+        calls: matches.get_one::<u32>("calls")?,
+        stashed: matches.get_flag("stashed"),
+    })
+}
+
+fn kinds_of(alloc: Global, matches: &ArgMatches<'_>) -> Result<Vec<Kind>, AllocError> {
+    let mut kinds = Vec::new(alloc);
+    if let Some(words) = matches.get_strs("KIND") {
+        for word in words {
+            kinds.push(kind_named(word))?;
+        }
+    }
+    Ok(kinds)
+}
+
+/// Reads all words, the program's name among them.
+pub fn read_words(alloc: Global, words: &[String]) -> Result<Asked, Fault> {
+    let mut command = command(alloc)?;
+    let matches = command.try_get_matches_from_mut(words)?;
+    let Some(size) = size_of(&matches) else {
+        return Err(Fault::Words(command.error(ErrorKind::InvalidValue, "a number is missing")?));
+    };
+    Ok(Asked {
+        kinds: kinds_of(alloc, &matches)?,
+        size,
+        counts: matches.get_flag("counts"),
+    })
+}
