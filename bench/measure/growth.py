@@ -25,17 +25,17 @@ class Difference:
 
 def hits(rows, in_all):
     more, less = (hitting(rows, gets, in_all) for gets in (GETS, 0))
-    return Difference(f"a get that hits, {rows:,} of {in_all:,} rows", more, less, GETS)
+    return Difference(f"a line with a get that hits, {rows:,} of {in_all:,} rows", more, less, GETS)
 
 
 def turns(rows):
-    what = f"a removal or a put of a new key, {rows:,} rows"
+    what = f"a line with a removal or a put of a new key, {rows:,} rows"
     return Difference(what, turning(rows), turning(rows, rows), LINES - rows)
 
 
 def spreads(caches):
     more = spread(caches)
-    return Difference(f"a call on one of {caches:,} caches of 64 rows", more, NOTHING, len(more.lines))
+    return Difference(f"a line with a call on one of {caches:,} caches of 64 rows", more, NOTHING, len(more.lines))
 
 
 def at_once(op):
@@ -46,7 +46,7 @@ def at_once(op):
 
 
 def reads(lines):
-    return Difference(f"a line of a script of {lines:,} lines", mix(lines), NOTHING, lines)
+    return Difference(f"a line of the first script, shortened to {lines:,} lines", mix(lines), NOTHING, lines)
 
 
 def differences(short):

@@ -34,12 +34,12 @@ def calls(held, fresh):
     """A name, the op, its cache and its keys: those that have a row, and those that have none."""
     good = [key(number) for number in range(INNOCENT)]
     new = [f"new-{number:05}" for number in range(CALLS)]
-    yield "a get that hits", "get", GOOD, good
-    yield "a get that misses", "get", GOOD, new
-    yield "a put of a new key", "put", GOOD, new
-    yield "a get that hits, of a hostile key", "get", BAD, held
-    yield "a get that misses, of a hostile key", "get", BAD, fresh
-    yield "a put of a new hostile key", "put", BAD, fresh
+    yield "a line with a get that hits", "get", GOOD, good
+    yield "a line with a get that misses", "get", GOOD, new
+    yield "a line with a put of a new key", "put", GOOD, new
+    yield "a line with a get that hits, of a hostile key", "get", BAD, held
+    yield "a line with a get that misses, of a hostile key", "get", BAD, fresh
+    yield "a line with a put of a new hostile key", "put", BAD, fresh
 
 
 def scripts(held, fresh):
