@@ -385,27 +385,8 @@ public final class Cache<K, V> implements Iterable<Cache.Entry<K, V>> {
 
     private static int accepted(int status) {
         if (status > Native.NEED_TELL) {
-            throw refused(status);
+            throw CacheException.refused(status);
         }
         return status;
-    }
-
-    static CacheException refused(int status) {
-        return new CacheException(status, switch (status) {
-            case 32 -> "no such cache";
-            case 33 -> "a call on the cache is open";
-            case 37 -> "out of memory";
-            case 48 -> "too many caches";
-            case 49 -> "bad capacity";
-            case 50 -> "too many listeners";
-            case 52 -> "a live cache has this name";
-            case 53 -> "too many rows in all caches";
-            case 54 -> "no id is left";
-            case 66 -> "a key is not from 1 to 63 bytes of UTF-8";
-            case 67 -> "a value has more than 65,535 bytes";
-            case 69 -> "more than 64 keys";
-            case 70 -> "a key stands twice";
-            default -> "status " + status;
-        }, null);
     }
 }

@@ -27,7 +27,7 @@ public final class CacheManager implements AutoCloseable {
         int id = at.create(name.getBytes(StandardCharsets.UTF_8), expiry.milliseconds(), kept.capacity, expiry.number(),
                 kept.loader != null, kept.writer != null, kept.listeners.size(), new byte[] {1});
         if (id < 0) {
-            throw Cache.refused(-id);
+            throw CacheException.refused(-id);
         }
         Cache<K, V> made = new Cache<>(this, at, clock, name, id, kept);
         caches.put(name, made);
