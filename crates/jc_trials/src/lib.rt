@@ -1,11 +1,12 @@
-//! Trials of what files can't give: callbacks that note what they are asked, readers and writers that fail, what is
-//! large, and refusals that no configuration and no script meets.
+//! Trials of what files can't give: the shapes of the table, sessions of a shared manager, lookups beside its lock, and
+//! refusals that no configuration and no script meets. Those of whole runs stand in `jc_run_trials`.
 #![tactic(auto)]
 
 mod fakes;
 mod log;
 mod placers;
 mod refusing;
+mod sessions;
 mod trouble;
 
 pub use fakes::{
@@ -15,20 +16,13 @@ pub use fakes::{
 pub use log::{Log, Text};
 pub use placers::{ConstantPlacer, TablePlacer};
 pub use refusing::{CountingMirror, RefusingMirror, RefusingRows};
+pub use sessions::seated;
 pub use trouble::{Trouble, done, is, key, no_hooks, plain_cache, value_of};
 
 #[cfg(test)]
-mod callbacks;
-#[cfg(test)]
 mod closing;
 #[cfg(test)]
-mod closures;
-#[cfg(test)]
 mod coming;
-#[cfg(test)]
-mod crews;
-#[cfg(test)]
-mod large;
 #[cfg(test)]
 mod limits;
 #[cfg(test)]
@@ -46,24 +40,14 @@ mod quiet;
 #[cfg(test)]
 mod rings;
 #[cfg(test)]
-mod scenes;
-#[cfg(test)]
 mod seats;
 #[cfg(test)]
 mod seeking;
 #[cfg(test)]
-mod sessions;
-#[cfg(test)]
 mod shapes;
-#[cfg(test)]
-mod streams;
 #[cfg(test)]
 mod tables;
 #[cfg(test)]
 mod vacated;
 #[cfg(test)]
-mod ways;
-#[cfg(test)]
 mod wearing;
-#[cfg(test)]
-mod words;

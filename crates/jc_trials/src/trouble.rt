@@ -9,7 +9,6 @@ use jc_model::config::{CacheConfig, Policy};
 use jc_model::key::{Key, KeyFault};
 use jc_model::keys::ListFault;
 use jc_model::value::{Value, ValueFault};
-use jc_runner::{ProgramFault, RunFault};
 use jc_script::ScriptFault;
 use jc_shared::{CloseFault, SessionRefusal, SharedRefusal};
 use std::alloc::{AllocFailed, Global};
@@ -27,8 +26,6 @@ pub enum Trouble {
     NoValue(ValueFault),
     NoList(ListFault),
     NoTable(TableRefusal),
-    Program(ProgramFault),
-    Running(RunFault),
     NoManager(SharedRefusal),
     NoSession(SessionRefusal),
     NotClosed(CloseFault),
@@ -85,18 +82,6 @@ impl From<ListFault> for Trouble {
 impl From<TableRefusal> for Trouble {
     fn from(refusal: TableRefusal) -> Trouble {
         Trouble::NoTable(refusal)
-    }
-}
-
-impl From<ProgramFault> for Trouble {
-    fn from(fault: ProgramFault) -> Trouble {
-        Trouble::Program(fault)
-    }
-}
-
-impl From<RunFault> for Trouble {
-    fn from(fault: RunFault) -> Trouble {
-        Trouble::Running(fault)
     }
 }
 

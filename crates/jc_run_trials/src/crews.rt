@@ -1,8 +1,7 @@
 //! Runs on worker threads: callbacks of one cache go on beside those of another, and many sessions share one cache.
 ghost use Rattle.std.specs.Prelude.{◌<◌};
 
-use crate::log::{Log, Text};
-use crate::trouble::{Trouble, no_hooks};
+use crate::ran::{Ran, ran_into, report_of};
 use jc_config::{Configuration, read_config};
 use jc_hooks::program::{CheckWriter, EchoLoader, ProgramHooks, ProgramListener, ProgramProcessor};
 use jc_hooks::{CacheHooks, Hearer, Loaded, Loader, Processor, Writer};
@@ -11,6 +10,7 @@ use jc_model::key::Key;
 use jc_runner::{Crew, RunFault, Setup, WatchedWriter, threaded};
 use jc_script::read_script;
 use jc_threads::{Gate, OpenGate};
+use jc_trials::{Log, Text, Trouble, no_hooks};
 use std::alloc::Global;
 use std::sync::atomic::{AtomicU64, Ordering};
 use std::sync::{Arc, Wait};
@@ -161,7 +161,7 @@ pub(crate) fn gathered<
     calls: &[u8],
     hooks: Vec<CacheHooks<L, W, P, K>>,
     crew: &Crew<'_, G>,
-) -> Result<Vec<u8>, Trouble>
+) -> Result<Ran, Trouble>
     requires { 0 < crew.now.workers }
 {
     let Configuration { settings, .. } = read_config(alloc, caches.as_bytes())?;
@@ -172,8 +172,8 @@ pub(crate) fn gathered<
         seed: 7,
     };
     let mut writer = WatchedWriter::new(Vec::new(alloc));
-    threaded(rt, alloc, setup, crew, lines, &mut writer)?;
-    Ok(writer.into_inner())
+    let ran = threaded(rt, alloc, setup, crew, lines, &mut writer);
+    Ok(ran_into(ran, writer))
 }
 
 /// The callbacks of a scene.
@@ -209,7 +209,7 @@ fn reported<R: Threads + Wait + Sync>(
         workers: 2,
         gate: &gate,
     };
-    let text = gathered(
+    let ran = gathered(
         rt,
         alloc,
         scene.caches,
@@ -217,7 +217,7 @@ fn reported<R: Threads + Wait + Sync>(
         hooks,
         &crew,
     )?;
-    Ok((text, flags.missed.load(Ordering::SeqCst) != 0))
+    Ok((report_of(ran)?, flags.missed.load(Ordering::SeqCst) != 0))
 }
 
 #[test]
@@ -256,8 +256,8 @@ fn other_callbacks_open_no_crew(rt: HostRuntime) -> Result<(), Trouble> {
     for _ in 0..2 {
         hooks.push(no_hooks(alloc))?;
     }
-    let text = gathered(&rt, alloc, SCENES[0].caches, b"", hooks, &crew);
-    assert_eq!(rt; text.err(), Some(Trouble::Running(RunFault::Open)));
+    let ran = gathered(&rt, alloc, SCENES[0].caches, b"", hooks, &crew)?;
+    assert_eq!(rt; ran, Err(RunFault::Open));
     Ok(())
 }
 
@@ -296,7 +296,8 @@ fn crowded<R: Threads + Wait + Sync>(rt: &R, alloc: Global) -> Result<usize, Tro
         workers: 8,
         gate: &OpenGate,
     };
-    let text = gathered(rt, alloc, SCENES[0].caches, script.as_bytes(), hooks, &crew)?;
+    let ran = gathered(rt, alloc, SCENES[0].caches, script.as_bytes(), hooks, &crew)?;
+    let text = report_of(ran)?;
     let mut lines = 0usize;
     for byte in text.as_slice() {
         if *byte == b'\n' {

@@ -5,7 +5,6 @@ ghost use Rattle.jc_hooks.specs.Program.{echoed};
 ghost use Rattle.jc_hooks.specs.Processors.{verdict_by};
 ghost use Rattle.jc_trials.specs.Filters.{has_kind};
 
-use crate::fakes::KindFilter;
 use jc_hooks::program::{EchoLoader, ProgramProcessor};
 use jc_hooks::{
     ClosureFilter, ClosureLoader, ClosureProcessor, Filter, FilterClosure, LoadClosure, Loaded,
@@ -15,6 +14,7 @@ use jc_model::OutOfMemory;
 use jc_model::call::{Notice, ProcessorFault, Verdict};
 use jc_model::key::Key;
 use jc_model::value::Value;
+use jc_trials::KindFilter;
 use std::alloc::Global;
 
 /// A closure that echoes.

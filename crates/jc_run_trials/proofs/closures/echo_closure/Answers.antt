@@ -2,8 +2,8 @@ use denote.Param.Object.{read_made}
 use Rattle.std.proofs.Common.{Ok, refl, subst, sym}
 use Rattle.jc_hooks.specs.Program.{echoed}
 use Rattle.jc_hooks.proofs.Stated.{loads_by}
-use Rattle.jc_trials.proofs.closures.echo_closure.Hides as hides
-use Rattle.jc_trials.proofs.closures.echo_closure.Goals as goal
+use Rattle.jc_run_trials.proofs.closures.echo_closure.Hides as hides
+use Rattle.jc_run_trials.proofs.closures.echo_closure.Goals as goal
 
 -- what the boxed closure may answer is what the closure says
 pub new-requires-2-clause-answers : goal.new-requires-2-clause-answers

@@ -1,10 +1,7 @@
 //! Callbacks in boxes, and listeners behind stored closures.
 
 use crate::closures::kind_closure;
-use crate::fakes::{EVERY_KIND, EXPIRED_ALONE, NotedListener};
-use crate::log::Log;
 use crate::scenes::ALL_CALLBACKS;
-use crate::trouble::{Trouble, key};
 use jc_config::{Configuration, read_config};
 use jc_hooks::program::{CheckWriter, EchoLoader, ProgramProcessor};
 use jc_hooks::{
@@ -12,6 +9,7 @@ use jc_hooks::{
 };
 use jc_model::call::{Kind, Notice};
 use jc_runner::{Watched, WatchedWriter, serial};
+use jc_trials::{EVERY_KIND, EXPIRED_ALONE, Log, NotedListener, Trouble, done, key};
 use std::alloc::Global;
 
 type BoxedHooks = CacheHooks<
@@ -45,7 +43,8 @@ fn boxed_callbacks_answer_as_those_in_the_boxes(rt: HostRuntime) -> Result<(), T
     let Configuration { settings, .. } = read_config(alloc, ALL_CALLBACKS.caches.as_bytes())?;
     let mut reader = Watched::new(ALL_CALLBACKS.calls.as_bytes());
     let mut writer = WatchedWriter::new(Vec::new(alloc));
-    serial(alloc, settings, &mut hooks, 0, &mut reader, &mut writer)?;
+    let ran = serial(alloc, settings, &mut hooks, 0, &mut reader, &mut writer);
+    done(ran)?;
     assert_eq!(rt;
         writer.into_inner().as_slice(),
         ALL_CALLBACKS.report.as_bytes()

@@ -1,6 +1,6 @@
 use Rattle.std.proofs.Common.{map}
 use Rattle.jc_shared.specs.Stated.{stated_by}
-use Rattle.jc_trials.proofs.sessions.play.Given as goal
+use Rattle.jc_run_trials.proofs.sessions.play.Given as goal
 
 abbrev pub ghosts-played : goal.ghosts-played
 ghosts-played g a = record {

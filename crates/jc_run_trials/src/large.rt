@@ -1,10 +1,11 @@
 //! Values and tables that are too large for files.
 
-use crate::trouble::{Trouble, no_hooks};
+use crate::ran::{Ran, ran_into, report_of};
 use jc_config::{Configuration, read_config};
 use jc_hooks::program::{ProgramHooks, ProgramProcessor};
 use jc_runner::{RunFault, Watched, WatchedWriter, serial};
 use jc_script::{Member, ScriptFault};
+use jc_trials::{Trouble, no_hooks};
 use std::alloc::Global;
 
 /// Two caches, the first with the greatest capacity and a processor.
@@ -20,14 +21,19 @@ capacity = 64
 "#;
 
 /// The report of a script on these caches.
-fn reported(alloc: Global, script: &str) -> Result<Vec<u8>, Trouble> {
+fn run(alloc: Global, script: &str) -> Result<Ran, Trouble> {
     let Configuration { settings, .. } = read_config(alloc, CACHES.as_bytes())?;
     let mut hooks: [ProgramHooks; 2] = [no_hooks(alloc), no_hooks(alloc)];
     hooks[0].processors.push(ProgramProcessor::Append)?;
     let mut reader = Watched::new(script.as_bytes());
     let mut writer = WatchedWriter::new(Vec::new(alloc));
-    serial(alloc, settings, &mut hooks, 0, &mut reader, &mut writer)?;
-    Ok(writer.into_inner())
+    let ran = serial(alloc, settings, &mut hooks, 0, &mut reader, &mut writer);
+    Ok(ran_into(ran, writer))
+}
+
+/// The report of a script that must have one.
+fn reported(alloc: Global, script: &str) -> Result<Vec<u8>, Trouble> {
+    report_of(run(alloc, script)?)
 }
 
 #[test]
@@ -60,8 +66,8 @@ fn a_longer_value_is_a_fault(rt: HostRuntime) -> Result<(), Trouble> {
     ] {
         let script = format!(in alloc; r#"{{"s":0,"c":"a","at":0,"op":{op}"{value}"{end}}}"#)?;
         let fault = ScriptFault::Bad { line: 1, member };
-        let wanted = Trouble::Running(RunFault::Script(fault));
-        assert!(rt; reported(alloc, script.as_str()).err() == Some(wanted));
+        let wanted = Err(RunFault::Script(fault));
+        assert!(rt; run(alloc, script.as_str())? == wanted);
     }
     Ok(())
 }

@@ -1,6 +1,6 @@
 //! Scripts for callbacks that note what they are asked, with what comes of each in every way to run it.
 
-use crate::fakes::{EVERY_KIND, EXPIRED_ALONE, KindFilter};
+use jc_trials::{EVERY_KIND, EXPIRED_ALONE, KindFilter};
 
 /// How callbacks behave: of which changes listeners are told, and for which question, from 0, each of the others finds
 /// no memory.

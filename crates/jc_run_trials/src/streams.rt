@@ -1,6 +1,5 @@
 //! Readers and writers that fail, scripts that are cut, and the lines of faults that no file has.
 
-use crate::trouble::{Trouble, no_hooks};
 use jc_config::ConfigFault;
 use jc_hooks::program::ProgramHooks;
 use jc_runner::{
@@ -9,6 +8,7 @@ use jc_runner::{
 };
 use jc_script::{ScriptFault, read_script};
 use jc_threads::OpenGate;
+use jc_trials::{Trouble, no_hooks};
 use std::alloc::Global;
 use std::io;
 use std::io::{ErrorKind, Read, Write};

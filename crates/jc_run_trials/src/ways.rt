@@ -3,13 +3,9 @@
 
 use crate::closures::{echo_closure, processor_closure};
 use crate::crews::{PointGate, gathered};
-use crate::fakes::{
-    NotedHook, NotedLoader, NotedProcessor, NotedWriter, OncePoor, noted_listeners,
-};
-use crate::log::Log;
+use crate::ran::{Ran, ran_into, report_of};
 use crate::scenes::{ALL_CALLBACKS, Behaviour, POOR, SCENES, Scene, USUAL};
 use crate::sessions::{Caches, Script, play};
-use crate::trouble::Trouble;
 use jc_config::{Configuration, HookKinds, ProcessorKind, read_config};
 use jc_hooks::program::{CheckWriter, ProgramProcessor};
 use jc_hooks::{CacheHooks, ClosureLoader, ClosureProcessor};
@@ -17,6 +13,9 @@ use jc_model::OutOfMemory;
 use jc_runner::{Crew, RunFault, Watched, WatchedWriter, serial};
 use jc_script::read_script;
 use jc_shared::Shared;
+use jc_trials::{
+    Log, NotedHook, NotedLoader, NotedProcessor, NotedWriter, OncePoor, Trouble, noted_listeners,
+};
 use std::alloc::{AllocError, Global};
 use std::sync::Wait;
 use std::thread::Threads;
@@ -92,24 +91,24 @@ fn all_hooks(alloc: Global, scene: &Scene, log: &Log) -> Result<Vec<Hooks>, Trou
     Ok(all)
 }
 
-/// The report of a scene by `serial`.
-fn by_serial(alloc: Global, scene: &Scene, log: &Log) -> Result<Vec<u8>, Trouble> {
+/// What comes of a scene by `serial`.
+fn by_serial(alloc: Global, scene: &Scene, log: &Log) -> Result<Ran, Trouble> {
     let Configuration { settings, .. } = read_config(alloc, scene.caches.as_bytes())?;
     let mut hooks = all_hooks(alloc, scene, log)?;
     let mut reader = Watched::new(scene.calls.as_bytes());
     let mut writer = WatchedWriter::new(Vec::new(alloc));
     let hooks = hooks.as_mut_slice();
-    serial(alloc, settings, hooks, 0, &mut reader, &mut writer)?;
-    Ok(writer.into_inner())
+    let ran = serial(alloc, settings, hooks, 0, &mut reader, &mut writer);
+    Ok(ran_into(ran, writer))
 }
 
-/// The report of a scene by `threaded`: by two workers where one session makes all calls, else by one.
+/// What comes of a scene by `threaded`: by two workers where one session makes all calls, else by one.
 fn by_workers<R: Threads + Wait + Sync>(
     rt: &R,
     alloc: Global,
     scene: &Scene,
     log: &Log,
-) -> Result<Vec<u8>, Trouble> {
+) -> Result<Ran, Trouble> {
     let gate = PointGate { log: log.share()? };
     let crew = Crew {
         workers: if scene.sessions == 1 { 2 } else { 1 },
@@ -161,21 +160,21 @@ enum Way {
 
 static WAYS: [Way; 4] = [Way::Serial, Way::Workers, Way::Opened, Way::Created];
 
-/// The report of a scene in a way.
-fn report_by<R: Threads + Wait + Sync>(
+/// What comes of a scene in a way.
+fn ran_by<R: Threads + Wait + Sync>(
     rt: &R,
     alloc: Global,
     scene: &Scene,
     way: Way,
     log: &Log,
-) -> Result<Vec<u8>, Trouble> {
+) -> Result<Ran, Trouble> {
     match way {
         Way::Serial => by_serial(alloc, scene, log),
         Way::Workers => by_workers(rt, alloc, scene, log),
         Way::Opened | Way::Created => {
             let created = way == Way::Created;
             let (report, _) = by_sessions(rt, alloc, scene, created, log)?;
-            Ok(report.into_bytes())
+            Ok(Ok(report.into_bytes()))
         }
     }
 }
@@ -192,31 +191,35 @@ fn questions(alloc: Global, scene: &Scene) -> Result<Vec<u8>, AllocError> {
     Ok(asked)
 }
 
-/// What comes of a scene in a way: its report, or why there is none; and whether the callbacks are asked as they should
+/// What comes of a scene in a way, and whether the callbacks are asked as they should
 /// be.
 fn came_of<R: Threads + Wait + Sync>(
     rt: &R,
     alloc: Global,
     scene: &Scene,
     way: Way,
-) -> Result<(Result<Vec<u8>, Trouble>, bool), Trouble> {
+) -> Result<(Ran, bool), Trouble> {
     let log = Log::new(alloc, 32)?;
-    let report = report_by(rt, alloc, scene, way, &log);
+    let ran = ran_by(rt, alloc, scene, way, &log)?;
     let asked = log.text(alloc)?;
     let is_asked = if way == Way::Serial {
         asked == questions(alloc, scene)?
     } else {
         asked.as_slice() == scene.asked.as_bytes()
     };
-    Ok((report, is_asked))
+    Ok((ran, is_asked))
 }
 
 #[test]
 fn the_program_in_three_ways(rt: HostRuntime) -> Result<(), Trouble> {
     for scene in SCENES.iter().chain([&ALL_CALLBACKS]) {
         for way in WAYS {
-            let (report, is_asked) = came_of(&rt, rt.alloc(), scene, way)?;
-            assert_eq!(rt; report?.as_slice(), scene.report.as_bytes(), "{way:?}");
+            let (ran, is_asked) = came_of(&rt, rt.alloc(), scene, way)?;
+            assert_eq!(rt;
+                report_of(ran)?.as_slice(),
+                scene.report.as_bytes(),
+                "{way:?}"
+            );
             assert!(rt; is_asked, "{way:?} {}", scene.calls);
         }
     }
@@ -257,11 +260,15 @@ fn two_sessions_share_one_state(rt: HostRuntime) -> Result<(), Trouble> {
 fn hooks_without_memory(rt: HostRuntime) -> Result<(), Trouble> {
     for scene in &POOR {
         for way in WAYS {
-            let (report, is_asked) = came_of(&rt, rt.alloc(), scene, way)?;
+            let (ran, is_asked) = came_of(&rt, rt.alloc(), scene, way)?;
             if way == Way::Serial || way == Way::Workers {
-                assert_eq!(rt; report.err(), Some(Trouble::Running(RunFault::Memory)));
+                assert_eq!(rt; ran, Err(RunFault::Memory));
             } else {
-                assert_eq!(rt; report?.as_slice(), scene.report.as_bytes(), "{way:?}");
+                assert_eq!(rt;
+                    report_of(ran)?.as_slice(),
+                    scene.report.as_bytes(),
+                    "{way:?}"
+                );
                 assert!(rt; is_asked, "{way:?} {}", scene.calls);
             }
         }
