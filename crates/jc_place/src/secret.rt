@@ -1,6 +1,7 @@
 //! Places by a hash under a secret, for keys that strangers may choose.
 ghost use Rattle.std.specs.Prelude.{◌≡◌};
 
+use crate::keyed::KeyedState;
 use crate::place::{Place, Placer, place_of};
 use jc_model::event::CacheId;
 use jc_model::key::Key;
@@ -43,5 +44,13 @@ impl<S: BuildHasher + Copy> Placer for SecretPlacer<S> {
         hasher.write(&id.number().to_le_bytes());
         hasher.write(key.text().as_bytes());
         place_of(hasher.finish())
+    }
+
+    fn keyed(&self) -> KeyedState {
+        let mut hasher = self.secret.build_hasher();
+        hasher.write(b"index");
+        let first = hasher.finish();
+        hasher.write(b"stash");
+        KeyedState::new(first, hasher.finish())
     }
 }

@@ -2,6 +2,7 @@
 ghost use Rattle.std.specs.Prelude.{◌≡◌, fold};
 ghost use Rattle.jc_place.specs.Seeded.{fnv_step, seeded_place};
 
+use crate::keyed::KeyedState;
 use crate::place::{Place, Placer, place_of};
 use jc_model::event::CacheId;
 use jc_model::key::Key;
@@ -54,5 +55,9 @@ impl Placer for SeededPlacer {
     fn place(&self, id: CacheId, key: &Key) -> Place {
         let of_id = walk(OFFSET ^ self.seed, &id.number().to_le_bytes());
         place_of(walk(of_id, key.text().as_bytes()))
+    }
+
+    fn keyed(&self) -> KeyedState {
+        KeyedState::new(self.seed, 0)
     }
 }
