@@ -13,7 +13,7 @@ use Rattle.jc_cuckoo.specs.Table.{Table}
 use Rattle.jc_place.specs.declared.place.Place.{Place}
 use Rattle.jc_cuckoo.specs.Double.{IsAdded, IsBlank, IsDoubled, IsFilled, HasSlots, HasStash, NeedsStash}
 use Rattle.jc_cuckoo.proofs.Blank.{blank_on}
-use Rattle.jc_cuckoo.proofs.Cells.{Once, Found, get_some, get_found}
+use Rattle.jc_cuckoo.proofs.Cells.{IsOnce, Found, get_some, get_found}
 use Rattle.jc_cuckoo.proofs.Changes.{inside}
 use Rattle.jc_cuckoo.proofs.Covers.{covers_more}
 use Rattle.jc_cuckoo.proofs.Empty.{rows_none, none_there}
@@ -24,14 +24,14 @@ use Rattle.jc_cuckoo.proofs.Told.{behind, slot_is}
 
 -- one cell more
 
-pub rows_brought : {P M N : Type 0} (t : Table P M) (at : ℕ) (u v : Table P N) (h : Held) → Once t.cells → at < length t.cells → cell t.cells at ≡ Some h → rows_in u.cells ≡ rows_in (take at t.cells) → IsAdded u v h → rows_in v.cells ≡ rows_in (take (at + 1) t.cells)
+pub rows_brought : {P M N : Type 0} (t : Table P M) (at : ℕ) (u v : Table P N) (h : Held) → IsOnce t.cells → at < length t.cells → cell t.cells at ≡ Some h → rows_in u.cells ≡ rows_in (take at t.cells) → IsAdded u v h → rows_in v.cells ≡ rows_in (take (at + 1) t.cells)
 rows_brought t at u v h once below is rows added =
     added.rows ∙ (ap (λ m. map.insert m (place_of h) (row_of h)) rows ∙ sym (taken_some t.cells at h below once is))
 
-pub brought_absent : (cs ds : List (Option Held)) (at : ℕ) (h : Held) → Once cs → at < length cs → cell cs at ≡ Some h → rows_in ds ≡ rows_in (take at cs) → map.get (rows_in ds) (place_of h) ≡ None
+pub brought_absent : (cs ds : List (Option Held)) (at : ℕ) (h : Held) → IsOnce cs → at < length cs → cell cs at ≡ Some h → rows_in ds ≡ rows_in (take at cs) → map.get (rows_in ds) (place_of h) ≡ None
 brought_absent cs ds at h once below is rows = ap (λ m. map.get m (place_of h)) rows ∙ taken_absent cs at h below once is
 
-pub slot_brought : {P M N : Type 0} (t : Table P M) (at : ℕ) (u v : Table P N) (h : Held) → Once t.cells → at < length t.cells → cell t.cells at ≡ Some h → HasSlots t at u → IsAdded u v h → length v.cells ≡ 8 * t.buckets → IsBlank t.buckets v.cells (at + 1) → HasSlots t (at + 1) v
+pub slot_brought : {P M N : Type 0} (t : Table P M) (at : ℕ) (u v : Table P N) (h : Held) → IsOnce t.cells → at < length t.cells → cell t.cells at ≡ Some h → HasSlots t at u → IsAdded u v h → length v.cells ≡ 8 * t.buckets → IsBlank t.buckets v.cells (at + 1) → HasSlots t (at + 1) v
 slot_brought t at u v h once below is has added slots blank = record {
   placer = added.placer ∙ has.placer;
   buckets = added.buckets ∙ has.buckets;
@@ -49,7 +49,7 @@ slot_passed t at u below is has = record {
   blank = blank_on t.buckets at u.cells has.blank;
 }
 
-pub stash_brought : {P M N : Type 0} (placing : P → ℕ → List ℕ → Place) (t : Table P M) (at : ℕ) (u v : Table P N) (h : Held) → Once t.cells → at < length t.cells → cell t.cells at ≡ Some h → HasStash placing t at u → IsAdded u v h → (NeedsStash (placing u.placer) u.buckets u.cells → NeedsStash (placing u.placer) v.buckets v.cells) → HasStash placing t (at + 1) v
+pub stash_brought : {P M N : Type 0} (placing : P → ℕ → List ℕ → Place) (t : Table P M) (at : ℕ) (u v : Table P N) (h : Held) → IsOnce t.cells → at < length t.cells → cell t.cells at ≡ Some h → HasStash placing t at u → IsAdded u v h → (NeedsStash (placing u.placer) u.buckets u.cells → NeedsStash (placing u.placer) v.buckets v.cells) → HasStash placing t (at + 1) v
 stash_brought {P = P} placing t at u v h once below is has added needed = record {
   placer = added.placer ∙ has.placer;
   buckets = added.buckets ∙ has.buckets;
@@ -132,7 +132,7 @@ shown_again m ds h s long shows f =
     let same : shown f.held ≡ s = ap₂ (λ (x : ℕ × List ℕ) (y : ℕ × Expiry). (x, y.1)) f.at f.gives ∙ shows in
     (f.stands.at, slot_is m ds f.stands.at (omega arith) (omega arith) ∙ (ap (option_map shown) f.stands.is ∙ ap (λ (x : Shown). Some x) same))
 
-covers_slots : (n : ℕ) (cs ds : List (Option Held)) → Once cs → 4 * n ≤ length cs → rows_in ds ≡ rows_in (take (4 * n) cs) → length ds ≡ 8 * n → Covers (image_of n cs) (image_of (2 * n) ds)
+covers_slots : (n : ℕ) (cs ds : List (Option Held)) → IsOnce cs → 4 * n ≤ length cs → rows_in ds ≡ rows_in (take (4 * n) cs) → length ds ≡ 8 * n → Covers (image_of n cs) (image_of (2 * n) ds)
 covers_slots n cs ds once wide rows slots = record {
   kept = λ i s is. (
       let b = behind n cs i s wide is in
@@ -141,7 +141,7 @@ covers_slots n cs ds once wide rows slots = record {
       shown_again (2 * n) ds b.held s (omega arith) b.shows (get_found ds (place_of b.held) (row_of b.held) held));
 }
 
-pub slots_all : {P M N : Type 0} (placing : P → ℕ → List ℕ → Place) (t : Table P M) (at : ℕ) (u : Table P N) → Once t.cells → 4 * t.buckets ≤ length t.cells → at ≡ 4 * t.buckets → HasSlots t at u → HasStash placing t (4 * t.buckets) u
+pub slots_all : {P M N : Type 0} (placing : P → ℕ → List ℕ → Place) (t : Table P M) (at : ℕ) (u : Table P N) → IsOnce t.cells → 4 * t.buckets ≤ length t.cells → at ≡ 4 * t.buckets → HasSlots t at u → HasStash placing t (4 * t.buckets) u
 slots_all placing t at u once wide end has = record {
   placer = has.placer;
   buckets = has.buckets;
@@ -154,7 +154,7 @@ slots_all placing t at u once wide end has = record {
     rows : rows_in u.cells ≡ rows_in (take (4 * t.buckets) t.cells)
     rows = has.rows ∙ ap (λ (m : ℕ). rows_in (take m t.cells)) end
 
-pub stash_all : {P M N : Type 0} (placing : P → ℕ → List ℕ → Place) (t : Table P M) (at total : ℕ) (u : Table P N) → at ≡ length t.cells → u.room + length u.cells ≡ total → 4 * t.buckets + length t.cells + t.room ≤ total → HasStash placing t at u → IsDoubled placing t u
+pub stash_all : {P M N : Type 0} (placing : P → ℕ → List ℕ → Place) (t : Table P M) (at total : ℕ) (u : Table P N) → at ≡ length t.cells → total ≤ u.room + length u.cells → 4 * t.buckets + length t.cells + t.room ≤ total → HasStash placing t at u → IsDoubled placing t u
 stash_all placing t at total u end same enough has = let short = has.short in let buckets = has.buckets in record {
   placer = has.placer;
   buckets = has.buckets;

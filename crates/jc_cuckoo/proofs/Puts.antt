@@ -11,11 +11,11 @@ use Rattle.jc_cuckoo.specs.declared.held.Held.{Held}
 use Rattle.jc_cuckoo.specs.Cells.{cell, place_of}
 use Rattle.jc_rows.specs.Images.{Image, Shown, Shows, slot}
 use Rattle.jc_cuckoo.specs.Images.{Puts, shown, image_of}
-use Rattle.jc_cuckoo.proofs.Cells.{Once}
+use Rattle.jc_cuckoo.proofs.Cells.{IsOnce}
 use Rattle.jc_cuckoo.proofs.Told.{slot_is, slot_past, behind}
 
 -- the cell of the row's slot changes
-pub puts_set : (n : ℕ) (cs : List (Option Held)) (i : ℕ) (h : Held) (v : Option Held) → Once cs → 4 * n ≤ length cs → i < 4 * n → cell cs i ≡ Some h → Puts (place_of h) (option_map shown v) (image_of n cs) (image_of n (set cs i v))
+pub puts_set : (n : ℕ) (cs : List (Option Held)) (i : ℕ) (h : Held) (v : Option Held) → IsOnce cs → 4 * n ≤ length cs → i < 4 * n → cell cs i ≡ Some h → Puts (place_of h) (option_map shown v) (image_of n cs) (image_of n (set cs i v))
 puts_set n cs i h v once wide below is = record {
   buckets = refl;
   own = λ j s shows same. (let b = behind n cs j s wide shows in let e : j ≡ i = once j i b.held h b.is is (ap (λ (y : Shown). y.0) b.shows ∙ same) in
@@ -39,7 +39,7 @@ abbrev pub slots_of : Image → List (Option Shown)
 slots_of x = x.slots
 
 -- the row stands in the stash: the slots stay
-pub puts_stashed : (n : ℕ) (cs ds : List (Option Held)) (i : ℕ) (h : Held) (v : Option Shown) → Once cs → 4 * n ≤ length cs → 4 * n ≤ i → cell cs i ≡ Some h → slots_of (image_of n ds) ≡ slots_of (image_of n cs) → Puts (place_of h) v (image_of n cs) (image_of n ds)
+pub puts_stashed : (n : ℕ) (cs ds : List (Option Held)) (i : ℕ) (h : Held) (v : Option Shown) → IsOnce cs → 4 * n ≤ length cs → 4 * n ≤ i → cell cs i ≡ Some h → slots_of (image_of n ds) ≡ slots_of (image_of n cs) → Puts (place_of h) v (image_of n cs) (image_of n ds)
 puts_stashed n cs ds i h v once wide above is same = record {
   buckets = refl;
   own = λ j s shows at. (let b = behind n cs j s wide shows in let low = b.below in let e : j ≡ i = once j i b.held h b.is is (ap (λ (y : Shown). y.0) b.shows ∙ at) in absurd (omega arith));

@@ -13,14 +13,14 @@ use Rattle.jc_cuckoo.specs.declared.held.Held.{Held}
 use Rattle.jc_cuckoo.specs.Cells.{place_of, row_of, cell, rows_in, IsSound}
 use Rattle.jc_rows.specs.Images.{Shown, Shows, slot}
 use Rattle.jc_cuckoo.specs.Images.{shown, image_of}
-use Rattle.jc_cuckoo.proofs.Cells.{Once, once_below, get_none, get_some, get_found}
+use Rattle.jc_cuckoo.proofs.Cells.{IsOnce, once_below, get_none, get_some, get_found}
 use Rattle.jc_cuckoo.proofs.Told.{behind, slot_is}
 
 abbrev one_if : {A : Type 0} → Option A → ℕ
 one_if o = cond (is_some o) 1 0
 
 -- each row is counted once
-pub count_rows : (cs : List (Option Held)) → Once cs → count_by is_some cs ≡ rows.len (rows_in cs)
+pub count_rows : (cs : List (Option Held)) → IsOnce cs → count_by is_some cs ≡ rows.len (rows_in cs)
 unfolding rows_in
 count_rows [] once = sym len-empty
 count_rows (None ∷ cs) once = let head = sum_by-cons one_if None cs in let rest = count_rows cs (once_below None cs once) in omega arith

@@ -1,9 +1,9 @@
 -- A table of twice as many buckets, and how far it is filled.
-use Rattle.std.specs.Prelude.{◌≡◌, ℕ, ◌+◌, ◌-◌, ◌*◌, ◌<◌, ◌≤◌, List, length, take, slice_set, Option, Some, None}
-use Rattle.std.specs.FinMap as map
+use Rattle.std.specs.Prelude.{◌≡◌, ℕ, ◌+◌, ◌-◌, ◌*◌, ◌<◌, ◌≤◌, ◌++◌, List, length, map, take, slice_set, Option, Some, None, IsPermutation}
+use Rattle.std.specs.FinMap as maps
 use Rattle.jc_cuckoo.specs.declared.held.Held.{Held}
 use Rattle.jc_place.specs.declared.place.Place.{Place}
-use Rattle.jc_cuckoo.specs.Cells.{place_of, row_of, cell, rows_in, first_bucket, second_bucket, IsVacant, IsFull}
+use Rattle.jc_cuckoo.specs.Cells.{place_of, row_of, cell, rows_in, first_bucket, second_bucket, IsOnce, IsVacant, IsFull}
 use Rattle.jc_rows.specs.Images.{Image}
 use Rattle.jc_cuckoo.specs.Images.{Covers, image_of}
 use Rattle.jc_cuckoo.specs.Table.{Table}
@@ -23,8 +23,8 @@ pub record IsFilled (before after : List (Option Held)) (bucket : ℕ) (held : H
 pub record IsAdded {P M : Type 0} (before after : Table P M) (held : Held) : Type 0 where
   pub placer : after.placer ≡ before.placer
   pub buckets : after.buckets ≡ before.buckets
-  pub rows : rows_in after.cells ≡ map.insert (rows_in before.cells) (place_of held) (row_of held)
-  pub total : after.room + length after.cells ≡ before.room + length before.cells
+  pub rows : rows_in after.cells ≡ maps.insert (rows_in before.cells) (place_of held) (row_of held)
+  pub total : before.room + length before.cells ≤ after.room + length after.cells
   pub longer : length after.cells ≤ length before.cells + 1
   pub covers : Covers (image_of before.buckets before.cells) (image_of after.buckets after.cells)
 
@@ -53,6 +53,21 @@ pub record HasStash {P M N : Type 0} (placing : P → ℕ → List ℕ → Place
   pub covers : Covers (image_of table.buckets table.cells) (image_of twice.buckets twice.cells)
   pub needed : NeedsStash (placing table.placer) twice.buckets twice.cells
 
+-- these are the rows of the stash, each behind a number
+pub record HoldsStash (buckets : ℕ) (cells : List (Option Held)) (rows : List (ℕ × Held)) : Type 0 where
+  pub once : IsOnce cells
+  pub wide : 4 * buckets ≤ length cells
+  pub is : cells ≡ take (4 * buckets) cells ++ map (λ row. Some row.1) rows
+
+-- the rows of the stash in another order, no place twice
+pub record IsWaiting (buckets : ℕ) (cells : List (Option Held)) (rows : List (ℕ × Held)) : Type 0 where
+  pub once : IsOnce cells
+  pub wide : 4 * buckets ≤ length cells
+  pub permutes : IsPermutation cells (take (4 * buckets) cells ++ map (λ row. Some row.1) rows)
+
+abbrev pub ordered : {P M : Type 0} → Table P M → List (ℕ × Held) → Table P M
+ordered table rows = record table { cells = take (4 * table.buckets) table.cells ++ map (λ row. Some row.1) rows }
+
 -- It has the same rows: each that was placed still is, the stash is no longer, and the room no less. No row is in the
 -- stash for which one of its two buckets has an empty slot.
 pub record IsDoubled {P M N : Type 0} (placing : P → ℕ → List ℕ → Place) (table : Table P M) (twice : Table P N) : Type 0 where
@@ -76,4 +91,4 @@ pub record IsLeft {P M : Type 0} (told : M → Option (List Image)) (before afte
 pub record Doubles {P M : Type 0} (before after : Table P M) : Type 0 where
   pub twice : after.buckets ≡ 2 * before.buckets
   pub below : before.buckets < 65536
-  pub half : 2 * before.buckets ≤ map.len (rows_in before.cells)
+  pub half : 2 * before.buckets ≤ maps.len (rows_in before.cells)

@@ -1,13 +1,16 @@
 //! The changes of one row, each told as one image.
-ghost use Rattle.std.specs.Prelude.{◌≡◌, ◌+◌, ◌-◌, ◌*◌, ◌/◌, ◌≤◌, ◌<◌, None, Some, [], ◌∷◌, ◌++◌, length, slice_set};
-ghost use Rattle.std.specs.List.{remove};
+ghost use Rattle.std.specs.Prelude.{◌≡◌, ℕ, Option, ◌+◌, ◌-◌, ◌*◌, ◌/◌, ◌≤◌, ◌<◌, None, Some, [], ◌∷◌, ◌++◌, length, slice_set};
+ghost use Rattle.std.specs.List.{swap_remove};
+ghost use Rattle.std.specs.Vec.{vec_capacity};
 ghost use Rattle.std.specs.FinMap as map;
-ghost use Rattle.jc_cuckoo.specs.Cells.{cell, rows_in, IsBucketOf, place_of, row_of};
+ghost use Rattle.jc_cuckoo.specs.Cells.{cell, rows_in, Dropped, IsBucketOf, IsOnce, place_of, row_of};
+ghost use Rattle.jc_cuckoo.specs.Index.{IsIndexed, free};
 ghost use Rattle.jc_cuckoo.specs.Images.{Covers};
 ghost use Rattle.jc_cuckoo.specs.Table.{longest, Follows, Touches, image};
 
 use crate::cuckoo::Cuckoo;
 use crate::held::Held;
+use crate::index::StashIndex;
 use crate::mirror::Mirror;
 use jc_model::config::Expiry;
 use jc_place::place::Placer;
@@ -18,6 +21,52 @@ pub(crate) fn stashed(tags: &[u8], cells: &[Option<Held>]) -> u32
     ensures { result ≡ length cells.now - length tags.now }
 {
     (cells.len() - tags.len()) as u32
+}
+
+/// The cell behind the last one.
+fn end(cells: &[Option<Held>]) -> usize
+    ensures { result ≡ length cells.now }
+{
+    cells.len()
+}
+
+/// The row in a cell, if there is one.
+fn row_at(cells: &[Option<Held>], at: usize) -> Option<Held>
+    ensures { result ≡ cell cells.now at }
+{
+    match cells.get(at) {
+        Some(Some(held)) => Some(held.same()),
+        _ => None,
+    }
+}
+
+/// Takes a cell out. The last one takes its place.
+fn swap_out(cells: &mut Vec<Option<Held>>, at: usize)
+    requires { at < length cells.old.items }
+    ensures dropped { Dropped cells.old.items cells.new.items at }
+    ensures swapped { (last : Option Held) × (cells.new.items ≡ swap_remove cells.old.items at last) }
+    ensures capacity { vec_capacity cells.new ≡ vec_capacity cells.old }
+{
+    let _ = cells.swap_remove(at);
+}
+
+/// Takes a row out of the stash.
+fn take_out(cells: &mut Vec<Option<Held>>, index: &mut StashIndex, at: usize, held: &Held)
+    requires within { at < length cells.old.items }
+    requires held { cell cells.old.items at ≡ Some held.now }
+    requires once { IsOnce cells.old.items }
+    ensures dropped { Dropped cells.old.items cells.new.items at }
+    ensures swapped { (last : Option Held) × (cells.new.items ≡ swap_remove cells.old.items at last) }
+    ensures index { (n : ℕ) → 4 * n ≤ at → IsIndexed n cells.old.items index.old → IsIndexed n cells.new.items index.new }
+    ensures capacity { vec_capacity cells.new ≡ vec_capacity cells.old }
+    ensures room { free index.old ≤ free index.new }
+{
+    index.remove(held.id, &held.key);
+    swap_out(cells, at);
+    match row_at(cells, at) {
+        Some(moved) => index.move_to(moved.id, &moved.key, at),
+        None => {}
+    }
 }
 
 impl<P: Placer + Drop, M: Mirror> Cuckoo<P, M> {
@@ -48,10 +97,12 @@ impl<P: Placer + Drop, M: Mirror> Cuckoo<P, M> {
         requires absent { map.get (rows_in self.old.cells) (place_of held) ≡ None }
         ensures cells { self.new.cells ≡ self.old.cells ++ Some held ∷ [] }
         ensures rows { rows_in self.new.cells ≡ map.insert (rows_in self.old.cells) (place_of held) (row_of held) }
-        ensures room { self.new.room + 1 ≡ self.old.room }
+        ensures room { self.old.room ≤ self.new.room + 1 }
         ensures follows { Follows M.images self.old self.new }
         ensures covers { Covers (image self.old) (image self.new) }
     {
+        let at = end(&self.cells);
+        self.index.add(held.id, &held.key, at);
         self.cells.push_reserved(Some(held));
         self.held += 1;
         let stash = stashed(&self.tags, &self.cells);
@@ -96,15 +147,15 @@ impl<P: Placer + Drop, M: Mirror> Cuckoo<P, M> {
         self.mirror.commit(&[(at as u32, None)], stash);
     }
 
-    /// Takes a row out of the stash.
+    /// Takes a row out of the stash. The last one takes its place.
     pub(crate) fn pull(&mut self, at: usize, held: Held)
         requires stash { 4 * self.old.buckets ≤ at }
         requires held { cell self.old.cells at ≡ Some held }
         ensures rows { rows_in self.new.cells ≡ map.remove (rows_in self.old.cells) (place_of held) }
-        ensures room { self.new.room ≡ self.old.room + 1 }
+        ensures room { self.old.room ≤ self.new.room }
         ensures touches { Touches M.images self.old self.new (place_of held) None }
     {
-        let _ = self.cells.remove(at);
+        take_out(&mut self.cells, &mut self.index, at, &held);
         self.held -= 1;
         let stash = stashed(&self.tags, &self.cells);
         self.mirror.commit(&[], stash);

@@ -10,6 +10,7 @@ ghost use Rattle.jc_cuckoo.specs.Images.{image_of};
 ghost use Rattle.jc_cuckoo.specs.Table.{longest, no_work, IsMirrored, image};
 
 use crate::held::{Held, Work};
+use crate::index::StashIndex;
 use crate::mirror::Mirror;
 use jc_model::OutOfMemory;
 use jc_place::place::Placer;
@@ -27,6 +28,8 @@ pub struct Cuckoo<P: Placer + Drop, M: Mirror> {
     pub(crate) tags: Vec<u8>,
     /// The slots, four to a bucket, and after them the stash.
     pub(crate) cells: Vec<Option<Held>>,
+    /// Where each row of the stash stands.
+    pub(crate) index: StashIndex,
     pub(crate) held: usize,
     pub(crate) work: Work,
 }
@@ -34,13 +37,14 @@ pub struct Cuckoo<P: Placer + Drop, M: Mirror> {
 impl<P: Placer + Drop, M: Mirror> Model for Cuckoo<P, M> {
     ghost use Rattle.std.specs.Prelude.{◌-◌, min};
     ghost use Rattle.std.specs.Vec.{vec_capacity, vec_len};
+    ghost use Rattle.jc_cuckoo.specs.Index.{IsIndexed, free};
     ghost use Rattle.jc_cuckoo.specs.Table.{Table, IsTable, longest};
 
     ghost Value = { Table P M };
 
-    ghost view = { λ t. record { placer = t.placer; mirror = t.mirror; buckets = t.buckets; cells = t.cells.items; room = min (vec_capacity t.cells) longest - vec_len t.cells; work = t.work } };
+    ghost view = { λ t. record { placer = t.placer; mirror = t.mirror; buckets = t.buckets; cells = t.cells.items; room = min (min (vec_capacity t.cells) longest - vec_len t.cells) (free t.index); work = t.work } };
 
-    ghost invariant = { λ t. IsTable (P.placing t.placer) (M.placing t.mirror) (M.images t.mirror) t.buckets t.tags.items t.cells.items t.held };
+    ghost invariant = { λ t. IsTable (P.placing t.placer) (M.placing t.mirror) (M.images t.mirror) t.buckets t.tags.items t.cells.items t.held × IsIndexed t.buckets t.cells.items t.index };
 }
 
 /// The most buckets of a table.
@@ -106,37 +110,39 @@ impl<P: Placer + Drop, M: Mirror> Cuckoo<P, M> {
         if !is_size(buckets) {
             return Err(TableRefusal::BadBuckets);
         }
-        match Cuckoo::with_capacity(alloc, placer, mirror, buckets, 4 * buckets as usize) {
+        match Cuckoo::with_room(alloc, placer, mirror, buckets, 0) {
             Ok(table) => Ok(table),
             Err(_) => Err(TableRefusal::OutOfMemory),
         }
     }
 
-    /// A table without rows, in memory for so many cells.
-    pub(crate) fn with_capacity(
+    /// A table without rows, in memory for so many in the stash.
+    pub(crate) fn with_room(
         alloc: Global,
         placer: P,
         mirror: M,
         buckets: u32,
-        capacity: usize,
+        stash: usize,
     ) -> Result<Cuckoo<P, M>, OutOfMemory>
         requires size { IsTableSize buckets }
         requires mirror { IfSome (M.images mirror) (λ is. IsMirrored (P.placing placer) (M.placing mirror) is (image_of buckets (replicate (4 * buckets) None))) }
-        requires capacity { (4 * buckets ≤ capacity) × (capacity ≤ longest) }
+        requires stash { 4 * buckets + stash ≤ longest }
         ensures empty { IfOk result (λ table. table.cells ≡ replicate (4 * buckets) None) }
         ensures parts { IfOk result (λ table. (table.placer ≡ placer) × (table.mirror ≡ mirror) × (table.buckets ≡ buckets)) }
-        ensures room { IfOk result (λ table. table.room + 4 * buckets ≡ capacity) }
+        ensures room { IfOk result (λ table. stash ≤ table.room) }
         ensures work { IfOk result (λ table. table.work ≡ no_work) }
     {
         let slots = 4 * buckets as usize;
         let tags = vec![in alloc; 0; slots]?;
-        let cells = empty_cells(alloc, slots, capacity)?;
+        let cells = empty_cells(alloc, slots, slots + stash)?;
+        let index = StashIndex::new(alloc, placer.keyed(), stash)?;
         Ok(Cuckoo {
             placer,
             mirror,
             buckets,
             tags,
             cells,
+            index,
             held: 0,
             work: Work {
                 searches: 0,
@@ -159,6 +165,7 @@ impl<P: Placer + Drop, M: Mirror> Cuckoo<P, M> {
             buckets: self.buckets,
             tags: self.tags,
             cells: self.cells,
+            index: self.index,
             held: self.held,
             work: self.work,
         }

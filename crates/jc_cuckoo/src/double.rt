@@ -1,9 +1,9 @@
 //! Doubling: a table of twice as many buckets is filled with the rows, and takes the place of the old one.
-ghost use Rattle.std.specs.Prelude.{◌≡◌, ◌+◌, ◌*◌, ◌/◌, ◌≤◌, ◌<◌, None, Some, IfOk, length, true, false, replicate};
+ghost use Rattle.std.specs.Prelude.{◌≡◌, ◌+◌, ◌*◌, ◌/◌, ◌≤◌, ◌<◌, None, Some, IfOk, OnOk, length, true, false, replicate};
 ghost use Rattle.std.specs.FinMap as map;
 ghost use Rattle.jc_place.specs.Place.{IsTableSize};
 ghost use Rattle.jc_cuckoo.specs.Cells.{cell, rows_in, place_of, row_of, IsBucketOf, IsFull};
-ghost use Rattle.jc_cuckoo.specs.Double.{IsAdded, IsBlank, IsDoubled, IsFilled, IsLeft, HasSlots, HasStash, NeedsStash, Doubles};
+ghost use Rattle.jc_cuckoo.specs.Double.{IsAdded, IsBlank, IsDoubled, IsFilled, IsLeft, IsWaiting, HasSlots, HasStash, HoldsStash, NeedsStash, Doubles};
 ghost use Rattle.jc_cuckoo.specs.Table.{IsTold, image};
 ghost use Rattle.jc_cuckoo.specs.Images.{grown};
 
@@ -69,7 +69,7 @@ impl<P: Placer + Drop, M: Mirror> Cuckoo<P, M> {
         requires at { at < 4 * self.now.buckets }
         requires slots { HasSlots self.now at twice.old }
         ensures slots { HasSlots self.now (at + 1) twice.new }
-        ensures room { twice.new.room ≡ twice.old.room }
+        ensures room { twice.old.room ≤ twice.new.room }
     {
         if let Some(held) = self.row_in(at) {
             twice.bring(self.buckets, at, held);
@@ -82,7 +82,7 @@ impl<P: Placer + Drop, M: Mirror> Cuckoo<P, M> {
         requires buckets { twice.old.buckets ≡ 2 * self.now.buckets }
         requires empty { twice.old.cells ≡ replicate (8 * self.now.buckets) None }
         ensures slots { HasSlots self.now (4 * self.now.buckets) twice.new }
-        ensures room { twice.new.room ≡ twice.old.room }
+        ensures room { twice.old.room ≤ twice.new.room }
     {
         let mut at = 0;
         'slots: while at < self.slots() {
@@ -111,30 +111,45 @@ impl<P: Placer + Drop, M: Mirror> Cuckoo<P, M> {
         self.stow(held);
     }
 
-    /// Brings a row of the stash into a table of twice as many buckets.
-    fn bring_stashed(&self, at: usize, twice: &mut Cuckoo<P, NoMirror>)
-        requires at { (4 * self.now.buckets ≤ at) × (at < length self.now.cells) }
-        requires stash { HasStash P.placing self.now at twice.old }
-        requires room { 0 < twice.old.room }
-        ensures stash { HasStash P.placing self.now (at + 1) twice.new }
-        ensures total { twice.new.room + length twice.new.cells ≡ twice.old.room + length twice.old.cells }
+    /// The rows of the stash, each after a number that grows with its arrival.
+    fn stash_rows(&self) -> Result<Vec<(u64, Held)>, OutOfMemory>
+        ensures { IfOk result (λ rows. HoldsStash self.now.buckets self.now.cells rows.items) }
     {
-        if let Some(held) = &self.cells[at] {
-            twice.admit(held.same());
-        }
-    }
-
-    /// Brings the rows of the stash into a table of twice as many buckets.
-    fn bring_stash(&self, twice: &mut Cuckoo<P, NoMirror>)
-        requires stash { HasStash P.placing self.now (4 * self.now.buckets) twice.old }
-        requires room { 4 * self.now.buckets + length self.now.cells + self.now.room ≤ twice.old.room + length twice.old.cells }
-        ensures { IsDoubled P.placing self.now twice.new }
-    {
-        let mut at = self.slots();
+        let alloc = *self.cells.allocator();
+        let slots = self.slots();
+        let mut rows = Vec::with_capacity(alloc, self.cells.len() - slots)?;
+        let mut at = slots;
         'stash: while at < self.cells.len() {
-            self.bring_stashed(at, twice);
+            if let Some(held) = &self.cells[at] {
+                rows.push_reserved((self.index.number(held.id, &held.key), held.same()));
+            }
             at += 1;
         }
+        Ok(rows)
+    }
+
+    /// The rows of the stash in the order in which they came.
+    fn waiting(&self) -> Result<Vec<(u64, Held)>, OutOfMemory>
+        ensures { IfOk result (λ rows. IsWaiting self.now.buckets self.now.cells rows.items) }
+    {
+        let mut rows = self.stash_rows()?;
+        rows.sort_unstable_by_key(|row: &(u64, Held)| -> u64 { row.0 });
+        Ok(rows)
+    }
+
+    /// Brings the rows of the stash into a table of twice as many buckets, in the order in which they came.
+    fn bring_stash(&self, twice: &mut Cuckoo<P, NoMirror>) -> Result<(), OutOfMemory>
+        requires stash { HasStash P.placing self.now (4 * self.now.buckets) twice.old }
+        requires room { 4 * self.now.buckets + length self.now.cells + self.now.room ≤ twice.old.room + length twice.old.cells }
+        ensures { OnOk result (IsDoubled P.placing self.now twice.new) }
+    {
+        let waiting = self.waiting()?;
+        let mut at = 0;
+        'stash: while at < waiting.len() {
+            twice.admit(waiting[at].1.same());
+            at += 1;
+        }
+        Ok(())
     }
 
     /// A table of twice as many buckets with the same rows.
@@ -142,21 +157,15 @@ impl<P: Placer + Drop, M: Mirror> Cuckoo<P, M> {
         requires { self.now.buckets < 65536 }
         ensures { IfOk result (λ twice. IsDoubled P.placing self.now twice) }
     {
-        let capacity = self.cells.capacity();
         let slots = self.slots();
-        if capacity > LONGEST - slots {
+        let stash = self.cells.len() - slots + self.room();
+        if stash > LONGEST - 2 * slots {
             return Err(AllocError);
         }
         let alloc = *self.cells.allocator();
-        let mut twice = Cuckoo::with_capacity(
-            alloc,
-            self.placer,
-            NoMirror,
-            2 * self.buckets,
-            capacity + slots,
-        )?;
+        let mut twice = Cuckoo::with_room(alloc, self.placer, NoMirror, 2 * self.buckets, stash)?;
         self.bring_slots(&mut twice);
-        self.bring_stash(&mut twice);
+        self.bring_stash(&mut twice)?;
         Ok(twice)
     }
 
@@ -185,6 +194,7 @@ impl<P: Placer + Drop, M: Mirror> Cuckoo<P, M> {
                 self.buckets = twice.buckets;
                 self.tags = twice.tags;
                 self.cells = twice.cells;
+                self.index = twice.index;
                 true
             }
             Err(_) => false,

@@ -6,6 +6,7 @@ mod counts;
 pub mod cuckoo;
 mod double;
 pub mod held;
+pub mod index;
 mod lookup;
 pub mod mirror;
 mod path;

@@ -1,12 +1,12 @@
 //! The cell in which a key's row stands.
-ghost use Rattle.std.specs.Prelude.{◌≡◌, ◌+◌, ◌-◌, ◌/◌, ◌<◌, None, Some, MatchOption, length};
+ghost use Rattle.std.specs.Prelude.{◌≡◌, ◌+◌, ◌-◌, ◌*◌, ◌/◌, ◌<◌, None, Some, MatchOption, length};
 ghost use Rattle.std.specs.FinMap as map;
 ghost use Rattle.jc_cuckoo.specs.Cells.{cell, rows_in, IsSought, RowAt};
 
 use crate::cuckoo::Cuckoo;
 use crate::held::Held;
 use crate::mirror::Mirror;
-use crate::scan::{scan, scan_bucket};
+use crate::scan::{is_at, scan_bucket};
 use jc_model::event::CacheId;
 use jc_model::key::Key;
 use jc_place::place::{Placer, alternate};
@@ -26,7 +26,24 @@ impl<P: Placer + Drop, M: Mirror> Cuckoo<P, M> {
         if let Some(at) = scan_bucket(&self.tags, &self.cells, second, place.tag, id, key) {
             return Some(at);
         }
-        scan(&self.cells, self.tags.len(), self.cells.len(), id, key)
+        self.seek_stashed(id, key)
+    }
+
+    /// The cell of the stash in which a key's row stands.
+    fn seek_stashed(&self, id: CacheId, key: &Key) -> Option<usize>
+        ensures { IsSought self.now.cells (4 * self.now.buckets) (length self.now.cells) (id, key.now) result }
+    {
+        if self.cells.len() == self.tags.len() {
+            return None;
+        }
+        let at = self.index.find(id, key)?;
+        if at < self.tags.len() {
+            return None;
+        }
+        match self.cells.get(at) {
+            Some(Some(held)) if is_at(held, id, key) => Some(at),
+            _ => None,
+        }
     }
 
     /// A key's row, and the cell in which it stands.

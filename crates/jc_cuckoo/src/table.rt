@@ -21,6 +21,16 @@ use std::alloc::AllocError;
 /// So many cells and no more: the stash's count is kept in 32 bits.
 pub(crate) const LONGEST: usize = 4_294_967_295;
 
+impl<P: Placer + Drop, M: Mirror> Cuckoo<P, M> {
+    /// How many rows more the stash can take without memory.
+    pub(crate) fn room(&self) -> usize
+        ensures { result ≡ self.now.room }
+    {
+        let cells = self.cells.capacity().min(LONGEST) - self.cells.len();
+        cells.min(self.index.room())
+    }
+}
+
 impl<P: Placer + Drop, M: Mirror> Rows for Cuckoo<P, M> {
     ghost contents = { λ t. rows_in t.cells };
 
@@ -42,13 +52,14 @@ impl<P: Placer + Drop, M: Mirror> Rows for Cuckoo<P, M> {
             return Ok(());
         }
         let more = n - self.held;
+        if more <= self.room() {
+            return Ok(());
+        }
         if more > LONGEST - self.cells.len() {
             return Err(AllocError);
         }
-        if more <= self.cells.capacity() - self.cells.len() {
-            return Ok(());
-        }
-        self.cells.reserve(more)
+        self.cells.reserve(more)?;
+        self.index.reserve(more)
     }
 
     fn find(&self, id: CacheId, key: &Key) -> Option<u32> {

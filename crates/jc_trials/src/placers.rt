@@ -2,6 +2,7 @@
 
 use jc_model::event::CacheId;
 use jc_model::key::Key;
+use jc_place::keyed::KeyedState;
 use jc_place::place::{Place, Placer};
 
 /// All keys have the buckets of 3 and the tag 1.
@@ -13,6 +14,10 @@ impl Placer for ConstantPlacer {
 
     fn place(&self, _id: CacheId, _key: &Key) -> Place {
         Place { first: 3, tag: 1 }
+    }
+
+    fn keyed(&self) -> KeyedState {
+        KeyedState::new(0, 0)
     }
 }
 
@@ -34,5 +39,9 @@ impl Placer for TablePlacer {
             first: self.firsts[at],
             tag: self.tags[at].max(1),
         }
+    }
+
+    fn keyed(&self) -> KeyedState {
+        KeyedState::new(0, 0)
     }
 }

@@ -9,10 +9,10 @@ use Rattle.jc_cuckoo.proofs.cuckoo.Cuckoo.admit.Goals as goal
 pub returns-then-fill_first-clause-needed : goal.returns-then-fill_first-clause-needed
 returns-then-fill_first-clause-needed g c =
     let n : ℕ = c.self.inside.buckets in
-    let below = mod_below c.place-place.result.first n (size_positive n (counts n c.self.invariant.sound.size)) in
+    let below = mod_below c.place-place.result.first n (size_positive n (counts n c.self.invariant.0.sound.size)) in
     let added = rw (← c.self.view_is) at (c.fill_first.ensures.added c.if-fill_first.true) in
     let filled = rw (← c.self.view_is) at (c.fill_first.ensures.filled c.if-fill_first.true) in
-    rw (← c.self.view_is) (λ needs. needs_filled (g.P.Placer.placing c.self.inside.placer) n c.fill_first.new.self.buckets (c.place-place.result.first % n) c.self.inside.cells.items c.fill_first.new.self.cells c.same.result added.buckets below c.self.invariant.sound.wide filled needs)
+    rw (← c.self.view_is) (λ needs. needs_filled (g.P.Placer.placing c.self.inside.placer) n c.fill_first.new.self.buckets (c.place-place.result.first % n) c.self.inside.cells.items c.fill_first.new.self.cells c.same.result added.buckets below c.self.invariant.0.sound.wide filled needs)
 
 pub returns-then-fill_first-2-clause-needed : goal.returns-then-fill_first-2-clause-needed
 returns-then-fill_first-2-clause-needed g c =
@@ -20,7 +20,7 @@ returns-then-fill_first-2-clause-needed g c =
     let same = c.fill_first.ensures.same c.if-fill_first.false in
     let added = rw (← c.self.view_is) at (rw same at (c.fill_first-2.ensures.added c.if-fill_first-2.true)) in
     let filled = rw (← c.self.view_is) at (rw same at (c.fill_first-2.ensures.filled c.if-fill_first-2.true)) in
-    rw (← c.self.view_is) (λ needs. needs_filled (g.P.Placer.placing c.self.inside.placer) n c.fill_first-2.new.self.buckets c.alternate-second.result c.self.inside.cells.items c.fill_first-2.new.self.cells c.same-2.result added.buckets c.alternate-second.ensures.below c.self.invariant.sound.wide filled needs)
+    rw (← c.self.view_is) (λ needs. needs_filled (g.P.Placer.placing c.self.inside.placer) n c.fill_first-2.new.self.buckets c.alternate-second.result c.self.inside.cells.items c.fill_first-2.new.self.cells c.same-2.result added.buckets c.alternate-second.ensures.below c.self.invariant.0.sound.wide filled needs)
 
 pub returns-clause-needed : goal.returns-clause-needed
 returns-clause-needed g c =

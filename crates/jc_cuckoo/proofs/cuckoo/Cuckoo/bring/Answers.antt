@@ -6,14 +6,14 @@ use Rattle.jc_cuckoo.proofs.cuckoo.Cuckoo.bring.Goals as goal
 pub returns-then-first-half-clause-added : goal.returns-then-first-half-clause-added
 returns-then-first-half-clause-added g c =
     let twice : c.self.inside.buckets ≡ 2 * c.args.half = rw (← c.self.view_is) at c.requires.twice in
-    let heir = first_heir (g.P.Placer.placing c.self.inside.placer) c.args.half c.self.inside.buckets c.args.at c.place-place.result (place_of c.args.held) c.self.invariant.sound.size twice c.requires.at c.place-place.ensures.same c.if-first-half.true in
+    let heir = first_heir (g.P.Placer.placing c.self.inside.placer) c.args.half c.self.inside.buckets c.args.at c.place-place.result (place_of c.args.held) c.self.invariant.0.sound.size twice c.requires.at c.place-place.ensures.same c.if-first-half.true in
     let bucket : ℕ = c.place-place.result.first % c.self.inside.buckets in
     surely c.fill_first.result c.fill_first.ensures.added (λ f. never_full c.args.half c.args.at bucket c.args.self.now.cells heir c.requires.blank (c.fill_first.ensures.full f))
 
 pub returns-then-first-half-clause-blank : goal.returns-then-first-half-clause-blank
 returns-then-first-half-clause-blank g c =
     let twice : c.self.inside.buckets ≡ 2 * c.args.half = rw (← c.self.view_is) at c.requires.twice in
-    let heir = first_heir (g.P.Placer.placing c.self.inside.placer) c.args.half c.self.inside.buckets c.args.at c.place-place.result (place_of c.args.held) c.self.invariant.sound.size twice c.requires.at c.place-place.ensures.same c.if-first-half.true in
+    let heir = first_heir (g.P.Placer.placing c.self.inside.placer) c.args.half c.self.inside.buckets c.args.at c.place-place.result (place_of c.args.held) c.self.invariant.0.sound.size twice c.requires.at c.place-place.ensures.same c.if-first-half.true in
     let bucket : ℕ = c.place-place.result.first % c.self.inside.buckets in
     surely c.fill_first.result (λ t. still_blank c.args.half c.args.at bucket c.args.self.now.cells c.fill_first.new.self.cells c.args.held heir c.requires.blank (c.fill_first.ensures.filled t)) (λ f. never_full c.args.half c.args.at bucket c.args.self.now.cells heir c.requires.blank (c.fill_first.ensures.full f))
 

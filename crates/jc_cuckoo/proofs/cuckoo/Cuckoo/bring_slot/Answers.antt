@@ -10,18 +10,18 @@ bring-requires-clause-absent g c =
     let is = rw (← c.self.view_is) at (sym c.row_in.ensures ∙ c.in-Some.is) in
     let has = rw (← c.self.view_is) at c.requires.slots in
     let at = rw (← c.self.view_is) at c.requires.at in
-    brought_absent c.self.inside.cells.items c.args.twice.now.cells c.args.at c.in-Some.held c.self.invariant.sound.once (inside _ _ _ at c.self.invariant.sound.wide) is has.rows
+    brought_absent c.self.inside.cells.items c.args.twice.now.cells c.args.at c.in-Some.held c.self.invariant.0.sound.once (inside _ _ _ at c.self.invariant.0.sound.wide) is has.rows
 
 pub returns-in-Some-clause-slots : goal.returns-in-Some-clause-slots
 returns-in-Some-clause-slots g c =
     let is = rw (← c.self.view_is) at (sym c.row_in.ensures ∙ c.in-Some.is) in
     let has = rw (← c.self.view_is) at c.requires.slots in
     let at = rw (← c.self.view_is) at c.requires.at in
-    rw (← c.self.view_is) (slot_brought _ c.args.at c.args.twice.now c.bring.new.self c.in-Some.held c.self.invariant.sound.once (inside _ _ _ at c.self.invariant.sound.wide) is has c.bring.ensures.added c.bring.ensures.slots c.bring.ensures.blank)
+    rw (← c.self.view_is) (slot_brought _ c.args.at c.args.twice.now c.bring.new.self c.in-Some.held c.self.invariant.0.sound.once (inside _ _ _ at c.self.invariant.0.sound.wide) is has c.bring.ensures.added c.bring.ensures.slots c.bring.ensures.blank)
 
 pub returns-in_default-clause-slots : goal.returns-in_default-clause-slots
 returns-in_default-clause-slots g c =
     let is = rw (← c.self.view_is) at (sym c.row_in.ensures ∙ c.in_default.is) in
     let has = rw (← c.self.view_is) at c.requires.slots in
     let at = rw (← c.self.view_is) at c.requires.at in
-    rw (← c.self.view_is) (slot_passed _ c.args.at c.args.twice.now (inside _ _ _ at c.self.invariant.sound.wide) is has)
+    rw (← c.self.view_is) (slot_passed _ c.args.at c.args.twice.now (inside _ _ _ at c.self.invariant.0.sound.wide) is has)

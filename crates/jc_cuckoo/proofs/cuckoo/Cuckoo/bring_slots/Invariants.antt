@@ -1,11 +1,11 @@
-use Rattle.std.proofs.Common.{◌≡◌, ◌-◌, ◌*◌, ◌≤◌}
+use Rattle.std.proofs.Common.{◌-◌, ◌*◌, ◌≤◌}
 use Rattle.jc_cuckoo.specs.Double.{HasSlots}
 use Rattle.jc_cuckoo.proofs.cuckoo.Cuckoo.bring_slots.Given as goal
 
 abbrev pub invariant-slots : goal.invariant-slots
 invariant-slots g l = record {
   slots : HasSlots l.self l.at l.twice;
-  room : l.twice.room ≡ l.initial.twice.room;
+  room : l.initial.twice.room ≤ l.twice.room;
   last : l.at ≤ 4 * l.self.buckets;
 }
 

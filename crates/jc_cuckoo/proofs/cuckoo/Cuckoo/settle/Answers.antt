@@ -18,7 +18,7 @@ returns-in-Some-clause-settled g c =
     let room = rw (← c.self-in-Some.view_is) at c.displace-gap.ensures.room in
     let buckets = c.fill.ensures.follows.buckets ∙ same.1 in
     let moves = ap (λ (w : Work). w.moves) c.fill.ensures.follows.work in
-    let wide = c.self-in-Some.invariant.sound.wide in
+    let wide = c.self-in-Some.invariant.0.sound.wide in
     let low = c.displace-gap.ensures.slot in
     rw (← c.self.view_is) (λ t. record {
       rows = c.fill.ensures.rows ∙ ap (λ (m : RowMap). map.insert m (place_of c.args.held) (row_of c.args.held)) rows;

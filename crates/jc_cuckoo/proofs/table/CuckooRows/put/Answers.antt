@@ -8,7 +8,7 @@ use Rattle.jc_cuckoo.proofs.table.CuckooRows.put.Goals as goal
 pub returns-then-not-double-clause-stash : goal.returns-then-not-double-clause-stash
 returns-then-not-double-clause-stash g c =
     let s = c.settle.ensures.stays c.if-settle.false in let l = c.double.ensures.refused c.if-not-double.true in let f = c.stow.ensures.follows in
-    inr (resort_stowed (g.P.Placer.placing c.self.inside.placer) (g.P.Placer.placing c.stow.new.self.placer) c.self.inside.buckets c.stow.new.self.buckets c.self.inside.cells.items c.stow.new.self.cells _ (place_of c.same.result) (c.args.id, c.args.key) c.self.invariant.sound.wide s.full
+    inr (resort_stowed (g.P.Placer.placing c.self.inside.placer) (g.P.Placer.placing c.stow.new.self.placer) c.self.inside.buckets c.stow.new.self.buckets c.self.inside.cells.items c.stow.new.self.cells _ (place_of c.same.result) (c.args.id, c.args.key) c.self.invariant.0.sound.wide s.full
     (ap g.P.Placer.placing (f.placer ∙ (l.placer ∙ s.placer))) (f.buckets ∙ (l.buckets ∙ s.buckets)) (c.stow.ensures.cells ∙ ap₂ (λ (a : List (Option Held)) (h : Held). a ++ Some h ∷ []) (l.cells ∙ s.cells) (sym c.same.ensures)) (sym (ap place_of c.same.ensures)))
 
 pub returns-then-settle-clause-images : goal.returns-then-settle-clause-images

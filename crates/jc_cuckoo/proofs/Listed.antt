@@ -1,0 +1,105 @@
+-- What the index of the stash lists, when a row comes, goes or moves.
+use Rattle.std.proofs.Common.{◌≡◌, ◌≢◌, ℕ, ◌*◌, ◌<◌, ◌≤◌, [], ◌∷◌, ◌++◌, length, set, replicate, None, ap, ◌∙◌, inl, inr, arith, Bool, true, false, ◌&&◌, List, ◌-◌, Option, Some, is_some, refl, sym, ap₂}
+use Rattle.std.proofs.lemmas.Bool.{eqb-true}
+use Rattle.std.proofs.lemmas.Slice.Eq.{bytes_eq-Decides}
+use Rattle.std.specs.Prelude.{nat_eq, IsSome, IsOk, OnOk, Result, Ok, Err}
+use Rattle.std.specs.Str.{bytes_eq}
+use Rattle.std.specs.FinMap as map
+use Rattle.std.proofs.lemmas.Bool.Decides.{eqb_tells}
+use Rattle.jc_cuckoo.specs.declared.held.Held.{Held}
+use Rattle.jc_cuckoo.specs.declared.index.StashIndex.{StashIndex}
+use Rattle.jc_cuckoo.specs.Cells.{Dropped, cell, place_of, row_of, rows_in}
+use Rattle.jc_cuckoo.specs.Index.{same_place, stands, IsElsewhereAsBefore, IsIndexed}
+use Rattle.jc_cuckoo.proofs.Cells.{IsOnce, get_some}
+use Rattle.jc_cuckoo.proofs.Empty.{none_there}
+use Rattle.jc_cuckoo.proofs.Sound.{changed_push, changed_set, inside}
+
+both : (a b : Bool) → a && b ≡ true → (a ≡ true) × (b ≡ true)
+both true true h = (refl, refl)
+both true false h = cc
+both false b h = cc
+
+untrue : (b : Bool) → (b ≡ true → ⊥) → b ≡ false
+untrue true h = absurd (h refl)
+untrue false h = refl
+
+pub places_differ : (x y : ℕ × List ℕ) → y ≢ x → same_place x y ≡ false
+places_differ x y other = untrue (same_place x y) (λ same. (let parts = both (nat_eq x.0 y.0) (bytes_eq x.1 y.1) same in other (ap₂ (λ (a : ℕ) (b : List ℕ). (a, b)) (sym (eqb-true x.0 y.0 parts.0)) (sym ((bytes_eq-Decides x.1 y.1).0 parts.1)))))
+
+pub where_ok : {T E P : Type 0} (r : Result T E) → IsOk r → OnOk r P → P
+where_ok (Ok x) is p = p
+where_ok (Err e) is p = cc
+
+-- The index stays right.
+
+-- where nothing is stored
+pub indexed_none : (n : ℕ) (cs : List (Option Held)) (m : StashIndex) → cs ≡ replicate (4 * n) None → IsIndexed n cs m
+indexed_none n cs m empty = record {
+  stashed = λ i h behind is. (let e : Some h ≡ None = sym is ∙ (ap (λ l. cell l i) empty ∙ none_there (4 * n) i) in absurd cc);
+}
+
+-- where a slot changed
+pub indexed_set : {n : ℕ} {cs : List (Option Held)} {m : StashIndex} (i : ℕ) (v : Option Held) → i < 4 * n → i < length cs → IsIndexed n cs m → IsIndexed n (set cs i v) m
+indexed_set {cs = cs} i v low within indexed = record {
+  stashed = λ j h behind is. indexed.stashed j h behind (sym ((changed_set cs i v within).rest j (λ e. omega arith)) ∙ is);
+}
+
+-- where a row of the stash is another one of the same place
+pub indexed_replaced : {n : ℕ} {cs : List (Option Held)} {m : StashIndex} (i : ℕ) (h k : Held) → 4 * n ≤ i → cell cs i ≡ Some k → place_of h ≡ place_of k → IsIndexed n cs m → IsIndexed n (set cs i (Some h)) m
+indexed_replaced {cs = cs} {m = m} i h k behind is same indexed = record {
+  stashed = λ j a after at. elim (eqb_tells j i) [
+    | inl one ↦ (
+        let e : Some a ≡ Some h = sym at ∙ (ap (cell (set cs i (Some h))) one.1 ∙ (changed_set cs i (Some h) (inside cs i k is)).now) in
+        let f : a ≡ h = cc in
+        ap (stands m) (ap place_of f ∙ same) ∙ (indexed.stashed i k behind is ∙ ap (λ (x : ℕ). Some x) (sym one.1)))
+    | inr away ↦ indexed.stashed j a after (sym ((changed_set cs i (Some h) (inside cs i k is)).rest j away.1) ∙ at)
+  ];
+}
+
+-- where a row came to the stash
+pub indexed_pushed : {n : ℕ} {cs : List (Option Held)} {m m' : StashIndex} (h : Held) → IsOnce cs → map.get (rows_in cs) (place_of h) ≡ None → stands m' (place_of h) ≡ Some (length cs) → IsElsewhereAsBefore (place_of h) m m' → IsIndexed n cs m → IsIndexed n (cs ++ Some h ∷ []) m'
+indexed_pushed {cs = cs} {m' = m'} h once absent added others indexed = record {
+  stashed = λ j k behind is. elim (eqb_tells j (length cs)) [
+    | inl one ↦ (
+        let e : Some k ≡ Some h = sym is ∙ (ap (cell (cs ++ Some h ∷ [])) one.1 ∙ (changed_push cs (Some h)).now) in
+        let f : k ≡ h = cc in
+        ap (stands m') (ap place_of f) ∙ (added ∙ ap (λ (x : ℕ). Some x) (sym one.1)))
+    | inr away ↦ (
+        let there : cell cs j ≡ Some k = sym ((changed_push cs (Some h)).rest j away.1) ∙ is in
+        others (place_of k) (λ same. (let e : Some (row_of k) ≡ None = sym (get_some cs j k once there) ∙ (ap (map.get (rows_in cs)) same ∙ absent) in cc)) ∙ indexed.stashed j k behind there)
+  ];
+}
+
+-- where the last row left the stash
+pub indexed_dropped : {n : ℕ} {cs ds : List (Option Held)} {m m' : StashIndex} (i : ℕ) (h : Held) → IsOnce cs → cell cs i ≡ Some h → Dropped cs ds i → IsElsewhereAsBefore (place_of h) m m' → cell ds i ≡ None → IsIndexed n cs m → IsIndexed n ds m'
+indexed_dropped {cs = cs} {ds = ds} i h once is dropped others end indexed = record {
+  stashed = λ j k behind at.
+      let low = inside ds j k at in let shorter = dropped.shorter in
+      let away : j ≢ i = λ e. (let never : Some k ≡ None = sym at ∙ (ap (cell ds) e ∙ end) in cc) in
+      let there : cell cs j ≡ Some k = sym (dropped.rest j away (omega arith)) ∙ at in
+      others (place_of k) (λ same. away (once j i k h there is same)) ∙ indexed.stashed j k behind there;
+}
+
+-- where the last one, another, took its place
+pub indexed_moved : {n : ℕ} {cs ds : List (Option Held)} {m m'' : StashIndex} (m' : StashIndex) (i : ℕ) (h k : Held) → IsOnce cs → cell cs i ≡ Some h → Dropped cs ds i → IsElsewhereAsBefore (place_of h) m m' → cell ds i ≡ Some k → stands m'' (place_of k) ≡ Some i → IsElsewhereAsBefore (place_of k) m' m'' → IsIndexed n cs m → IsIndexed n ds m''
+indexed_moved {cs = cs} {ds = ds} {m'' = m''} m' i h k once is dropped others moved now rest indexed = record {
+  stashed = λ j a behind at. elim (eqb_tells j i) [
+    | inl one ↦ (
+        let e : Some a ≡ Some k = sym at ∙ (ap (cell ds) one.1 ∙ moved) in
+        let f : a ≡ k = cc in
+        ap (stands m'') (ap place_of f) ∙ (now ∙ ap (λ (x : ℕ). Some x) (sym one.1)))
+    | inr away ↦ (
+        let low = inside ds j a at in let under = inside ds i k moved in let shorter = dropped.shorter in
+        let last : cell cs (length cs - 1) ≡ Some k = sym (dropped.moved (omega arith)) ∙ moved in
+        let there : cell cs j ≡ Some a = sym (dropped.rest j away.1 (omega arith)) ∙ at in
+        rest (place_of a) (λ same. (let e : j ≡ length cs - 1 = once j (length cs - 1) a k there last same in omega arith))
+        ∙ (others (place_of a) (λ same. away.1 (once j i a h there is same)) ∙ indexed.stashed j a behind there))
+  ];
+}
+
+-- a row that moved was listed
+pub listed_moved : {n : ℕ} {cs ds : List (Option Held)} {m : StashIndex} (m' : StashIndex) (i : ℕ) (h k : Held) → 4 * n ≤ i → IsOnce cs → cell cs i ≡ Some h → Dropped cs ds i → IsElsewhereAsBefore (place_of h) m m' → cell ds i ≡ Some k → IsIndexed n cs m → IsSome (stands m' (place_of k))
+listed_moved {cs = cs} {ds = ds} m' i h k behind once is dropped others moved indexed =
+    let under = inside ds i k moved in let shorter = dropped.shorter in
+    let last : cell cs (length cs - 1) ≡ Some k = sym (dropped.moved (omega arith)) ∙ moved in
+    ap is_some (others (place_of k) (λ same. (let e : length cs - 1 ≡ i = once (length cs - 1) i k h last is same in omega arith)) ∙ indexed.stashed (length cs - 1) k (omega arith) last)
