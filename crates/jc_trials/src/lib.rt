@@ -24,6 +24,8 @@ mod closing;
 #[cfg(test)]
 mod coming;
 #[cfg(test)]
+mod hostile;
+#[cfg(test)]
 mod limits;
 #[cfg(test)]
 mod lives;
