@@ -11,7 +11,7 @@ use Rattle.jc_model.specs.declared.config.CacheConfig.{CacheConfig}
 use Rattle.jc_model.specs.declared.event.Entry.{Entry}
 use Rattle.jc_model.specs.declared.event.Life.{Life}
 use Rattle.jc_model.specs.State.{first_state}
-use Rattle.jc_model.specs.Runs.{fresh, opened, opened_from, Lives, live_at}
+use Rattle.jc_model.specs.Runs.{opened, opened_from, Lives, live_at}
 use Rattle.jc_model.specs.Legal.{History, IsLegal, Tells, config_of, entries_of, numbered, at_first}
 use Rattle.jc_model.proofs.Histories.{opened_length, opened_so}
 use Rattle.jc_model.proofs.Recording.{nothing_told}
@@ -24,7 +24,7 @@ use Rattle.jc_script.specs.Managing.{lives_of, managed_of, begun_from, managed_f
 use Rattle.jc_script.specs.Named.{AllName}
 use Rattle.jc_script.specs.Script.{lines}
 use Rattle.jc_script.specs.Report.{header, entry_text, lives_text, managed_text, text}
-use Rattle.jc_runner.specs.Alone.{line_of, exchanges, alone_from}
+use Rattle.jc_runner.specs.Alone.{line_of, alone_from}
 use Rattle.jc_runner.specs.Halfway.{lives_now, as_read, NoneOpen, IsAtRest, Goes, Halfway}
 use Rattle.jc_runner.specs.Reports.{Reports, ReportsOf}
 use Rattle.jc_runner.specs.Streams.{IsAll}

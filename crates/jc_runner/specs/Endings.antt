@@ -7,14 +7,14 @@ use Rattle.clap.specs.declared.error.kind.ErrorKind.TheVariants as kinds
 use Rattle.jc_runner.specs.Faults.{fault_line}
 use Rattle.jc_runner.specs.Meters.{next_if}
 use Rattle.jc_runner.specs.declared.ending.Ending.{Ending}
-use Rattle.jc_runner.specs.declared.ending.Ending.TheVariants.{Printed, Faulty, Refused, NotText}
+use Rattle.jc_runner.specs.declared.ending.Ending.TheVariants.{Done, Faulty, Refused, NotText}
 use Rattle.jc_runner.specs.declared.fault.ProgramFault.{ProgramFault}
 use Rattle.jc_runner.specs.declared.fault.ProgramFault.TheVariants.{Run}
 use Rattle.jc_runner.specs.declared.fault.RunFault.TheVariants.{Memory}
 use Rattle.jc_runner.specs.declared.watched.WatchedWriter.{WatchedWriter}
 
 abbrev pub ending_of : {T : Type 0} → Result T ProgramFault → Ending
-ending_of (Ok done) = Printed
+ending_of (Ok done) = Done
 ending_of (Err fault) = Faulty fault
 
 abbrev pub no_memory : Ending
@@ -22,7 +22,7 @@ no_memory = Faulty (Run Memory)
 
 -- help and the version are no mistakes, and a success where they were written
 abbrev pub HasStatus : Ending → Bool → ℕ → Type 0
-HasStatus Printed told status = status ≡ 0
+HasStatus Done told status = status ≡ 0
 HasStatus (Faulty fault) told status = status ≡ 1
 HasStatus (Refused e) told status =
     ((kind_of e ≡ kinds.DisplayHelp) ⊎ (kind_of e ≡ kinds.DisplayVersion) → status ≡ (if told then 0 else 1))
@@ -36,7 +36,7 @@ module _ {E : Type 0} (said : E → Option (List ℕ)) where
 
   -- nothing where there is nothing to say
   abbrev pub SaysSo : Ending → Bool → WatchedWriter E → WatchedWriter E → Type 0
-  SaysSo Printed told old new = (told ≡ true) × (new ≡ old)
+  SaysSo Done told old new = (told ≡ true) × (new ≡ old)
   SaysSo (Faulty fault) told old new = TellsLine (fault_line fault) told old new
   SaysSo (Refused e) told old new =
       ((kind_of e ≡ kinds.DisplayHelp) ⊎ (kind_of e ≡ kinds.DisplayVersion) → new ≡ old) × (kind_of e ≢ kinds.DisplayHelp → kind_of e ≢ kinds.DisplayVersion → new.failures ≡ next_if (not told) old.failures)

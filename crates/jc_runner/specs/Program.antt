@@ -1,6 +1,7 @@
 -- What the program does with its words, its files and its streams.
-use Rattle.std.specs.Prelude.{Bool, true, false, ◌≡◌, ◌≢◌, ◌⊎◌, ℕ, ◌<◌, List, [], ◌∷◌, length, Option, Some, None, IfSome, Result, Ok, Err, string_bytes}
+use Rattle.std.specs.Prelude.{Bool, true, false, ◌≡◌, ◌≢◌, ◌⊎◌, ℕ, ◌<◌, List, [], ◌∷◌, length, Option, Some, None, IfSome, Result, Ok, Err, IsOk, String, string_bytes, ⊤}
 use Rattle.std.specs.Io.KnownBytes.{Appends, Keeps, IsAtEnd}
+use Rattle.std.specs.declared.alloc.Global.{Global}
 use Rattle.clap.specs.Words.{Text, kind_of}
 use Rattle.clap.specs.declared.error.Error.{Error}
 use Rattle.clap.specs.declared.error.kind.ErrorKind.TheVariants.{OutOfMemory}
@@ -10,9 +11,12 @@ use Rattle.jc_config.specs.declared.kinds.HookKinds.{HookKinds}
 use Rattle.jc_hooks.specs.Processors.{verdict_by}
 use Rattle.jc_hooks.specs.Program.{echoed, AllChecked}
 use Rattle.jc_model.specs.Limits.{text_bytes}
+use Rattle.jc_model.specs.declared.config.CacheConfig.{CacheConfig}
 use Rattle.jc_script.specs.declared.line.Line.{Line}
 use Rattle.jc_script.specs.Script.{lines}
 use Rattle.jc_words.specs.Program.{AsksFor, MayRefuse}
+use Rattle.jc_words.specs.declared.asked.Asked.TheVariants as asks
+use Rattle.jc_words.specs.declared.asked.Check.{Check}
 use Rattle.jc_words.specs.declared.run.Run.{Run}
 use Rattle.jc_runner.specs.Demonstration.{demonstration_caches}
 use Rattle.jc_runner.specs.Disks.{IsFound, MayBeMissing, Asks}
@@ -81,6 +85,16 @@ module _ {I O : Type 0} (remaining : I → Option (List ℕ)) (contents : O → 
   RunEnds (Err run.Write) = IfSome (remaining reader.inner) (λ script. Tells serial c script (WritesFront (contents writer.inner) (contents writer'.inner))) × (writer'.failures ≡ next writer.failures)
   RunEnds (Err run.Memory) = Keeps (contents writer.inner) (contents writer'.inner)
 
+-- A script that is read and not run: how that ends.
+module _ {I : Type 0} (remaining : I → Option (List ℕ)) (caches : List CacheConfig) (reader reader' : Watched I) where
+  abbrev pub LinesEnd : Result (Unit {0}) RunFault → Type 0
+  LinesEnd (Ok done) = IfSome (remaining reader.inner) (λ script. IsOk (lines caches script)) × IsAtEnd (remaining reader'.inner)
+  LinesEnd (Err run.Read) = failed_once reader reader'
+  LinesEnd (Err run.TooLong) = IfSome (remaining reader.inner) (λ script. text_bytes < length script)
+  LinesEnd (Err (run.Script fault)) = IfSome (remaining reader.inner) (λ script. lines caches script ≡ Err fault)
+  LinesEnd (Err run.Memory) = ⊤
+  LinesEnd (Err _) = ⊥
+
 -- A configuration that is read from a file.
 module _ {F : Type 0} (remaining : F → Option (List ℕ)) (held : Option (Option (List ℕ))) where
   abbrev pub ConfigRead : F → Watched F → Result Configuration ProgramFault → Type 0
@@ -99,6 +113,11 @@ module _ {F : Type 0} (remaining : F → Option (List ℕ)) (held : Option (Opti
     abbrev pub ScriptEnds : Option (Watched F) → Result (Unit {0}) RunFault → Type 0
     ScriptEnds None result = (((result ≡ Err run.Read) × MayBeMissing held) ⊎ (result ≡ Err run.Memory)) × Keeps (contents writer.inner) (contents writer'.inner)
     ScriptEnds (Some reader) result = (file : F) × IsFound held (remaining file) × AddsAtMost most_reads 0 reader.reads × HasNotFailed run.Read result (unread file) reader × RunEnds remaining contents serial c (unread file) reader writer writer' result
+
+  -- of a script that is not run
+  abbrev pub ScriptRead : List CacheConfig → Option (Watched F) → Result (Unit {0}) RunFault → Type 0
+  ScriptRead caches None result = ((result ≡ Err run.Read) × MayBeMissing held) ⊎ (result ≡ Err run.Memory)
+  ScriptRead caches (Some reader) result = (file : F) × IsFound held (remaining file) × AddsAtMost most_reads 0 reader.reads × HasNotFailed run.Read result (unread file) reader × LinesEnd remaining caches (unread file) reader result
 
 abbrev pub as_program : Result (Unit {0}) RunFault → Result (Unit {0}) ProgramFault
 as_program (Ok done) = Ok done
@@ -119,6 +138,24 @@ module _ {F O : Type 0} (remaining : F → Option (List ℕ)) (contents : O → 
     pub asks : Asks asked before (string_bytes run.config)
     pub reads : ConfigEnds remaining (holds (string_bytes run.config)) config configuration
     pub goes_on : GoesOn before configuration result
+
+-- the files of a check, of which the second may be left out: the same, and nothing is run
+module _ {F : Type 0} (remaining : F → Option (List ℕ)) (holds : List ℕ → Option (Option (List ℕ))) (asked asked' : Option (List (List ℕ))) (check : Check) (config script : Option (Watched F)) where
+  -- a path that is not there is not asked for, and has no fault
+  abbrev pub ReadsAt : Option (List (List ℕ)) → List CacheConfig → Option (String Global) → Result (Unit {0}) RunFault → Type 0
+  ReadsAt before caches None read = (read ≡ Ok tt) × (script ≡ None) × (asked' ≡ before)
+  ReadsAt before caches (Some path) read = Asks before asked' (string_bytes path) × ScriptRead remaining (holds (string_bytes path)) caches script read
+
+  abbrev pub ReadsOn : Option (List (List ℕ)) → Result Configuration ProgramFault → Result (Unit {0}) ProgramFault → Type 0
+  ReadsOn before (Err fault) result = (result ≡ Err fault) × (script ≡ None) × (asked' ≡ before)
+  ReadsOn before (Ok c) result = (read : Result (Unit {0}) RunFault) × (result ≡ as_program read) × ReadsAt before c.settings check.script read
+
+  pub record CheckEnds (result : Result (Unit {0}) ProgramFault) : Type 0 where
+    pub before : Option (List (List ℕ))
+    pub configuration : Result Configuration ProgramFault
+    pub asks : Asks asked before (string_bytes check.config)
+    pub reads : ConfigEnds remaining (holds (string_bytes check.config)) config configuration
+    pub goes_on : ReadsOn before configuration result
 
 -- the demonstration's configuration
 abbrev pub no_kinds : HookKinds
@@ -141,7 +178,8 @@ module _ {F I O : Type 0} (of_file : F → Option (List ℕ)) (of_input : I → 
   module _ (words : List Text) (ending : Ending) where
     pub data WordsEnd : Type 0 where
       plays : words ≡ [] → (ran : Result (Unit {0}) RunFault) → RunEnds of_input contents true demonstration input input' writer writer' ran → AddsAtMost most_reads input.reads input'.reads → HasNotFailed run.Read ran input input' → OpensNone → ending ≡ ending_of (as_program ran) → WordsEnd
-      runs : (run : Run) → AsksFor words run → (ran : Result (Unit {0}) ProgramFault) → FilesEnd of_file contents holds asked asked' run opened'.config opened'.script writer writer' ran → input' ≡ input → ending ≡ ending_of ran → WordsEnd
+      runs : (run : Run) → AsksFor words (asks.Run run) → (ran : Result (Unit {0}) ProgramFault) → FilesEnd of_file contents holds asked asked' run opened'.config opened'.script writer writer' ran → input' ≡ input → ending ≡ ending_of ran → WordsEnd
+      checks : (check : Check) → AsksFor words (asks.Check check) → (ran : Result (Unit {0}) ProgramFault) → CheckEnds of_file holds asked asked' check opened'.config opened'.script ran → input' ≡ input → writer' ≡ writer → ending ≡ ending_of ran → WordsEnd
       refuses : (e : Error) → words ≢ [] → MayRefuse words e → kind_of e ≢ OutOfMemory → ending ≡ Refused e → RunsNone → WordsEnd
       lacks_memory : ending ≡ no_memory → RunsNone → WordsEnd
 

@@ -6,8 +6,8 @@ use clap::Error;
 /// How the program ends.
 #[derive(Drop)]
 pub enum Ending {
-    /// The report was printed.
-    Printed,
+    /// All was done: the report was printed, or the files that were checked are fine.
+    Done,
     /// A fault, whose line is to be told on standard error.
     Faulty(ProgramFault),
     /// Help was asked for, or the words are mistaken.

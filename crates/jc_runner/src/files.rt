@@ -1,10 +1,10 @@
 //! The two files of a run, and playing a script with the callbacks that a configuration names.
-ghost use Rattle.std.specs.Prelude.{◌≡◌, ◌≢◌, ◌<◌, ℕ, true, false, List, IfOk, Err, string_bytes};
-ghost use Rattle.jc_runner.specs.Disks.{Asks};
+ghost use Rattle.std.specs.Prelude.{◌≡◌, ◌≢◌, ◌<◌, ◌⊎◌, ℕ, true, false, List, IfOk, IfErr, Err, string_bytes};
+ghost use Rattle.jc_runner.specs.Disks.{Asks, IsFound, MayBeMissing};
 ghost use Rattle.jc_runner.specs.Meters.{most_reads, AddsAtMost};
 ghost use Rattle.jc_runner.specs.Opens.{Opens};
-ghost use Rattle.jc_runner.specs.Program.{RunEnds, ConfigEnds, ScriptEnds, FilesEnd};
-ghost use Rattle.jc_runner.specs.declared.fault.RunFault.TheVariants.{Read};
+ghost use Rattle.jc_runner.specs.Program.{RunEnds, ConfigEnds, ScriptEnds, FilesEnd, unread};
+ghost use Rattle.jc_runner.specs.declared.fault.RunFault.TheVariants.{Read, Memory};
 
 use crate::configuring::read_configuration;
 use crate::disk::{Disk, OpenFault};
@@ -24,7 +24,7 @@ use std::sync::Wait;
 use std::thread::Threads;
 
 /// Opens a configuration and reads it to its end.
-fn configured<D: Disk>(
+pub(crate) fn configured<D: Disk>(
     alloc: Global,
     disk: &mut D,
     path: &str,
@@ -117,6 +117,20 @@ fn play_so<I: Read, O: Write, R: Threads + Wait + Sync>(
     play_together(rt, alloc, configuration, run, reader, writer)
 }
 
+/// Opens a script.
+pub(crate) fn open_script<D: Disk>(disk: &mut D, path: &str) -> Result<Watched<D::File>, RunFault>
+    ensures unread { IfOk result (λ reader. (reader ≡ unread reader.inner) × IsFound (D.holds disk.old path.now) (D.File.remaining reader.inner)) }
+    ensures unopened { IfErr result (λ fault. ((fault ≡ Read) × MayBeMissing (D.holds disk.old path.now)) ⊎ (fault ≡ Memory)) }
+    ensures asked { Asks (D.asked disk.old) (D.asked disk.new) path.now }
+    ensures same { (other : List ℕ) → D.holds disk.new other ≡ D.holds disk.old other }
+{
+    match disk.open(path) {
+        Ok(file) => Ok(Watched::new(file)),
+        Err(OpenFault::Unreadable) => Err(RunFault::Read),
+        Err(OpenFault::OutOfMemory) => Err(RunFault::Memory),
+    }
+}
+
 /// Opens a script and runs it.
 fn scripted<D: Disk, O: Write, R: Threads + Wait + Sync>(
     rt: &R,
@@ -131,14 +145,10 @@ fn scripted<D: Disk, O: Write, R: Threads + Wait + Sync>(
     requires workers { 0 < run.now.workers }
     ensures ends { ScriptEnds D.File.remaining (D.holds disk.old (string_bytes run.now.script)) O.contents run.now.serial configuration writer.old writer.new script.new result }
     ensures asked { Asks (D.asked disk.old) (D.asked disk.new) (string_bytes run.now.script) }
+    ensures same { (other : List ℕ) → D.holds disk.new other ≡ D.holds disk.old other }
 {
     *script = None;
-    let file = match disk.open(run.script.as_str()) {
-        Ok(file) => file,
-        Err(OpenFault::Unreadable) => return Err(RunFault::Read),
-        Err(OpenFault::OutOfMemory) => return Err(RunFault::Memory),
-    };
-    let mut reader = Watched::new(file);
+    let mut reader = open_script(disk, run.script.as_str())?;
     let ran = play_so(rt, alloc, configuration, run, &mut reader, writer);
     *script = Some(reader);
     ran
@@ -154,7 +164,8 @@ pub fn run_files<D: Disk, O: Write, R: Threads + Wait + Sync>(
     writer: &mut WatchedWriter<O>,
 ) -> Result<(), ProgramFault>
     requires { 0 < run.now.workers }
-    ensures { FilesEnd D.File.remaining O.contents (D.holds disk.old) (D.asked disk.old) (D.asked disk.new) run.now opened.new.config opened.new.script writer.old writer.new result }
+    ensures ends { FilesEnd D.File.remaining O.contents (D.holds disk.old) (D.asked disk.old) (D.asked disk.new) run.now opened.new.config opened.new.script writer.old writer.new result }
+    ensures same { (other : List ℕ) → D.holds disk.new other ≡ D.holds disk.old other }
 {
     opened.script = None;
     let configuration = configured(alloc, disk, run.config.as_str(), &mut opened.config)?;

@@ -3,6 +3,7 @@
 #![tactic(auto)]
 
 mod calls;
+mod checking;
 mod configuring;
 mod disk;
 mod ending;
@@ -23,13 +24,14 @@ mod together;
 mod watched;
 mod writing;
 
+pub use checking::check_files;
 pub use configuring::read_configuration;
 pub use disk::{Disk, HostDisk, OpenFault, words_of};
 pub use ending::{Ended, Ending, WordsFault};
 pub use fault::{ProgramFault, RunFault, write_fault};
 pub use files::run_files;
 pub use hooks::all_suit;
-pub use jc_words::{Run, read_words};
+pub use jc_words::{Asked, Check, Run, read_words};
 pub use laws::{alone_is_one_report, apart_is_alone, serial_is_alone};
 pub use obeying::program;
 pub use presets::demonstration;

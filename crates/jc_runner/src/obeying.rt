@@ -1,10 +1,11 @@
 //! The program over its words, a disk and the standard streams.
-ghost use Rattle.std.specs.Prelude.{◌≡◌, ◌≢◌, ◌↔◌, true, IsTrue, IfOk, IfErr, Ok, Err, map, string_bytes};
+ghost use Rattle.std.specs.Prelude.{◌≡◌, ◌≢◌, ◌↔◌, ℕ, List, true, IsTrue, IfOk, IfErr, Ok, Err, map, string_bytes};
 ghost use Rattle.clap.specs.Words.{kind_of};
 ghost use Rattle.jc_runner.specs.Meters.{most_reads, AddsAtMost};
 ghost use Rattle.jc_runner.specs.Program.{RunEnds, WordsEnd, Obeys, Ends, no_kinds, demonstration as demonstration_read};
 ghost use Rattle.jc_runner.specs.declared.fault.RunFault.TheVariants.{Read};
 
+use crate::checking::check_files;
 use crate::disk::Disk;
 use crate::ending::{Ended, Ending, WordsFault};
 use crate::fault::{ProgramFault, RunFault};
@@ -18,7 +19,7 @@ use clap::error::ErrorKind;
 use jc_config::{Configuration, HookKinds};
 use jc_model::OutOfMemory;
 use jc_model::list::Sequence;
-use jc_words::read_words;
+use jc_words::{Asked, read_words};
 use std::alloc::Global;
 use std::io::{Read, Write};
 use std::sync::Wait;
@@ -89,15 +90,17 @@ fn obey<D: Disk, I: Read, O: Write, R: Threads + Wait + Sync>(
     input: &mut Watched<I>,
     output: &mut WatchedWriter<O>,
 ) -> Ending
-    ensures { WordsEnd D.File.remaining I.remaining O.contents (D.holds disk.old) (D.asked disk.old) (D.asked disk.new) opened.old opened.new input.old input.new output.old output.new (map string_bytes words.now) result }
+    ensures ends { WordsEnd D.File.remaining I.remaining O.contents (D.holds disk.old) (D.asked disk.old) (D.asked disk.new) opened.old opened.new input.old input.new output.old output.new (map string_bytes words.now) result }
+    ensures same { (other : List ℕ) → D.holds disk.new other ≡ D.holds disk.old other }
 {
     let Ok(texts) = texts_of(alloc, words) else {
         return Ending::Faulty(ProgramFault::Run(RunFault::Memory));
     };
     match read_words(alloc, texts.as_slice()) {
-        Ok(Some(run)) => ending_of(run_files(rt, alloc, disk, opened, &run, output)),
+        Ok(Some(Asked::Run(run))) => ending_of(run_files(rt, alloc, disk, opened, &run, output)),
+        Ok(Some(Asked::Check(check))) => ending_of(check_files(alloc, disk, opened, &check)),
         Ok(None) => match demonstrate(alloc, input, output) {
-            Ok(()) => Ending::Printed,
+            Ok(()) => Ending::Done,
             Err(fault) => Ending::Faulty(ProgramFault::Run(fault)),
         },
         Err(error) => {
@@ -121,6 +124,7 @@ fn heed<D: Disk, I: Read, O: Write, R: Threads + Wait + Sync>(
 ) -> Ending
     ensures obeys { IfOk words (λ v. Obeys D.File.remaining I.remaining O.contents (D.holds disk.old) (D.asked disk.old) (D.asked disk.new) opened.old opened.new input.old input.new output.old output.new (Ok (map string_bytes v.items)) result) }
     ensures wordless { IfErr words (λ fault. Obeys D.File.remaining I.remaining O.contents (D.holds disk.old) (D.asked disk.old) (D.asked disk.new) opened.old opened.new input.old input.new output.old output.new (Err fault) result) }
+    ensures same { (other : List ℕ) → D.holds disk.new other ≡ D.holds disk.old other }
 {
     match words {
         Ok(words) => obey(rt, alloc, words.as_slice(), disk, opened, input, output),
@@ -145,6 +149,7 @@ pub fn program<D: Disk, I: Read, O: Write, E: Write, R: Threads + Wait + Sync>(
 ) -> Ended
     ensures ends { IfOk words (λ v. Ends D.File.remaining I.remaining O.contents E.contents (D.holds disk.old) (D.asked disk.old) (D.asked disk.new) opened.old opened.new standard.old standard.new (Ok (map string_bytes v.items)) result) }
     ensures wordless { IfErr words (λ fault. Ends D.File.remaining I.remaining O.contents E.contents (D.holds disk.old) (D.asked disk.old) (D.asked disk.new) opened.old opened.new standard.old standard.new (Err fault) result) }
+    ensures same { (other : List ℕ) → D.holds disk.new other ≡ D.holds disk.old other }
 {
     let input = &mut standard.input;
     let ending = heed(rt, alloc, words, disk, opened, input, &mut standard.output);

@@ -11,12 +11,12 @@ use clap::Error;
 use std::io;
 use std::io::Write;
 
-/// How a run ended: `Printed`, or with its fault.
+/// How a run ended: `Done`, or with its fault.
 pub fn ending_of(ran: Result<(), ProgramFault>) -> Ending
     ensures { result ≡ ending_of ran }
 {
     match ran {
-        Ok(()) => Ending::Printed,
+        Ok(()) => Ending::Done,
         Err(fault) => Ending::Faulty(fault),
     }
 }
@@ -67,7 +67,7 @@ pub fn say<O: Write, E: Write>(
     ensures leaves { Leaves ending.now result.told output.old output.new }
 {
     match ending {
-        Ending::Printed => Ended {
+        Ending::Done => Ended {
             status: 0,
             told: true,
         },

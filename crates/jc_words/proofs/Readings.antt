@@ -1,5 +1,5 @@
 -- What the getters of matches read, in the words of their rows.
-use Rattle.std.proofs.Common.{◌≡◌, ◌≢◌, ◌<◌, ◌^◌, ℕ, Bool, true, false, List, Option, Some, None, Result, Ok, Err, option_map, refl, sym, ap, subst, inl, IfSome, ◌∙◌, codes}
+use Rattle.std.proofs.Common.{◌≡◌, ◌≢◌, ◌<◌, ◌^◌, ℕ, Bool, true, false, List, Option, Some, None, Result, Ok, Err, option_map, refl, sym, ap, ap₂, subst, inl, IfSome, ◌∙◌, codes}
 use Rattle.std.specs.Bool.{MatchBool}
 use Rattle.std.specs.Str.Parse.{ParsesUnsigned}
 use Rattle.clap.specs.Words.{Text, Row, ReadsOne, is_simple}
@@ -7,10 +7,21 @@ use Rattle.clap.specs.Kinds.{HasKind}
 use Rattle.clap.specs.Faults.{fault_of, is_simple_and_free}
 use Rattle.clap.specs.Simple.{App}
 use Rattle.clap.specs.declared.error.Error.{Error}
-use Rattle.jc_words.specs.Program.{IsNumber, truth, Asks, HaveNoRun, IsWithinLimits, options_of, MayRefuse, program}
+use Rattle.jc_words.specs.Program.{IsNumber, truth, AsksBy, AsksForNone, KeepsLimits, MayRefuse, program}
 use Rattle.clap.proofs.OnLiterals.{clap_on_literals}
-use Rattle.jc_words.specs.declared.run.Run.{Run}
+use Rattle.jc_words.specs.declared.asked.Asked.{Asked}
 use Rattle.std.specs.Borrow.{Bor}
+
+same_text : (t u : Text) → Some t ≡ Some u → t ≡ u
+same_text t u e = cc
+
+same_rows : (r s : List Row) → Some r ≡ Some s → r ≡ s
+same_rows r s e = cc
+
+-- the name alone, of a name that is read with its rows
+pub name_read : {B : Type 0} (o : Option B) (f : B → Text) (g : B → List Row) → option_map f o ≡ option_map (λ (p : Text × List Row). p.0) (option_map (λ b. (f b, g b)) o)
+name_read None f g = refl
+name_read (Some b) f g = refl
 
 pub number_read : {E : Type 0} (G : List ℕ → Result ℕ E → Type 0) (k : ℕ) (o : Option Text) (n : ℕ) → ((t : Text) (r : Result ℕ E) → G t r → ParsesUnsigned k 10 t r) → (o ≡ None → Some n ≡ None) → ((t : Text) → o ≡ Some t → ReadsOne G t (Some n)) → IsNumber o n
 number_read G k None n is none value = let h : Some n ≡ None = none refl in cc
@@ -23,9 +34,12 @@ truth_read None b none value = let h : Some b ≡ None = none refl in cc
 truth_read (Some t) true none value = ap (λ (text : Text). Some text) (value t refl)
 truth_read (Some t) false none value = ap (λ (text : Text). Some text) (value t refl)
 
-pub named : (o : Option (Text × List Row)) (rows : List Row) (run : Run) → Some rows ≡ option_map (λ p. p.1) o → Asks rows run → (p : Text × List Row) × (o ≡ Some p) × Asks p.1 run
-named None rows run e asks = cc
-named (Some p) rows run e asks = (p, refl, subst (λ (found : Option (List Row)). IfSome found (λ r. Asks r run)) e asks)
+-- the name and the rows of the subcommand that was met, each read by itself
+pub named : (o : Option (Text × List Row)) (name : Text) (rows : List Row) (a : Asked) → Some name ≡ option_map (λ p. p.0) o → Some rows ≡ option_map (λ p. p.1) o → AsksBy (name, rows) a → (p : Text × List Row) × (o ≡ Some p) × AsksBy p a
+named None name rows a is has asks = cc
+named (Some p) name rows a is has asks =
+    let same : (name, rows) ≡ p = ap₂ (λ (n : Text) (r : List Row). (n, r)) (same_text name p.0 is) (same_rows rows p.1 has) in
+    (p, refl, subst (λ (q : Text × List Row). AsksBy q a) same asks)
 
 pub is_simple_program : is_simple program ≡ true
 unfolding clap_on_literals
@@ -34,8 +48,8 @@ is_simple_program = refl
 pub text_read : (o : Option (Bor (List ℕ))) (v : Bor (List ℕ)) (t : Option Text) (bytes : Text) → option_map (λ s. s.now) o ≡ t → o ≡ Some v → bytes ≡ v.now → t ≡ Some bytes
 text_read o v t bytes e is same = sym e ∙ (ap (λ (x : Option (Bor (List ℕ))). option_map (λ s. s.now) x) is ∙ ap (λ (text : Text). Some text) (sym same))
 
-pub some_asks : (o : Option Run) (rows : List Row) (run : Run) → IfSome o (Asks rows) → o ≡ Some run → Asks rows run
-some_asks o rows run asks is = let Q : Option Run → Type 0 = λ x. IfSome x (Asks rows) in subst Q is asks
+pub some_asks : (o : Option Asked) (p : Text × List Row) (a : Asked) → IfSome o (AsksBy p) → o ≡ Some a → AsksBy p a
+some_asks o p a asks is = let Q : Option Asked → Type 0 = λ x. IfSome x (AsksBy p) in subst Q is asks
 
 is_free_program : is_simple_and_free program ≡ true
 unfolding clap_on_literals
@@ -47,9 +61,6 @@ refused app words e is fails =
     inl (subst Q is (fails (ap is_simple_and_free is ∙ is_free_program)))
 
 -- What is not read was not asked for.
-
-same_text : (t u : Text) → Some t ≡ Some u → t ≡ u
-same_text t u e = cc
 
 pub no_number : {E : Type 0} (G : List ℕ → Result ℕ E → Type 0) (k : ℕ) (o : Option Text) (n : ℕ) → ((t : Text) (r : Result ℕ E) → G t r → ParsesUnsigned k 10 t r) → ((t : Text) → o ≡ Some t → ReadsOne G t None) → n < 2 ^ k → IsNumber o n → ⊥
 no_number G k None n is value below asked = asked
@@ -69,13 +80,18 @@ same_number (Some t) m n x y = sym x.1 ∙ y.1
 pub no_text : (o : Option (Bor (List ℕ))) (t : Option Text) (bytes : Text) → option_map (λ s. s.now) o ≡ t → o ≡ None → t ≡ Some bytes → ⊥
 no_text o t bytes e is asked = cc
 
--- the rows of the subcommand that was met ask for no run, or none was met
-pub no_run : (o : Option (Text × List Row)) (rows : Option (List Row)) (run : Run) → rows ≡ option_map (λ p. p.1) o → IfSome rows HaveNoRun → (p : Text × List Row) × (o ≡ Some p) × Asks p.1 run → IsWithinLimits (options_of run) → ⊥
-no_run None rows run e none asked within = absurd cc
-no_run (Some p) rows run e none asked within =
-    let (q, is, asks) = asked in
-    let here : HaveNoRun p.1 = subst (λ (found : Option (List Row)). IfSome found HaveNoRun) e none in
-    here run (subst (λ (r : Text × List Row). Asks r.1 run) (sym (same_pair p q is)) asks) within
+-- the subcommand that was met asks for nothing
+pub no_asked : (o : Option (Text × List Row)) (name : Text) (rows : List Row) (a : Asked) → Some name ≡ option_map (λ p. p.0) o → Some rows ≡ option_map (λ p. p.1) o → AsksForNone (name, rows) → (p : Text × List Row) × (o ≡ Some p) × AsksBy p a → KeepsLimits a → ⊥
+no_asked None name rows a is has none asked within = absurd cc
+no_asked (Some p) name rows a is has none asked within =
+    let (q, same, asks) = asked in
+    let at_p : p ≡ (name, rows) = ap₂ (λ (n : Text) (r : List Row). (n, r)) (sym (same_text name p.0 is)) (sym (same_rows rows p.1 has)) in
+    none a (subst (λ (r : Text × List Row). AsksBy r a) (sym (same_pair p q same) ∙ at_p) asks) within
   where
     same_pair : (p q : Text × List Row) → Some p ≡ Some q → p ≡ q
     same_pair p q e = cc
+
+-- none was met
+pub none_met : (o : Option (Text × List Row)) (a : Asked) → ◌≡◌ {A = Option (List Row)} None (option_map (λ p. p.1) o) → (p : Text × List Row) × (o ≡ Some p) × AsksBy p a → ⊥
+none_met None a e asked = absurd cc
+none_met (Some p) a e asked = absurd cc

@@ -1,5 +1,5 @@
 -- The program's command, and what words ask of it as `clap` reads them.
-use Rattle.std.specs.Prelude.{◌≡◌, ◌≤◌, ◌<◌, ◌^◌, ◌⊎◌, ℕ, pos, Bool, true, false, List, [], ◌∷◌, Option, Some, None, codes, string_bytes}
+use Rattle.std.specs.Prelude.{◌≡◌, ◌≤◌, ◌<◌, ◌^◌, ◌⊎◌, ℕ, pos, Bool, true, false, List, [], ◌∷◌, Option, Some, None, option_map, codes, string_bytes, ⊤}
 use Rattle.std.specs.Str.Parse.{IsNumeral, without_leading_plus, digits_value}
 use Rattle.clap.specs.Kinds.{HasKind}
 use Rattle.clap.specs.Words.{App, Row, Rule, Text, new_app, new_rule, one_of, first_of, subcommand_of, with_rule, with_subcommand, fault_of}
@@ -7,13 +7,17 @@ use Rattle.clap.specs.declared.builder.ArgAction.TheVariants.{Set, SetTrue}
 use Rattle.clap.specs.declared.builder.value_parser.ValueParser.TheVariants as parsers
 use Rattle.clap.specs.declared.error.Error.{Error}
 use Rattle.clap.specs.declared.error.kind.ErrorKind.TheVariants as kinds
+use Rattle.jc_words.specs.declared.asked.Asked.{Asked}
+use Rattle.jc_words.specs.declared.asked.Asked.TheVariants as asked
+use Rattle.jc_words.specs.declared.asked.Check.{Check}
 use Rattle.jc_words.specs.declared.run.Run.{Run}
 use Rattle.jc_words.specs.declared.run.Options.{Options}
 
--- The arguments of `run`.
+-- The arguments of `run` and `check`.
 
-abbrev pub path_rule : Text → Rule
-path_rule id = record (new_rule id) { required = true; action = Some Set }
+-- a path, and whether it has to be there
+abbrev pub path_rule : Text → Bool → Rule
+path_rule id is_required = record (new_rule id) { required = is_required; action = Some Set }
 
 abbrev pub workers_rule : Rule
 workers_rule = record (new_rule (codes "workers")) { long = Some (codes "workers"); action = Some Set; value_names = 1; parser = Some (parsers.Signed (pos 1) (pos 8)); defaults = codes "1" ∷ [] }
@@ -25,14 +29,17 @@ abbrev pub serial_rule : Rule
 serial_rule = record (new_rule (codes "serial")) { long = Some (codes "serial"); action = Some SetTrue }
 
 abbrev pub run_app : App
-run_app = with_rule (with_rule (with_rule (with_rule (with_rule (new_app (codes "run")) (path_rule (codes "CONFIG"))) (path_rule (codes "SCRIPT"))) workers_rule) seed_rule) serial_rule
+run_app = with_rule (with_rule (with_rule (with_rule (with_rule (new_app (codes "run")) (path_rule (codes "CONFIG") true)) (path_rule (codes "SCRIPT") true)) workers_rule) seed_rule) serial_rule
+
+abbrev pub check_app : App
+check_app = with_rule (with_rule (new_app (codes "check")) (path_rule (codes "CONFIG") true)) (path_rule (codes "SCRIPT") false)
 
 -- the words begin after the program's name, one of them has to be a subcommand, and there is a version to print
 abbrev pub bare_app : App
 bare_app = record (new_app (codes "jcache")) { top = record (new_app (codes "jcache")).top { has_version = true; no_binary_name = true; subcommand_required = true } }
 
 abbrev pub program : App
-program = with_subcommand bare_app run_app.top
+program = with_subcommand (with_subcommand bare_app run_app.top) check_app.top
 
 -- What is asked.
 
@@ -54,29 +61,51 @@ pub record AsksOptions (rows : List Row) (options : Options) : Type 0 where
 abbrev pub options_of : Run → Options
 options_of run = record { workers = run.workers; seed = run.seed; serial = run.serial }
 
--- what rows of matches ask for
+-- the run that rows of matches ask for
 pub record Asks (rows : List Row) (run : Run) : Type 0 where
   pub config : first_of (codes "CONFIG") rows ≡ Some (string_bytes run.config)
   pub script : first_of (codes "SCRIPT") rows ≡ Some (string_bytes run.script)
   pub options : AsksOptions rows (options_of run)
 
--- the words name the subcommand, and its matches ask for the run
-abbrev pub AsksFor : List Text → Run → Type 0
-AsksFor words run = (p : Text × List Row) × (subcommand_of program words ≡ Some p) × Asks p.1 run
+-- the same of a check, which may be of a configuration alone
+pub record AsksCheck (rows : List Row) (check : Check) : Type 0 where
+  pub config : first_of (codes "CONFIG") rows ≡ Some (string_bytes check.config)
+  pub script : first_of (codes "SCRIPT") rows ≡ option_map string_bytes check.script
+
+-- what a subcommand and its matches ask for
+abbrev pub AsksBy : Text × List Row → Asked → Type 0
+AsksBy p (asked.Run run) = (p.0 ≡ codes "run") × Asks p.1 run
+AsksBy p (asked.Check check) = (p.0 ≡ codes "check") × AsksCheck p.1 check
+
+-- the words name the subcommand, and its matches ask for this
+abbrev pub AsksFor : List Text → Asked → Type 0
+AsksFor words a = (p : Text × List Row) × (subcommand_of program words ≡ Some p) × AsksBy p a
 
 abbrev pub IsWithinLimits : Options → Type 0
 IsWithinLimits options = (1 ≤ options.workers) × (options.workers ≤ 8) × (options.seed < 2 ^ 63)
 
--- rows of matches that ask for no options, for no run
+-- a check has no options
+abbrev pub KeepsLimits : Asked → Type 0
+KeepsLimits (asked.Run run) = IsWithinLimits (options_of run)
+KeepsLimits (asked.Check check) = ⊤
+
+-- rows of matches that ask for no options, for no run, for no check
 abbrev pub HaveNoOptions : List Row → Type 0
 HaveNoOptions rows = (options : Options) → AsksOptions rows options → IsWithinLimits options → ⊥
 
 abbrev pub HaveNoRun : List Row → Type 0
 HaveNoRun rows = (run : Run) → Asks rows run → IsWithinLimits (options_of run) → ⊥
 
-abbrev pub AskForNone : List Text → Type 0
-AskForNone words = (run : Run) → AsksFor words run → IsWithinLimits (options_of run) → ⊥
+abbrev pub HaveNoCheck : List Row → Type 0
+HaveNoCheck rows = (check : Check) → AsksCheck rows check → ⊥
 
--- a kind of fault that `clap` has for the words, or want of memory; or that the words ask for no run
+-- a subcommand and its matches, or words, that ask for nothing
+abbrev pub AsksForNone : Text × List Row → Type 0
+AsksForNone p = (a : Asked) → AsksBy p a → KeepsLimits a → ⊥
+
+abbrev pub AskForNone : List Text → Type 0
+AskForNone words = (a : Asked) → AsksFor words a → KeepsLimits a → ⊥
+
+-- a kind of fault that `clap` has for the words, or want of memory; or that the words ask for nothing
 abbrev pub MayRefuse : List Text → Error → Type 0
 MayRefuse words e = HasKind (fault_of program words) e ⊎ (HasKind (kinds.InvalidSubcommand ∷ []) e × AskForNone words)

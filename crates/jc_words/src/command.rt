@@ -1,22 +1,27 @@
 //! The command that `clap` is given.
 
-ghost use Rattle.std.specs.Prelude.{◌≡◌, IfOk, false};
+ghost use Rattle.std.specs.Prelude.{◌≡◌, IfOk, true, false};
 ghost use Rattle.clap.specs.Words.{app_of, new_app, rule_of};
 ghost use Rattle.clap.specs.declared.builder.Command.TheViews.{out-Command};
-ghost use Rattle.jc_words.specs.Program.{path_rule, workers_rule, seed_rule, serial_rule, run_app, bare_app, program as program_app};
+ghost use Rattle.jc_words.specs.Program.{path_rule, workers_rule, seed_rule, serial_rule, run_app, check_app, bare_app, program as program_app};
 
 use crate::help;
 use clap::{Arg, ArgAction, Command, value_parser};
 use std::alloc::{AllocError, Global};
 
+/// A path that has to be there.
 fn path<'a>(alloc: Global, id: &'a str, help: &'a str) -> Arg<'a>
-    ensures rule { rule_of result ≡ path_rule id.entry.now }
+    ensures rule { rule_of result ≡ path_rule id.entry.now true }
     ensures global { result.global ≡ false }
 {
-    Arg::new(alloc, id)
-        .help(help)
-        .required(true)
-        .action(ArgAction::Set)
+    optional_path(alloc, id, help).required(true)
+}
+
+fn optional_path<'a>(alloc: Global, id: &'a str, help: &'a str) -> Arg<'a>
+    ensures rule { rule_of result ≡ path_rule id.entry.now false }
+    ensures global { result.global ≡ false }
+{
+    Arg::new(alloc, id).help(help).action(ArgAction::Set)
 }
 
 fn workers<'a>(alloc: Global) -> Arg<'a>
@@ -77,7 +82,16 @@ fn run<'a>(alloc: Global) -> Result<Command<'a>, AllocError>
         .arg(serial(alloc))
 }
 
-/// The program's command without `run`.
+fn check<'a>(alloc: Global) -> Result<Command<'a>, AllocError>
+    ensures app { IfOk result (λ c. app_of c ≡ check_app) }
+    ensures local { IfOk result (λ c. (out-Command c).has_globals ≡ false) }
+{
+    described(alloc, "check", help::CHECK)
+        .arg(path(alloc, "CONFIG", help::CONFIG))?
+        .arg(optional_path(alloc, "SCRIPT", help::SCRIPT))
+}
+
+/// The program's command without its subcommands.
 fn bare<'a>(alloc: Global) -> Result<Command<'a>, AllocError>
     ensures app { IfOk result (λ c. app_of c ≡ bare_app) }
 {
@@ -93,5 +107,7 @@ fn bare<'a>(alloc: Global) -> Result<Command<'a>, AllocError>
 pub fn program<'a>(alloc: Global) -> Result<Command<'a>, AllocError>
     ensures app { IfOk result (λ c. app_of c ≡ program_app) }
 {
-    bare(alloc)?.subcommand(run(alloc)?)
+    bare(alloc)?
+        .subcommand(run(alloc)?)?
+        .subcommand(check(alloc)?)
 }

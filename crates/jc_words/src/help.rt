@@ -9,9 +9,13 @@ pub const ABOUT: &str = "Runs a script of cache calls and prints what each cache
 /// What `run` does, in a line.
 pub const RUN: &str = "Runs the calls of SCRIPT on the caches of CONFIG";
 
-/// Both ways to start the program.
+/// What `check` does, in a line.
+pub const CHECK: &str = "Reads CONFIG and SCRIPT, runs nothing, and tells the first fault";
+
+/// All ways to start the program.
 pub const USAGE: &str = "\
 jcache run [OPTIONS] <CONFIG> <SCRIPT>
+       jcache check <CONFIG> [SCRIPT]
        jcache < SCRIPT";
 
 /// The first argument, in a line.
@@ -78,7 +82,8 @@ from 0, and arg is its argument. create makes a cache of the name c with a
 table's members, without callbacks; destroy ends the cache c.
 
 Status:
-    0  the report was printed, or help or the version was asked for
+    0  the report was printed, or the files that were checked are fine, or help
+       or the version was asked for
     1  a file is faulty, or reading, writing or memory failed; standard error
        has one line that says which
     2  the command line was refused; standard error says why";

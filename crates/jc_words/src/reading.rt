@@ -1,9 +1,10 @@
 //! The words after the program's name, as `clap` reads them.
 
-ghost use Rattle.std.specs.Prelude.{◌≡◌, ◌≤◌, ◌<◌, ◌^◌, ◌↔◌, [], IfOk, IfErr, IfSome, None, Ok, map, string_bytes};
+ghost use Rattle.std.specs.Prelude.{◌≡◌, ◌≤◌, ◌<◌, ◌^◌, ◌↔◌, [], IfOk, IfErr, IfSome, None, Ok, map, option_map, string_bytes};
 ghost use Rattle.clap.specs.Words.{found_of, rows_of};
-ghost use Rattle.jc_words.specs.Program.{Asks, AsksFor, AsksOptions, HaveNoOptions, HaveNoRun, MayRefuse};
+ghost use Rattle.jc_words.specs.Program.{Asks, AsksBy, AsksCheck, AsksFor, AsksForNone, AsksOptions, HaveNoCheck, HaveNoOptions, HaveNoRun, KeepsLimits, MayRefuse};
 
+use crate::asked::{Asked, Check};
 use crate::command::program;
 use crate::run::{Options, Run};
 use clap::error::ErrorKind;
@@ -33,7 +34,7 @@ fn options(matches: &ArgMatches<'_>) -> Option<Options>
 }
 
 /// What the matches of `run` ask for.
-fn asked(alloc: Global, matches: &ArgMatches<'_>) -> Result<Option<Run>, AllocError>
+fn run_asked(alloc: Global, matches: &ArgMatches<'_>) -> Result<Option<Run>, AllocError>
     ensures asks { IfOk result (λ run. IfSome run (Asks (rows_of (found_of matches.now)))) }
     ensures workers { IfOk result (λ run. IfSome run (λ r. (1 ≤ r.workers) × (r.workers ≤ 8))) }
     ensures seed { IfOk result (λ run. IfSome run (λ r. r.seed < 2 ^ 63)) }
@@ -57,21 +58,65 @@ fn asked(alloc: Global, matches: &ArgMatches<'_>) -> Result<Option<Run>, AllocEr
     }))
 }
 
-/// What the words after the program's name ask for: nothing where there are none, else a run.
+/// A text of its own, where there is a text.
+fn owned(alloc: Global, text: Option<&str>) -> Result<Option<String>, AllocError>
+    ensures { IfOk result (λ o. option_map string_bytes o ≡ option_map (λ t. t.now) text.entry) }
+{
+    match text {
+        Some(text) => Ok(Some(String::from_str(alloc, text)?)),
+        None => Ok(None),
+    }
+}
+
+/// What the matches of `check` ask for.
+fn check_asked(alloc: Global, matches: &ArgMatches<'_>) -> Result<Option<Check>, AllocError>
+    ensures asks { IfOk result (λ check. IfSome check (AsksCheck (rows_of (found_of matches.now)))) }
+    ensures none { IfOk result (λ check. check ≡ None → HaveNoCheck (rows_of (found_of matches.now))) }
+{
+    let Some(config) = matches.get_str("CONFIG") else {
+        return Ok(None);
+    };
+    let script = owned(alloc, matches.get_str("SCRIPT"))?;
+    let config = String::from_str(alloc, config)?;
+    Ok(Some(Check { config, script }))
+}
+
+/// What the matches of a subcommand ask for.
+fn asked(alloc: Global, name: &str, matches: &ArgMatches<'_>) -> Result<Option<Asked>, AllocError>
+    ensures asks { IfOk result (λ asked. IfSome asked (AsksBy (name.now, rows_of (found_of matches.now)))) }
+    ensures limits { IfOk result (λ asked. IfSome asked KeepsLimits) }
+    ensures none { IfOk result (λ asked. asked ≡ None → AsksForNone (name.now, rows_of (found_of matches.now))) }
+{
+    if name == "run" {
+        return match run_asked(alloc, matches)? {
+            Some(run) => Ok(Some(Asked::Run(run))),
+            None => Ok(None),
+        };
+    }
+    if name == "check" {
+        return match check_asked(alloc, matches)? {
+            Some(check) => Ok(Some(Asked::Check(check))),
+            None => Ok(None),
+        };
+    }
+    Ok(None)
+}
+
+/// What the words after the program's name ask for: nothing where there are none, else a run or a check.
 ///
 /// The error's text is for the user; it is the help where that was asked for.
 ///
-/// Words that ask for a run within the limits are refused for a fault of `clap`'s or for want of memory alone.
+/// Words that ask for a check, or for a run within the limits, are refused for a fault of `clap`'s or for want of memory
+/// alone.
 ///
-/// What the clauses do not say: that words which `clap` takes ask for a run, since its contract does not give the rows
-/// of a subcommand for every such words; that want of memory comes only where memory was refused; which of several
-/// mistakes is told, and the texts of mistakes and of help.
-pub fn read_words<'a>(alloc: Global, words: &'a [&'a str]) -> Result<Option<Run>, Error>
-    ensures none { IfOk result (λ run. (run ≡ None) ↔ (words.entry.now ≡ [])) }
+/// What the clauses do not say: that words which `clap` takes ask for a run or a check, since its contract does not give
+/// the rows of a subcommand for every such words; that want of memory comes only where memory was refused; which of
+/// several mistakes is told, and the texts of mistakes and of help.
+pub fn read_words<'a>(alloc: Global, words: &'a [&'a str]) -> Result<Option<Asked>, Error>
+    ensures none { IfOk result (λ asked. (asked ≡ None) ↔ (words.entry.now ≡ [])) }
     ensures wordless { words.entry.now ≡ [] → result ≡ Ok None }
-    ensures exact { IfOk result (λ run. IfSome run (AsksFor (map (λ word. word.now) words.entry.now))) }
-    ensures workers { IfOk result (λ run. IfSome run (λ r. (1 ≤ r.workers) × (r.workers ≤ 8))) }
-    ensures seed { IfOk result (λ run. IfSome run (λ r. r.seed < 2 ^ 63)) }
+    ensures exact { IfOk result (λ asked. IfSome asked (AsksFor (map (λ word. word.now) words.entry.now))) }
+    ensures limits { IfOk result (λ asked. IfSome asked KeepsLimits) }
     ensures refused { IfErr result (MayRefuse (map (λ word. word.now) words.entry.now)) }
 {
     if words.is_empty() {
@@ -79,10 +124,10 @@ pub fn read_words<'a>(alloc: Global, words: &'a [&'a str]) -> Result<Option<Run>
     }
     let mut command = program(alloc)?;
     let matches = command.try_get_matches_from_mut(words)?;
-    if let Some((_, inner)) = matches.subcommand() {
-        if let Some(run) = asked(alloc, inner)? {
-            return Ok(Some(run));
+    if let Some((name, inner)) = matches.subcommand() {
+        if let Some(asked) = asked(alloc, name, inner)? {
+            return Ok(Some(asked));
         }
     }
-    Err(command.error(ErrorKind::InvalidSubcommand, "the words name no run")?)
+    Err(command.error(ErrorKind::InvalidSubcommand, "the words ask for nothing")?)
 }

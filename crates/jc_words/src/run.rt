@@ -1,4 +1,4 @@
-//! What words ask for.
+//! A run that words ask for.
 
 /// One run of the program: two paths, the number of workers, the table's seed, and whether one thread makes all calls.
 #[derive(Drop)]

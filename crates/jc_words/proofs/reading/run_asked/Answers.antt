@@ -2,7 +2,7 @@ use Rattle.std.proofs.Common.{codes, refl, sym, ◌∙◌}
 use Rattle.clap.specs.Words.{found_of, first_value}
 use Rattle.clap.proofs.WalkLemmas.{first_value-rows}
 use Rattle.jc_words.proofs.Readings.{text_read, no_text}
-use Rattle.jc_words.proofs.reading.asked.Goals as goal
+use Rattle.jc_words.proofs.reading.run_asked.Goals as goal
 
 pub returns-clause-asks : goal.returns-clause-asks
 returns-clause-asks c =

@@ -1,0 +1,18 @@
+use Rattle.std.proofs.Common.{codes, sym, ◌∙◌}
+use Rattle.clap.specs.Words.{found_of, first_value}
+use Rattle.clap.proofs.WalkLemmas.{first_value-rows}
+use Rattle.jc_words.proofs.Readings.{text_read, no_text}
+use Rattle.jc_words.proofs.reading.check_asked.Goals as goal
+
+pub returns-clause-asks : goal.returns-clause-asks
+returns-clause-asks c =
+    let found = found_of c.args.matches.now in
+    record {
+      config = sym (first_value-rows found (codes "CONFIG")) ∙ text_read c.get_str.result c.in-Some.config _ _ c.get_str.ensures c.in-Some.is c.in_ok-config.ensures.ok;
+      script = sym (first_value-rows found (codes "SCRIPT")) ∙ sym c.get_str-2.ensures ∙ sym c.in_ok-script.ensures;
+    }
+
+pub returns-in_default-clause-none : goal.returns-in_default-clause-none
+returns-in_default-clause-none c e check asks =
+    let found = found_of c.args.matches.now in
+    no_text c.get_str.result (first_value found (codes "CONFIG")) _ c.get_str.ensures c.in_default.is (first_value-rows found (codes "CONFIG") ∙ asks.config)

@@ -1,0 +1,19 @@
+//! What words ask for.
+
+use crate::run::Run;
+
+/// A check of a configuration and, where its path is there, of a script.
+#[derive(Drop)]
+pub struct Check {
+    pub config: String,
+    pub script: Option<String>,
+}
+
+/// What the program is to do.
+#[derive(Drop)]
+pub enum Asked {
+    /// Run a script.
+    Run(Run),
+    /// Read the files and run nothing.
+    Check(Check),
+}
