@@ -20,6 +20,7 @@ use std::hash::{BuildHasherDefault, DefaultHasher};
 
 /// How many rows the stranger has, and how many the others.
 const HOSTILE: u32 = 20_000;
+
 const INNOCENT: u32 = 500;
 
 const PARTS: usize = 15;
@@ -118,7 +119,10 @@ fn holds<R: Rows>(rows: &R, words: &Words, removed: bool) -> Result<bool, Troubl
             return Ok(false);
         }
     }
-    Ok(rows.find(stranger(), &hostile_key(words, HOSTILE)?).is_none())
+    Ok(
+        rows.find(stranger(), &hostile_key(words, HOSTILE)?)
+            .is_none(),
+    )
 }
 
 /// Whether a table holds the rows of both as each is put, changed, removed and put again; and how many are then in its
