@@ -13,6 +13,7 @@ CALLS = 1000
 IN_SLOTS = 8
 INNOCENT = 2000
 BAD, GOOD, FILL = "bad", "good", "fill"
+REMOVAL, REMOVAL_OF_HOSTILE = "a line with a removal", "a line with a removal of a hostile key"
 CACHES = {BAD: 60_000, GOOD: 5_000}
 
 
@@ -40,6 +41,9 @@ def calls(held, fresh):
     yield "a line with a get that hits, of a hostile key", "get", BAD, held
     yield "a line with a get that misses, of a hostile key", "get", BAD, fresh
     yield "a line with a put of a new hostile key", "put", BAD, fresh
+    yield REMOVAL, "remove", GOOD, good
+    if len(held) >= CALLS:
+        yield REMOVAL_OF_HOSTILE, "remove", BAD, held[-CALLS:]
 
 
 def scripts(held, fresh):
@@ -70,10 +74,11 @@ def unsure(bench):
 
 def lines(bench):
     """A line for each kind of call and number of rows in the stash, beside an empty stash."""
-    sizes = (1_000,) if bench.short else (1_000, 10_000)
+    sizes = (1_000,) if bench.short else (1_000, 30_000)
     keys = hostile_keys(IN_SLOTS + max(sizes) + CALLS)
     fresh = keys[-CALLS:]
     without = costs(bench, keys[:IN_SLOTS], fresh)
+    without[REMOVAL_OF_HOSTILE] = without[REMOVAL]
     for size in sizes:
         for what, cost in costs(bench, keys[: IN_SLOTS + size], fresh).items():
             name = f"{what}, {size:,} rows in the stash"
