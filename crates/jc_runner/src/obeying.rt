@@ -136,7 +136,9 @@ fn heed<D: Disk, I: Read, O: Write, R: Threads + Wait + Sync>(
 /// The program: it does what the words after its name ask for, and says how that ended.
 ///
 /// Without words the script on standard input is run on the demonstration's caches. Faults come in this order: the
-/// words, reading the configuration, its text, reading the script, its text, the run, the writing of the report.
+/// words, reading the configuration, its text, reading the script, its text, the run, the writing of the report. A
+/// check of the files ends before the run, and says nothing where they are fine.
+///
 /// Standard output has the report and nothing else, and nothing at all after a fault, save a prefix of the report
 /// where it could not be written whole; help goes there too. The texts of help and of mistaken words are `clap`'s.
 pub fn program<D: Disk, I: Read, O: Write, E: Write, R: Threads + Wait + Sync>(
