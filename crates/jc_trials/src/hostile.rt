@@ -125,6 +125,13 @@ fn holds<R: Rows>(rows: &R, words: &Words, removed: bool) -> Result<bool, Troubl
     )
 }
 
+/// Changes the expiry of a row, where the cache has one of this key.
+fn renew<R: Rows>(rows: &mut R, id: CacheId, key: &Key) {
+    if rows.find(id, key).is_some() {
+        rows.set_expiry(id, key, Expiry::At(9));
+    }
+}
+
 /// Whether a table holds the rows of both as each is put, changed, removed and put again; and how many are then in its
 /// stash.
 fn table_serves<P: Placer + Drop>(
@@ -142,9 +149,7 @@ fn table_serves<P: Placer + Drop>(
     let all = holds(&table, words, false)?;
     for number in 0..HOSTILE {
         let key = hostile_key(words, number)?;
-        if table.find(stranger(), &key).is_some() {
-            table.set_expiry(stranger(), &key, Expiry::At(9));
-        }
+        renew(&mut table, stranger(), &key);
         if number % 2 == 0 && table.remove(stranger(), &key) != Some(number) {
             return Ok((false, 0));
         }
