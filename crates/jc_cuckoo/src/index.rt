@@ -1,6 +1,6 @@
 //! Where each row of the stash stands, found by a hash that keys can't be chosen for.
-ghost use Rattle.std.specs.Prelude.{◌≡◌, ◌≢◌, ◌+◌, ◌≤◌, ◌<◌, ℕ, List, Some, IsOk, IfOk, OnOk, IsSome};
-ghost use Rattle.jc_cuckoo.specs.Index.{IsAsBefore, IsElsewhereAsBefore, free, stands};
+ghost use Rattle.std.specs.Prelude.{◌≡◌, ◌≢◌, ◌+◌, ◌≤◌, ◌<◌, ℕ, List, Some, None, IsOk, IfOk, OnOk, IsSome};
+ghost use Rattle.jc_cuckoo.specs.Index.{IsAsBefore, IsElsewhereAsBefore, IsOfNone, free, stands};
 
 use jc_model::OutOfMemory;
 use jc_model::event::CacheId;
@@ -26,6 +26,7 @@ pub struct StashIndex {
 impl StashIndex {
     /// An index of no row, with room for so many.
     pub fn new(alloc: Global, keyed: KeyedState, rows: usize) -> Result<StashIndex, OutOfMemory>
+        ensures none { IfOk result IsOfNone }
         ensures room { IfOk result (λ index. rows ≤ free index) }
     {
         let arrivals = HashMap::with_capacity_and_hasher(alloc, rows, keyed)?;
@@ -81,6 +82,7 @@ impl StashIndex {
 
     /// Forgets a row that left the stash.
     pub fn remove(&mut self, id: CacheId, key: &Key)
+        ensures gone { stands self.new (id, key.now) ≡ None }
         ensures others { IsElsewhereAsBefore (id, key.now) self.old self.new }
         ensures kept { free self.old ≤ free self.new }
     {
