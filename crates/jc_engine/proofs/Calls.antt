@@ -58,3 +58,10 @@ never_told c k Idle a s is there allowed told = cc
 never_told c k (Telling r) a s is there allowed told = cc
 never_told c k (Waiting t) a s is there allowed told =
     not_told c (progress_of k t.notices) t a there (first_of (fits t.awaits a) (shown (run_of c (progress_of k t.notices) t.wait a)) WrongAnswer allowed) told
+
+-- a call that is allowed to begin finds none open
+pub idle_before : (c : CacheConfig) (k : Kept) (turn : Turn) (now : ℕ) (call : Call)
+    → is_step (reply_of c (standing_by c (progress_of k (notices_in turn)) (turn_in turn)) (begins now call)) ≡ true → turn ≡ Idle
+idle_before c k Idle now call allowed = refl
+idle_before c k (Waiting s) now call allowed = absurd cc
+idle_before c k (Telling r) now call allowed = absurd cc

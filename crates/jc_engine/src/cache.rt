@@ -10,6 +10,7 @@ ghost use Rattle.jc_state.specs.Tied.{SameElsewhere};
 ghost use Rattle.jc_bulk.specs.Moved.{ComesTo};
 ghost use Rattle.jc_engine.specs.Caches.{status_of};
 ghost use Rattle.jc_engine.specs.Sound.{IsAt};
+ghost use Rattle.jc_engine.specs.declared.cache.Turn.TheVariants.{Idle};
 ghost use Rattle.jc_engine.specs.Managed.{cache_in, turn_in, step_of, is_step, IsManaged, Moves, Settled, Abandons};
 
 use jc_bulk::call::{Moved, answer_call, start_call};
@@ -63,24 +64,6 @@ pub(crate) struct Managed<G: Ring> {
     pub(crate) turn: Turn,
 }
 
-/// How the cache goes on from what its call has come to. All notices are told before the reply.
-fn settle(moved: Moved) -> (Turn, Advance)
-    ensures { (c : CacheConfig) (run : Run) (k : Kept) → ComesTo c run moved k → Settled c run k result.0 result.1 }
-{
-    match moved {
-        Moved::Waiting(request, suspended) => {
-            (Turn::Waiting(suspended), Advance::Asked(request))
-        }
-        Moved::Ended(reply, notices) => {
-            if notices.is_empty() {
-                (Turn::Idle, Advance::Replied(reply))
-            } else {
-                (Turn::Telling(reply), Advance::Told(notices))
-            }
-        }
-    }
-}
-
 impl<G: Ring> Managed<G> {
     /// Whether a call is open.
     pub(crate) fn is_open(&self) -> bool
@@ -128,6 +111,27 @@ impl<G: Ring> Managed<G> {
         drop(mem::replace(&mut self.turn, turn));
     }
 
+    /// Goes on from what its call has come to. All notices are told before the reply.
+    fn settle(&mut self, moved: Moved) -> Advance
+        requires idle { self.old.turn ≡ Idle }
+        ensures state { self.new.state ≡ self.old.state }
+        ensures settled { (c : CacheConfig) (run : Run) (k : Kept) → ComesTo c run moved k → Settled c run k self.new.turn result }
+    {
+        match moved {
+            Moved::Ended(reply, notices) => {
+                if notices.is_empty() {
+                    return Advance::Replied(reply);
+                }
+                self.stand_at(Turn::Telling(reply));
+                Advance::Told(notices)
+            }
+            Moved::Waiting(request, suspended) => {
+                self.stand_at(Turn::Waiting(suspended));
+                Advance::Asked(request)
+            }
+        }
+    }
+
     /// Begins a call. Only memory can refuse it, before any change.
     pub(crate) fn start<R: Rows>(
         &mut self,
@@ -147,9 +151,7 @@ impl<G: Ring> Managed<G> {
         ensures table { OnErr result (R.contents rows.new ≡ R.contents rows.old) }
     {
         let moved = start_call(alloc, &mut self.state, rows, now, call)?;
-        let (turn, advance) = settle(moved);
-        self.stand_at(turn);
-        Ok(advance)
+        Ok(self.settle(moved))
     }
 
     /// Goes on with the open call. Only memory can refuse it, before any change.
@@ -170,11 +172,7 @@ impl<G: Ring> Managed<G> {
             Turn::Telling(reply) => Ok(Advance::Replied(reply)),
             Turn::Waiting(suspended) => {
                 match answer_call(&mut self.state, rows, suspended, answer) {
-                    Ok(moved) => {
-                        let (turn, advance) = settle(moved);
-                        self.stand_at(turn);
-                        Ok(advance)
-                    }
+                    Ok(moved) => Ok(self.settle(moved)),
                     Err((suspended, answer)) => {
                         self.stand_at(Turn::Waiting(suspended));
                         Err(answer)

@@ -1,5 +1,5 @@
 //! The manager: many caches over one table of rows, each with at most one open call.
-ghost use Rattle.std.specs.Prelude.{◌≡◌, ℕ, List, true, false, IfErr, OnErr, option_map};
+ghost use Rattle.std.specs.Prelude.{◌≡◌, ℕ, List, true, false, IfErr, OnErr, is_some, option_map};
 ghost use Rattle.std.specs.FinMap as table;
 ghost use Rattle.jc_model.specs.declared.event.Event.TheVariants.{Begin, Answer as Answered, GiveUp};
 ghost use Rattle.jc_model.specs.Runs.{answer_to, lives_after, for_memory};
@@ -55,6 +55,17 @@ impl<R: Rows, G: Ring> Engine<R, G> {
         match self.roster.find(name) {
             Some(number) => Some(CacheId::new(number)),
             None => None,
+        }
+    }
+
+    /// Whether a live cache has this id.
+    pub fn is_live(&self, id: CacheId) -> bool
+        ensures { result ≡ is_some (at_place self.now id) }
+    {
+        let number = id.number();
+        match self.caches.get(&number) {
+            Some(_) => true,
+            None => false,
         }
     }
 

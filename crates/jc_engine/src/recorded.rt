@@ -106,6 +106,13 @@ impl<R: Rows, G: Ring> Recorded<R, G> {
         self.engine.cache(name)
     }
 
+    /// Whether a live cache has this id.
+    pub fn is_live(&self, id: CacheId) -> bool
+        ensures { result ≡ is_some (at_place self.now.caches id) }
+    {
+        self.engine.is_live(id)
+    }
+
     /// The names of the live caches, in order of id.
     pub fn names(&self) -> &[Key]
         ensures { result.now ≡ names_of self.now.caches }
