@@ -1,5 +1,5 @@
 -- A call from its begin to its entry in the session's list.
-use Rattle.std.proofs.Common.{◌≡◌, ℕ, Bool, List, [], ◌∷◌, ◌++◌, true, false, Option, Result, Ok, Err, inl, inr, refl, sym, ◌∙◌, ap, subst}
+use Rattle.std.proofs.Common.{◌≡◌, ◌⊎◌, ℕ, Bool, List, [], ◌∷◌, ◌++◌, true, false, Option, Result, Ok, Err, inl, inr, refl, sym, ◌∙◌, ap, subst}
 use Rattle.std.specs.Prelude.{slice_get, is_err, OnErr, MatchResult, IfOk, IfErr}
 use Rattle.std.proofs.lemmas.List.Elements.{All-nil, All-push}
 use Rattle.jc_model.specs.declared.call.Answer.{Answer}
@@ -157,3 +157,10 @@ not_accepted false fault is = refl
 
 pub unaccepted_fails : (configs : List CacheConfig) (stated : List Stated) (old new : Sitting) (id at : ℕ) (call : Call) (fault : CallFault) → fault ≡ faults.NoSuchProcessor → new ≡ old → MayLack configs id call → Fails configs stated old new id at call fault
 unaccepted_fails configs stated old new id at call fault is same lacks = subst (λ (f : CallFault). Fails configs stated old new id at call f) (sym is) (same, lacks)
+
+-- and so of one whose cache is not there
+pub told_or_gone : (configs : List CacheConfig) (stated : List Stated) (old new : Sitting) (id at : ℕ) (call : Call) (fault told : CallFault) → new ≡ old → (told ≡ fault) ⊎ (told ≡ faults.NoSuchCache) → Fails configs stated old new id at call fault → Fails configs stated old new id at call told
+told_or_gone configs stated old new id at call fault told same which fails = elim which [
+  | inl is ↦ subst (λ (f : CallFault). Fails configs stated old new id at call f) (sym is) fails
+  | inr is ↦ subst (λ (f : CallFault). Fails configs stated old new id at call f) (sym is) same
+]

@@ -1,24 +1,5 @@
--- Which caches have a hooks lock, after one more.
-use Rattle.std.proofs.Common.{◌≡◌, ℕ, ◌+◌, Bool, true, false, cond, List, [], ◌∷◌, ◌++◌, length, length-append, map, Option, Some, refl, sym, ◌∙◌, ap, arith}
-use Rattle.std.specs.Prelude.{ltb, nat_eq, is_some}
-use Rattle.std.proofs.lemmas.List.{length-map}
-use Rattle.std.specs.HashMap.{HashMap, get}
-use Rattle.std.proofs.lemmas.Bool.Decides.{nat_tests}
-use Rattle.jc_shared.specs.Entering.{Enters}
-
-some_of : {X : Type 0} (b : Bool) (lock : X) (o : Option X) → is_some (cond b (Some lock) o) ≡ cond b true (is_some o)
-some_of true lock o = refl
-some_of false lock o = refl
-
-below_next : (n q : ℕ) → cond (nat_eq n q) true (ltb q n) ≡ ltb q (n + 1)
-below_next n q = grind (arith, nat_tests)
-
-pub none_below : (q : ℕ) → false ≡ ltb q 0
-none_below q = grind (arith, nat_tests)
-
-entered_below : {X S : Type 0} (old new : HashMap ℕ X S) (n : ℕ) → Enters old new n → ((q : ℕ) → is_some (get nat_eq old q) ≡ ltb q n) → (q : ℕ) → is_some (get nat_eq new q) ≡ ltb q (n + 1)
-entered_below old new n entered below q =
-    ap is_some (entered.entered.0 q) ∙ some_of (nat_eq n q) entered.lock (get nat_eq old q) ∙ ap (cond (nat_eq n q) true) (below q) ∙ below_next n q
+-- The callbacks of the opening apart, after one more cache.
+use Rattle.std.proofs.Common.{◌≡◌, List, [], ◌∷◌, ◌++◌, map, refl, sym, ◌∙◌, ap}
 
 -- all that a list yields
 pub map_same : {A : Type 0} (xs : List A) → map (λ y. y) xs ≡ xs
@@ -33,8 +14,6 @@ module _ {A B : Type 0} (f : A → B) where
   pub shared_more : (xs : List A) (y : A) (ys zs : List B) (b : B) → zs ≡ ys ++ b ∷ [] → ys ≡ map f xs → b ≡ f y → zs ≡ map f (xs ++ y ∷ [])
   shared_more xs y ys zs b push same is = push ∙ ((λ i. same i ++ is i ∷ []) ∙ sym (map_more xs y))
 
-  pub entered_more : {X S : Type 0} (xs : List A) (y : A) (ys : List B) (old new : HashMap ℕ X S) (n : ℕ) → Enters old new n → n ≡ length ys → ys ≡ map f xs → ((q : ℕ) → is_some (get nat_eq old q) ≡ ltb q (length xs)) → (q : ℕ) → is_some (get nat_eq new q) ≡ ltb q (length (xs ++ y ∷ []))
-  entered_more xs y ys old new n entered is same below q =
-      let count : n ≡ length xs = is ∙ (ap length same ∙ length-map xs f) in
-      let grown : length (xs ++ y ∷ []) ≡ length xs + 1 = length-append xs (y ∷ []) in
-      entered_below old new n entered (λ p. below p ∙ ap (ltb p) (sym count)) q ∙ (ap (λ (m : ℕ). ltb q (m + 1)) count ∙ ap (ltb q) (sym grown))
+-- what is told of each thing is what is told of each cache
+pub told_more : {A B C : Type 0} (f : A → C) (g : B → C) (xs : List A) (y : A) (ys zs : List B) (b : B) → zs ≡ ys ++ b ∷ [] → map g ys ≡ map f xs → g b ≡ f y → map g zs ≡ map f (xs ++ y ∷ [])
+told_more f g xs y ys zs b push same is = ap (map g) push ∙ (map_more g ys b ∙ shared_more f xs y (map g ys) (map g ys ++ g b ∷ []) (g b) refl same is)

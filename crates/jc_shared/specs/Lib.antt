@@ -8,4 +8,3 @@ pub mod Living
 pub mod Finding
 pub mod Admitting
 pub mod Serving
-pub mod Entering

@@ -1,5 +1,5 @@
 -- What the callbacks that all sessions share state, and answers that they stated.
-use Rattle.std.specs.Prelude.{◌≡◌, ℕ, List, length, map, option_map, slice_get, Option, Some, None, Result, ⊤}
+use Rattle.std.specs.Prelude.{◌≡◌, ◌==◌, ◌||◌, not, ℕ, Bool, List, length, map, option_map, is_some, slice_get, Option, Some, None, Result, ⊤}
 use Rattle.std.specs.List.{All}
 use Rattle.jc_model.specs.declared.call.Answer.{Answer}
 use Rattle.jc_model.specs.declared.call.Answer.TheVariants.{Loaded as LoadedValue, LoadFailed, Processed}
@@ -40,6 +40,10 @@ shared_of h = record { loader = h.loader; processors = h.processors }
 
 abbrev pub locked_of : {L W P K : Type 0} → CacheHooks L W P K → LockedHooks W K
 locked_of h = record { writer = h.writer; listeners = h.listeners }
+
+-- whether a cache has any callbacks
+abbrev pub wants_lock : {L W P K : Type 0} → CacheHooks L W P K → Bool
+wants_lock h = is_some h.loader || (is_some h.writer || (not (length h.processors.items == 0) || not (length h.listeners.items == 0)))
 
 -- where there is a loader, it answers so for a key of the call
 abbrev pub LoadsBy : Option (List ℕ → Loaded) → Call → Answer → Type 0

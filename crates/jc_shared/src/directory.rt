@@ -1,7 +1,6 @@
-//! The hooks locks of the live caches, by id.
+//! The hooks locks of the live caches that sessions have created, by id.
 ghost use Rattle.std.specs.Prelude.{◌≡◌, ◌≤◌, ℕ, None, Some, IsSome, OnOk, IfErr, nat_eq};
 ghost use Rattle.std.specs.HashMap.{get, spare, Updates};
-ghost use Rattle.jc_shared.specs.Entering.{Enters};
 ghost use Rattle.jc_shared.specs.Finding.{unfound_at};
 
 use crate::fault::Unfound;
@@ -15,7 +14,7 @@ use std::sync::{Arc, Mutex};
 /// The hooks lock of one cache, shared by the directory and by the calls on the cache.
 pub(crate) type HooksLock<L, W, P, K> = Arc<Mutex<OwnHooks<L, W, P, K>>>;
 
-/// The hooks locks of all live caches.
+/// The hooks locks of all live caches that sessions have created.
 #[derive(Drop)]
 pub(crate) struct Directory<L, W, P, K> {
     locks: HashMap<u32, HooksLock<L, W, P, K>>,
@@ -64,20 +63,6 @@ impl<L: Drop, W: Drop, P: Drop, K: Drop> Directory<L, W, P, K> {
         if self.locks.insert(number, lock).is_err() {
             unreachable!()
         }
-    }
-
-    /// Adds the callbacks of a cache.
-    pub(crate) fn add(
-        &mut self,
-        alloc: Global,
-        id: CacheId,
-        own: OwnHooks<L, W, P, K>,
-    ) -> Result<(), OutOfMemory>
-        ensures { OnOk result (Enters self.old.locks self.new.locks id) }
-    {
-        let lock = Arc::new(alloc, Mutex::new(own))?;
-        self.locks.insert(id.number(), lock)?;
-        Ok(())
     }
 
     /// Takes a cache's hooks lock out.

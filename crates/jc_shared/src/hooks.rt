@@ -1,21 +1,19 @@
 //! A cache's callbacks, apart by who uses them: loader and processors are asked by all sessions side by side, writer
 //! and listeners by the one call that holds the cache's hooks lock.
-ghost use Rattle.std.specs.Prelude.{◌≡◌, ℕ, [], None, false, length, ltb, map, is_some, nat_eq, IsSome, IfOk, IfErr, OnErr};
-ghost use Rattle.std.specs.HashMap.{get};
+ghost use Rattle.std.specs.Prelude.{◌≡◌, [], None, false, length, map, is_some, IsSome, IfOk, IfErr, OnErr};
 ghost use Rattle.jc_model.specs.declared.config.CacheConfig.{CacheConfig as Configured};
 ghost use Rattle.jc_model.specs.Asking.{invoked_by};
 ghost use Rattle.jc_model.specs.Runs.{has_processor};
 ghost use Rattle.jc_shared.specs.Finding.{accepted};
-ghost use Rattle.jc_shared.specs.Stated.{shared_of, locked_of};
+ghost use Rattle.jc_shared.specs.Stated.{shared_of, locked_of, wants_lock};
 
-use crate::directory::Directory;
 use crate::fault::CallFault;
 use jc_hooks::{CacheHooks, Hearer, Loader, Processor, Writer};
 use jc_model::OutOfMemory;
 use jc_model::call::Call;
 use jc_model::config::CacheConfig;
-use jc_model::event::CacheId;
-use std::alloc::{AllocError, Global};
+use std::alloc::Global;
+use std::sync::Mutex;
 
 /// The loader and the processors of one cache.
 #[derive(Drop)]
@@ -31,19 +29,22 @@ pub(crate) struct LockedHooks<W, K> {
     pub(crate) listeners: Vec<K>,
 }
 
-/// What lies under a cache's hooks lock. Loader and processors of a cache of the opening stand beside all locks, and
-/// here it has none.
+/// What lies under the hooks lock of a cache that a session has created: all its callbacks.
 #[derive(Drop)]
 pub(crate) struct OwnHooks<L, W, P, K> {
     pub(crate) asked: SharedHooks<L, P>,
     pub(crate) locked: LockedHooks<W, K>,
 }
 
-/// All callbacks of the opening: loaders and processors by cache, and what goes under the hooks locks.
+/// The hooks lock of a cache of the opening: a cache without callbacks has none, since none of its calls makes a
+/// request.
+pub(crate) type OpeningLock<W, K> = Option<Mutex<LockedHooks<W, K>>>;
+
+/// All callbacks of the opening, by cache: loaders and processors, and what goes under the hooks locks.
 #[derive(Drop)]
 pub(crate) struct AllHooks<L, W, P, K> {
     pub(crate) shared: Vec<SharedHooks<L, P>>,
-    pub(crate) directory: Directory<L, W, P, K>,
+    pub(crate) locks: Vec<OpeningLock<W, K>>,
 }
 
 impl<L, P> SharedHooks<L, P> {
@@ -83,25 +84,22 @@ impl<L, P> SharedHooks<L, P> {
     }
 }
 
+impl<W, K> LockedHooks<W, K> {
+    pub(crate) fn none(alloc: Global) -> LockedHooks<W, K>
+        ensures { (result.writer ≡ None) × (result.listeners.items ≡ []) }
+    {
+        LockedHooks {
+            writer: None,
+            listeners: Vec::new(alloc),
+        }
+    }
+}
+
 impl<L, W, P, K> OwnHooks<L, W, P, K> {
     pub(crate) fn none(alloc: Global) -> OwnHooks<L, W, P, K> {
         OwnHooks {
             asked: SharedHooks::none(alloc),
-            locked: LockedHooks {
-                writer: None,
-                listeners: Vec::new(alloc),
-            },
-        }
-    }
-
-    /// Writer and listeners of a cache whose loader and processors stand beside all locks.
-    pub(crate) fn beside(alloc: Global, locked: LockedHooks<W, K>) -> OwnHooks<L, W, P, K>
-        ensures locked { result.locked ≡ locked }
-        ensures asked { (result.asked.loader ≡ None) × (result.asked.processors.items ≡ []) }
-    {
-        OwnHooks {
-            asked: SharedHooks::none(alloc),
-            locked,
+            locked: LockedHooks::none(alloc),
         }
     }
 
@@ -130,24 +128,42 @@ fn parted<L, W, P, K>(hooks: CacheHooks<L, W, P, K>) -> (SharedHooks<L, P>, Lock
     (asked, locked)
 }
 
-/// The callbacks apart, in the order of the caches.
+/// Whether a cache has any callbacks.
+fn wants_lock<L, W, P, K>(hooks: &CacheHooks<L, W, P, K>) -> bool
+    ensures { result ≡ wants_lock hooks.now }
+{
+    hooks.loader.is_some()
+        || hooks.writer.is_some()
+        || !hooks.processors.is_empty()
+        || !hooks.listeners.is_empty()
+}
+
+/// A lock over writer and listeners, where one is wanted.
+fn lock_over<W: Drop, K: Drop>(wanted: bool, locked: LockedHooks<W, K>) -> OpeningLock<W, K>
+    ensures { is_some result ≡ wanted }
+{
+    if wanted {
+        Some(Mutex::new(locked))
+    } else {
+        None
+    }
+}
+
+/// The callbacks apart, in the order of the caches. Exactly the caches that have any have a lock.
 pub(crate) fn apart<L: Loader, W: Writer, P: Processor, K: Hearer>(
     alloc: Global,
     hooks: Vec<CacheHooks<L, W, P, K>>,
 ) -> Result<AllHooks<L, W, P, K>, OutOfMemory>
     ensures shared { IfOk result (λ all. all.shared.items ≡ map shared_of hooks.items) }
-    ensures locks { IfOk result (λ all. (id : ℕ) → is_some (get nat_eq all.directory.locks id) ≡ ltb id (length hooks.items)) }
+    ensures locks { IfOk result (λ all. map is_some all.locks.items ≡ map wants_lock hooks.items) }
 {
     let mut shared = Vec::with_capacity(alloc, hooks.len())?;
-    let mut directory = Directory::new(alloc);
+    let mut locks = Vec::with_capacity(alloc, hooks.len())?;
     for own in hooks {
+        let wanted = wants_lock(&own);
         let (asked, locked) = parted(own);
-        let Ok(number) = u32::try_from(shared.len()) else {
-            return Err(AllocError);
-        };
-        let id = CacheId::new(number);
-        directory.add(alloc, id, OwnHooks::beside(alloc, locked))?;
         shared.push(asked)?;
+        locks.push(lock_over(wanted, locked))?;
     }
-    Ok(AllHooks { shared, directory })
+    Ok(AllHooks { shared, locks })
 }

@@ -1,11 +1,12 @@
 //! What lies under the manager's lock: the recorded engine, and which sessions there are. Each tenure begins a call,
 //! brings it on or gives it up, or creates or destroys a cache, and no callback runs in it.
-ghost use Rattle.std.specs.Prelude.{◌≡◌, ◌≢◌, ◌⊎◌, Bool, true, false, Ok, None, [], IsTrue, IfOk, IfErr, IfSome, OnOk, OnErr, Err, Some, map, option_map, slice_get};
+ghost use Rattle.std.specs.Prelude.{◌≡◌, ◌≢◌, ◌⊎◌, Bool, true, false, Ok, None, [], IsTrue, IfOk, IfErr, IfSome, OnOk, OnErr, Err, Some, is_some, map, option_map, slice_get};
 ghost use mathlib.Core.List.{IsPrefix};
 ghost use Rattle.jc_model.specs.declared.event.End.TheVariants.{Waiting, GivenUp, Replied as RepliedSo};
 ghost use Rattle.jc_model.specs.declared.event.Event.TheVariants.{Begin, Answer as Answered};
 ghost use Rattle.jc_model.specs.declared.event.Outcome.TheVariants.{Step as Stepped};
 ghost use Rattle.jc_model.specs.Legal.{IsLegal};
+ghost use Rattle.jc_model.specs.Places.{at_place};
 ghost use Rattle.jc_model.specs.Runs.{live_at};
 ghost use Rattle.jc_rows.specs.Images.{last_image};
 ghost use Rattle.jc_index.specs.Found.{found};
@@ -309,6 +310,13 @@ impl<N: Name> Locked<N> {
             end_with(draft, End::Waiting);
             Err(CallFault::Overtaken)
         }
+    }
+
+    /// Whether a cache has this id.
+    pub(crate) fn is_live(&self, id: CacheId) -> bool
+        ensures { result ≡ is_some (at_place self.now.recorded.caches id) }
+    {
+        self.recorded.is_live(id)
     }
 
     /// Whether a cache has a live row of this key. The pass sees the table as it is now, where memory allows it.

@@ -1,5 +1,5 @@
 //! The manager that threads share.
-ghost use Rattle.std.specs.Prelude.{◌≡◌, ℕ, true, [], Ok, Err, Some, IfOk, IfErr, length, map, option_map, slice_get};
+ghost use Rattle.std.specs.Prelude.{◌≡◌, ◌⊎◌, ℕ, true, [], Ok, Err, Some, IfSome, IfOk, IfErr, length, map, option_map, slice_get};
 ghost use Rattle.jc_model.specs.declared.config.CacheConfig.{CacheConfig};
 ghost use Rattle.jc_model.specs.Legal.{IsLegal};
 ghost use Rattle.jc_shared.specs.Accounts.{Accounts, IsCloseRefusal};
@@ -9,8 +9,8 @@ ghost use Rattle.jc_shared.specs.Sessions.{BeginsWith, SeesSome, log_of};
 ghost use Rattle.jc_shared.specs.Stated.{stated_by, AreOf, processor_counts, wanted_counts};
 
 use crate::directory::{Directory, HooksLock};
-use crate::fault::{CloseFault, SessionRefusal, Unfound};
-use crate::hooks::SharedHooks;
+use crate::fault::{CallFault, CloseFault, SessionRefusal, Unfound};
+use crate::hooks::{LockedHooks, OpeningLock, SharedHooks};
 use crate::locked::Locked;
 use crate::name::Name;
 use crate::session::Session;
@@ -24,12 +24,15 @@ use std::sync::{Mutex, Wait};
 /// Caches that many sessions share, and which they may create and destroy.
 ///
 /// One lock holds the recorded engine. The loaders and processors of the opening stand beside all locks. All other
-/// callbacks stand under a lock for each cache, which a call on the cache holds from its begin to its end, and the way
-/// from a cache to that lock stands under a lock of its own.
+/// callbacks stand under a lock for each cache that has any, which a call on the cache holds from its begin to its end.
+/// The way from a created cache to that lock stands under a lock of its own.
 #[derive(Drop)]
 pub struct Manager<N: Name, L: Loader, W: Writer, P: Processor, K: Hearer> {
     pub(crate) alloc: Global,
     pub(crate) shared: Vec<SharedHooks<L, P>>,
+    /// Of the caches of the opening.
+    pub(crate) locks: Vec<OpeningLock<W, K>>,
+    /// Of those that sessions have created.
     pub(crate) directory: Mutex<Directory<L, W, P, K>>,
     pub(crate) locked: Mutex<Locked<N>>,
     ghost stated_are: { map (stated_by L.load_of P.verdict_of) shared.items ≡ N.stated },
@@ -85,7 +88,35 @@ impl<N: Name, L: Loader, W: Writer, P: Processor, K: Hearer> Manager<N, L, W, P,
         }
     }
 
-    /// The hooks lock of a cache.
+    /// The loader and the processors of a cache of the opening, which stand beside all locks.
+    pub(crate) fn opened(&self, id: CacheId) -> Option<&SharedHooks<L, P>>
+        ensures stated { IfSome result (λ h. AreOf L.load_of P.verdict_of N.stated id h.now) }
+        ensures counted { IfSome result (λ h. (c : CacheConfig) → slice_get N.configs id ≡ Some c → length c.processors ≡ length h.now.processors.items) }
+    {
+        let shared = shared_at(self.shared.as_slice(), id)?;
+        Some(shared)
+    }
+
+    /// The hooks lock of a cache of the opening, if it has callbacks.
+    pub(crate) fn opened_lock(&self, id: CacheId) -> Option<&Mutex<LockedHooks<W, K>>> {
+        match self.locks.get(id.number() as usize) {
+            Some(Some(lock)) => Some(lock),
+            _ => None,
+        }
+    }
+
+    /// What a call is told whose processor is lacking: that its cache is not there, where it is not.
+    pub(crate) fn lacking<R: Wait>(&self, rt: &R, id: CacheId, fault: CallFault) -> CallFault
+        ensures { (result ≡ fault) ⊎ (result ≡ CallFault.NoSuchCache) }
+    {
+        if self.locked.lock(rt).is_live(id) {
+            fault
+        } else {
+            CallFault::NoSuchCache
+        }
+    }
+
+    /// The hooks lock of a cache that a session has created.
     pub(crate) fn hooks_lock<R: Wait>(
         &self,
         rt: &R,

@@ -1,7 +1,8 @@
 //! One caller's way to the caches of a manager.
-ghost use Rattle.std.specs.Prelude.{◌≡◌, ◌<◌, ◌≢◌, ◌⊎◌, suc, Bool, true, false, Some, None, IfOk, IfErr, OnOk, OnErr, Err};
+ghost use Rattle.std.specs.Prelude.{◌≡◌, ◌<◌, ◌≢◌, ◌⊎◌, suc, Bool, true, false, Some, None, IfOk, IfErr, OnOk, OnErr, Err, length, slice_get};
 ghost use Rattle.std.specs.Vec.{vec_len, vec_capacity};
 ghost use mathlib.Core.List.{IsPrefix};
+ghost use Rattle.jc_model.specs.declared.config.CacheConfig.{CacheConfig};
 ghost use Rattle.jc_model.specs.declared.event.End.TheVariants.{Replied};
 ghost use Rattle.jc_engine.specs.Recording.{blank};
 ghost use Rattle.jc_hooks.specs.Suits.{Suits};
@@ -15,10 +16,11 @@ ghost use Rattle.jc_index.specs.declared.lookup.Lookup.TheVariants.{Sure, Unsure
 ghost use Rattle.jc_shared.specs.Calls.{Adds, Fails, Lacks, TellsLack};
 ghost use Rattle.jc_shared.specs.Living.{IsCreated, IsCreateFault, IsDestroyRefusal, HasGone, IsHeld, IsSeen};
 ghost use Rattle.jc_shared.specs.Sessions.{SeesSome, log_of};
+ghost use Rattle.jc_shared.specs.Stated.{AreOf};
 
 use crate::auditing::Logged;
 use crate::fault::{CallFault, CreateFault, DestroyFault};
-use crate::hooks::OwnHooks;
+use crate::hooks::{LockedHooks, OwnHooks, SharedHooks};
 use crate::manager::Manager;
 use crate::name::Name;
 use crate::tables::TablePass;
@@ -123,7 +125,7 @@ impl<'a, N: Name, L: Loader, W: Writer, P: Processor, K: Hearer> Session<'a, N, 
     /// Its entry is added to the session's own.
     ///
     /// Refused as `NoSuchCache`, `NoSuchProcessor`, then as `OutOfMemory`, `Busy` or `Overtaken`; also as `NoSuchCache`
-    /// where the cache is destroyed meanwhile, and as `OutOfMemory` at once where its callbacks can't be shared. A call
+    /// where the cache is destroyed meanwhile, and as `OutOfMemory` at once where the callbacks of a created cache can't be shared. A call
     /// that has not begun leaves the session as it was. Where memory is refused in the midst of the call it is given up,
     /// and its listeners are told what it has changed; its entry says so. By the locks no use of a manager should come
     /// to `Busy` or `Overtaken`; no clause says so.
@@ -141,6 +143,9 @@ impl<'a, N: Name, L: Loader, W: Writer, P: Processor, K: Hearer> Session<'a, N, 
         ensures front { IsPrefix self.old.pass.images self.new.pass.images }
     {
         let manager = self.manager;
+        if let Some(asked) = manager.opened(id) {
+            return self.call_opened(rt, asked, id, now, call);
+        }
         let lock = match manager.hooks_lock(rt, id) {
             Ok(lock) => lock,
             Err(unfound) => {
@@ -151,10 +156,62 @@ impl<'a, N: Name, L: Loader, W: Writer, P: Processor, K: Hearer> Session<'a, N, 
         let mut hooks = lock.lock(rt);
         let OwnHooks { asked, locked } = &mut *hooks;
         let asked = manager.asked(id, asked);
+        self.make(rt, asked, locked, id, now, call)
+    }
+
+    /// The same on a cache of the opening. One without callbacks takes no lock but the manager's.
+    fn call_opened<R: Wait>(
+        &mut self,
+        rt: &R,
+        asked: &SharedHooks<L, P>,
+        id: CacheId,
+        now: u64,
+        call: Call,
+    ) -> Result<Reply, CallFault>
+        requires stated { AreOf L.load_of P.verdict_of N.stated id asked.now }
+        requires counted { (c : CacheConfig) → slice_get N.configs id ≡ Some c → length c.processors ≡ length asked.now.processors.items }
+        ensures number { self.new.number ≡ self.old.number }
+        ensures ok { IfOk result (λ reply. Adds N.configs N.stated self.old self.new id now call (Replied reply)) }
+        ensures refused { Lacks N.configs id call → TellsLack result × (self.new ≡ self.old) }
+        ensures err { IfErr result (λ fault. Fails N.configs N.stated self.old self.new id now call fault) }
+        ensures front { IsPrefix self.old.pass.images self.new.pass.images }
+    {
+        let manager = self.manager;
+        match manager.opened_lock(id) {
+            Some(lock) => {
+                let mut locked = lock.lock(rt);
+                self.make(rt, asked, &mut *locked, id, now, call)
+            }
+            None => {
+                let mut none = LockedHooks::none(manager.alloc);
+                self.make(rt, asked, &mut none, id, now, call)
+            }
+        }
+    }
+
+    /// The same by these callbacks of the cache.
+    fn make<R: Wait>(
+        &mut self,
+        rt: &R,
+        asked: &SharedHooks<L, P>,
+        locked: &mut LockedHooks<W, K>,
+        id: CacheId,
+        now: u64,
+        call: Call,
+    ) -> Result<Reply, CallFault>
+        requires stated { AreOf L.load_of P.verdict_of N.stated id asked.now }
+        requires counted { (c : CacheConfig) → slice_get N.configs id ≡ Some c → length c.processors ≡ length asked.now.processors.items }
+        ensures number { self.new.number ≡ self.old.number }
+        ensures ok { IfOk result (λ reply. Adds N.configs N.stated self.old self.new id now call (Replied reply)) }
+        ensures refused { Lacks N.configs id call → TellsLack result × (self.new ≡ self.old) }
+        ensures err { IfErr result (λ fault. Fails N.configs N.stated self.old self.new id now call fault) }
+        ensures front { IsPrefix self.old.pass.images self.new.pass.images }
+    {
+        let manager = self.manager;
         let accepted = asked.accept(&call);
         if let Err(fault) = accepted {
             drop(call);
-            return Err(fault);
+            return Err(manager.lacking(rt, id, fault));
         }
         let drafted = draft_of(manager.alloc, &mut self.own, self.number, id, now, &call);
         let Ok(mut draft) = drafted else {
@@ -207,11 +264,12 @@ impl<'a, N: Name, L: Loader, W: Writer, P: Processor, K: Hearer> Session<'a, N, 
         Ok(id)
     }
 
-    /// Destroys a cache, with its rows, its counters and its callbacks. No one is told. It waits for a call on the
-    /// cache that is under way. Where memory allows it the session's lookups know of it at once.
+    /// Destroys a cache, with its rows, its counters and its callbacks; loader and processors of the opening stay. No one
+    /// is told. It waits for a call on the cache that is under way. Where memory allows it the session's lookups know of
+    /// it at once.
     ///
-    /// Refused as `NoSuchCache`, `Busy`; as `OutOfMemory` at once where the callbacks can't be shared. The session is
-    /// then as it was. By the locks none should come to `Busy`; no clause says so.
+    /// Refused as `NoSuchCache`, `Busy`; as `OutOfMemory` at once where the callbacks of a created cache can't be
+    /// shared. The session is then as it was. By the locks none should come to `Busy`; no clause says so.
     pub fn destroy<R: Wait>(&mut self, rt: &R, id: CacheId) -> Result<(), DestroyFault>
         ensures gone { OnOk result (HasGone N.configs id self.new.pass) }
         ensures fault { IfErr result (λ fault. IsDestroyRefusal N.configs id fault) }
@@ -220,10 +278,31 @@ impl<'a, N: Name, L: Loader, W: Writer, P: Processor, K: Hearer> Session<'a, N, 
         ensures same { log_of self.new ≡ log_of self.old }
     {
         let manager = self.manager;
+        if manager.opened(id).is_some() {
+            return self.destroy_opened(rt, id);
+        }
         let lock = manager.hooks_lock(rt, id)?;
         let _hooks = lock.lock(rt);
         manager.locked.lock(rt).destroy(id, &mut self.pass)?;
         manager.directory.lock(rt).remove(id);
+        Ok(())
+    }
+
+    /// The same for a cache of the opening. Its writer and listeners are let go.
+    fn destroy_opened<R: Wait>(&mut self, rt: &R, id: CacheId) -> Result<(), DestroyFault>
+        ensures gone { OnOk result (HasGone N.configs id self.new.pass) }
+        ensures fault { IfErr result (λ fault. IsDestroyRefusal N.configs id fault) }
+        ensures refused { OnErr result (self.new ≡ self.old) }
+        ensures front { IsPrefix self.old.pass.images self.new.pass.images }
+        ensures same { log_of self.new ≡ log_of self.old }
+    {
+        let manager = self.manager;
+        let Some(lock) = manager.opened_lock(id) else {
+            return manager.locked.lock(rt).destroy(id, &mut self.pass);
+        };
+        let mut hooks = lock.lock(rt);
+        manager.locked.lock(rt).destroy(id, &mut self.pass)?;
+        *hooks = LockedHooks::none(manager.alloc);
         Ok(())
     }
 

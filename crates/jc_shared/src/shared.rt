@@ -8,6 +8,7 @@ ghost use Rattle.jc_hooks.specs.Suits.{AllSuit};
 ghost use Rattle.jc_shared.specs.Opening.{CanOpen, IsRefusal};
 ghost use Rattle.jc_shared.specs.Stated.{stated_by, shared_of};
 
+use crate::directory::Directory;
 use crate::fault::SharedRefusal;
 use crate::hooks::{AllHooks, apart};
 use crate::locked::Locked;
@@ -141,11 +142,12 @@ impl<L: Loader, W: Writer, P: Processor, K: Hearer> Shared<L, W, P, K> {
             recorded,
             table,
         } = self;
-        let AllHooks { shared, directory } = hooks;
+        let AllHooks { shared, locks } = hooks;
         Manager {
             alloc,
             shared,
-            directory: Mutex::new(directory),
+            locks,
+            directory: Mutex::new(Directory::new(alloc)),
             locked: Mutex::new(Locked::new(recorded.over(table.named::<N>()))),
         }
     }

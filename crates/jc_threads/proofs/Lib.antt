@@ -3,3 +3,4 @@ pub mod Making
 pub mod Dealt
 pub mod Gathered
 pub mod Managed
+pub mod Seats

@@ -53,10 +53,13 @@ fn own_session<'s, 'a, N: Name, L: Loader, W: Writer, P: Processor, K: Hearer>(
 {
     let workers = crew.len();
     let number = session as usize;
-    match crew[number % workers].sessions().get(number / workers) {
-        Some(own) if own.number() == session => Ok(own),
-        _ => Err(WorkFault::Close),
+    let Some(own) = crew[number % workers].sessions().get(number / workers) else {
+        return Err(WorkFault::Close);
+    };
+    if own.number() != session {
+        return Err(WorkFault::Close);
     }
+    Ok(own)
 }
 
 /// Creates a cache by the session of this number, once the round has ended.

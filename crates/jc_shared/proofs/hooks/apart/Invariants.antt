@@ -1,8 +1,7 @@
-use Rattle.std.proofs.Common.{◌≡◌, ℕ, map, length}
-use Rattle.std.specs.Prelude.{ltb, nat_eq, is_some}
-use Rattle.std.specs.HashMap.{get}
-use Rattle.jc_shared.specs.Stated.{shared_of}
+use Rattle.std.proofs.Common.{◌≡◌, map}
+use Rattle.std.specs.Prelude.{is_some}
+use Rattle.jc_shared.specs.Stated.{shared_of, wants_lock}
 use Rattle.jc_shared.proofs.hooks.apart.Given as goal
 
 abbrev pub invariant-loop-own : goal.invariant-loop-own
-invariant-loop-own g l = (l.shared.items ≡ map shared_of l.yielded) × ((q : ℕ) → is_some (get nat_eq l.directory.locks q) ≡ ltb q (length l.yielded))
+invariant-loop-own g l = (l.shared.items ≡ map shared_of l.yielded) × (map is_some l.locks.items ≡ map wants_lock l.yielded)

@@ -9,8 +9,8 @@ use Rattle.jc_shared.proofs.shared.Shared.named.Goals as goal
 pub over-requires-clause-opened : goal.over-requires-clause-opened
 over-requires-clause-opened g c = (0, c.self.inside.configs.items, c.self.invariant.unused)
 
-pub new-requires-2 : goal.new-requires-2
-new-requires-2 g c =
+pub new-requires-3 : goal.new-requires-3
+new-requires-3 g c =
     let me = c.self.inside in
     subst (λ (cs : List CacheConfig). BeginsWith cs c.over.result.transcript) (ap (λ (h : Handed _ _). h.configs) c.self.view_is ∙ c.requires.configs)
     (begins_opened me.configs.items c.over.result.transcript (ap (λ (r : Recording). r.transcript) c.over.ensures ∙ c.self.invariant.uncalled))

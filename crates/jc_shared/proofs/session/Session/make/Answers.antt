@@ -4,26 +4,26 @@ use Rattle.jc_stripes.proofs.Lists.{prefix_trans}
 use Rattle.jc_model.specs.Runs.{has_processor}
 use Rattle.jc_shared.specs.Calls.{IsSameCall}
 use Rattle.jc_shared.specs.Sessions.{Sitting}
-use Rattle.jc_shared.proofs.Carrying.{begun_same, same_call, added_ok, added_err, begin_fails, not_accepted, unaccepted_fails}
-use Rattle.jc_shared.proofs.session.Session.call.Goals as goal
+use Rattle.jc_shared.proofs.Carrying.{begun_same, same_call, added_ok, added_err, begin_fails, not_accepted, told_or_gone, unaccepted_fails}
+use Rattle.jc_shared.proofs.session.Session.make.Goals as goal
 
 pub returns-clause-ok : goal.returns-clause-ok
 returns-clause-ok g c =
     let e = c.carry_on-replied.new.draft in
-    let same : IsSameCall c.in-Ok-drafted.draft e = same_call c.in-Ok-drafted.draft c.begin-begun.new.draft e (begun_same g.N.Name.configs c.in-Ok-drafted.draft c.begin-begun.new.draft c.begin-begun.new.pass c.in-Ok-begun.turned c.in-Ok-begun.ensures.ok) c.carry_on-replied.ensures.same in
+    let same : IsSameCall c.in-Ok.draft e = same_call c.in-Ok.draft c.begin-begun.new.draft e (begun_same g.N.Name.configs c.in-Ok.draft c.begin-begun.new.draft c.begin-begun.new.pass c.in-Ok-begun.turned c.in-Ok-begun.ensures.ok) c.carry_on-replied.ensures.same in
     let added : c.push_reserved.new.self.items ≡ c.self.inside.own.items ++ e ∷ [] = c.push_reserved.ensures.items ∙ ap (λ (es : List Entry). es ++ e ∷ []) c.draft_of-drafted.ensures.same in
     rw (← c.self.view_is)
     (added_ok g.N.Name.configs g.N.Name.stated (record { number = c.self.inside.number; calls = c.self.inside.own.items; pass = c.self.inside.pass }) (record { number = c.self.inside.number; calls = c.push_reserved.new.self.items; pass = c.carry_on-replied.new.pass }) c.args.id c.args.now c.args.call
-    c.in-Ok-drafted.draft e c.in-Ok-drafted.ensures.drafted same added c.carry_on-replied.result c.carry_on-replied.ensures.ends)
+    c.in-Ok.draft e c.in-Ok.ensures.drafted same added c.carry_on-replied.result c.carry_on-replied.ensures.ends)
 
 pub returns-clause-err : goal.returns-clause-err
 returns-clause-err g c =
     let e = c.carry_on-replied.new.draft in
-    let same : IsSameCall c.in-Ok-drafted.draft e = same_call c.in-Ok-drafted.draft c.begin-begun.new.draft e (begun_same g.N.Name.configs c.in-Ok-drafted.draft c.begin-begun.new.draft c.begin-begun.new.pass c.in-Ok-begun.turned c.in-Ok-begun.ensures.ok) c.carry_on-replied.ensures.same in
+    let same : IsSameCall c.in-Ok.draft e = same_call c.in-Ok.draft c.begin-begun.new.draft e (begun_same g.N.Name.configs c.in-Ok.draft c.begin-begun.new.draft c.begin-begun.new.pass c.in-Ok-begun.turned c.in-Ok-begun.ensures.ok) c.carry_on-replied.ensures.same in
     let added : c.push_reserved.new.self.items ≡ c.self.inside.own.items ++ e ∷ [] = c.push_reserved.ensures.items ∙ ap (λ (es : List Entry). es ++ e ∷ []) c.draft_of-drafted.ensures.same in
     rw (← c.self.view_is)
     (added_err g.N.Name.configs g.N.Name.stated (record { number = c.self.inside.number; calls = c.self.inside.own.items; pass = c.self.inside.pass }) (record { number = c.self.inside.number; calls = c.push_reserved.new.self.items; pass = c.carry_on-replied.new.pass }) c.args.id c.args.now c.args.call
-    c.in-Ok-drafted.draft e c.in-Ok-drafted.ensures.drafted same added c.carry_on-replied.result c.carry_on-replied.ensures.ends)
+    c.in-Ok.draft e c.in-Ok.ensures.drafted same added c.carry_on-replied.result c.carry_on-replied.ensures.ends)
 
 pub returns-clause-front : goal.returns-clause-front
 returns-clause-front g c = rw (← c.self.view_is) (prefix_trans _ _ _ c.begin-begun.ensures.front c.carry_on-replied.ensures.front)
@@ -32,11 +32,11 @@ pub returns-in-Err-begun-clause-err : goal.returns-in-Err-begun-clause-err
 returns-in-Err-begun-clause-err g c =
     rw (← c.self.view_is)
     (begin_fails g.N.Name.configs g.N.Name.stated (record { number = c.self.inside.number; calls = c.self.inside.own.items; pass = c.self.inside.pass }) (record { number = c.self.inside.number; calls = c.draft_of-drafted.new.own.items; pass = c.begin-begun.new.pass }) c.args.id c.args.now c.args.call
-    c.in-Ok-drafted.draft c.in-Err-begun.fault c.in-Ok-drafted.ensures.drafted (λ i. record { number = c.self.inside.number; calls = c.draft_of-drafted.ensures.same i; pass = c.in-Err-begun.ensures.same.2 i }) c.in-Err-begun.ensures.err)
+    c.in-Ok.draft c.in-Err-begun.fault c.in-Ok.ensures.drafted (λ i. record { number = c.self.inside.number; calls = c.draft_of-drafted.ensures.same i; pass = c.in-Err-begun.ensures.same.2 i }) c.in-Err-begun.ensures.err)
 
-pub returns-in-Err-accepted-clause-err : goal.returns-in-Err-accepted-clause-err
-returns-in-Err-accepted-clause-err g c =
+pub returns-in-Err-clause-err : goal.returns-in-Err-clause-err
+returns-in-Err-clause-err g c =
     let own : Sitting = record { number = c.self.inside.number; calls = c.self.inside.own.items; pass = c.self.inside.pass } in
-    let refused = c.in-Err-accepted.ensures in
-    rw (← c.self.view_is)
-    (unaccepted_fails g.N.Name.configs g.N.Name.stated own own c.args.id c.args.now c.args.call c.in-Err-accepted.fault refused.err refl (record { names = refused.names; lacks = λ k at. not_accepted (has_processor k c.args.call) c.in-Err-accepted.fault (refused.agrees k (c.asked-asked.ensures.counted k at)) }))
+    let refused = c.in-Err.ensures in
+    let fails = unaccepted_fails g.N.Name.configs g.N.Name.stated own own c.args.id c.args.now c.args.call c.in-Err.fault refused.err refl (record { names = refused.names; lacks = λ k at. not_accepted (has_processor k c.args.call) c.in-Err.fault (refused.agrees k (c.requires.counted k at)) }) in
+    rw (← c.self.view_is) (told_or_gone g.N.Name.configs g.N.Name.stated own own c.args.id c.args.now c.args.call c.in-Err.fault c.lacking.result refl c.lacking.ensures fails)
