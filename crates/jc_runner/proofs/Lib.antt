@@ -18,3 +18,4 @@ pub mod Gathering
 pub mod Sessions
 pub mod Apart
 pub mod Kept
+pub mod Named

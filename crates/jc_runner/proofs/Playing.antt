@@ -1,5 +1,5 @@
 -- A script that is run with the callbacks that its configuration names.
-use Rattle.std.proofs.Common.{◌≡◌, ◌≢◌, ℕ, ◌<◌, true, false, List, length, Option, Some, None, Result, Ok, Err, refl, sym, subst}
+use Rattle.std.proofs.Common.{◌≡◌, ◌≢◌, ℕ, ◌<◌, Bool, true, false, List, length, Option, Some, None, Result, Ok, Err, refl, sym, subst}
 use Rattle.std.specs.Prelude.{IfSome, IfErr, OnOk, IsSome}
 use Rattle.std.specs.Io.KnownBytes.{Appends, Keeps, IsAtEnd}
 use Rattle.std.proofs.lemmas.Bool.{false≢true}
@@ -21,7 +21,8 @@ use Rattle.jc_runner.specs.Naming.{ProgramHooks, AllNamed, heard_by}
 use Rattle.jc_runner.specs.Opens.{Opens}
 use Rattle.jc_runner.specs.Program.{Reported, Gathered, RunEnds}
 use Rattle.jc_runner.specs.Reports.{ReportsOf}
-use Rattle.jc_runner.specs.Streams.{WritesFront, IsOfThreads}
+use Rattle.jc_runner.specs.Streams.{WritesFront, IsOfThreads, IsOfStrictness, HasRun}
+use Rattle.jc_runner.specs.Strictness.{HasNone, HasOne}
 use Rattle.jc_runner.specs.Together.{stated_of, GathersSo}
 use Rattle.jc_runner.specs.declared.fault.RunFault.{RunFault}
 use Rattle.jc_runner.specs.declared.fault.RunFault.TheVariants as run
@@ -50,12 +51,14 @@ module _ (c : Configuration) (hooks hooks' : List ProgramHooks) (named : AllName
   reported None IsSo r = tt
   reported (Some script) IsSo r = record { hooks = hooks; hooks' = hooks'; named = named; reports = r }
 
-  module _ {I O : Type 0} (remaining : I → Option (List ℕ)) (contents : O → Option (List ℕ)) (reader reader' : Watched I) (writer writer' : WatchedWriter O) (opens : Opens c) where
+  module _ {I O : Type 0} (remaining : I → Option (List ℕ)) (contents : O → Option (List ℕ)) (strict : Bool) (reader reader' : Watched I) (writer writer' : WatchedWriter O) (opens : Opens c) where
     pub run_ends : (result : Result (Unit {0}) RunFault)
         → OnOk result (IfSome (remaining reader.inner) (λ script. ReportsHere script (Appends (contents writer.inner) (contents writer'.inner))))
         → OnOk result (IsAtEnd (remaining reader'.inner))
         → OnOk result ((writer'.flushed ≡ true) × (writer'.failures ≡ writer.failures))
         → ((f : ScriptFault) → result ≡ Err (run.Script f) → IfSome (remaining reader.inner) (λ script. lines c.settings script ≡ Err f))
+        → ((n : ℕ) → result ≡ Err (run.Entry n) → HasOne strict c.settings (remaining reader.inner) n)
+        → (HasRun result → HasNone strict (remaining reader.inner))
         → (result ≡ Err run.TooLong → IfSome (remaining reader.inner) (λ script. text_bytes < length script))
         → (result ≡ Err run.Open → CannotOpen wants_of c.settings hooks)
         → (result ≢ Err run.Close)
@@ -63,15 +66,29 @@ module _ (c : Configuration) (hooks hooks' : List ProgramHooks) (named : AllName
         → (result ≡ Err run.Write → writer'.failures ≡ next writer.failures)
         → (result ≡ Err run.Read → reader'.failures ≡ next reader.failures)
         → IfErr result (λ e. e ≢ run.Write → Keeps (contents writer.inner) (contents writer'.inner))
-        → RunEnds remaining contents true c reader reader' writer writer' result
-    run_ends (Ok done) ok end flushed script long opening closed front write read nothing = (reported (remaining reader.inner) (Appends (contents writer.inner) (contents writer'.inner)) ok, end, flushed.1, flushed.0)
-    run_ends (Err run.Read) ok end flushed script long opening closed front write read nothing = (read refl, nothing (λ e. cc))
-    run_ends (Err run.TooLong) ok end flushed script long opening closed front write read nothing = (long refl, nothing (λ e. cc))
-    run_ends (Err (run.Script f)) ok end flushed script long opening closed front write read nothing = (script f refl, nothing (λ e. cc))
-    run_ends (Err run.Open) ok end flushed script long opening closed front write read nothing = opens_so c hooks named opens (opening refl)
-    run_ends (Err run.Close) ok end flushed script long opening closed front write read nothing = absurd (closed refl)
-    run_ends (Err run.Write) ok end flushed script long opening closed front write read nothing = (reported (remaining reader.inner) (WritesFront (contents writer.inner) (contents writer'.inner)) (front refl), write refl)
-    run_ends (Err run.Memory) ok end flushed script long opening closed front write read nothing = nothing (λ e. cc)
+        → RunEnds remaining contents true strict c reader reader' writer writer' result
+    run_ends (Ok done) ok end flushed script entry known long opening closed front write read nothing = (reported (remaining reader.inner) (Appends (contents writer.inner) (contents writer'.inner)) ok, known tt, end, flushed.1, flushed.0)
+    run_ends (Err run.Read) ok end flushed script entry known long opening closed front write read nothing = (read refl, nothing (λ e. cc))
+    run_ends (Err run.TooLong) ok end flushed script entry known long opening closed front write read nothing = (long refl, nothing (λ e. cc))
+    run_ends (Err (run.Script f)) ok end flushed script entry known long opening closed front write read nothing = (script f refl, nothing (λ e. cc))
+    run_ends (Err (run.Entry n)) ok end flushed script entry known long opening closed front write read nothing = (entry n refl, nothing (λ e. cc))
+    run_ends (Err run.Open) ok end flushed script entry known long opening closed front write read nothing = opens_so c hooks named opens (opening refl)
+    run_ends (Err run.Close) ok end flushed script entry known long opening closed front write read nothing = absurd (closed refl)
+    run_ends (Err run.Write) ok end flushed script entry known long opening closed front write read nothing = (reported (remaining reader.inner) (WritesFront (contents writer.inner) (contents writer'.inner)) (front refl), known tt, write refl)
+    run_ends (Err run.Memory) ok end flushed script entry known long opening closed front write read nothing = nothing (λ e. cc)
+
+-- A script that is refused for its members.
+module _ {I O : Type 0} (remaining : I → Option (List ℕ)) (contents : O → Option (List ℕ)) (serial strict : Bool) (c : Configuration) (reader reader' : Watched I) (writer writer' : WatchedWriter O) where
+  pub stray_ends : (e : RunFault) → IsOfStrictness e → ((n : ℕ) → e ≡ run.Entry n → HasOne strict c.settings (remaining reader.inner) n) → Keeps (contents writer.inner) (contents writer'.inner)
+      → RunEnds remaining contents serial strict c reader reader' writer writer' (Err e)
+  stray_ends run.Read of one keeps = absurd of
+  stray_ends run.TooLong of one keeps = absurd of
+  stray_ends (run.Script f) of one keeps = absurd of
+  stray_ends (run.Entry n) of one keeps = (one n refl, keeps)
+  stray_ends run.Open of one keeps = absurd of
+  stray_ends run.Close of one keeps = absurd of
+  stray_ends run.Write of one keeps = absurd of
+  stray_ends run.Memory of one keeps = keeps
 
 -- The same on worker threads.
 
@@ -83,7 +100,8 @@ module _ (c : Configuration) (hooks : List ProgramHooks) (named : AllNamed c.set
   gathered None IsSo read g = tt
   gathered (Some script) IsSo read g = record { hooks = hooks; named = named; all = all; read = read; gathers = g }
 
-  module _ {I O : Type 0} (remaining : I → Option (List ℕ)) (contents : O → Option (List ℕ)) (reader reader' : Watched I) (writer writer' : WatchedWriter O) (opens : Opens c) (read : IfSome (remaining reader.inner) (λ script. lines c.settings script ≡ Ok all)) where
+  module _ {I O : Type 0} (remaining : I → Option (List ℕ)) (contents : O → Option (List ℕ)) (strict : Bool) (reader reader' : Watched I) (writer writer' : WatchedWriter O) (opens : Opens c) (read : IfSome (remaining reader.inner) (λ script. lines c.settings script ≡ Ok all))
+      (known : HasNone strict (remaining reader.inner)) where
     pub threads_end : (result : Result (Unit {0}) RunFault)
         → IsAtEnd (remaining reader'.inner)
         → OnOk result (GathersHere (Appends (contents writer.inner) (contents writer'.inner)))
@@ -93,12 +111,13 @@ module _ (c : Configuration) (hooks : List ProgramHooks) (named : AllNamed c.set
         → (result ≡ Err run.Write → writer'.failures ≡ next writer.failures)
         → IfErr result (λ e. e ≢ run.Write → Keeps (contents writer.inner) (contents writer'.inner))
         → IfErr result (λ e. e ≢ run.Write → IsOfThreads e)
-        → RunEnds remaining contents false c reader reader' writer writer' result
-    threads_end (Ok done) end ok flushed opening front write nothing others = (gathered (remaining reader.inner) (Appends (contents writer.inner) (contents writer'.inner)) read ok, end, flushed.1, flushed.0)
+        → RunEnds remaining contents false strict c reader reader' writer writer' result
+    threads_end (Ok done) end ok flushed opening front write nothing others = (gathered (remaining reader.inner) (Appends (contents writer.inner) (contents writer'.inner)) read ok, known, end, flushed.1, flushed.0)
     threads_end (Err run.Read) end ok flushed opening front write nothing others = absurd (others (λ e. cc))
     threads_end (Err run.TooLong) end ok flushed opening front write nothing others = absurd (others (λ e. cc))
     threads_end (Err (run.Script f)) end ok flushed opening front write nothing others = absurd (others (λ e. cc))
+    threads_end (Err (run.Entry n)) end ok flushed opening front write nothing others = absurd (others (λ e. cc))
     threads_end (Err run.Open) end ok flushed opening front write nothing others = opens_so c hooks named opens (opening refl)
     threads_end (Err run.Close) end ok flushed opening front write nothing others = (refl, nothing (λ e. cc))
-    threads_end (Err run.Write) end ok flushed opening front write nothing others = (gathered (remaining reader.inner) (WritesFront (contents writer.inner) (contents writer'.inner)) read (front refl), write refl)
+    threads_end (Err run.Write) end ok flushed opening front write nothing others = (gathered (remaining reader.inner) (WritesFront (contents writer.inner) (contents writer'.inner)) read (front refl), known, write refl)
     threads_end (Err run.Memory) end ok flushed opening front write nothing others = nothing (λ e. cc)

@@ -23,6 +23,7 @@ use Rattle.jc_script.specs.declared.managed.Managed.{Managed}
 use Rattle.jc_script.specs.Managing.{lives_of, managed_of, begun_from, managed_from}
 use Rattle.jc_script.specs.Named.{AllName}
 use Rattle.jc_script.specs.Script.{lines}
+use Rattle.jc_strict.specs.Stray.{stray_line}
 use Rattle.jc_script.specs.Report.{header, entry_text, lives_text, managed_text, text}
 use Rattle.jc_runner.specs.Alone.{line_of, alone_from}
 use Rattle.jc_runner.specs.Halfway.{lives_now, as_read, NoneOpen, IsAtRest, Goes, Halfway}
@@ -101,10 +102,21 @@ module _ {L W P K : Type 0} (load_of : L → List ℕ → Loaded) (may : W → L
 
 -- The bytes that were read are all that there were.
 
+pub of_all : (P : List ℕ → Type 0) (left left' : Option (List ℕ)) (bytes bytes' : List ℕ) → IsAll left left' bytes → bytes' ≡ bytes → P bytes' → IfSome left P
+of_all P None left' bytes bytes' read same holds = tt
+of_all P (Some input) None bytes bytes' read same holds = absurd read.0
+of_all P (Some input) (Some rest) bytes bytes' read same holds = subst P (sym (read.0 ∙ ap (λ (xs : List ℕ). bytes ++ xs) read.1 ∙ append-nil bytes ∙ sym same)) holds
+
 pub lines_of_all : (caches : List CacheConfig) (all : List Line) (left left' : Option (List ℕ)) (bytes bytes' : List ℕ) → IsAll left left' bytes → bytes' ≡ bytes → lines caches bytes' ≡ Ok all → IfSome left (λ input. lines caches input ≡ Ok all)
 lines_of_all caches all None left' bytes bytes' read same says = tt
 lines_of_all caches all (Some input) None bytes bytes' read same says = absurd read.0
 lines_of_all caches all (Some input) (Some rest) bytes bytes' read same says = ap (lines caches) (read.0 ∙ ap (λ (xs : List ℕ). bytes ++ xs) read.1 ∙ append-nil bytes ∙ sym same) ∙ says
+
+pub stray_of_all : (caches : List CacheConfig) (all : List Line) (n : ℕ) (left left' : Option (List ℕ)) (bytes some others : List ℕ) → IsAll left left' bytes → some ≡ bytes → lines caches some ≡ Ok all → others ≡ bytes → stray_line others ≡ Some n
+    → IfSome left (λ script. IsOk (lines caches script) × (stray_line script ≡ Some n))
+stray_of_all caches all n left left' bytes some others read same says same' stray =
+    let good : IsOk (lines caches bytes) = rw (ap (lines caches) (sym same) ∙ says) refl in
+    of_all (λ script. IsOk (lines caches script) × (stray_line script ≡ Some n)) left left' bytes bytes read refl (good, ap stray_line (sym same') ∙ stray)
 
 pub good_of_all : (caches : List CacheConfig) (all : List Line) (left left' : Option (List ℕ)) (bytes bytes' : List ℕ) → IsAll left left' bytes → bytes' ≡ bytes → lines caches bytes' ≡ Ok all → IfSome left (λ input. IsOk (lines caches input))
 good_of_all caches all left left' bytes bytes' read same says = go left (lines_of_all caches all left left' bytes bytes' read same says)

@@ -1,10 +1,10 @@
 -- How the program ends: the status, and what standard error says.
 use Rattle.std.specs.Bool.{OnTrue}
-use Rattle.std.specs.Prelude.{Bool, true, not, if◌then◌else◌, ◌≡◌, ◌≢◌, ◌⊎◌, ℕ, Option, List, Result, Ok, Err, codes}
+use Rattle.std.specs.Prelude.{Bool, true, false, not, ◌&&◌, if◌then◌else◌, ◌≡◌, ◌≢◌, ◌⊎◌, ℕ, Option, List, Result, Ok, Err, codes}
 use Rattle.std.specs.Io.KnownBytes.{Appends}
 use Rattle.clap.specs.Words.{kind_of}
 use Rattle.clap.specs.declared.error.kind.ErrorKind.TheVariants as kinds
-use Rattle.jc_runner.specs.Faults.{fault_line}
+use Rattle.jc_runner.specs.Faults.{fault_line, is_of_report}
 use Rattle.jc_runner.specs.Meters.{next_if}
 use Rattle.jc_runner.specs.declared.ending.Ending.{Ending}
 use Rattle.jc_runner.specs.declared.ending.Ending.TheVariants.{Done, Faulty, Refused, NotText}
@@ -20,27 +20,44 @@ ending_of (Err fault) = Faulty fault
 abbrev pub no_memory : Ending
 no_memory = Faulty (Run Memory)
 
--- help and the version are no mistakes, and a success where they were written
-abbrev pub HasStatus : Ending → Bool → ℕ → Type 0
-HasStatus Done told status = status ≡ 0
-HasStatus (Faulty fault) told status = status ≡ 1
-HasStatus (Refused e) told status =
-    ((kind_of e ≡ kinds.DisplayHelp) ⊎ (kind_of e ≡ kinds.DisplayVersion) → status ≡ (if told then 0 else 1))
+-- nobody reads the report any more
+abbrev pub is_unheard : ProgramFault → Bool → Bool
+is_unheard fault unheard = is_of_report fault && unheard
+
+-- where something could not be written: as a shell has it of a program that was ended by the signal of a closed pipe
+abbrev pub unwritten : Bool → ℕ
+unwritten unheard = if unheard then 141 else 1
+
+-- Help and the version are no mistakes, and a success where they were written. The second test is whether nobody reads
+-- standard output any more.
+abbrev pub HasStatus : Ending → Bool → Bool → ℕ → Type 0
+HasStatus Done told unheard status = status ≡ 0
+HasStatus (Faulty fault) told unheard status = status ≡ unwritten (is_unheard fault unheard)
+HasStatus (Refused e) told unheard status =
+    ((kind_of e ≡ kinds.DisplayHelp) ⊎ (kind_of e ≡ kinds.DisplayVersion) → status ≡ (if told then 0 else unwritten unheard))
     × (kind_of e ≢ kinds.DisplayHelp → kind_of e ≢ kinds.DisplayVersion → status ≡ 2)
-HasStatus NotText told status = status ≡ 2
+HasStatus NotText told unheard status = status ≡ 2
 
 -- What standard error says, or that its writer failed; what a refusal says is `clap`'s.
 module _ {E : Type 0} (said : E → Option (List ℕ)) where
   abbrev pub TellsLine : List ℕ → Bool → WatchedWriter E → WatchedWriter E → Type 0
   TellsLine line told old new = OnTrue told (Appends (said old.inner) (said new.inner) line) × (new.failures ≡ next_if (not told) old.failures)
 
+  abbrev pub SaysNothing : Bool → WatchedWriter E → WatchedWriter E → Type 0
+  SaysNothing told old new = (told ≡ true) × (new ≡ old)
+
+  -- a fault, which is not told where nobody reads the report any more
+  abbrev pub SaysFault : Bool → ProgramFault → Bool → WatchedWriter E → WatchedWriter E → Type 0
+  SaysFault true fault told old new = SaysNothing told old new
+  SaysFault false fault told old new = TellsLine (fault_line fault) told old new
+
   -- nothing where there is nothing to say
-  abbrev pub SaysSo : Ending → Bool → WatchedWriter E → WatchedWriter E → Type 0
-  SaysSo Done told old new = (told ≡ true) × (new ≡ old)
-  SaysSo (Faulty fault) told old new = TellsLine (fault_line fault) told old new
-  SaysSo (Refused e) told old new =
+  abbrev pub SaysSo : Ending → Bool → Bool → WatchedWriter E → WatchedWriter E → Type 0
+  SaysSo Done told unheard old new = SaysNothing told old new
+  SaysSo (Faulty fault) told unheard old new = SaysFault (is_unheard fault unheard) fault told old new
+  SaysSo (Refused e) told unheard old new =
       ((kind_of e ≡ kinds.DisplayHelp) ⊎ (kind_of e ≡ kinds.DisplayVersion) → new ≡ old) × (kind_of e ≢ kinds.DisplayHelp → kind_of e ≢ kinds.DisplayVersion → new.failures ≡ next_if (not told) old.failures)
-  SaysSo NotText told old new = TellsLine (codes "error: a word is not UTF-8\n") told old new
+  SaysSo NotText told unheard old new = TellsLine (codes "error: a word is not UTF-8\n") told old new
 
 -- it was written and flushed, or its writer failed
 abbrev pub IsPrinted : {O : Type 0} → Bool → WatchedWriter O → WatchedWriter O → Type 0

@@ -1,5 +1,5 @@
 -- Why a run ends, and the line that says why the program does.
-use Rattle.std.specs.Prelude.{ℕ, List, ◌++◌, codes, decimal}
+use Rattle.std.specs.Prelude.{ℕ, Bool, true, false, List, ◌++◌, codes, decimal}
 use Rattle.jc_config.specs.declared.fault.ConfigFault.{ConfigFault}
 use Rattle.jc_config.specs.declared.fault.ConfigFault.TheVariants as config
 use Rattle.jc_config.specs.Faults.{name_of}
@@ -11,7 +11,7 @@ use Rattle.jc_threads.specs.declared.fault.WorkFault.TheVariants.{Close, OutOfMe
 use Rattle.jc_runner.specs.declared.fault.RunFault.{RunFault}
 use Rattle.jc_runner.specs.declared.fault.RunFault.TheVariants as run
 use Rattle.jc_runner.specs.declared.fault.ProgramFault.{ProgramFault}
-use Rattle.jc_runner.specs.declared.fault.ProgramFault.TheVariants.{ConfigRead, Config, Run}
+use Rattle.jc_runner.specs.declared.fault.ProgramFault.TheVariants.{ConfigRead, Config, NoCaches, Run}
 
 -- a run on threads that came to no transcript
 abbrev pub of_work : WorkFault → RunFault
@@ -51,6 +51,7 @@ abbrev pub run_line : RunFault → List ℕ
 run_line run.Read = codes "script: cannot be read\n"
 run_line run.TooLong = codes "script: too long\n"
 run_line (run.Script fault) = script_line fault
+run_line (run.Entry n) = bad_line n (codes "entry")
 run_line run.Open = codes "manager: cannot be opened\n"
 run_line run.Close = codes "sessions and transcript differ\n"
 run_line run.Write = codes "report: cannot be written\n"
@@ -59,4 +60,10 @@ run_line run.Memory = codes "out of memory\n"
 abbrev pub fault_line : ProgramFault → List ℕ
 fault_line ConfigRead = codes "config: cannot be read\n"
 fault_line (Config fault) = config_line fault
+fault_line NoCaches = codes "config: no caches\n"
 fault_line (Run fault) = run_line fault
+
+-- the report could not be written
+abbrev pub is_of_report : ProgramFault → Bool
+is_of_report (Run run.Write) = true
+is_of_report _ = false

@@ -1,5 +1,5 @@
 -- What the program does with its words, its files and its streams.
-use Rattle.std.specs.Prelude.{Bool, true, false, ◌≡◌, ◌≢◌, ◌⊎◌, ℕ, ◌<◌, List, [], ◌∷◌, length, Option, Some, None, IfSome, Result, Ok, Err, IsOk, String, string_bytes, ⊤}
+use Rattle.std.specs.Prelude.{Bool, true, false, ◌&&◌, ◌==◌, if◌then◌else◌, ◌≡◌, ◌≢◌, ◌⊎◌, ℕ, ◌<◌, List, [], ◌∷◌, length, Option, Some, None, IfSome, Result, Ok, Err, IsOk, String, string_bytes, ⊤}
 use Rattle.std.specs.Io.KnownBytes.{Appends, Keeps, IsAtEnd}
 use Rattle.std.specs.declared.alloc.Global.{Global}
 use Rattle.clap.specs.Words.{Text, kind_of}
@@ -14,7 +14,7 @@ use Rattle.jc_model.specs.Limits.{text_bytes}
 use Rattle.jc_model.specs.declared.config.CacheConfig.{CacheConfig}
 use Rattle.jc_script.specs.declared.line.Line.{Line}
 use Rattle.jc_script.specs.Script.{lines}
-use Rattle.jc_words.specs.Program.{AsksFor, MayRefuse}
+use Rattle.jc_words.specs.Program.{AsksFor, MayRefuse, is_input}
 use Rattle.jc_words.specs.declared.asked.Asked.TheVariants as asks
 use Rattle.jc_words.specs.declared.asked.Check.{Check}
 use Rattle.jc_words.specs.declared.run.Run.{Run}
@@ -25,6 +25,7 @@ use Rattle.jc_runner.specs.Meters.{next, most_reads, AddsAtMost}
 use Rattle.jc_runner.specs.Naming.{ProgramHooks, AllNamed, heard_by}
 use Rattle.jc_runner.specs.Reports.{ReportsOf}
 use Rattle.jc_runner.specs.Streams.{WritesFront}
+use Rattle.jc_runner.specs.Strictness.{HasNone, HasOne}
 use Rattle.jc_runner.specs.Together.{stated_of, GathersSo}
 use Rattle.jc_runner.specs.declared.ending.Ended.{Ended}
 use Rattle.jc_runner.specs.declared.ending.Ending.{Ending}
@@ -71,91 +72,130 @@ unread file = record { inner = file; reads = 0; failures = 0 }
 abbrev pub HasNotFailed : {T E F : Type 0} → E → Result T E → Watched F → Watched F → Type 0
 HasNotFailed fault result old new = result ≢ Err fault → new.failures ≡ old.failures
 
--- A script that is read and run, by one thread or by workers: how that ends.
-module _ {I O : Type 0} (remaining : I → Option (List ℕ)) (contents : O → Option (List ℕ)) (serial : Bool) (c : Configuration) (reader reader' : Watched I) (writer writer' : WatchedWriter O) where
+-- A script that is read and run, by one thread or by workers, strictly or not: how that ends.
+module _ {I O : Type 0} (remaining : I → Option (List ℕ)) (contents : O → Option (List ℕ)) (serial strict : Bool) (c : Configuration) (reader reader' : Watched I) (writer writer' : WatchedWriter O) where
   abbrev pub RunEnds : Result (Unit {0}) RunFault → Type 0
   RunEnds (Ok done) =
       IfSome (remaining reader.inner) (λ script. Tells serial c script (Appends (contents writer.inner) (contents writer'.inner)))
-      × IsAtEnd (remaining reader'.inner) × (writer'.failures ≡ writer.failures) × (writer'.flushed ≡ true)
+      × HasNone strict (remaining reader.inner) × IsAtEnd (remaining reader'.inner) × (writer'.failures ≡ writer.failures) × (writer'.flushed ≡ true)
   RunEnds (Err run.Read) = failed_once reader reader' × Keeps (contents writer.inner) (contents writer'.inner)
   RunEnds (Err run.TooLong) = IfSome (remaining reader.inner) (λ script. text_bytes < length script) × Keeps (contents writer.inner) (contents writer'.inner)
   RunEnds (Err (run.Script fault)) = IfSome (remaining reader.inner) (λ script. lines c.settings script ≡ Err fault) × Keeps (contents writer.inner) (contents writer'.inner)
+  RunEnds (Err (run.Entry n)) = HasOne strict c.settings (remaining reader.inner) n × Keeps (contents writer.inner) (contents writer'.inner)
   RunEnds (Err run.Open) = ⊥
   RunEnds (Err run.Close) = (serial ≡ false) × Keeps (contents writer.inner) (contents writer'.inner)
-  RunEnds (Err run.Write) = IfSome (remaining reader.inner) (λ script. Tells serial c script (WritesFront (contents writer.inner) (contents writer'.inner))) × (writer'.failures ≡ next writer.failures)
+  RunEnds (Err run.Write) =
+      IfSome (remaining reader.inner) (λ script. Tells serial c script (WritesFront (contents writer.inner) (contents writer'.inner)))
+      × HasNone strict (remaining reader.inner) × (writer'.failures ≡ next writer.failures)
   RunEnds (Err run.Memory) = Keeps (contents writer.inner) (contents writer'.inner)
 
 -- A script that is read and not run: how that ends.
-module _ {I : Type 0} (remaining : I → Option (List ℕ)) (caches : List CacheConfig) (reader reader' : Watched I) where
+module _ {I : Type 0} (remaining : I → Option (List ℕ)) (strict : Bool) (caches : List CacheConfig) (reader reader' : Watched I) where
   abbrev pub LinesEnd : Result (Unit {0}) RunFault → Type 0
-  LinesEnd (Ok done) = IfSome (remaining reader.inner) (λ script. IsOk (lines caches script)) × IsAtEnd (remaining reader'.inner)
+  LinesEnd (Ok done) = IfSome (remaining reader.inner) (λ script. IsOk (lines caches script)) × HasNone strict (remaining reader.inner) × IsAtEnd (remaining reader'.inner)
   LinesEnd (Err run.Read) = failed_once reader reader'
   LinesEnd (Err run.TooLong) = IfSome (remaining reader.inner) (λ script. text_bytes < length script)
   LinesEnd (Err (run.Script fault)) = IfSome (remaining reader.inner) (λ script. lines caches script ≡ Err fault)
+  LinesEnd (Err (run.Entry n)) = HasOne strict caches (remaining reader.inner) n
   LinesEnd (Err run.Memory) = ⊤
   LinesEnd (Err _) = ⊥
 
--- A configuration that is read from a file.
-module _ {F : Type 0} (remaining : F → Option (List ℕ)) (held : Option (Option (List ℕ))) where
-  abbrev pub ConfigRead : F → Watched F → Result Configuration ProgramFault → Type 0
-  ConfigRead file reader (Ok c) = IfSome (remaining file) (λ bytes. configuration_of bytes ≡ Ok c) × IsAtEnd (remaining reader.inner)
-  ConfigRead file reader (Err program.ConfigRead) = failed_once (unread file) reader
-  ConfigRead file reader (Err (program.Config fault)) = IfSome (remaining file) (λ bytes. configuration_of bytes ≡ Err fault)
-  ConfigRead file reader (Err (program.Run fault)) = fault ≡ run.Memory
+-- A configuration that is read.
+module _ {I : Type 0} (remaining : I → Option (List ℕ)) (reader reader' : Watched I) where
+  abbrev pub ConfigRead : Result Configuration ProgramFault → Type 0
+  ConfigRead (Ok c) = IfSome (remaining reader.inner) (λ bytes. configuration_of bytes ≡ Ok c) × IsAtEnd (remaining reader'.inner)
+  ConfigRead (Err program.ConfigRead) = failed_once reader reader'
+  ConfigRead (Err (program.Config fault)) = IfSome (remaining reader.inner) (λ bytes. configuration_of bytes ≡ Err fault)
+  ConfigRead (Err program.NoCaches) = ⊥
+  ConfigRead (Err (program.Run fault)) = fault ≡ run.Memory
 
+-- A file that holds this.
+module _ {F : Type 0} (remaining : F → Option (List ℕ)) (held : Option (Option (List ℕ))) where
   -- the file does not open, or it is read to its end or its fault
   abbrev pub ConfigEnds : Option (Watched F) → Result Configuration ProgramFault → Type 0
   ConfigEnds None result = ((result ≡ Err program.ConfigRead) × MayBeMissing held) ⊎ (result ≡ Err (program.Run run.Memory))
-  ConfigEnds (Some reader) result = (file : F) × IsFound held (remaining file) × AddsAtMost most_reads 0 reader.reads × HasNotFailed program.ConfigRead result (unread file) reader × ConfigRead file reader result
+  ConfigEnds (Some reader) result =
+      (file : F) × IsFound held (remaining file) × AddsAtMost most_reads 0 reader.reads × HasNotFailed program.ConfigRead result (unread file) reader × ConfigRead remaining (unread file) reader result
 
   -- the same of the script
-  module _ {O : Type 0} (contents : O → Option (List ℕ)) (serial : Bool) (c : Configuration) (writer writer' : WatchedWriter O) where
+  module _ {O : Type 0} (contents : O → Option (List ℕ)) (serial strict : Bool) (c : Configuration) (writer writer' : WatchedWriter O) where
     abbrev pub ScriptEnds : Option (Watched F) → Result (Unit {0}) RunFault → Type 0
     ScriptEnds None result = (((result ≡ Err run.Read) × MayBeMissing held) ⊎ (result ≡ Err run.Memory)) × Keeps (contents writer.inner) (contents writer'.inner)
-    ScriptEnds (Some reader) result = (file : F) × IsFound held (remaining file) × AddsAtMost most_reads 0 reader.reads × HasNotFailed run.Read result (unread file) reader × RunEnds remaining contents serial c (unread file) reader writer writer' result
+    ScriptEnds (Some reader) result =
+        (file : F) × IsFound held (remaining file) × AddsAtMost most_reads 0 reader.reads × HasNotFailed run.Read result (unread file) reader
+        × RunEnds remaining contents serial strict c (unread file) reader writer writer' result
 
   -- of a script that is not run
-  abbrev pub ScriptRead : List CacheConfig → Option (Watched F) → Result (Unit {0}) RunFault → Type 0
-  ScriptRead caches None result = ((result ≡ Err run.Read) × MayBeMissing held) ⊎ (result ≡ Err run.Memory)
-  ScriptRead caches (Some reader) result = (file : F) × IsFound held (remaining file) × AddsAtMost most_reads 0 reader.reads × HasNotFailed run.Read result (unread file) reader × LinesEnd remaining caches (unread file) reader result
+  abbrev pub ScriptRead : Bool → List CacheConfig → Option (Watched F) → Result (Unit {0}) RunFault → Type 0
+  ScriptRead strict caches None result = ((result ≡ Err run.Read) × MayBeMissing held) ⊎ (result ≡ Err run.Memory)
+  ScriptRead strict caches (Some reader) result =
+      (file : F) × IsFound held (remaining file) × AddsAtMost most_reads 0 reader.reads × HasNotFailed run.Read result (unread file) reader × LinesEnd remaining strict caches (unread file) reader result
+
+-- What a path names: standard input, for which the disk is not asked, or a file. Standard input is read on from where it
+-- stands.
+module _ {F I : Type 0} (of_file : F → Option (List ℕ)) (of_input : I → Option (List ℕ)) (held : Option (Option (List ℕ))) (path : List ℕ) (asked asked' : Option (List (List ℕ))) (input input' : Watched I) where
+  abbrev pub ConfigFrom : Bool → Option (Watched F) → Result Configuration ProgramFault → Type 0
+  ConfigFrom true opened result =
+      (opened ≡ None) × (asked' ≡ asked) × AddsAtMost most_reads input.reads input'.reads × HasNotFailed program.ConfigRead result input input' × ConfigRead of_input input input' result
+  ConfigFrom false opened result = (input' ≡ input) × Asks asked asked' path × ConfigEnds of_file held opened result
+
+  module _ {O : Type 0} (contents : O → Option (List ℕ)) (serial strict : Bool) (c : Configuration) (writer writer' : WatchedWriter O) where
+    abbrev pub ScriptFrom : Bool → Option (Watched F) → Result (Unit {0}) RunFault → Type 0
+    ScriptFrom true opened result =
+        (opened ≡ None) × (asked' ≡ asked) × AddsAtMost most_reads input.reads input'.reads × HasNotFailed run.Read result input input'
+        × RunEnds of_input contents serial strict c input input' writer writer' result
+    ScriptFrom false opened result = (input' ≡ input) × Asks asked asked' path × ScriptEnds of_file held contents serial strict c writer writer' opened result
+
+  abbrev pub LinesFrom : Bool → List CacheConfig → Bool → Option (Watched F) → Result (Unit {0}) RunFault → Type 0
+  LinesFrom strict caches true opened result =
+      (opened ≡ None) × (asked' ≡ asked) × AddsAtMost most_reads input.reads input'.reads × HasNotFailed run.Read result input input' × LinesEnd of_input strict caches input input' result
+  LinesFrom strict caches false opened result = (input' ≡ input) × Asks asked asked' path × ScriptRead of_file held strict caches opened result
 
 abbrev pub as_program : Result (Unit {0}) RunFault → Result (Unit {0}) ProgramFault
 as_program (Ok done) = Ok done
 as_program (Err fault) = Err (program.Run fault)
 
+-- what was read as a configuration, where one without caches is refused if that is asked for
+abbrev pub allowed : Bool → Result Configuration ProgramFault → Result Configuration ProgramFault
+allowed strict (Err fault) = Err fault
+allowed strict (Ok c) = if strict && (length c.settings == 0) then Err program.NoCaches else Ok c
+
 -- the two files of a run: what the disk holds, what it was asked for, and how they were read
-module _ {F O : Type 0} (remaining : F → Option (List ℕ)) (contents : O → Option (List ℕ)) (holds : List ℕ → Option (Option (List ℕ))) (asked asked' : Option (List (List ℕ))) (run : Run)
-    (config script : Option (Watched F)) (writer writer' : WatchedWriter O) where
+module _ {F I O : Type 0} (of_file : F → Option (List ℕ)) (of_input : I → Option (List ℕ)) (contents : O → Option (List ℕ)) (holds : List ℕ → Option (Option (List ℕ))) (asked asked' : Option (List (List ℕ))) (run : Run)
+    (config script : Option (Watched F)) (input input' : Watched I) (writer writer' : WatchedWriter O) where
   -- after the configuration's fault no script is asked for
-  abbrev pub GoesOn : Option (List (List ℕ)) → Result Configuration ProgramFault → Result (Unit {0}) ProgramFault → Type 0
-  GoesOn before (Err fault) result = (result ≡ Err fault) × (script ≡ None) × (asked' ≡ before) × Keeps (contents writer.inner) (contents writer'.inner)
-  GoesOn before (Ok c) result =
-      (ran : Result (Unit {0}) RunFault) × (result ≡ as_program ran) × Asks before asked' (string_bytes run.script) × ScriptEnds remaining (holds (string_bytes run.script)) contents run.serial c writer writer' script ran
+  abbrev pub GoesOn : Option (List (List ℕ)) → Watched I → Result Configuration ProgramFault → Result (Unit {0}) ProgramFault → Type 0
+  GoesOn before between (Err fault) result = (result ≡ Err fault) × (script ≡ None) × (asked' ≡ before) × (input' ≡ between) × Keeps (contents writer.inner) (contents writer'.inner)
+  GoesOn before between (Ok c) result =
+      (ran : Result (Unit {0}) RunFault) × (result ≡ as_program ran)
+      × ScriptFrom of_file of_input (holds (string_bytes run.script)) (string_bytes run.script) before asked' between input' contents run.serial run.strict c writer writer' (is_input (string_bytes run.script)) script ran
 
   pub record FilesEnd (result : Result (Unit {0}) ProgramFault) : Type 0 where
     pub before : Option (List (List ℕ))
-    pub configuration : Result Configuration ProgramFault
-    pub asks : Asks asked before (string_bytes run.config)
-    pub reads : ConfigEnds remaining (holds (string_bytes run.config)) config configuration
-    pub goes_on : GoesOn before configuration result
+    pub between : Watched I
+    pub read : Result Configuration ProgramFault
+    pub reads : ConfigFrom of_file of_input (holds (string_bytes run.config)) (string_bytes run.config) asked before input between (is_input (string_bytes run.config)) config read
+    pub goes_on : GoesOn before between (allowed run.strict read) result
 
 -- the files of a check, of which the second may be left out: the same, and nothing is run
-module _ {F : Type 0} (remaining : F → Option (List ℕ)) (holds : List ℕ → Option (Option (List ℕ))) (asked asked' : Option (List (List ℕ))) (check : Check) (config script : Option (Watched F)) where
+module _ {F I : Type 0} (of_file : F → Option (List ℕ)) (of_input : I → Option (List ℕ)) (holds : List ℕ → Option (Option (List ℕ))) (asked asked' : Option (List (List ℕ))) (check : Check)
+    (config script : Option (Watched F)) (input input' : Watched I) where
   -- a path that is not there is not asked for, and has no fault
-  abbrev pub ReadsAt : Option (List (List ℕ)) → List CacheConfig → Option (String Global) → Result (Unit {0}) RunFault → Type 0
-  ReadsAt before caches None read = (read ≡ Ok tt) × (script ≡ None) × (asked' ≡ before)
-  ReadsAt before caches (Some path) read = Asks before asked' (string_bytes path) × ScriptRead remaining (holds (string_bytes path)) caches script read
+  abbrev pub ReadsAt : Option (List (List ℕ)) → Watched I → List CacheConfig → Option (String Global) → Result (Unit {0}) RunFault → Type 0
+  ReadsAt before between caches None read = (read ≡ Ok tt) × (script ≡ None) × (asked' ≡ before) × (input' ≡ between)
+  ReadsAt before between caches (Some path) read =
+      LinesFrom of_file of_input (holds (string_bytes path)) (string_bytes path) before asked' between input' check.strict caches (is_input (string_bytes path)) script read
 
-  abbrev pub ReadsOn : Option (List (List ℕ)) → Result Configuration ProgramFault → Result (Unit {0}) ProgramFault → Type 0
-  ReadsOn before (Err fault) result = (result ≡ Err fault) × (script ≡ None) × (asked' ≡ before)
-  ReadsOn before (Ok c) result = (read : Result (Unit {0}) RunFault) × (result ≡ as_program read) × ReadsAt before c.settings check.script read
+  abbrev pub ReadsOn : Option (List (List ℕ)) → Watched I → Result Configuration ProgramFault → Result (Unit {0}) ProgramFault → Type 0
+  ReadsOn before between (Err fault) result = (result ≡ Err fault) × (script ≡ None) × (asked' ≡ before) × (input' ≡ between)
+  ReadsOn before between (Ok c) result = (read : Result (Unit {0}) RunFault) × (result ≡ as_program read) × ReadsAt before between c.settings check.script read
 
   pub record CheckEnds (result : Result (Unit {0}) ProgramFault) : Type 0 where
     pub before : Option (List (List ℕ))
-    pub configuration : Result Configuration ProgramFault
-    pub asks : Asks asked before (string_bytes check.config)
-    pub reads : ConfigEnds remaining (holds (string_bytes check.config)) config configuration
-    pub goes_on : ReadsOn before configuration result
+    pub between : Watched I
+    pub read : Result Configuration ProgramFault
+    pub reads : ConfigFrom of_file of_input (holds (string_bytes check.config)) (string_bytes check.config) asked before input between (is_input (string_bytes check.config)) config read
+    pub goes_on : ReadsOn before between (allowed check.strict read) result
 
 -- the demonstration's configuration
 abbrev pub no_kinds : HookKinds
@@ -177,9 +217,9 @@ module _ {F I O : Type 0} (of_file : F → Option (List ℕ)) (of_input : I → 
   -- What words ask for, and how that ends. Where they are mistaken, or memory is wanting, nothing is run.
   module _ (words : List Text) (ending : Ending) where
     pub data WordsEnd : Type 0 where
-      plays : words ≡ [] → (ran : Result (Unit {0}) RunFault) → RunEnds of_input contents true demonstration input input' writer writer' ran → AddsAtMost most_reads input.reads input'.reads → HasNotFailed run.Read ran input input' → OpensNone → ending ≡ ending_of (as_program ran) → WordsEnd
-      runs : (run : Run) → AsksFor words (asks.Run run) → (ran : Result (Unit {0}) ProgramFault) → FilesEnd of_file contents holds asked asked' run opened'.config opened'.script writer writer' ran → input' ≡ input → ending ≡ ending_of ran → WordsEnd
-      checks : (check : Check) → AsksFor words (asks.Check check) → (ran : Result (Unit {0}) ProgramFault) → CheckEnds of_file holds asked asked' check opened'.config opened'.script ran → input' ≡ input → writer' ≡ writer → ending ≡ ending_of ran → WordsEnd
+      plays : words ≡ [] → (ran : Result (Unit {0}) RunFault) → RunEnds of_input contents true false demonstration input input' writer writer' ran → AddsAtMost most_reads input.reads input'.reads → HasNotFailed run.Read ran input input' → OpensNone → ending ≡ ending_of (as_program ran) → WordsEnd
+      runs : (run : Run) → AsksFor words (asks.Run run) → (ran : Result (Unit {0}) ProgramFault) → FilesEnd of_file of_input contents holds asked asked' run opened'.config opened'.script input input' writer writer' ran → ending ≡ ending_of ran → WordsEnd
+      checks : (check : Check) → AsksFor words (asks.Check check) → (ran : Result (Unit {0}) ProgramFault) → CheckEnds of_file of_input holds asked asked' check opened'.config opened'.script input input' ran → writer' ≡ writer → ending ≡ ending_of ran → WordsEnd
       refuses : (e : Error) → words ≢ [] → MayRefuse words e → kind_of e ≢ OutOfMemory → ending ≡ Refused e → RunsNone → WordsEnd
       lacks_memory : ending ≡ no_memory → RunsNone → WordsEnd
 
@@ -195,6 +235,6 @@ module _ {F I O E : Type 0} (of_file : F → Option (List ℕ)) (of_input : I �
     pub ending : Ending
     pub written : WatchedWriter O
     pub obeys : Obeys of_file of_input contents holds asked asked' opened opened' standard.input standard'.input standard.output written words ending
-    pub status : HasStatus ending result.told result.status
-    pub says : SaysSo said ending result.told standard.errors standard'.errors
+    pub status : HasStatus ending result.told standard'.output.unheard result.status
+    pub says : SaysSo said ending result.told standard'.output.unheard standard.errors standard'.errors
     pub leaves : Leaves ending result.told written standard'.output

@@ -1,8 +1,11 @@
 -- What is read from a reader and written to a writer.
-use Rattle.std.specs.Prelude.{◌≡◌, ℕ, ◌==◌, List, ◌++◌, Bool, true, Option, Result, Ok, Err}
+use Rattle.std.specs.Prelude.{◌≡◌, ◌↔◌, IsTrue, ℕ, ◌==◌, List, ◌++◌, Bool, true, Option, Result, Ok, Err}
+use Rattle.std.specs.IoError.{error_kind}
+use Rattle.std.specs.declared.io.Error.{Error}
+use Rattle.std.specs.declared.io.ErrorKind.TheVariants.{BrokenPipe}
 use Rattle.std.specs.Io.KnownBytes.{Consumes, IsAtEnd, Appends}
 use Rattle.jc_runner.specs.declared.fault.RunFault.{RunFault}
-use Rattle.jc_runner.specs.declared.fault.RunFault.TheVariants.{Read, TooLong, Script, Open, Close, Write, Memory}
+use Rattle.jc_runner.specs.declared.fault.RunFault.TheVariants.{Read, TooLong, Script, Entry, Open, Close, Write, Memory}
 use Rattle.jc_runner.specs.declared.fault.ProgramFault.{ProgramFault}
 use Rattle.jc_runner.specs.declared.fault.ProgramFault.TheVariants.{ConfigRead, Config, Run}
 
@@ -26,6 +29,17 @@ abbrev pub takes_nothing : {E : Type 0} → Result ℕ E → Bool
 takes_nothing (Ok n) = n == 0
 takes_nothing (Err e) = true
 
+-- whether the last fault of a writer was that nobody reads any more, after one more call
+abbrev pub UnheardAfter : {T : Type 0} → Result T Error → Bool → Bool → Type 0
+UnheardAfter (Ok x) before after = after ≡ before
+UnheardAfter (Err e) before after = IsTrue after ↔ (error_kind e ≡ BrokenPipe)
+
+-- the faults of members that an op does not need
+abbrev pub IsOfStrictness : RunFault → Type 0
+IsOfStrictness (Entry n) = Unit {0}
+IsOfStrictness Memory = Unit {0}
+IsOfStrictness _ = ⊥
+
 -- the faults that running can end with
 abbrev pub IsOfRunning : RunFault → Type 0
 IsOfRunning Open = Unit {0}
@@ -43,12 +57,14 @@ abbrev pub IsOfConfiguring : ProgramFault → Type 0
 IsOfConfiguring ConfigRead = Unit {0}
 IsOfConfiguring (Config f) = Unit {0}
 IsOfConfiguring (Run f) = f ≡ Memory
+IsOfConfiguring _ = ⊥
 
 -- the faults before the first call
 abbrev pub IsBeforeCalls : RunFault → Type 0
 IsBeforeCalls Read = Unit {0}
 IsBeforeCalls TooLong = Unit {0}
 IsBeforeCalls (Script f) = Unit {0}
+IsBeforeCalls (Entry n) = Unit {0}
 IsBeforeCalls Open = Unit {0}
 IsBeforeCalls _ = ⊥
 

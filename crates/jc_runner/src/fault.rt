@@ -3,7 +3,7 @@ ghost use Rattle.std.specs.Prelude.{◌≡◌, not, is_err, OnOk};
 ghost use Rattle.std.specs.Bool.{OnTrue};
 ghost use Rattle.std.specs.Io.KnownBytes.{Appends};
 ghost use Rattle.jc_runner.specs.declared.fault.RunFault.TheVariants.{Memory};
-ghost use Rattle.jc_runner.specs.Faults.{of_work, bad_line, bad_cache_line, script_line, config_line, run_line, fault_line};
+ghost use Rattle.jc_runner.specs.Faults.{of_work, bad_line, bad_cache_line, script_line, config_line, run_line, fault_line, is_of_report};
 ghost use Rattle.jc_runner.specs.Meters.{next_if};
 
 use crate::watched::WatchedWriter;
@@ -24,6 +24,8 @@ pub enum RunFault {
     TooLong,
     #[error("the script is faulty: {0:?}")]
     Script(ScriptFault),
+    #[error("line {line} has a member that its op does not need")]
+    Entry { line: usize },
     #[error("the manager does not open")]
     Open,
     #[error("the sessions and the transcript differ")]
@@ -68,6 +70,8 @@ pub enum ProgramFault {
     ConfigRead,
     #[error("the configuration is faulty: {0:?}")]
     Config(ConfigFault),
+    #[error("the configuration has no caches")]
+    NoCaches,
     #[error("the run ended: {0:?}")]
     Run(RunFault),
 }
@@ -129,10 +133,30 @@ fn write_run_fault<W: Write>(fault: &RunFault, writer: &mut WatchedWriter<W>) ->
         RunFault::Read => writeln!(writer, "script: cannot be read"),
         RunFault::TooLong => writeln!(writer, "script: too long"),
         RunFault::Script(fault) => write_script_fault(*fault, writer),
+        RunFault::Entry { line } => write_bad(*line, "entry", writer),
         RunFault::Open => writeln!(writer, "manager: cannot be opened"),
         RunFault::Close => writeln!(writer, "sessions and transcript differ"),
         RunFault::Write => writeln!(writer, "report: cannot be written"),
         RunFault::Memory => writeln!(writer, "out of memory"),
+    }
+}
+
+/// Whether a fault is that the report could not be written.
+pub fn is_of_report(fault: &ProgramFault) -> bool
+    ensures { result ≡ is_of_report fault.now }
+{
+    match fault {
+        ProgramFault::Run(RunFault::Write) => true,
+        ProgramFault::Run(
+            RunFault::Read
+            | RunFault::TooLong
+            | RunFault::Script(_)
+            | RunFault::Entry { .. }
+            | RunFault::Open
+            | RunFault::Close
+            | RunFault::Memory,
+        ) => false,
+        ProgramFault::ConfigRead | ProgramFault::Config(_) | ProgramFault::NoCaches => false,
     }
 }
 
@@ -144,6 +168,7 @@ pub fn write_fault<W: Write>(fault: &ProgramFault, writer: &mut WatchedWriter<W>
     let result = match fault {
         ProgramFault::ConfigRead => writeln!(writer, "config: cannot be read"),
         ProgramFault::Config(fault) => write_config_fault(*fault, writer),
+        ProgramFault::NoCaches => writeln!(writer, "config: no caches"),
         ProgramFault::Run(fault) => write_run_fault(fault, writer),
     };
     result.is_ok()

@@ -1,9 +1,10 @@
 //! The two files of a run, and playing a script with the callbacks that a configuration names.
-ghost use Rattle.std.specs.Prelude.{◌≡◌, ◌≢◌, ◌<◌, ◌⊎◌, ℕ, true, false, List, IfOk, IfErr, Err, string_bytes};
+ghost use Rattle.std.specs.Prelude.{◌≡◌, ◌≢◌, ◌<◌, ◌⊎◌, ℕ, true, false, List, IfOk, IfErr, Ok, Err, string_bytes};
 ghost use Rattle.jc_runner.specs.Disks.{Asks, IsFound, MayBeMissing};
 ghost use Rattle.jc_runner.specs.Meters.{most_reads, AddsAtMost};
 ghost use Rattle.jc_runner.specs.Opens.{Opens};
-ghost use Rattle.jc_runner.specs.Program.{RunEnds, ConfigEnds, ScriptEnds, FilesEnd, unread};
+ghost use Rattle.jc_runner.specs.Program.{RunEnds, ConfigEnds, ConfigFrom, ScriptEnds, ScriptFrom, FilesEnd, allowed, unread};
+ghost use Rattle.jc_words.specs.Program.{is_input};
 ghost use Rattle.jc_runner.specs.declared.fault.RunFault.TheVariants.{Read, Memory};
 
 use crate::configuring::read_configuration;
@@ -11,13 +12,13 @@ use crate::disk::{Disk, OpenFault};
 use crate::fault::{ProgramFault, RunFault};
 use crate::naming::all_hooks;
 use crate::reading::read_bytes;
-use crate::run::{lines_of, serial};
+use crate::run::{lines_of, serial_as, strictly};
 use crate::streams::Opened;
 use crate::together::{Crew, Setup, threaded};
 use crate::watched::{Watched, WatchedWriter};
 use jc_config::Configuration;
 use jc_threads::OpenGate;
-use jc_words::Run;
+use jc_words::{Run, is_input};
 use std::alloc::Global;
 use std::io::{Read, Write};
 use std::sync::Wait;
@@ -47,22 +48,64 @@ pub(crate) fn configured<D: Disk>(
     configuration
 }
 
+/// Reads a configuration to its end: standard input, or a file that is opened.
+pub(crate) fn configured_from<D: Disk, I: Read>(
+    alloc: Global,
+    disk: &mut D,
+    path: &str,
+    config: &mut Option<Watched<D::File>>,
+    input: &mut Watched<I>,
+) -> Result<Configuration, ProgramFault>
+    ensures ends { ConfigFrom D.File.remaining I.remaining (D.holds disk.old path.now) path.now (D.asked disk.old) (D.asked disk.new) input.old input.new (is_input path.now) config.new result }
+    ensures opens { IfOk result Opens }
+    ensures same { (other : List ℕ) → D.holds disk.new other ≡ D.holds disk.old other }
+{
+    if is_input(path) {
+        *config = None;
+        return read_configuration(alloc, input);
+    }
+    configured(alloc, disk, path, config)
+}
+
+/// A configuration, where it has caches or may have none.
+pub(crate) fn allowed(
+    strict: bool,
+    configuration: Configuration,
+) -> Result<Configuration, ProgramFault>
+    ensures same { result ≡ allowed strict (Ok configuration) }
+    ensures only { IfOk result (λ c. c ≡ configuration) }
+{
+    if strict && configuration.settings.caches().is_empty() {
+        return Err(ProgramFault::NoCaches);
+    }
+    Ok(configuration)
+}
+
 /// Runs a script in its lines' order with the callbacks that the configuration names.
 pub fn play<I: Read, O: Write>(
     alloc: Global,
     configuration: Configuration,
     seed: u64,
+    strict: bool,
     reader: &mut Watched<I>,
     writer: &mut WatchedWriter<O>,
 ) -> Result<(), RunFault>
     requires { Opens configuration }
-    ensures ends { RunEnds I.remaining O.contents true configuration reader.old reader.new writer.old writer.new result }
+    ensures ends { RunEnds I.remaining O.contents true strict configuration reader.old reader.new writer.old writer.new result }
     ensures unfailed { result ≢ Err Read → reader.new.failures ≡ reader.old.failures }
     ensures reads { AddsAtMost most_reads reader.old.reads reader.new.reads }
 {
     let Configuration { settings, hooks } = configuration;
     let mut hooks = all_hooks(alloc, settings.caches(), hooks.items())?;
-    serial(alloc, settings, hooks.as_mut_slice(), seed, reader, writer)
+    serial_as(
+        alloc,
+        settings,
+        hooks.as_mut_slice(),
+        seed,
+        strict,
+        reader,
+        writer,
+    )
 }
 
 /// Runs a script on so many workers, with the callbacks that the configuration names.
@@ -76,13 +119,14 @@ fn play_together<I: Read, O: Write, R: Threads + Wait + Sync>(
 ) -> Result<(), RunFault>
     requires opens { Opens configuration }
     requires workers { 0 < run.now.workers }
-    ensures ends { RunEnds I.remaining O.contents false configuration reader.old reader.new writer.old writer.new result }
+    ensures ends { RunEnds I.remaining O.contents false run.now.strict configuration reader.old reader.new writer.old writer.new result }
     ensures unfailed { result ≢ Err Read → reader.new.failures ≡ reader.old.failures }
     ensures reads { AddsAtMost most_reads reader.old.reads reader.new.reads }
 {
     let Configuration { settings, hooks } = configuration;
     let bytes = read_bytes(alloc, reader)?;
     let lines = lines_of(alloc, bytes.as_slice(), &settings)?;
+    strictly(alloc, bytes.as_slice(), run.strict)?;
     let hooks = all_hooks(alloc, settings.caches(), hooks.items())?;
     let setup = Setup {
         settings,
@@ -107,12 +151,12 @@ fn play_so<I: Read, O: Write, R: Threads + Wait + Sync>(
 ) -> Result<(), RunFault>
     requires opens { Opens configuration }
     requires workers { 0 < run.now.workers }
-    ensures ends { RunEnds I.remaining O.contents run.now.serial configuration reader.old reader.new writer.old writer.new result }
+    ensures ends { RunEnds I.remaining O.contents run.now.serial run.now.strict configuration reader.old reader.new writer.old writer.new result }
     ensures unfailed { result ≢ Err Read → reader.new.failures ≡ reader.old.failures }
     ensures reads { AddsAtMost most_reads reader.old.reads reader.new.reads }
 {
     if run.serial {
-        return play(alloc, configuration, run.seed, reader, writer);
+        return play(alloc, configuration, run.seed, run.strict, reader, writer);
     }
     play_together(rt, alloc, configuration, run, reader, writer)
 }
@@ -143,7 +187,7 @@ fn scripted<D: Disk, O: Write, R: Threads + Wait + Sync>(
 ) -> Result<(), RunFault>
     requires opens { Opens configuration }
     requires workers { 0 < run.now.workers }
-    ensures ends { ScriptEnds D.File.remaining (D.holds disk.old (string_bytes run.now.script)) O.contents run.now.serial configuration writer.old writer.new script.new result }
+    ensures ends { ScriptEnds D.File.remaining (D.holds disk.old (string_bytes run.now.script)) O.contents run.now.serial run.now.strict configuration writer.old writer.new script.new result }
     ensures asked { Asks (D.asked disk.old) (D.asked disk.new) (string_bytes run.now.script) }
     ensures same { (other : List ℕ) → D.holds disk.new other ≡ D.holds disk.old other }
 {
@@ -154,28 +198,56 @@ fn scripted<D: Disk, O: Write, R: Threads + Wait + Sync>(
     ran
 }
 
-/// Runs the two files that the words name: first the configuration is read, then the script.
-pub fn run_files<D: Disk, O: Write, R: Threads + Wait + Sync>(
+/// Runs a script: standard input, or a file that is opened.
+fn scripted_from<D: Disk, I: Read, O: Write, R: Threads + Wait + Sync>(
+    rt: &R,
+    alloc: Global,
+    disk: &mut D,
+    run: &Run,
+    configuration: Configuration,
+    script: &mut Option<Watched<D::File>>,
+    input: &mut Watched<I>,
+    writer: &mut WatchedWriter<O>,
+) -> Result<(), RunFault>
+    requires opens { Opens configuration }
+    requires workers { 0 < run.now.workers }
+    ensures ends { ScriptFrom D.File.remaining I.remaining (D.holds disk.old (string_bytes run.now.script)) (string_bytes run.now.script) (D.asked disk.old) (D.asked disk.new) input.old input.new O.contents run.now.serial run.now.strict configuration writer.old writer.new (is_input (string_bytes run.now.script)) script.new result }
+    ensures same { (other : List ℕ) → D.holds disk.new other ≡ D.holds disk.old other }
+{
+    if is_input(run.script.as_str()) {
+        *script = None;
+        return play_so(rt, alloc, configuration, run, input, writer);
+    }
+    scripted(rt, alloc, disk, run, configuration, script, writer)
+}
+
+/// Runs the two files that the words name: first the configuration is read, then the script. Either may be standard
+/// input.
+pub fn run_files<D: Disk, I: Read, O: Write, R: Threads + Wait + Sync>(
     rt: &R,
     alloc: Global,
     disk: &mut D,
     opened: &mut Opened<D::File>,
     run: &Run,
+    input: &mut Watched<I>,
     writer: &mut WatchedWriter<O>,
 ) -> Result<(), ProgramFault>
     requires { 0 < run.now.workers }
-    ensures ends { FilesEnd D.File.remaining O.contents (D.holds disk.old) (D.asked disk.old) (D.asked disk.new) run.now opened.new.config opened.new.script writer.old writer.new result }
+    ensures ends { FilesEnd D.File.remaining I.remaining O.contents (D.holds disk.old) (D.asked disk.old) (D.asked disk.new) run.now opened.new.config opened.new.script input.old input.new writer.old writer.new result }
     ensures same { (other : List ℕ) → D.holds disk.new other ≡ D.holds disk.old other }
 {
     opened.script = None;
-    let configuration = configured(alloc, disk, run.config.as_str(), &mut opened.config)?;
-    match scripted(
+    let path = run.config.as_str();
+    let read = configured_from(alloc, disk, path, &mut opened.config, input)?;
+    let configuration = allowed(run.strict, read)?;
+    match scripted_from(
         rt,
         alloc,
         disk,
         run,
         configuration,
         &mut opened.script,
+        input,
         writer,
     ) {
         Ok(()) => Ok(()),

@@ -1,5 +1,5 @@
 //! The program over its words, a disk and the standard streams.
-ghost use Rattle.std.specs.Prelude.{◌≡◌, ◌≢◌, ◌↔◌, ℕ, List, true, IsTrue, IfOk, IfErr, Ok, Err, map, string_bytes};
+ghost use Rattle.std.specs.Prelude.{◌≡◌, ◌≢◌, ◌↔◌, ℕ, List, true, false, IsTrue, IfOk, IfErr, Ok, Err, map, string_bytes};
 ghost use Rattle.clap.specs.Words.{kind_of};
 ghost use Rattle.jc_runner.specs.Meters.{most_reads, AddsAtMost};
 ghost use Rattle.jc_runner.specs.Program.{RunEnds, WordsEnd, Obeys, Ends, no_kinds, demonstration as demonstration_read};
@@ -55,12 +55,12 @@ fn demonstrate<I: Read, O: Write>(
     input: &mut Watched<I>,
     output: &mut WatchedWriter<O>,
 ) -> Result<(), RunFault>
-    ensures ends { RunEnds I.remaining O.contents true demonstration_read input.old input.new output.old output.new result }
+    ensures ends { RunEnds I.remaining O.contents true false demonstration_read input.old input.new output.old output.new result }
     ensures unfailed { result ≢ Err Read → input.new.failures ≡ input.old.failures }
     ensures reads { AddsAtMost most_reads input.old.reads input.new.reads }
 {
     let configuration = demonstrated(alloc)?;
-    play(alloc, configuration, 0, input, output)
+    play(alloc, configuration, 0, false, input, output)
 }
 
 /// The words as texts.
@@ -97,8 +97,12 @@ fn obey<D: Disk, I: Read, O: Write, R: Threads + Wait + Sync>(
         return Ending::Faulty(ProgramFault::Run(RunFault::Memory));
     };
     match read_words(alloc, texts.as_slice()) {
-        Ok(Some(Asked::Run(run))) => ending_of(run_files(rt, alloc, disk, opened, &run, output)),
-        Ok(Some(Asked::Check(check))) => ending_of(check_files(alloc, disk, opened, &check)),
+        Ok(Some(Asked::Run(run))) => {
+            ending_of(run_files(rt, alloc, disk, opened, &run, input, output))
+        }
+        Ok(Some(Asked::Check(check))) => {
+            ending_of(check_files(alloc, disk, opened, &check, input))
+        }
         Ok(None) => match demonstrate(alloc, input, output) {
             Ok(()) => Ending::Done,
             Err(fault) => Ending::Faulty(ProgramFault::Run(fault)),
@@ -136,7 +140,11 @@ fn heed<D: Disk, I: Read, O: Write, R: Threads + Wait + Sync>(
 /// The program: it does what the words after its name ask for, and says how that ended.
 ///
 /// Without words the script on standard input is run on the demonstration's caches. Faults come in this order: the
-/// words, reading the configuration, its text, reading the script, its text, the run, the writing of the report.
+/// words, reading the configuration, its text, whether it has caches where that is asked for, reading the script, its
+/// text, members that its ops do not need where that is asked for, the run, the writing of the report. A check of the
+/// files ends before the run, and says nothing where they are fine. A report that nobody reads any more is told by the
+/// status alone.
+///
 /// Standard output has the report and nothing else, and nothing at all after a fault, save a prefix of the report
 /// where it could not be written whole; help goes there too. The texts of help and of mistaken words are `clap`'s.
 pub fn program<D: Disk, I: Read, O: Write, E: Write, R: Threads + Wait + Sync>(

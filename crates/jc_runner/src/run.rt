@@ -1,5 +1,5 @@
 //! One run: a script in, a report out.
-ghost use Rattle.std.specs.Prelude.{◌≡◌, ◌<◌, ◌≢◌, true, IfOk, IfErr, IfSome, IsSome, Some, OnOk, IsOk, Ok, Err, length, string_bytes};
+ghost use Rattle.std.specs.Prelude.{◌≡◌, ◌<◌, ◌≢◌, ℕ, true, IfOk, IfErr, IfSome, IsSome, Some, None, OnOk, IsOk, Ok, Err, length, string_bytes};
 ghost use Rattle.std.specs.FinMap as finite;
 ghost use Rattle.std.specs.Io.KnownBytes.{Appends, IsAtEnd, Keeps};
 ghost use Rattle.jc_script.specs.Script.{lines};
@@ -13,7 +13,9 @@ ghost use Rattle.jc_runner.specs.Halfway.{lives_now};
 ghost use Rattle.jc_runner.specs.Hooks.{AreKept, AreSuited, CannotOpen};
 ghost use Rattle.jc_runner.specs.Reports.{Reports, ReportsOf};
 ghost use Rattle.jc_runner.specs.Meters.{next, most_reads, AddsAtMost};
-ghost use Rattle.jc_runner.specs.Streams.{WritesFront, IsOfRunning, IsOfScript, IsBeforeCalls, HasRun};
+ghost use Rattle.jc_runner.specs.Streams.{WritesFront, IsOfRunning, IsOfScript, IsOfStrictness, IsBeforeCalls, HasRun};
+ghost use Rattle.jc_runner.specs.Strictness.{HasNone, HasOne};
+ghost use Rattle.jc_strict.specs.Stray.{stray_line};
 ghost use Rattle.jc_runner.specs.declared.fault.RunFault.TheVariants as faults;
 
 use crate::fault::RunFault;
@@ -30,6 +32,7 @@ use jc_ring::link_ring::LinkRing;
 use jc_rows::rows::Rows;
 use jc_script::{Line, ScriptFault, read_script, report};
 use jc_shared::table;
+use jc_strict::stray_line;
 use std::alloc::Global;
 use std::io::{Read, Write};
 
@@ -96,23 +99,37 @@ pub fn report_on<T: Rows, L: Loader, W: Writer, P: Processor, K: Hearer>(
     Ok(text)
 }
 
-/// Reads a script to its end, runs its lines in order on caches of these settings and on those that it creates, each
-/// request being answered by the callbacks of its cache, and writes the report.
-///
-/// `Read`, `TooLong`; `Script` with the first fault; `Open` where the callbacks are not those that the settings name,
-/// or where the manager does not open; `Memory`, also where a callback finds none; `Write`. Only after `Write` may a
-/// part of the report have been written. The seed picks the places in the table and changes nothing of the report.
-pub fn serial<L: Loader, W: Writer, P: Processor, K: Hearer, R: Read, O: Write>(
+/// Refuses a script with a member that its op does not need, where that is asked for.
+pub(crate) fn strictly(alloc: Global, bytes: &[u8], strict: bool) -> Result<(), RunFault>
+    ensures known { OnOk result (strict ≡ true → stray_line bytes.now ≡ None) }
+    ensures entry { (n : ℕ) → result ≡ Err (faults.Entry n) → (strict ≡ true) × (stray_line bytes.now ≡ Some n) }
+    ensures others { IfErr result IsOfStrictness }
+{
+    if !strict {
+        return Ok(());
+    }
+    match stray_line(alloc, bytes)? {
+        None => Ok(()),
+        Some(line) => Err(RunFault::Entry { line }),
+    }
+}
+
+/// The same as `serial`. Where `strict` says so, `Entry` with the first line that has a member its op does not need; that
+/// is told of a script without other faults.
+pub(crate) fn serial_as<L: Loader, W: Writer, P: Processor, K: Hearer, R: Read, O: Write>(
     alloc: Global,
     settings: Settings,
     hooks: &mut [CacheHooks<L, W, P, K>],
     seed: u64,
+    strict: bool,
     reader: &mut Watched<R>,
     writer: &mut WatchedWriter<O>,
 ) -> Result<(), RunFault>
     ensures ok { OnOk result (IfSome (R.remaining reader.old.inner) (λ input. ReportsOf L.load_of W.may P.verdict_of K.state_after settings input hooks.old hooks.new (λ text. Appends (O.contents writer.old.inner) (O.contents writer.new.inner) text))) }
     ensures end { OnOk result (IsAtEnd (R.remaining reader.new.inner)) }
     ensures script { (f : TextFault) → result ≡ Err (faults.Script f) → IfSome (R.remaining reader.old.inner) (λ input. lines settings input ≡ Err f) }
+    ensures entry { (n : ℕ) → result ≡ Err (faults.Entry n) → HasOne strict settings (R.remaining reader.old.inner) n }
+    ensures known { HasRun result → HasNone strict (R.remaining reader.old.inner) }
     ensures long { result ≡ Err faults.TooLong → IfSome (R.remaining reader.old.inner) (λ input. text_bytes < length input) }
     ensures open { result ≡ Err faults.Open → CannotOpen P.wants settings hooks.old }
     ensures good { result ≡ Err faults.Open → IfSome (R.remaining reader.old.inner) (λ input. IsOk (lines settings input)) }
@@ -130,10 +147,47 @@ pub fn serial<L: Loader, W: Writer, P: Processor, K: Hearer, R: Read, O: Write>(
 {
     let bytes = read_bytes(alloc, reader)?;
     let lines = lines_of(alloc, bytes.as_slice(), &settings)?;
+    strictly(alloc, bytes.as_slice(), strict)?;
     if !all_suit(&settings, hooks) {
         return Err(RunFault::Open);
     }
     let rows = table(alloc, seed)?;
     let text = report_on(alloc, rows, settings, hooks, lines)?;
     write_text(writer, text.as_bytes())
+}
+
+/// Reads a script to its end, runs its lines in order on caches of these settings and on those that it creates, each
+/// request being answered by the callbacks of its cache, and writes the report.
+///
+/// `Read`, `TooLong`; `Script` with the first fault; `Open` where the callbacks are not those that the settings name,
+/// or where the manager does not open; `Memory`, also where a callback finds none; `Write`. Only after `Write` may a
+/// part of the report have been written. The seed picks the places in the table and changes nothing of the report.
+pub fn serial<L: Loader, W: Writer, P: Processor, K: Hearer, R: Read, O: Write>(
+    alloc: Global,
+    settings: Settings,
+    hooks: &mut [CacheHooks<L, W, P, K>],
+    seed: u64,
+    reader: &mut Watched<R>,
+    writer: &mut WatchedWriter<O>,
+) -> Result<(), RunFault>
+    ensures ok { OnOk result (IfSome (R.remaining reader.old.inner) (λ input. ReportsOf L.load_of W.may P.verdict_of K.state_after settings input hooks.old hooks.new (λ text. Appends (O.contents writer.old.inner) (O.contents writer.new.inner) text))) }
+    ensures end { OnOk result (IsAtEnd (R.remaining reader.new.inner)) }
+    ensures script { (f : TextFault) → result ≡ Err (faults.Script f) → IfSome (R.remaining reader.old.inner) (λ input. lines settings input ≡ Err f) }
+    ensures lax { (n : ℕ) → result ≢ Err (faults.Entry n) }
+    ensures long { result ≡ Err faults.TooLong → IfSome (R.remaining reader.old.inner) (λ input. text_bytes < length input) }
+    ensures open { result ≡ Err faults.Open → CannotOpen P.wants settings hooks.old }
+    ensures good { result ≡ Err faults.Open → IfSome (R.remaining reader.old.inner) (λ input. IsOk (lines settings input)) }
+    ensures kept { AreKept hooks.old hooks.new }
+    ensures untouched { IfErr result (λ e. IsBeforeCalls e → hooks.new ≡ hooks.old) }
+    ensures suit { HasRun result → AreSuited P.wants settings hooks.old }
+    ensures flushed { OnOk result ((writer.new.flushed ≡ true) × (writer.new.failures ≡ writer.old.failures)) }
+    ensures closed { result ≢ Err faults.Close }
+    ensures front { result ≡ Err faults.Write → IfSome (R.remaining reader.old.inner) (λ input. ReportsOf L.load_of W.may P.verdict_of K.state_after settings input hooks.old hooks.new (λ text. WritesFront (O.contents writer.old.inner) (O.contents writer.new.inner) text)) }
+    ensures nothing { IfErr result (λ e. e ≢ faults.Write → Keeps (O.contents writer.old.inner) (O.contents writer.new.inner)) }
+    ensures read_failed { result ≡ Err faults.Read → reader.new.failures ≡ next reader.old.failures }
+    ensures unfailed { result ≢ Err faults.Read → reader.new.failures ≡ reader.old.failures }
+    ensures write_failed { result ≡ Err faults.Write → writer.new.failures ≡ next writer.old.failures }
+    ensures reads { AddsAtMost most_reads reader.old.reads reader.new.reads }
+{
+    serial_as(alloc, settings, hooks, seed, false, reader, writer)
 }

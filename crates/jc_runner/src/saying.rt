@@ -1,11 +1,11 @@
 //! What the program says in the end.
 ghost use Rattle.std.specs.Prelude.{◌≡◌, is_err, OnOk, codes};
 ghost use Rattle.std.specs.Io.KnownBytes.{Appends};
-ghost use Rattle.jc_runner.specs.Endings.{HasStatus, SaysSo, IsPrinted, Leaves, ending_of};
+ghost use Rattle.jc_runner.specs.Endings.{HasStatus, SaysSo, SaysFault, IsPrinted, Leaves, ending_of, is_unheard, unwritten};
 ghost use Rattle.jc_runner.specs.Meters.{next_if};
 
 use crate::ending::{Ended, Ending};
-use crate::fault::{ProgramFault, write_fault};
+use crate::fault::{ProgramFault, is_of_report, write_fault};
 use crate::watched::WatchedWriter;
 use clap::Error;
 use std::io;
@@ -35,14 +35,15 @@ fn print_help<O: Write>(error: &Error, output: &mut WatchedWriter<O>) -> bool
     write!(output, "{error}").is_ok() && output.flush().is_ok()
 }
 
-/// Prints help, or tells a mistake on standard error. Help that could not be written is no success.
+/// Prints help, or tells a mistake on standard error. Help that could not be written is no success; 141 is its status
+/// where nobody reads it any more.
 fn refuse<O: Write, E: Write>(
     error: &Error,
     output: &mut WatchedWriter<O>,
     errors: &mut WatchedWriter<E>,
 ) -> Ended
-    ensures status { HasStatus (Ending.Refused error.now) result.told result.status }
-    ensures says { SaysSo E.contents (Ending.Refused error.now) result.told errors.old errors.new }
+    ensures status { HasStatus (Ending.Refused error.now) result.told output.new.unheard result.status }
+    ensures says { SaysSo E.contents (Ending.Refused error.now) result.told output.new.unheard errors.old errors.new }
     ensures leaves { Leaves (Ending.Refused error.now) result.told output.old output.new }
 {
     if error.use_stderr() {
@@ -50,9 +51,27 @@ fn refuse<O: Write, E: Write>(
         return Ended { status: 2, told };
     }
     let told = print_help(error, output);
+    let unwritten = if output.unheard() { 141 } else { 1 };
     Ended {
-        status: if told { 0 } else { 1 },
+        status: if told { 0 } else { unwritten },
         told,
+    }
+}
+
+/// Tells a fault, but for a report that nobody reads any more.
+fn say_fault<E: Write>(fault: &ProgramFault, unheard: bool, errors: &mut WatchedWriter<E>) -> Ended
+    ensures status { result.status ≡ unwritten (is_unheard fault.now unheard) }
+    ensures says { SaysFault E.contents (is_unheard fault.now unheard) fault.now result.told errors.old errors.new }
+{
+    if is_of_report(fault) && unheard {
+        return Ended {
+            status: 141,
+            told: true,
+        };
+    }
+    Ended {
+        status: 1,
+        told: write_fault(fault, errors),
     }
 }
 
@@ -62,8 +81,8 @@ pub fn say<O: Write, E: Write>(
     output: &mut WatchedWriter<O>,
     errors: &mut WatchedWriter<E>,
 ) -> Ended
-    ensures status { HasStatus ending.now result.told result.status }
-    ensures says { SaysSo E.contents ending.now result.told errors.old errors.new }
+    ensures status { HasStatus ending.now result.told output.new.unheard result.status }
+    ensures says { SaysSo E.contents ending.now result.told output.new.unheard errors.old errors.new }
     ensures leaves { Leaves ending.now result.told output.old output.new }
 {
     match ending {
@@ -71,10 +90,7 @@ pub fn say<O: Write, E: Write>(
             status: 0,
             told: true,
         },
-        Ending::Faulty(fault) => Ended {
-            status: 1,
-            told: write_fault(fault, errors),
-        },
+        Ending::Faulty(fault) => say_fault(fault, output.unheard(), errors),
         Ending::Refused(error) => refuse(error, output, errors),
         Ending::NotText => Ended {
             status: 2,

@@ -35,7 +35,7 @@ impl<F> Opened<F> {
 impl<I: Read, O: Write, E: Write> Standard<I, O, E> {
     /// Streams that were not used yet.
     pub fn new(input: I, output: O, errors: E) -> Standard<I, O, E>
-        ensures { result ≡ record { input = record { inner = input; reads = 0; failures = 0 }; output = record { inner = output; failures = 0; flushed = false }; errors = record { inner = errors; failures = 0; flushed = false } } }
+        ensures { result ≡ record { input = record { inner = input; reads = 0; failures = 0 }; output = record { inner = output; failures = 0; unheard = false; flushed = false }; errors = record { inner = errors; failures = 0; unheard = false; flushed = false } } }
     {
         Standard {
             input: Watched::new(input),

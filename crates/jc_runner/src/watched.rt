@@ -3,11 +3,11 @@ ghost use Rattle.std.specs.Prelude.{◌≡◌, false, is_err, is_ok, IfSome, OnO
 ghost use Rattle.std.specs.Io.{ReadsAtMost, WritesAtMost};
 ghost use Rattle.std.specs.Io.KnownBytes.{ReadConsumes, WriteAppends, Appends, Keeps};
 ghost use Rattle.jc_runner.specs.Meters.{next, next_if};
-ghost use Rattle.jc_runner.specs.Streams.{takes_nothing};
+ghost use Rattle.jc_runner.specs.Streams.{takes_nothing, UnheardAfter};
 
 use std::fmt::Display;
 use std::io;
-use std::io::{Read, Write};
+use std::io::{ErrorKind, Read, Write};
 
 /// One more. A count goes round after `u64::MAX`, so that what was added to it is always seen in full.
 fn next(count: u64) -> u64
@@ -21,6 +21,16 @@ fn next_if(failed: bool, count: u64) -> u64
     ensures { result ≡ next_if failed count }
 {
     if failed { next(count) } else { count }
+}
+
+/// Whether the last failure was that nobody reads any more, after one more call.
+fn unheard_after<T>(outcome: &io::Result<T>, before: bool) -> bool
+    ensures { UnheardAfter outcome.now before result }
+{
+    match outcome {
+        Ok(_) => before,
+        Err(error) => matches!(error.kind(), ErrorKind::BrokenPipe),
+    }
 }
 
 /// A reader, with how often it was read and how often that failed.
@@ -70,22 +80,25 @@ impl<R: Read> Watched<R> {
     }
 }
 
-/// A writer, with how often it failed, by a fault or by taking no byte, and whether what it took last was flushed.
+/// A writer, with how often it failed, by a fault or by taking no byte, whether its last fault was that nobody reads any
+/// more, and whether what it took last was flushed.
 #[derive(Drop)]
 pub struct WatchedWriter<W> {
     inner: W,
     failures: u64,
+    unheard: bool,
     flushed: bool,
 }
 
 impl<W: Write> WatchedWriter<W> {
     /// A writer that was not called yet.
     pub fn new(inner: W) -> WatchedWriter<W>
-        ensures { result ≡ record { inner = inner; failures = 0; flushed = false } }
+        ensures { result ≡ record { inner = inner; failures = 0; unheard = false; flushed = false } }
     {
         WatchedWriter {
             inner,
             failures: 0,
+            unheard: false,
             flushed: false,
         }
     }
@@ -98,14 +111,23 @@ impl<W: Write> WatchedWriter<W> {
         inner
     }
 
+    /// Whether its last fault was that nobody reads any more.
+    pub fn unheard(&self) -> bool
+        ensures { result ≡ self.now.unheard }
+    {
+        self.unheard
+    }
+
     /// What `write!` and `writeln!` call: writes all of a text.
     pub(crate) fn write_fmt<T: Display + Drop>(&mut self, text: T) -> io::Result<()>
         ensures bytes { OnOk result (IfSome (T.output text) (Appends (W.contents self.old.inner) (W.contents self.new.inner))) }
         ensures failures { self.new.failures ≡ next_if (is_err result) self.old.failures }
+        ensures unheard { UnheardAfter result self.old.unheard self.new.unheard }
         ensures flushed { self.new.flushed ≡ false }
     {
         let result = self.inner.write_fmt(text);
         self.failures = next_if(result.is_err(), self.failures);
+        self.unheard = unheard_after(&result, self.unheard);
         self.flushed = false;
         result
     }
@@ -114,6 +136,7 @@ impl<W: Write> WatchedWriter<W> {
         ensures bound { WritesAtMost result buf.now }
         ensures bytes { WriteAppends (W.contents self.old.inner) (W.contents self.new.inner) result buf.now }
         ensures failures { self.new.failures ≡ next_if (takes_nothing result) self.old.failures }
+        ensures unheard { UnheardAfter result self.old.unheard self.new.unheard }
         ensures flushed { self.new.flushed ≡ false }
     {
         let result = self.inner.write(buf);
@@ -122,6 +145,7 @@ impl<W: Write> WatchedWriter<W> {
             Err(_) => true,
         };
         self.failures = next_if(failed, self.failures);
+        self.unheard = unheard_after(&result, self.unheard);
         self.flushed = false;
         result
     }
@@ -129,10 +153,12 @@ impl<W: Write> WatchedWriter<W> {
     pub(crate) fn flush(&mut self) -> io::Result<()>
         ensures bytes { Keeps (W.contents self.old.inner) (W.contents self.new.inner) }
         ensures failures { self.new.failures ≡ next_if (is_err result) self.old.failures }
+        ensures unheard { UnheardAfter result self.old.unheard self.new.unheard }
         ensures flushed { self.new.flushed ≡ is_ok result }
     {
         let result = self.inner.flush();
         self.failures = next_if(result.is_err(), self.failures);
+        self.unheard = unheard_after(&result, self.unheard);
         self.flushed = result.is_ok();
         result
     }

@@ -2,14 +2,24 @@
 use Rattle.std.proofs.Common.{◌≡◌, ◌≢◌, ◌<◌, ◌^◌, ℕ, Bool, true, false, List, Option, Some, None, Result, Ok, Err, option_map, refl, sym, ap, ap₂, subst, inl, IfSome, ◌∙◌, codes}
 use Rattle.std.specs.Bool.{MatchBool}
 use Rattle.std.specs.Str.Parse.{ParsesUnsigned}
+use Rattle.std.specs.Prelude.{find, option_and_then}
+use Rattle.std.specs.Str.{bytes_eq}
+use Rattle.clap.specs.Facts.{Entry}
+use Rattle.clap.specs.Matches.{matched_of, first_value}
+use Rattle.clap.specs.Walk.{row_of, rows_of, first_of}
 use Rattle.clap.specs.Words.{Text, Row, ReadsOne, is_simple}
 use Rattle.clap.specs.Kinds.{HasKind}
 use Rattle.clap.specs.Faults.{fault_of, is_simple_and_free}
 use Rattle.clap.specs.Simple.{App}
+use Rattle.clap.specs.declared.parser.matches.Found.{Found}
+use Rattle.clap.specs.declared.parser.matches.MatchedArg.{MatchedArg}
+use Rattle.clap.specs.declared.parser.matches.ValueSource.{ValueSource}
 use Rattle.clap.specs.declared.error.Error.{Error}
-use Rattle.jc_words.specs.Program.{IsNumber, truth, AsksBy, AsksForNone, KeepsLimits, MayRefuse, program}
+use Rattle.jc_words.specs.Program.{IsNumber, truth, source_of, is_of_words, is_in_words, may_be_input, clash_of, AsksBy, AsksForNone, KeepsLimits, MayRefuse, program}
 use Rattle.clap.proofs.OnLiterals.{clap_on_literals}
+use Rattle.clap.proofs.WalkLemmas.{find_row, first_value-rows}
 use Rattle.jc_words.specs.declared.asked.Asked.{Asked}
+use Rattle.jc_words.specs.declared.clash.Clash.{Clash}
 use Rattle.std.specs.Borrow.{Bor}
 
 same_text : (t u : Text) → Some t ≡ Some u → t ≡ u
@@ -34,12 +44,28 @@ truth_read None b none value = let h : Some b ≡ None = none refl in cc
 truth_read (Some t) true none value = ap (λ (text : Text). Some text) (value t refl)
 truth_read (Some t) false none value = ap (λ (text : Text). Some text) (value t refl)
 
+-- where a value came from, by its row
+pub source-rows : (f : Found) (id : Text) → option_and_then (λ a. a.source) (matched_of f id) ≡ source_of id (rows_of f)
+source-rows f id = go (find (λ e. bytes_eq e.0.now id) f.entries.items) ∙ ap (option_and_then (λ (r : Row). r.source)) (sym (find_row f.entries.items id))
+  where
+    go : (o : Option Entry) → option_and_then (λ (a : MatchedArg). a.source) (option_map (λ e. e.1) o) ≡ option_and_then (λ (r : Row). r.source) (option_map row_of o)
+    go None = refl
+    go (Some e) = refl
+
 -- the name and the rows of the subcommand that was met, each read by itself
-pub named : (o : Option (Text × List Row)) (name : Text) (rows : List Row) (a : Asked) → Some name ≡ option_map (λ p. p.0) o → Some rows ≡ option_map (λ p. p.1) o → AsksBy (name, rows) a → (p : Text × List Row) × (o ≡ Some p) × AsksBy p a
-named None name rows a is has asks = cc
-named (Some p) name rows a is has asks =
+pub named : (o : Option (Text × List Row)) (name : Text) (rows : List Row) (a : Asked) → Some name ≡ option_map (λ p. p.0) o → Some rows ≡ option_map (λ p. p.1) o → clash_of rows ≡ None → AsksBy (name, rows) a → (p : Text × List Row) × (o ≡ Some p) × (clash_of p.1 ≡ None) × AsksBy p a
+named None name rows a is has apart asks = cc
+named (Some p) name rows a is has apart asks =
     let same : (name, rows) ≡ p = ap₂ (λ (n : Text) (r : List Row). (n, r)) (same_text name p.0 is) (same_rows rows p.1 has) in
-    (p, refl, subst (λ (q : Text × List Row). AsksBy q a) same asks)
+    (p, refl, subst (λ (q : Text × List Row). clash_of q.1 ≡ None) same apart, subst (λ (q : Text × List Row). AsksBy q a) same asks)
+
+pub some_clash : (o : Option Clash) (clash : Clash) (rows : List Row) → o ≡ clash_of rows → o ≡ Some clash → clash_of rows ≢ None
+some_clash o clash rows e is none = cc
+
+-- the rows of the subcommand that was met clash
+pub clashing : (o : Option (Text × List Row)) (rows : List Row) → Some rows ≡ option_map (λ p. p.1) o → clash_of rows ≢ None → (p : Text × List Row) × (o ≡ Some p) × (clash_of p.1 ≢ None)
+clashing None rows has apart = cc
+clashing (Some p) rows has apart = (p, refl, subst (λ (r : List Row). clash_of r ≢ None) (same_rows rows p.1 has) apart)
 
 pub is_simple_program : is_simple program ≡ true
 unfolding clap_on_literals
@@ -81,10 +107,10 @@ pub no_text : (o : Option (Bor (List ℕ))) (t : Option Text) (bytes : Text) →
 no_text o t bytes e is asked = cc
 
 -- the subcommand that was met asks for nothing
-pub no_asked : (o : Option (Text × List Row)) (name : Text) (rows : List Row) (a : Asked) → Some name ≡ option_map (λ p. p.0) o → Some rows ≡ option_map (λ p. p.1) o → AsksForNone (name, rows) → (p : Text × List Row) × (o ≡ Some p) × AsksBy p a → KeepsLimits a → ⊥
+pub no_asked : (o : Option (Text × List Row)) (name : Text) (rows : List Row) (a : Asked) → Some name ≡ option_map (λ p. p.0) o → Some rows ≡ option_map (λ p. p.1) o → AsksForNone (name, rows) → (p : Text × List Row) × (o ≡ Some p) × (clash_of p.1 ≡ None) × AsksBy p a → KeepsLimits a → ⊥
 no_asked None name rows a is has none asked within = absurd cc
 no_asked (Some p) name rows a is has none asked within =
-    let (q, same, asks) = asked in
+    let (q, same, apart, asks) = asked in
     let at_p : p ≡ (name, rows) = ap₂ (λ (n : Text) (r : List Row). (n, r)) (sym (same_text name p.0 is)) (sym (same_rows rows p.1 has)) in
     none a (subst (λ (r : Text × List Row). AsksBy r a) (sym (same_pair p q same) ∙ at_p) asks) within
   where
@@ -92,6 +118,14 @@ no_asked (Some p) name rows a is has none asked within =
     same_pair p q e = cc
 
 -- none was met
-pub none_met : (o : Option (Text × List Row)) (a : Asked) → ◌≡◌ {A = Option (List Row)} None (option_map (λ p. p.1) o) → (p : Text × List Row) × (o ≡ Some p) × AsksBy p a → ⊥
+pub none_met : (o : Option (Text × List Row)) (a : Asked) → ◌≡◌ {A = Option (List Row)} None (option_map (λ p. p.1) o) → (p : Text × List Row) × (o ≡ Some p) × (clash_of p.1 ≡ None) × AsksBy p a → ⊥
 none_met None a e asked = absurd cc
 none_met (Some p) a e asked = absurd cc
+
+-- whether the words have a value, by where it came from
+pub worded : (f : Found) (id : Text) (o s : Option ValueSource) → o ≡ option_and_then (λ a. a.source) (matched_of f id) → o ≡ s → is_of_words s ≡ is_in_words id (rows_of f)
+worded f id o s comes is = ap is_of_words (sym is ∙ comes ∙ source-rows f id)
+
+-- whether a path stands for standard input
+pub input_read : (f : Found) (id : Text) (o p : Option (Bor (List ℕ))) → option_map (λ s. s.now) o ≡ first_value f id → o ≡ p → may_be_input (option_map (λ s. s.now) p) ≡ may_be_input (first_of id (rows_of f))
+input_read f id o p reads is = ap may_be_input (ap (λ (x : Option (Bor (List ℕ))). option_map (λ s. s.now) x) (sym is) ∙ reads ∙ first_value-rows f id)

@@ -1,15 +1,20 @@
 -- The program's command, and what words ask of it as `clap` reads them.
-use Rattle.std.specs.Prelude.{◌≡◌, ◌≤◌, ◌<◌, ◌^◌, ◌⊎◌, ℕ, pos, Bool, true, false, List, [], ◌∷◌, Option, Some, None, option_map, codes, string_bytes, ⊤}
+use Rattle.std.specs.Prelude.{◌≡◌, ◌≢◌, ◌≤◌, ◌<◌, ◌^◌, ◌⊎◌, ◌&&◌, ℕ, pos, Bool, true, false, if◌then◌else◌, List, [], ◌∷◌, find, Option, Some, None, option_map, option_and_then, codes, string_bytes, ⊤}
+use Rattle.std.specs.Str.{bytes_eq}
 use Rattle.std.specs.Str.Parse.{IsNumeral, without_leading_plus, digits_value}
 use Rattle.clap.specs.Kinds.{HasKind}
 use Rattle.clap.specs.Words.{App, Row, Rule, Text, new_app, new_rule, one_of, first_of, subcommand_of, with_rule, with_subcommand, fault_of}
 use Rattle.clap.specs.declared.builder.ArgAction.TheVariants.{Set, SetTrue}
 use Rattle.clap.specs.declared.builder.value_parser.ValueParser.TheVariants as parsers
+use Rattle.clap.specs.declared.parser.matches.ValueSource.{ValueSource}
+use Rattle.clap.specs.declared.parser.matches.ValueSource.TheVariants.{DefaultValue, CommandLine}
 use Rattle.clap.specs.declared.error.Error.{Error}
 use Rattle.clap.specs.declared.error.kind.ErrorKind.TheVariants as kinds
 use Rattle.jc_words.specs.declared.asked.Asked.{Asked}
 use Rattle.jc_words.specs.declared.asked.Asked.TheVariants as asked
 use Rattle.jc_words.specs.declared.asked.Check.{Check}
+use Rattle.jc_words.specs.declared.clash.Clash.{Clash}
+use Rattle.jc_words.specs.declared.clash.Clash.TheVariants as clash
 use Rattle.jc_words.specs.declared.run.Run.{Run}
 use Rattle.jc_words.specs.declared.run.Options.{Options}
 
@@ -25,14 +30,19 @@ workers_rule = record (new_rule (codes "workers")) { long = Some (codes "workers
 abbrev pub seed_rule : Rule
 seed_rule = record (new_rule (codes "seed")) { long = Some (codes "seed"); action = Some Set; value_names = 1; parser = Some (parsers.Signed (pos 0) (pos 9223372036854775807)); defaults = codes "0" ∷ [] }
 
-abbrev pub serial_rule : Rule
-serial_rule = record (new_rule (codes "serial")) { long = Some (codes "serial"); action = Some SetTrue }
+-- an option without a value
+abbrev pub flag_rule : Text → Rule
+flag_rule id = record (new_rule id) { long = Some id; action = Some SetTrue }
+
+-- the paths of both files, of which the second may not have to be there
+abbrev pub files_app : Text → Bool → App
+files_app name has_script = with_rule (with_rule (new_app name) (path_rule (codes "CONFIG") true)) (path_rule (codes "SCRIPT") has_script)
 
 abbrev pub run_app : App
-run_app = with_rule (with_rule (with_rule (with_rule (with_rule (new_app (codes "run")) (path_rule (codes "CONFIG") true)) (path_rule (codes "SCRIPT") true)) workers_rule) seed_rule) serial_rule
+run_app = with_rule (with_rule (with_rule (with_rule (files_app (codes "run") true) workers_rule) seed_rule) (flag_rule (codes "serial"))) (flag_rule (codes "strict"))
 
 abbrev pub check_app : App
-check_app = with_rule (with_rule (new_app (codes "check")) (path_rule (codes "CONFIG") true)) (path_rule (codes "SCRIPT") false)
+check_app = with_rule (files_app (codes "check") false) (flag_rule (codes "strict"))
 
 -- the words begin after the program's name, one of them has to be a subcommand, and there is a version to print
 abbrev pub bare_app : App
@@ -57,9 +67,36 @@ pub record AsksOptions (rows : List Row) (options : Options) : Type 0 where
   pub workers : IsNumber (one_of (codes "workers") rows) options.workers
   pub seed : IsNumber (one_of (codes "seed") rows) options.seed
   pub serial : one_of (codes "serial") rows ≡ Some (truth options.serial)
+  pub strict : one_of (codes "strict") rows ≡ Some (truth options.strict)
 
 abbrev pub options_of : Run → Options
-options_of run = record { workers = run.workers; seed = run.seed; serial = run.serial }
+options_of run = record { workers = run.workers; seed = run.seed; serial = run.serial; strict = run.strict }
+
+-- where the value of an id came from, and whether that is the words
+abbrev pub source_of : Text → List Row → Option ValueSource
+source_of id rows = option_and_then (λ r. r.source) (find (λ r. bytes_eq r.id id) rows)
+
+abbrev pub is_of_words : Option ValueSource → Bool
+is_of_words None = false
+is_of_words (Some DefaultValue) = false
+is_of_words (Some CommandLine) = true
+
+abbrev pub is_in_words : Text → List Row → Bool
+is_in_words id rows = is_of_words (source_of id rows)
+
+-- a path that stands for standard input
+abbrev pub is_input : Text → Bool
+is_input path = bytes_eq path (codes "-")
+
+abbrev pub may_be_input : Option Text → Bool
+may_be_input None = false
+may_be_input (Some path) = is_input path
+
+-- what of rows of matches can't stand together
+abbrev pub clash_of : List Row → Option Clash
+clash_of rows =
+    if is_in_words (codes "serial") rows && is_in_words (codes "workers") rows then Some clash.Threads else
+    (if may_be_input (first_of (codes "CONFIG") rows) && may_be_input (first_of (codes "SCRIPT") rows) then Some clash.Inputs else None)
 
 -- the run that rows of matches ask for
 pub record Asks (rows : List Row) (run : Run) : Type 0 where
@@ -71,20 +108,25 @@ pub record Asks (rows : List Row) (run : Run) : Type 0 where
 pub record AsksCheck (rows : List Row) (check : Check) : Type 0 where
   pub config : first_of (codes "CONFIG") rows ≡ Some (string_bytes check.config)
   pub script : first_of (codes "SCRIPT") rows ≡ option_map string_bytes check.script
+  pub strict : one_of (codes "strict") rows ≡ Some (truth check.strict)
 
 -- what a subcommand and its matches ask for
 abbrev pub AsksBy : Text × List Row → Asked → Type 0
 AsksBy p (asked.Run run) = (p.0 ≡ codes "run") × Asks p.1 run
 AsksBy p (asked.Check check) = (p.0 ≡ codes "check") × AsksCheck p.1 check
 
--- the words name the subcommand, and its matches ask for this
+-- the words name the subcommand, its matches ask for this, and they can stand together
 abbrev pub AsksFor : List Text → Asked → Type 0
-AsksFor words a = (p : Text × List Row) × (subcommand_of program words ≡ Some p) × AsksBy p a
+AsksFor words a = (p : Text × List Row) × (subcommand_of program words ≡ Some p) × (clash_of p.1 ≡ None) × AsksBy p a
+
+-- the words name a subcommand, and its matches can't stand together
+abbrev pub Clashes : List Text → Type 0
+Clashes words = (p : Text × List Row) × (subcommand_of program words ≡ Some p) × (clash_of p.1 ≢ None)
 
 abbrev pub IsWithinLimits : Options → Type 0
 IsWithinLimits options = (1 ≤ options.workers) × (options.workers ≤ 8) × (options.seed < 2 ^ 63)
 
--- a check has no options
+-- a check has no numbers
 abbrev pub KeepsLimits : Asked → Type 0
 KeepsLimits (asked.Run run) = IsWithinLimits (options_of run)
 KeepsLimits (asked.Check check) = ⊤
@@ -106,6 +148,9 @@ AsksForNone p = (a : Asked) → AsksBy p a → KeepsLimits a → ⊥
 abbrev pub AskForNone : List Text → Type 0
 AskForNone words = (a : Asked) → AsksFor words a → KeepsLimits a → ⊥
 
--- a kind of fault that `clap` has for the words, or want of memory; or that the words ask for nothing
+-- A kind of fault that `clap` has for the words, or want of memory; or that some of them can't stand together; or that
+-- they ask for nothing.
 abbrev pub MayRefuse : List Text → Error → Type 0
-MayRefuse words e = HasKind (fault_of program words) e ⊎ (HasKind (kinds.InvalidSubcommand ∷ []) e × AskForNone words)
+MayRefuse words e =
+    HasKind (fault_of program words) e
+    ⊎ ((HasKind (kinds.ArgumentConflict ∷ []) e × Clashes words) ⊎ (HasKind (kinds.InvalidSubcommand ∷ []) e × AskForNone words))

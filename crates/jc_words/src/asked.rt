@@ -2,11 +2,12 @@
 
 use crate::run::Run;
 
-/// A check of a configuration and, where its path is there, of a script.
+/// A check of a configuration and, where its path is there, of a script; `strict` is a run's.
 #[derive(Drop)]
 pub struct Check {
     pub config: String,
     pub script: Option<String>,
+    pub strict: bool,
 }
 
 /// What the program is to do.

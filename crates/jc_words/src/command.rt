@@ -3,7 +3,7 @@
 ghost use Rattle.std.specs.Prelude.{◌≡◌, IfOk, true, false};
 ghost use Rattle.clap.specs.Words.{app_of, new_app, rule_of};
 ghost use Rattle.clap.specs.declared.builder.Command.TheViews.{out-Command};
-ghost use Rattle.jc_words.specs.Program.{path_rule, workers_rule, seed_rule, serial_rule, run_app, check_app, bare_app, program as program_app};
+ghost use Rattle.jc_words.specs.Program.{path_rule, workers_rule, seed_rule, flag_rule, run_app, check_app, bare_app, program as program_app};
 
 use crate::help;
 use clap::{Arg, ArgAction, Command, value_parser};
@@ -50,13 +50,14 @@ fn seed<'a>(alloc: Global) -> Arg<'a>
         .default_value("0")
 }
 
-fn serial<'a>(alloc: Global) -> Arg<'a>
-    ensures rule { rule_of result ≡ serial_rule }
+/// An option without a value.
+fn flag<'a>(alloc: Global, id: &'a str, help: &'a str) -> Arg<'a>
+    ensures rule { rule_of result ≡ flag_rule id.entry.now }
     ensures global { result.global ≡ false }
 {
-    Arg::new(alloc, "serial")
-        .long("serial")
-        .help(help::SERIAL)
+    Arg::new(alloc, id)
+        .long(id)
+        .help(help)
         .action(ArgAction::SetTrue)
 }
 
@@ -67,7 +68,8 @@ fn described<'a>(alloc: Global, name: &'a str, about: &'a str) -> Command<'a>
 {
     Command::new(alloc, name)
         .about(about)
-        .after_help(help::AFTER)
+        .after_help(help::BRIEF)
+        .after_long_help(help::AFTER)
 }
 
 fn run<'a>(alloc: Global) -> Result<Command<'a>, AllocError>
@@ -79,7 +81,8 @@ fn run<'a>(alloc: Global) -> Result<Command<'a>, AllocError>
         .arg(path(alloc, "SCRIPT", help::SCRIPT))?
         .arg(workers(alloc))?
         .arg(seed(alloc))?
-        .arg(serial(alloc))
+        .arg(flag(alloc, "serial", help::SERIAL))?
+        .arg(flag(alloc, "strict", help::STRICT))
 }
 
 fn check<'a>(alloc: Global) -> Result<Command<'a>, AllocError>
@@ -88,7 +91,8 @@ fn check<'a>(alloc: Global) -> Result<Command<'a>, AllocError>
 {
     described(alloc, "check", help::CHECK)
         .arg(path(alloc, "CONFIG", help::CONFIG))?
-        .arg(optional_path(alloc, "SCRIPT", help::SCRIPT))
+        .arg(optional_path(alloc, "SCRIPT", help::SCRIPT))?
+        .arg(flag(alloc, "strict", help::STRICT))
 }
 
 /// The program's command without its subcommands.

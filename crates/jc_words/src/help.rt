@@ -15,14 +15,14 @@ pub const CHECK: &str = "Reads CONFIG and SCRIPT, runs nothing, and tells the fi
 /// All ways to start the program.
 pub const USAGE: &str = "\
 jcache run [OPTIONS] <CONFIG> <SCRIPT>
-       jcache check <CONFIG> [SCRIPT]
+       jcache check [OPTIONS] <CONFIG> [SCRIPT]
        jcache < SCRIPT";
 
 /// The first argument, in a line.
-pub const CONFIG: &str = "Path of the configuration, a TOML file";
+pub const CONFIG: &str = "Path of the configuration, a TOML file; - is standard input";
 
 /// The second argument, in a line.
-pub const SCRIPT: &str = "Path of the script, one JSON object a line";
+pub const SCRIPT: &str = "Path of the script, one JSON object a line; - is standard input";
 
 /// The option `--workers`, in a line; `jc_words::command` has the limits.
 pub const WORKERS: &str = "From 1 to 8; session s makes its calls on worker s mod N";
@@ -32,13 +32,22 @@ pub const SEED: &str =
     "From 0 to 9223372036854775807; picks places in the table, and changes no report";
 
 /// The option `--serial`, in a line.
-pub const SERIAL: &str = "No workers: one thread makes all calls, in the script's order";
+pub const SERIAL: &str =
+    "No workers: one thread makes all calls, in the script's order; not beside --workers";
 
-/// What stands below the arguments.
+/// The option `--strict`, in a line.
+pub const STRICT: &str =
+    "Refuses members of a line that its op does not need, and a configuration without caches";
+
+/// What stands below the arguments in short help.
+pub const BRIEF: &str = "--help shows an example of each file, all ops, and the statuses.";
+
+/// What stands there in long help.
 pub const AFTER: &str = "\
 Without any words the script is read from standard input, and its caches are a,
 with room for 2 rows that never expire, and b, with room for 1 row that expires
-100 milliseconds after its creation.
+100 milliseconds after its creation. One of the two paths may be -, which is
+standard input.
 
 CONFIG lists the caches. Of a table's members only name and capacity have to be
 there, and duration where expiry is not \"eternal\":
@@ -81,9 +90,14 @@ of a key and a value, replace is true or false, p is the place of a processor
 from 0, and arg is its argument. create makes a cache of the name c with a
 table's members, without callbacks; destroy ends the cache c.
 
+A MEMBER THAT THE OP DOES NOT NEED IS IGNORED, ALSO WHERE IT IS MISSPELT: with
+\"expire\" and \"duraton\" for \"expiry\" and \"duration\" create makes a cache that
+never expires. --strict refuses such a line.
+
 Status:
     0  the report was printed, or the files that were checked are fine, or help
        or the version was asked for
     1  a file is faulty, or reading, writing or memory failed; standard error
        has one line that says which
-    2  the command line was refused; standard error says why";
+    2  the command line was refused; standard error says why
+  141  nobody reads standard output any more; standard error has nothing";

@@ -2,11 +2,13 @@
 #![tactic(auto)]
 
 mod asked;
+mod clash;
 mod command;
 mod help;
 mod reading;
 mod run;
 
 pub use asked::{Asked, Check};
+pub use clash::{Clash, is_input};
 pub use reading::read_words;
 pub use run::Run;

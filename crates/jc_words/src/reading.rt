@@ -5,6 +5,7 @@ ghost use Rattle.clap.specs.Words.{found_of, rows_of};
 ghost use Rattle.jc_words.specs.Program.{Asks, AsksBy, AsksCheck, AsksFor, AsksForNone, AsksOptions, HaveNoCheck, HaveNoOptions, HaveNoRun, KeepsLimits, MayRefuse};
 
 use crate::asked::{Asked, Check};
+use crate::clash::clash_of;
 use crate::command::program;
 use crate::run::{Options, Run};
 use clap::error::ErrorKind;
@@ -23,6 +24,7 @@ fn options(matches: &ArgMatches<'_>) -> Option<Options>
     let workers = matches.get_one::<u8>("workers")?;
     let seed = matches.get_one::<u64>("seed")?;
     let serial = matches.get_one::<bool>("serial")?;
+    let strict = matches.get_one::<bool>("strict")?;
     if workers < 1 || workers > 8 || seed > MAX_SEED {
         return None;
     }
@@ -30,6 +32,7 @@ fn options(matches: &ArgMatches<'_>) -> Option<Options>
         workers,
         seed,
         serial,
+        strict,
     })
 }
 
@@ -55,6 +58,7 @@ fn run_asked(alloc: Global, matches: &ArgMatches<'_>) -> Result<Option<Run>, All
         workers: options.workers,
         seed: options.seed,
         serial: options.serial,
+        strict: options.strict,
     }))
 }
 
@@ -76,9 +80,16 @@ fn check_asked(alloc: Global, matches: &ArgMatches<'_>) -> Result<Option<Check>,
     let Some(config) = matches.get_str("CONFIG") else {
         return Ok(None);
     };
+    let Some(strict) = matches.get_one::<bool>("strict") else {
+        return Ok(None);
+    };
     let script = owned(alloc, matches.get_str("SCRIPT"))?;
     let config = String::from_str(alloc, config)?;
-    Ok(Some(Check { config, script }))
+    Ok(Some(Check {
+        config,
+        script,
+        strict,
+    }))
 }
 
 /// What the matches of a subcommand ask for.
@@ -107,7 +118,7 @@ fn asked(alloc: Global, name: &str, matches: &ArgMatches<'_>) -> Result<Option<A
 /// The error's text is for the user; it is the help where that was asked for.
 ///
 /// Words that ask for a check, or for a run within the limits, are refused for a fault of `clap`'s or for want of memory
-/// alone.
+/// alone. `--serial` beside `--workers` asks for nothing, nor does standard input for both files.
 ///
 /// What the clauses do not say: that words which `clap` takes ask for a run or a check, since its contract does not give
 /// the rows of a subcommand for every such words; that want of memory comes only where memory was refused; which of
@@ -125,6 +136,9 @@ pub fn read_words<'a>(alloc: Global, words: &'a [&'a str]) -> Result<Option<Aske
     let mut command = program(alloc)?;
     let matches = command.try_get_matches_from_mut(words)?;
     if let Some((name, inner)) = matches.subcommand() {
+        if let Some(clash) = clash_of(inner) {
+            return Err(command.error(ErrorKind::ArgumentConflict, clash.text())?);
+        }
         if let Some(asked) = asked(alloc, name, inner)? {
             return Ok(Some(asked));
         }

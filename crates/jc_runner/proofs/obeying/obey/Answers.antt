@@ -18,13 +18,13 @@ pub returns-in-Ok-Some-Run-clause-ends : goal.returns-in-Ok-Some-Run-clause-ends
 returns-in-Ok-Some-Run-clause-ends g c =
     let same = ap shown c.as_slice.ensures.value ∙ c.in-Ok.ensures in
     let told = of_some c.in-Ok-Some-Run.field-0 c.in-Ok-Some-Run.field-0-0 _ c.in-Ok-Some-Run.field-0-is c.in-Ok-Some-Run.ensures.exact in
-    runs c.in-Ok-Some-Run.run' (asked_for _ _ _ _ same c.in-Ok-Some-Run.field-0-0-is told) c.run_files.result c.run_files.ensures.ends refl c.ending_of.ensures
+    runs c.in-Ok-Some-Run.run' (asked_for _ _ _ _ same c.in-Ok-Some-Run.field-0-0-is told) c.run_files.result c.run_files.ensures.ends c.ending_of.ensures
 
 pub returns-in-Ok-Some-Check-clause-ends : goal.returns-in-Ok-Some-Check-clause-ends
 returns-in-Ok-Some-Check-clause-ends g c =
     let same = ap shown c.as_slice.ensures.value ∙ c.in-Ok.ensures in
     let told = of_some c.in-Ok-Some-Check.field-0 c.in-Ok-Some-Check.field-0-0 _ c.in-Ok-Some-Check.field-0-is c.in-Ok-Some-Check.ensures.exact in
-    checks c.in-Ok-Some-Check.check (asked_for _ _ _ _ same c.in-Ok-Some-Check.field-0-0-is told) c.check_files.result c.check_files.ensures.ends refl refl c.ending_of-in-Ok-Some-Check.ensures
+    checks c.in-Ok-Some-Check.check (asked_for _ _ _ _ same c.in-Ok-Some-Check.field-0-0-is told) c.check_files.result c.check_files.ensures.ends refl c.ending_of-in-Ok-Some-Check.ensures
 
 pub returns-in-Ok-demonstrate-clause-ends : goal.returns-in-Ok-demonstrate-clause-ends
 returns-in-Ok-demonstrate-clause-ends g c =

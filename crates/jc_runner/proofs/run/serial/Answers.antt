@@ -1,27 +1,5 @@
-use Rattle.std.proofs.Common.{List, ℕ, subst}
-use Rattle.std.specs.Io.KnownBytes.{Appends}
-use Rattle.std.proofs.lemmas.Result.{on_ok_weaker}
-use Rattle.jc_runner.specs.Streams.{WritesFront}
-use Rattle.jc_runner.proofs.Told.{good_of_all, reports_of_all}
+use Rattle.std.proofs.lemmas.Bool.{false≢true}
 use Rattle.jc_runner.proofs.run.serial.Goals as goal
 
-pub returns-clause-ok : goal.returns-clause-ok
-returns-clause-ok g c =
-    on_ok_weaker c.write_text.result
-    (λ written. reports_of_all g.L.Loader.load_of g.W.Writer.may g.P.Processor.verdict_of g.K.Hearer.state_after c.args.settings c.in_ok-lines.lines.items c.args.hooks.now c.report_on.new.hooks _ _ c.in_ok-bytes.bytes.items c.as_slice.result.now _ _
-    c.in_ok-bytes.ensures.all c.as_slice.ensures.value c.in_ok-lines.ensures.ok c.in_ok-text.ensures.text
-    (subst (λ (bytes : List ℕ). Appends (g.O.Write.contents c.args.writer.now.inner) (g.O.Write.contents c.write_text.new.writer.inner) bytes) c.as_bytes.ensures.value written))
-    c.write_text.ensures.all
-
-pub returns-clause-front : goal.returns-clause-front
-returns-clause-front g c = λ failed.
-    reports_of_all g.L.Loader.load_of g.W.Writer.may g.P.Processor.verdict_of g.K.Hearer.state_after c.args.settings c.in_ok-lines.lines.items c.args.hooks.now c.report_on.new.hooks _ _ c.in_ok-bytes.bytes.items c.as_slice.result.now _ _
-    c.in_ok-bytes.ensures.all c.as_slice.ensures.value c.in_ok-lines.ensures.ok c.in_ok-text.ensures.text
-    (subst (λ (bytes : List ℕ). WritesFront (g.O.Write.contents c.args.writer.now.inner) (g.O.Write.contents c.write_text.new.writer.inner) bytes) c.as_bytes.ensures.value (c.write_text.ensures.front failed))
-
-pub returns-clause-end : goal.returns-clause-end
-returns-clause-end g c = on_ok_weaker c.write_text.result (λ written. c.in_ok-bytes.ensures.all.1) c.write_text.ensures.all
-
-pub returns-in_err-text-clause-good : goal.returns-in_err-text-clause-good
-returns-in_err-text-clause-good g c = λ refused.
-    good_of_all c.args.settings c.in_ok-lines.lines.items _ _ c.in_ok-bytes.bytes.items c.as_slice.result.now c.in_ok-bytes.ensures.all c.as_slice.ensures.value c.in_ok-lines.ensures.ok
+pub returns-clause-lax : goal.returns-clause-lax
+returns-clause-lax g c n is = false≢true (c.serial_as.ensures.entry n is).0
