@@ -1,9 +1,7 @@
 //! One line of the list of examples.
 
 use crate::events::play_events;
-use crate::run::{
-    run_demonstration, run_each_configuration, run_each_script, run_files, run_words,
-};
+use crate::run::{run_each_configuration, run_each_script, run_files, run_words};
 use std::fs::Files;
 use std::io;
 use std::sync::Wait;
@@ -13,15 +11,13 @@ use std::thread::Threads;
 enum Example<'a> {
     /// The configuration and the script of its name.
     Files,
-    /// A script on standard input, without words.
-    Demonstration { script: &'a str },
     /// Each line of a file as a script of its own.
     EachScript { scripts: &'a str, config: &'a str },
     /// An empty script on each line of a file as a configuration of its own.
     EachConfiguration { configs: &'a str },
     /// Calls whose requests the file answers.
     Events { events: &'a str, config: &'a str },
-    /// The words of a command line.
+    /// The words of a command line; behind `<` the file that is standard input.
     Words,
 }
 
@@ -29,7 +25,6 @@ enum Example<'a> {
 fn example_of<'a>(words: &[&'a str]) -> Example<'a> {
     match words {
         [] => Example::Files,
-        [first, script] if *first == "<" => Example::Demonstration { script },
         [first, _, _, scripts, _, config] if *first == "each" => {
             Example::EachScript { scripts, config }
         }
@@ -61,7 +56,6 @@ pub fn play_case<R: Files + Print + Threads + Wait + Sync + AllocGlobal>(
     println!(rt; "# {name}")?;
     match example_of(words) {
         Example::Files => run_named(rt, name),
-        Example::Demonstration { script } => run_demonstration(rt, script),
         Example::EachScript { scripts, config } => run_each_script(rt, scripts, config),
         Example::EachConfiguration { configs } => run_each_configuration(rt, configs),
         Example::Events { events, config } => play_events(rt, config, events),

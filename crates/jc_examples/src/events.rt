@@ -90,6 +90,22 @@ fn asked_by<'a>(words: &[&'a str]) -> Option<Asked<'a>> {
     }
 }
 
+/// What becomes of what is made again, where it was refused for want of memory and is the same that was handed back.
+fn again_text(
+    alloc: Global,
+    text: String,
+    is_same: bool,
+    tells: bool,
+) -> Result<String, AllocError> {
+    if !is_same {
+        format!(in alloc; "another one is handed back")
+    } else if tells {
+        format!(in alloc; "refused: OutOfMemory\n{text}")
+    } else {
+        Ok(text)
+    }
+}
+
 /// What becomes of a call. Where it is refused for want of memory it is made again.
 fn called<R: Rows, G: Ring>(
     alloc: Global,
@@ -102,13 +118,10 @@ fn called<R: Rows, G: Ring>(
     let given = made.call.share()?;
     match manager.begin(session, id, at, made.call) {
         Err((Cause::OutOfMemory, call)) => {
+            let is_same = call == given;
             let again = manager.begin(session, id, at, call);
             let text = taken_text(alloc, again, &given)?;
-            if asked.tells {
-                format!(in alloc; "refused: OutOfMemory\n{text}")
-            } else {
-                Ok(text)
-            }
+            again_text(alloc, text, is_same, asked.tells)
         }
         begun => taken_text(alloc, begun, &given),
     }
@@ -161,11 +174,15 @@ fn answered<R: Rows, G: Ring>(
     let Some(given) = answer_of(alloc, words)? else {
         return format!(in alloc; "no answer");
     };
-    let resumed = match manager.resume(id, given.share()?) {
-        Err((Cause::OutOfMemory, answer)) => manager.resume(id, answer),
-        resumed => resumed,
-    };
-    taken_text(alloc, resumed, &given)
+    match manager.resume(id, given.share()?) {
+        Err((Cause::OutOfMemory, answer)) => {
+            let is_same = answer == given;
+            let again = manager.resume(id, answer);
+            let text = taken_text(alloc, again, &given)?;
+            again_text(alloc, text, is_same, false)
+        }
+        resumed => taken_text(alloc, resumed, &given),
+    }
 }
 
 /// What becomes of an open call, or which cache has a name.

@@ -1,10 +1,11 @@
 //! Plays the examples in the files that lie where the program runs, and prints what `jcache` does with each.
 //!
 //! `cases.txt` lists them, with one name a line. The example `NAME` runs the configuration `NAME.toml` and the script
-//! `NAME.jsonl`. A name may be followed by what is run in place of that: the words of a command line; `< FILE`, for no
-//! words and that file on standard input; `each script of FILE on CONFIG`, which runs each line of a file as a script
-//! of its own; `each configuration of FILE`, which runs an empty script on each line of a file; `events of FILE on
-//! CONFIG`, for calls whose requests the file answers. Empty lines and those that begin with `#` are passed over.
+//! `NAME.jsonl`. A name may be followed by what is run in place of that: the words of a command line, of which there may
+//! be none, and behind `<` the file that is standard input; `each script of FILE on CONFIG`, which runs each line of a
+//! file as a script of its own; `each configuration of FILE`, which runs an empty script on each line of a file; `events
+//! of FILE on CONFIG`, for calls whose requests the file answers. Empty lines and those that begin with `#` are passed
+//! over.
 #![tactic(auto)]
 
 mod answers;

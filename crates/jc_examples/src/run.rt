@@ -90,13 +90,17 @@ fn show_text<R: Print>(rt: &R, run: &Written) -> io::Result<()> {
     Ok(())
 }
 
-/// Runs what the words ask for.
+/// Runs what the words ask for; the file behind `<` is standard input, which else has nothing.
 pub fn run_words<R: Files + Print + Threads + Wait + Sync + AllocGlobal>(
     rt: &R,
     words: &[&str],
 ) -> io::Result<()> {
     let mut disk = HostDisk { files: rt };
-    show(rt, &printed(rt, words, &mut disk, &[])?)
+    let (words, input) = match words {
+        [front @ .., sign, file] if *sign == "<" => (front, fs::read(rt, file)?),
+        words => (words, Vec::new(rt.alloc())),
+    };
+    show(rt, &printed(rt, words, &mut disk, input.as_slice())?)
 }
 
 /// Runs a configuration and a script, with these words.
@@ -146,16 +150,6 @@ fn compare<R: Print>(
         Ok(_) => println!(rt; "another report {place}"),
         Err(fault) => println!(rt; "{fault:?}"),
     }
-}
-
-/// Runs a file as standard input on the demonstration's caches.
-pub fn run_demonstration<R: Files + Print + Threads + Wait + Sync + AllocGlobal>(
-    rt: &R,
-    script: &str,
-) -> io::Result<()> {
-    let script = fs::read(rt, script)?;
-    let mut disk = HostDisk { files: rt };
-    show(rt, &printed(rt, &[], &mut disk, script.as_slice())?)
 }
 
 /// Runs a script on caches of a configuration.
