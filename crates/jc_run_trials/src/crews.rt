@@ -102,12 +102,12 @@ static SCENES: [Scene; 2] = [
         caches: r#"
 [[cache]]
 name = "a"
-capacity = 4
+capacity = 64
 loader = "echo"
 
 [[cache]]
 name = "b"
-capacity = 4
+capacity = 64
 "#,
         waits: [2, 2],
         calls: r#"
@@ -125,12 +125,12 @@ cache b
         caches: r#"
 [[cache]]
 name = "a"
-capacity = 4
+capacity = 64
 loader = "echo"
 
 [[cache]]
 name = "b"
-capacity = 4
+capacity = 64
 loader = "echo"
 "#,
         waits: [1, 0],

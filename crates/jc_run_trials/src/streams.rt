@@ -3,13 +3,14 @@
 use jc_config::ConfigFault;
 use jc_hooks::program::ProgramHooks;
 use jc_runner::{
-    Crew, ProgramFault, RunFault, Setup, Watched, WatchedWriter, demonstration, read_configuration,
-    serial, threaded, write_fault,
+    Crew, HostDisk, Opened, ProgramFault, RunFault, Setup, Standard, Watched, WatchedWriter,
+    demonstration, program, read_configuration, serial, threaded, write_fault,
 };
 use jc_script::{ScriptFault, read_script};
 use jc_threads::OpenGate;
 use jc_trials::{Trouble, no_hooks};
 use std::alloc::Global;
+use std::fs::Files;
 use std::io;
 use std::io::{ErrorKind, Read, Write};
 use std::sync::Wait;
@@ -81,6 +82,28 @@ fn every_prefix_of_a_script(rt: HostRuntime) -> Result<(), Trouble> {
         let (fault, written) = run(rt.alloc(), 2, front.as_bytes())?;
         assert_eq!(rt; fault, wanted, "{front}");
         assert_eq!(rt; written.as_slice(), report.as_bytes(), "{front}");
+    }
+    Ok(())
+}
+
+/// The fault of the script with a byte that no text has at a place, and what was written.
+fn run_with_no_text(alloc: Global, at: usize) -> Result<(Option<RunFault>, Vec<u8>), Trouble> {
+    let mut script = SCRIPT.as_bytes().to_vec(alloc)?;
+    if let Some(byte) = script.get_mut(at) {
+        *byte = 0xff;
+    }
+    run(alloc, 2, script.as_slice())
+}
+
+#[test]
+fn a_line_that_is_no_text_is_told(rt: HostRuntime) -> Result<(), Trouble> {
+    for at in 0..SCRIPT.len() {
+        let before = SCRIPT.get(0..at).unwrap_or("").matches('\n').count();
+        let line = before.saturating_add(1);
+        let wanted = RunFault::Script(ScriptFault::NotJson { line });
+        let (fault, written) = run_with_no_text(rt.alloc(), at)?;
+        assert_eq!(rt; fault, Some(wanted), "{at}");
+        assert!(rt; written.is_empty());
     }
     Ok(())
 }
@@ -179,17 +202,18 @@ fn texts_have_at_most_eight_megabytes(rt: HostRuntime) -> Result<(), Trouble> {
     Ok(())
 }
 
-/// A writer that takes so many bytes, one at a time, and then fails.
+/// A writer that takes so many bytes, one at a time, and then fails in this way.
 #[derive(Drop)]
 struct FailingWriter {
     left: usize,
+    kind: ErrorKind,
     taken: Vec<u8>,
 }
 
 impl Write for FailingWriter {
     fn write(&mut self, buf: &[u8]) -> io::Result<usize> {
         if self.left == 0 {
-            return Err(io::Error::from(ErrorKind::BrokenPipe));
+            return Err(io::Error::from(self.kind));
         }
         if buf.is_empty() {
             return Ok(0);
@@ -209,6 +233,7 @@ impl Write for FailingWriter {
 fn failing(alloc: Global, left: usize) -> FailingWriter {
     FailingWriter {
         left,
+        kind: ErrorKind::BrokenPipe,
         taken: Vec::new(alloc),
     }
 }
@@ -312,6 +337,49 @@ fn faults_have_their_lines(rt: HostRuntime) -> Result<(), Trouble> {
                 &line.as_bytes()[..left]
             );
         }
+    }
+    Ok(())
+}
+
+/// The status of a program whose standard output fails in this way behind so many bytes, and what standard error has.
+fn ended<R: Files + Threads + Wait + Sync>(
+    rt: &R,
+    alloc: Global,
+    kind: ErrorKind,
+    words: &[&str],
+    left: usize,
+) -> Result<(u8, Vec<u8>), Trouble> {
+    let mut given = Vec::with_capacity(alloc, words.len())?;
+    for word in words {
+        given.push(word.to_string(alloc)?)?;
+    }
+    let output = FailingWriter {
+        left,
+        kind,
+        taken: Vec::new(alloc),
+    };
+    let mut standard = Standard::new(SCRIPT.as_bytes(), output, Vec::new(alloc));
+    let mut opened = Opened::none();
+    let mut disk = HostDisk { files: rt };
+    let ended = program(rt, alloc, Ok(given), &mut disk, &mut opened, &mut standard);
+    Ok((ended.status, standard.errors.into_inner()))
+}
+
+#[test]
+fn a_closed_pipe_ends_the_program_in_silence(rt: HostRuntime) -> Result<(), Trouble> {
+    let alloc = rt.alloc();
+    for left in [0, 1, REPORTS[6].len().saturating_sub(1)] {
+        let (status, errors) = ended(&rt, alloc, ErrorKind::BrokenPipe, &[], left)?;
+        assert_eq!(rt; status, 141);
+        assert!(rt; errors.is_empty());
+        let (status, errors) = ended(&rt, alloc, ErrorKind::StorageFull, &[], left)?;
+        assert_eq!(rt; status, 1);
+        assert_eq!(rt; errors.as_slice(), "report: cannot be written\n".as_bytes());
+    }
+    for (kind, wanted) in [(ErrorKind::BrokenPipe, 141), (ErrorKind::StorageFull, 1)] {
+        let (status, errors) = ended(&rt, alloc, kind, &["--version"], 0)?;
+        assert_eq!(rt; status, wanted);
+        assert!(rt; errors.is_empty());
     }
     Ok(())
 }

@@ -15,10 +15,12 @@ pub use fakes::{
 };
 pub use log::{Log, Text};
 pub use placers::{ConstantPlacer, TablePlacer};
-pub use refusing::{CountingMirror, RefusingMirror, RefusingRows};
+pub use refusing::{NotedMirror, RefusingMirror, RefusingRows};
 pub use sessions::seated;
 pub use trouble::{Trouble, done, is, key, no_hooks, plain_cache, value_of};
 
+#[cfg(test)]
+mod again;
 #[cfg(test)]
 mod closing;
 #[cfg(test)]

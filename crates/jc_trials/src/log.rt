@@ -61,11 +61,15 @@ impl Log {
         }
     }
 
+    /// How many texts were noted, those beyond the room with them.
+    pub fn count(&self) -> u64 {
+        self.count.load(Ordering::SeqCst)
+    }
+
     /// The texts that were noted, each with a space after it.
     pub fn text(&self, alloc: Global) -> Result<Vec<u8>, OutOfMemory> {
         let mut text = Vec::new(alloc);
-        let count = self.count.load(Ordering::SeqCst);
-        for word in self.words.iter().take(count as usize) {
+        for word in self.words.iter().take(self.count() as usize) {
             for byte in word.load(Ordering::SeqCst).to_be_bytes() {
                 if byte != 0 {
                     text.push(byte)?;

@@ -1,6 +1,6 @@
 //! What no configuration and no script meets: refusals of `open` and of calls, runs of events, and other texts.
 
-use crate::trouble::{Trouble, key, plain_cache, value_of};
+use crate::trouble::{Trouble, is, key, plain_cache, value_of};
 use jc_engine::engine::Engine;
 use jc_engine::open::OpenRefusal;
 use jc_engine::open::OpenRefusal::{
@@ -9,6 +9,7 @@ use jc_engine::open::OpenRefusal::{
 use jc_model::call::{Answer, Call, Counts, ProcessorFault, Reply, Request};
 use jc_model::config::CacheConfig;
 use jc_model::event::{CacheId, Cause, Event, Outcome, Step};
+use jc_model::key::Key;
 use jc_model::list::Sequence;
 use jc_model::value::Value;
 use jc_ring::list_ring::ListRing;
@@ -112,62 +113,95 @@ fn found(value: Value) -> Outcome {
     Outcome::Step(Step::Done(Reply::Found(Some(value))))
 }
 
-/// Events of two caches that take turns, and refused ones among them; each with what it comes to.
-fn events(alloc: Global) -> Result<[(Event, Outcome); 10], Trouble> {
-    let (a, b, c) = (CacheId::new(0), CacheId::new(1), CacheId::new(7));
-    let (k, x) = (key("k")?, key("x")?);
-    let (one, stored) = (value_of(alloc, "1")?, value_of(alloc, "1")?);
+/// An outcome that asks for a key's value.
+fn asked(key: Key) -> Outcome {
+    Outcome::Step(Step::Need(Request::Load(key)))
+}
+
+/// Events, and what they come to.
+type Events = (Vec<Event>, Vec<Outcome>);
+
+/// So many of both.
+fn both<const N: usize>(
+    alloc: Global,
+    events: [Event; N],
+    outcomes: [Outcome; N],
+) -> Result<Events, Trouble> {
+    let events = Vec::from_array(alloc, events)?;
+    Ok((events, Vec::from_array(alloc, outcomes)?))
+}
+
+/// Two caches take turns.
+fn turns(alloc: Global) -> Result<Events, Trouble> {
+    let (a, b, k) = (CacheId::new(0), CacheId::new(1), key("k")?);
     let (loaded, replied) = (value_of(alloc, "k")?, value_of(alloc, "k")?);
+    let put = Call::Put(key("x")?, value_of(alloc, "1")?);
+    let events = [
+        Event::Begin(a, 0, Call::Get(k)),
+        Event::Begin(b, 0, put),
+        Event::Answer(a, Answer::Loaded(Some(loaded))),
+    ];
+    let outcomes = [
+        asked(k),
+        Outcome::Step(Step::Done(Reply::Done)),
+        found(replied),
+    ];
+    both(alloc, events, outcomes)
+}
+
+/// Events after these, refused ones among them.
+fn others(alloc: Global) -> Result<Events, Trouble> {
+    let (a, b, c) = (CacheId::new(0), CacheId::new(1), CacheId::new(7));
+    let (l, x, stored) = (key("l")?, key("x")?, value_of(alloc, "1")?);
+    let (loaded, replied) = (value_of(alloc, "2")?, value_of(alloc, "2")?);
     let (of_b, of_c) = (invoke(alloc)?, invoke(alloc)?);
-    Ok([
-        (
-            Event::Begin(a, 0, Call::Get(k)),
-            Outcome::Step(Step::Need(Request::Load(k))),
-        ),
-        (
-            Event::Begin(b, 0, Call::Put(x, one)),
-            Outcome::Step(Step::Done(Reply::Done)),
-        ),
-        (
-            Event::Begin(a, 0, Call::Stats),
-            Outcome::Refused(Cause::Busy),
-        ),
-        (
-            Event::Begin(b, 0, of_b),
-            Outcome::Refused(Cause::NoSuchProcessor),
-        ),
-        (
-            Event::Begin(c, 0, of_c),
-            Outcome::Refused(Cause::NoSuchCache),
-        ),
-        (
-            Event::Answer(a, Answer::Told),
-            Outcome::Refused(Cause::WrongAnswer),
-        ),
-        (
-            Event::Answer(a, Answer::Loaded(Some(loaded))),
-            found(replied),
-        ),
-        (Event::GiveUp(a), Outcome::Refused(Cause::NoTurn)),
-        (Event::Begin(b, 0, Call::Get(x)), found(stored)),
-        (Event::GiveUp(c), Outcome::Refused(Cause::NoSuchCache)),
-    ])
+    let events = [
+        Event::Begin(a, 0, Call::Get(l)),
+        Event::Begin(a, 0, Call::Stats),
+        Event::Begin(b, 0, of_b),
+        Event::Begin(c, 0, of_c),
+        Event::Answer(a, Answer::Told),
+        Event::Answer(a, Answer::Loaded(Some(loaded))),
+        Event::GiveUp(a),
+        Event::Begin(b, 0, Call::Get(x)),
+        Event::GiveUp(c),
+    ];
+    let outcomes = [
+        asked(l),
+        Outcome::Refused(Cause::Busy),
+        Outcome::Refused(Cause::NoSuchProcessor),
+        Outcome::Refused(Cause::NoSuchCache),
+        Outcome::Refused(Cause::WrongAnswer),
+        found(replied),
+        Outcome::Refused(Cause::NoTurn),
+        found(stored),
+        Outcome::Refused(Cause::NoSuchCache),
+    ];
+    both(alloc, events, outcomes)
+}
+
+/// Whether a run of events comes to what it should.
+fn comes_so(manager: &mut Manager, (events, wanted): Events) -> bool {
+    match manager.run(events) {
+        Ok(outcomes) => is(outcomes, wanted),
+        Err(events) => {
+            drop(events);
+            drop(wanted);
+            false
+        }
+    }
+}
+
+/// Whether both runs of a manager do.
+fn come_so(alloc: Global, manager: &mut Manager) -> Result<[bool; 2], Trouble> {
+    let turns = comes_so(manager, turns(alloc)?);
+    Ok([turns, comes_so(manager, others(alloc)?)])
 }
 
 #[test]
 fn a_run_of_events_goes_on_behind_refusals(rt: HostRuntime) -> Result<(), Trouble> {
-    let alloc = rt.alloc();
-    let mut given = Vec::new(alloc);
-    let mut wanted = Vec::new(alloc);
-    for (event, outcome) in events(alloc)? {
-        given.push(event)?;
-        wanted.push(outcome)?;
-    }
-    let outcomes = two_caches(alloc)?.run(given).ok();
-    assert_eq!(rt;
-        outcomes.as_ref().map(|list| list.as_slice()),
-        Some(wanted.as_slice())
-    );
+    let mut manager = two_caches(rt.alloc())?;
+    assert_eq!(rt; come_so(rt.alloc(), &mut manager)?, [true; 2]);
     Ok(())
 }
 

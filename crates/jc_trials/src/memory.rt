@@ -1,6 +1,6 @@
 //! Memory that the table is refused: a row that finds no slot is then in the stash, and the next put doubles the
-//! buckets. As the trials stand it is a mirror that refuses; under `rt try --test --fail-alloc N`, which refuses the
-//! Nth allocation of each trial, `rows_are_put_again` has to end well too.
+//! buckets. As the trials stand it is a mirror that refuses; `refusals/test` refuses each allocation in turn, and
+//! `rows_are_put_again` has to end well too.
 
 use crate::placers::ConstantPlacer;
 use crate::refusing::RefusingMirror;
@@ -19,6 +19,15 @@ use std::alloc::Global;
 /// the buckets.
 const DOUBLING: u32 = 33;
 
+/// How many rows are put: of the same keys in each of two caches.
+const ROWS: u32 = 40;
+
+/// The cache and the key of a row.
+fn place_of(row: u32) -> Result<(CacheId, Key), Trouble> {
+    let name = NAMES.get((row / 2) as usize).unwrap_or(&"");
+    Ok((CacheId::new(row % 2), key(name)?))
+}
+
 /// A table of 16 buckets where all keys share two, asked for again where it is refused. So often it does not double.
 fn crowded(
     alloc: Global,
@@ -30,9 +39,9 @@ fn crowded(
     }
 }
 
-/// Puts a row of a new key. Room is asked for again where it is refused.
-fn put_new<R: Rows>(rows: &mut R, key: Key, row: u32) -> Result<(), Trouble> {
-    let id = CacheId::new(0);
+/// Puts a row where there is none yet. Room is asked for again where it is refused.
+fn put_new<R: Rows>(rows: &mut R, row: u32) -> Result<(), Trouble> {
+    let (id, key) = place_of(row)?;
     if rows.find(id, &key).is_none() {
         let Some(all) = rows.len().checked_add(1) else {
             return Err(Trouble::Unexpected);
@@ -45,11 +54,12 @@ fn put_new<R: Rows>(rows: &mut R, key: Key, row: u32) -> Result<(), Trouble> {
     Ok(())
 }
 
-/// Whether rows of the first so many keys are found, and of no others.
+/// Whether the first so many rows are found, and no others.
 fn holds_first<R: Rows>(rows: &R, count: u32) -> Result<bool, Trouble> {
-    for (row, name) in (0u32..).zip(&NAMES) {
+    for row in 0..ROWS {
+        let (id, key) = place_of(row)?;
         let held = if row < count { Some(row) } else { None };
-        if rows.find(CacheId::new(0), &key(name)?) != held {
+        if rows.find(id, &key) != held {
             return Ok(false);
         }
     }
@@ -66,34 +76,21 @@ fn shape_of(count: u32, doubled: bool) -> Shape {
     }
 }
 
-#[test]
-fn a_refused_doubling_comes_with_the_next_put(rt: HostRuntime) -> Result<(), Trouble> {
-    for refusals in [0u32, 1, 2, 40] {
-        let mut table = crowded(rt.alloc(), refusals)?;
-        for (row, name) in (0u32..).zip(&NAMES) {
-            let count = row.saturating_add(1);
-            assert!(rt; table.make_room(usize::MAX).is_err());
-            put_new(&mut table, key(name)?, row)?;
-            assert!(rt; holds_first(&table, count)?);
-            assert_eq!(rt;
-                table.shape(),
-                shape_of(count, count >= DOUBLING + refusals)
-            );
-        }
-    }
-    Ok(())
-}
-
-/// Puts a row of each key. The result is the first row after which others are held or the shape is another, if there is
-/// one; the doubling may come one put late.
-fn first_other<M: Mirror>(table: &mut Cuckoo<ConstantPlacer, M>) -> Result<Option<u32>, Trouble> {
-    for (row, name) in (0u32..).zip(&NAMES) {
+/// Puts all rows, of which so many find no memory to double. The result is the first row after which others are held or
+/// the shape is another, if there is one; the doubling may come one put late where that is allowed.
+fn first_other<M: Mirror>(
+    table: &mut Cuckoo<ConstantPlacer, M>,
+    refusals: u32,
+    may_be_late: bool,
+) -> Result<Option<u32>, Trouble> {
+    let doubling = DOUBLING.saturating_add(refusals);
+    for row in 0..ROWS {
         let count = row.saturating_add(1);
-        put_new(table, key(name)?, row)?;
+        put_new(table, row)?;
         let shape = table.shape();
-        let late = count == DOUBLING && shape == shape_of(count, false);
-        let as_told = late || shape == shape_of(count, count >= DOUBLING);
-        if !as_told || !holds_first(table, count)? {
+        let late = may_be_late && count == doubling && shape == shape_of(count, false);
+        let as_told = late || shape == shape_of(count, count >= doubling);
+        if !as_told || !holds_first(table, count)? || table.make_room(usize::MAX).is_ok() {
             return Ok(Some(row));
         }
     }
@@ -101,8 +98,17 @@ fn first_other<M: Mirror>(table: &mut Cuckoo<ConstantPlacer, M>) -> Result<Optio
 }
 
 #[test]
+fn a_refused_doubling_comes_with_the_next_put(rt: HostRuntime) -> Result<(), Trouble> {
+    for refusals in [0u32, 1, 2, 40] {
+        let mut table = crowded(rt.alloc(), refusals)?;
+        assert_eq!(rt; first_other(&mut table, refusals, false)?, None);
+    }
+    Ok(())
+}
+
+#[test]
 fn rows_are_put_again(rt: HostRuntime) -> Result<(), Trouble> {
     let mut table = crowded(rt.alloc(), 0)?;
-    assert_eq!(rt; first_other(&mut table)?, None);
+    assert_eq!(rt; first_other(&mut table, 0, true)?, None);
     Ok(())
 }

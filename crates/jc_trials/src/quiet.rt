@@ -1,19 +1,20 @@
-//! What others are told of the table: nothing, where nothing changes there.
+//! What others are told of the table: which slots are emptied and filled; nothing, where nothing changes there.
 
+use crate::log::Log;
 use crate::placers::ConstantPlacer;
-use crate::refusing::CountingMirror;
+use crate::refusing::NotedMirror;
+use crate::shapes::{Places, holds_all, placer_of};
 use crate::trouble::{Trouble, done};
 use jc_config::{Configuration, read_config};
 use jc_cuckoo::cuckoo::Cuckoo;
 use jc_engine::recorded::Recorded;
+use jc_model::OutOfMemory;
 use jc_model::config::CacheConfig;
 use jc_ring::link_ring::LinkRing;
 use jc_script::{Line, read_script};
-use std::alloc::{AllocError, Global};
-use std::sync::Arc;
-use std::sync::atomic::{AtomicU64, Ordering};
+use std::alloc::Global;
 
-type Counted = Recorded<Cuckoo<ConstantPlacer, CountingMirror>, LinkRing>;
+type Counted = Recorded<Cuckoo<ConstantPlacer, NotedMirror>, LinkRing>;
 
 const CACHES: &str = r#"
 [[cache]]
@@ -67,14 +68,10 @@ static LINES: [(&str, u64); 24] = [
     (r#"{"s":0,"c":"a","at":15,"op":"destroy"}"#, 2),
 ];
 
-/// A manager of these caches, over a table that counts the images that it tells.
-fn counted(
-    alloc: Global,
-    caches: Vec<CacheConfig>,
-    told: &Arc<AtomicU64>,
-) -> Result<Counted, Trouble> {
-    let told = Arc::try_clone(told)?;
-    let table = Cuckoo::new(alloc, ConstantPlacer, CountingMirror { told }, 16)?;
+/// A manager of these caches, over a table that notes the images that it tells.
+fn counted(alloc: Global, caches: Vec<CacheConfig>, told: &Log) -> Result<Counted, Trouble> {
+    let log = told.share()?;
+    let table = Cuckoo::new(alloc, ConstantPlacer, NotedMirror { log }, 16)?;
     Ok(Counted::open(alloc, table, caches)?)
 }
 
@@ -91,12 +88,12 @@ fn obey(manager: &mut Counted, line: Line) -> Result<(), Trouble> {
 fn first_other(
     manager: &mut Counted,
     lines: Vec<Line>,
-    told: &AtomicU64,
+    told: &Log,
 ) -> Result<Option<usize>, Trouble> {
     for (number, line) in lines.into_iter().enumerate() {
-        let before = told.load(Ordering::SeqCst);
+        let before = told.count();
         obey(manager, line)?;
-        let images = told.load(Ordering::SeqCst).wrapping_sub(before);
+        let images = told.count().wrapping_sub(before);
         if LINES.get(number).map(|wanted| wanted.1) != Some(images) {
             return Ok(Some(number));
         }
@@ -105,7 +102,7 @@ fn first_other(
 }
 
 /// The lines' texts, as one script.
-fn script(alloc: Global) -> Result<String, AllocError> {
+fn script(alloc: Global) -> Result<String, OutOfMemory> {
     let mut script = String::new(alloc);
     for (text, _) in &LINES {
         script.push_str(text)?;
@@ -116,7 +113,7 @@ fn script(alloc: Global) -> Result<String, AllocError> {
 
 /// How many lines there are, and the first one that tells more or fewer images, if there is one.
 fn played(alloc: Global) -> Result<(usize, Option<usize>), Trouble> {
-    let told = Arc::new(alloc, AtomicU64::new(0))?;
+    let told = Log::new(alloc, 0)?;
     let script = script(alloc)?;
     let Configuration { settings, .. } = read_config(alloc, CACHES.as_bytes())?;
     let lines = read_script(alloc, script.as_bytes(), &settings)?;
@@ -129,5 +126,25 @@ fn played(alloc: Global) -> Result<(usize, Option<usize>), Trouble> {
 #[test]
 fn what_changes_nothing_is_not_told(rt: HostRuntime) -> Result<(), Trouble> {
     assert_eq!(rt; played(rt.alloc())?, (LINES.len(), None));
+    Ok(())
+}
+
+/// Nine rows are put, four into each of two buckets and one more that finds both full: the first row of the second bucket
+/// moves to its other one, 14, and the ninth takes its slot. A bucket has four slots.
+const MOVED: &[u8] = b"00a 01b 02c 03d 20e 21f 22g 23h 20-56e 20i ";
+
+/// What is told of them.
+fn told_of_nine(alloc: Global) -> Result<Vec<u8>, Trouble> {
+    let told = Log::new(alloc, 16)?;
+    let log = told.share()?;
+    let placer = placer_of(Places::TwoFull);
+    let mut table = Cuckoo::new(alloc, placer, NotedMirror { log }, 16)?;
+    holds_all(&mut table, 9, 1)?;
+    Ok(told.text(alloc)?)
+}
+
+#[test]
+fn a_row_that_moves_is_told_with_its_slots(rt: HostRuntime) -> Result<(), Trouble> {
+    assert_eq!(rt; told_of_nine(rt.alloc())?.as_slice(), MOVED);
     Ok(())
 }

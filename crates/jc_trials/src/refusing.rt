@@ -1,6 +1,7 @@
-//! Mirrors and a table that find no memory when a trial says so, or count what they are told.
+//! Mirrors and a table that find no memory when a trial says so, or note what they are told.
 ghost use Rattle.std.specs.Prelude.{min};
 
+use crate::log::{Log, Text};
 use jc_cuckoo::held::Held;
 use jc_cuckoo::mirror::Mirror;
 use jc_model::OutOfMemory;
@@ -9,8 +10,6 @@ use jc_model::event::CacheId;
 use jc_model::key::Key;
 use jc_rows::rows::Rows;
 use std::alloc::AllocError;
-use std::sync::Arc;
-use std::sync::atomic::{AtomicU64, Ordering};
 
 /// It takes no larger table so many times, as if memory were refused.
 #[derive(Clone, Copy, Debug, Drop)]
@@ -36,25 +35,42 @@ impl Mirror for RefusingMirror {
     }
 }
 
-/// It counts the images that it is told.
-#[derive(Drop)]
-pub struct CountingMirror {
-    pub told: Arc<AtomicU64>,
+/// The last two digits of a number.
+fn digits(number: u32) -> [u8; 2] {
+    let (tens, ones) = (number / 10 % 10, number % 10);
+    [b'0' + tens as u8, b'0' + ones as u8]
 }
 
-impl Mirror for CountingMirror {
+/// It notes each image that it is told: the slots that are emptied, as `07-`, and those that are filled, as `07k`.
+#[derive(Drop)]
+pub struct NotedMirror {
+    pub log: Log,
+}
+
+impl Mirror for NotedMirror {
     ghost use Rattle.std.specs.Prelude.{None};
 
     ghost images = { λ mirror. None };
 
     ghost placing = { λ mirror id key. record { first = 0; tag = 1 } };
 
-    fn commit(&mut self, _writes: &[(u32, Option<Held>)], _stash: u32) {
-        self.told.fetch_add(1, Ordering::SeqCst);
+    fn commit(&mut self, writes: &[(u32, Option<Held>)], _stash: u32) {
+        let mut text = Text::of(b"");
+        for (slot, held) in writes {
+            if held.is_none() {
+                text = text.and(&digits(*slot)).and(b"-");
+            }
+        }
+        for (slot, held) in writes {
+            if let Some(held) = held {
+                text = text.and(&digits(*slot)).and(held.key.text().as_bytes());
+            }
+        }
+        self.log.note(text);
     }
 
     fn grow(&mut self, _slots: &[Option<Held>], _stash: u32) -> Result<(), OutOfMemory> {
-        self.told.fetch_add(1, Ordering::SeqCst);
+        self.log.note(Text::of(b"grows"));
         Ok(())
     }
 }

@@ -11,8 +11,6 @@ use jc_model::call::Call;
 use jc_model::config::Policy;
 use jc_model::event::CacheId;
 use jc_model::key::Key;
-use jc_place::place::{Placer, alternate};
-use jc_place::seeded::SeededPlacer;
 use jc_shared::{Manager, Name, Session, Shared};
 use std::alloc::Global;
 use std::marker::Brand;
@@ -107,6 +105,40 @@ static DOUBLED: [(usize, Act); 6] = [
     (1, Act::Look(1, 0, 5, Lookup::Unsure)),
     (1, Act::Put(0, 1, 2)),
     (1, Act::Look(1, 0, 5, Lookup::Sure(true))),
+];
+
+/// The keys of these numbers were found apart from the program: they have the same two of 16 buckets, so eight slots. Of
+/// the ninth and the tenth a lookup is unsure, and whether the cache has each is told exactly.
+static CROWDED: [(usize, Act); 29] = [
+    (0, Act::Put(1, 0, 1)),
+    (0, Act::Put(1, 13, 14)),
+    (0, Act::Put(1, 39, 40)),
+    (0, Act::Put(1, 45, 46)),
+    (0, Act::Put(1, 62, 63)),
+    (0, Act::Put(1, 81, 82)),
+    (0, Act::Put(1, 109, 110)),
+    (0, Act::Put(1, 175, 176)),
+    (0, Act::Put(1, 197, 198)),
+    (0, Act::Look(1, 0, 0, Lookup::Sure(true))),
+    (0, Act::Has(1, 0, 0, true)),
+    (0, Act::Look(1, 13, 0, Lookup::Sure(true))),
+    (0, Act::Has(1, 13, 0, true)),
+    (0, Act::Look(1, 39, 0, Lookup::Sure(true))),
+    (0, Act::Has(1, 39, 0, true)),
+    (0, Act::Look(1, 45, 0, Lookup::Sure(true))),
+    (0, Act::Has(1, 45, 0, true)),
+    (0, Act::Look(1, 62, 0, Lookup::Sure(true))),
+    (0, Act::Has(1, 62, 0, true)),
+    (0, Act::Look(1, 81, 0, Lookup::Sure(true))),
+    (0, Act::Has(1, 81, 0, true)),
+    (0, Act::Look(1, 109, 0, Lookup::Sure(true))),
+    (0, Act::Has(1, 109, 0, true)),
+    (0, Act::Look(1, 175, 0, Lookup::Sure(true))),
+    (0, Act::Has(1, 175, 0, true)),
+    (0, Act::Look(1, 197, 0, Lookup::Unsure)),
+    (0, Act::Has(1, 197, 0, true)),
+    (0, Act::Look(1, 321, 0, Lookup::Unsure)),
+    (0, Act::Has(1, 321, 0, false)),
 ];
 
 /// Puts the keys of these numbers, with one value.
@@ -208,88 +240,11 @@ fn lookup_after_others_doubled(rt: HostRuntime) -> Result<(), Trouble> {
     Ok(())
 }
 
-/// A key's two buckets among 16, the lower one first.
-fn pair_of(id: CacheId, key: &Key) -> (u32, u32) {
-    let place = SeededPlacer::new(SEED).place(id, key);
-    let first = place.first % 16;
-    let second = alternate(first, place.tag, 16);
-    (first.min(second), first.max(second))
-}
-
-/// Ten keys of cache 1 with the same two buckets, found by trying.
-fn crowd(alloc: Global) -> Result<Vec<Key>, Trouble> {
-    let id = CacheId::new(1);
-    let pair = pair_of(id, &numbered(alloc, 0)?);
-    let mut keys = Vec::new(alloc);
-    for number in 0..20_000 {
-        let key = numbered(alloc, number)?;
-        if keys.len() < 10 && pair_of(id, &key) == pair {
-            keys.push(key)?;
-        }
-    }
-    Ok(keys)
-}
-
-/// Puts nine keys of two buckets, which have eight slots. The number of the first of ten keys of which a lookup is sure
-/// where it should not be or the other way round, or of which it is not told exactly whether it is there; if there is
-/// one.
-fn first_misjudged<N: Name, L: Loader, W: Writer, P: Processor, K: Hearer, R: Wait>(
-    rt: &R,
-    alloc: Global,
-    session: &mut Session<'_, N, L, W, P, K>,
-) -> Result<Option<usize>, Trouble> {
-    let id = CacheId::new(1);
-    let keys = crowd(alloc)?;
-    for key in keys.iter().take(9) {
-        let call = Call::Put(*key, value_of(alloc, "1")?);
-        done(session.call(rt, id, 0, call))?;
-    }
-    for number in 0..10usize {
-        let Some(key) = keys.get(number) else {
-            return Err(Trouble::Unexpected);
-        };
-        let told = if number < 8 {
-            Lookup::Sure(true)
-        } else {
-            Lookup::Unsure
-        };
-        if session.contains_key(id, key, 0) != told
-            || session.contains(rt, id, key, 0) != (number < 9)
-        {
-            return Ok(Some(number));
-        }
-    }
-    Ok(None)
-}
-
-/// The same, by a session under this name.
-fn first_misjudged_named<N: Name, L: Loader, W: Writer, P: Processor, K: Hearer, R: Wait>(
-    rt: &R,
-    alloc: Global,
-    shared: Shared<L, W, P, K>,
-) -> Result<Option<usize>, Trouble>
-    requires configs { shared.configs ≡ N.configs }
-    requires stated { map (stated_by L.load_of P.verdict_of) shared.shared ≡ N.stated }
-    requires index { shared.index ≡ N.index }
-{
-    let manager = shared.named::<N>();
-    let mut session = manager.session(rt)?;
-    first_misjudged(rt, alloc, &mut session)
-}
-
-/// The same, under a name that this call picks.
-fn first_misjudged_of_ten<L: Loader, W: Writer, P: Processor, K: Hearer, R: Wait>(
-    rt: &R,
-    alloc: Global,
-    shared: Shared<L, W, P, K>,
-) -> Result<Option<usize>, Trouble> {
-    first_misjudged_named::<Brand, L, W, P, K, R>(rt, alloc, shared)
-}
-
 #[test]
 fn exact_where_the_image_is_open(rt: HostRuntime) -> Result<(), Trouble> {
     let shared = plain(rt.alloc())?;
-    assert_eq!(rt; first_misjudged_of_ten(&rt, rt.alloc(), shared)?, None);
+    let other = first_other_act(&rt, rt.alloc(), shared, &CROWDED)?;
+    assert_eq!(rt; other, None);
     Ok(())
 }
 

@@ -44,7 +44,7 @@ pub fn put_new<R: Rows>(rows: &mut R, id: CacheId, key: Key, row: u32) -> Result
 }
 
 /// Puts rows of the first so many keys into each of so many caches; whether all are found then.
-fn holds_all<R: Rows>(rows: &mut R, keys: usize, caches: u32) -> Result<bool, Trouble> {
+pub fn holds_all<R: Rows>(rows: &mut R, keys: usize, caches: u32) -> Result<bool, Trouble> {
     for (row, name) in (0..).zip(NAMES.iter().take(keys)) {
         for cache in 0..caches {
             put_new(rows, CacheId::new(cache), key(name)?, row)?;
@@ -62,7 +62,7 @@ fn holds_all<R: Rows>(rows: &mut R, keys: usize, caches: u32) -> Result<bool, Tr
 
 /// Where keys have their places: the first of their two buckets and their tag, by the number of the key.
 #[derive(Clone, Copy)]
-enum Places {
+pub enum Places {
     /// All have the first bucket 3.
     Shared,
     /// The first four have the first bucket 0, the next four 5; the ninth finds both of its buckets full, 0 and 5.
@@ -84,7 +84,8 @@ fn place_of(places: Places, number: u32) -> (u32, u8) {
     }
 }
 
-fn placer_of(places: Places) -> TablePlacer {
+/// The places of all keys.
+pub fn placer_of(places: Places) -> TablePlacer {
     let mut placer = TablePlacer {
         firsts: [0; 128],
         tags: [1; 128],

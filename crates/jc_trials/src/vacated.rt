@@ -1,17 +1,15 @@
-//! What is left of caches that were destroyed: nothing in the table, also where creating found no memory at first.
+//! What is left of caches that were destroyed: nothing in the table.
 ghost use Rattle.std.specs.Prelude.{◌≡◌};
 ghost use Rattle.std.specs.FinMap as finite;
 
 use crate::placers::ConstantPlacer;
 use crate::shapes::{NAMES, fill};
-use crate::trouble::{Trouble, done, key, plain_cache, value_of};
+use crate::trouble::{Trouble, done, key, plain_cache};
 use jc_cuckoo::cuckoo::Cuckoo;
 use jc_cuckoo::mirror::NoMirror;
 use jc_engine::engine::Engine;
-use jc_engine::recorded::Recorded;
-use jc_model::call::Call;
 use jc_model::config::CacheConfig;
-use jc_model::event::{CacheId, Cause, CreateRefusal};
+use jc_model::event::CacheId;
 use jc_ring::link_ring::LinkRing;
 use jc_ring::list_ring::ListRing;
 use jc_ring::ring::Ring;
@@ -106,59 +104,5 @@ fn rows_go_with_their_cache_alone(rt: HostRuntime) -> Result<(), Trouble> {
     assert_eq!(rt; plain, None);
     let table = Cuckoo::new(alloc, ConstantPlacer, NoMirror, 16)?;
     assert_eq!(rt; first_other_over::<_, LinkRing>(alloc, table)?, None);
-    Ok(())
-}
-
-/// A recorded manager over the program's table and rings.
-type Crowded = Recorded<Cuckoo<ConstantPlacer, NoMirror>, LinkRing>;
-
-/// Creates a cache, again where that is refused for want of memory.
-fn created_again(alloc: Global, manager: &mut Crowded, name: &str) -> Result<CacheId, Trouble> {
-    let created = match manager.create(plain_cache(alloc, name, 1)?) {
-        Err((CreateRefusal::OutOfMemory, config)) => manager.create(config),
-        created => created,
-    };
-    created.ok().ok_or(Trouble::Unexpected)
-}
-
-/// Puts a row, again where that is refused for want of memory.
-fn put_again(alloc: Global, manager: &mut Crowded, id: CacheId, name: &str) -> Result<(), Trouble> {
-    let key = key(name)?;
-    let value = match value_of(alloc, name) {
-        Err(Trouble::Memory) => value_of(alloc, name),
-        value => value,
-    };
-    match manager.begin(0, id, 0, Call::Put(key, value?)) {
-        Err((Cause::OutOfMemory, call)) => done(manager.begin(0, id, 0, call)),
-        begun => done(begun),
-    }
-}
-
-/// Creates forty caches with a row each, and destroys every second one. The result is how many rows, names and lives
-/// there are then; or an id is not the next one.
-fn alternate(alloc: Global, manager: &mut Crowded) -> Result<(usize, usize, usize), Trouble> {
-    for (number, name) in (0u32..).zip(&NAMES) {
-        let id = created_again(alloc, manager, name)?;
-        put_again(alloc, manager, id, name)?;
-        if id.number() != number {
-            return Err(Trouble::Unexpected);
-        }
-        if number % 2 == 0 {
-            done(manager.destroy(id))?;
-        }
-    }
-    let lives = manager.transcript().lives().len();
-    Ok((manager.rows().len(), manager.names().len(), lives))
-}
-
-#[test]
-fn caches_are_created_again(rt: HostRuntime) -> Result<(), Trouble> {
-    let alloc = rt.alloc();
-    let table = match Cuckoo::new(alloc, ConstantPlacer, NoMirror, 16) {
-        Err(_) => Cuckoo::new(alloc, ConstantPlacer, NoMirror, 16)?,
-        Ok(table) => table,
-    };
-    let mut manager = Crowded::open(alloc, table, Vec::new(alloc))?;
-    assert_eq!(rt; alternate(alloc, &mut manager)?, (20, 20, 40));
     Ok(())
 }
