@@ -144,7 +144,7 @@ module _ (configs : List CacheConfig) (stated : List Stated) (old new : Sitting)
 
 -- it did not begin
 pub begin_fails : (configs : List CacheConfig) (stated : List Stated) (old new : Sitting) (id at : ℕ) (call : Call) (draft : Entry) (fault : CallFault) → draft ≡ blank old.number id at call → new ≡ old → IsBeginFault configs draft.id draft.at call fault → Fails configs stated old new id at call fault
-begin_fails configs stated old new id at call draft faults.NoSuchCache is same h = same
+begin_fails configs stated old new id at call draft faults.NoSuchCache is same h = (same, λ c there. subst (λ (e : Entry). Refuses configs (event.Begin e.id e.at call) causes.NoSuchCache) is h)
 begin_fails configs stated old new id at call draft faults.NoSuchProcessor is same h = (same, subst (λ (e : Entry). MayLack configs e.id call) is h.1)
 begin_fails configs stated old new id at call draft faults.Busy is same h = (same, subst (λ (e : Entry). Refuses configs (event.Begin e.id e.at call) causes.Busy) is h)
 begin_fails configs stated old new id at call draft faults.Overtaken is same h = absurd h
@@ -159,8 +159,9 @@ pub unaccepted_fails : (configs : List CacheConfig) (stated : List Stated) (old 
 unaccepted_fails configs stated old new id at call fault is same lacks = subst (λ (f : CallFault). Fails configs stated old new id at call f) (sym is) (same, lacks)
 
 -- and so of one whose cache is not there
-pub told_or_gone : (configs : List CacheConfig) (stated : List Stated) (old new : Sitting) (id at : ℕ) (call : Call) (fault told : CallFault) → new ≡ old → (told ≡ fault) ⊎ (told ≡ faults.NoSuchCache) → Fails configs stated old new id at call fault → Fails configs stated old new id at call told
+pub told_or_gone : (configs : List CacheConfig) (stated : List Stated) (old new : Sitting) (id at : ℕ) (call : Call) (fault told : CallFault) → new ≡ old
+    → (told ≡ fault) ⊎ ((told ≡ faults.NoSuchCache) × ((at : ℕ) (call : Call) → Refuses configs (event.Begin id at call) causes.NoSuchCache)) → Fails configs stated old new id at call fault → Fails configs stated old new id at call told
 told_or_gone configs stated old new id at call fault told same which fails = elim which [
   | inl is ↦ subst (λ (f : CallFault). Fails configs stated old new id at call f) (sym is) fails
-  | inr is ↦ subst (λ (f : CallFault). Fails configs stated old new id at call f) (sym is) same
+  | inr is ↦ subst (λ (f : CallFault). Fails configs stated old new id at call f) (sym is.0) (same, λ c there. is.1 at call)
 ]

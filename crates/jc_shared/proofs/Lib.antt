@@ -8,3 +8,4 @@ pub mod Carrying
 pub mod Writing
 pub mod Opened
 pub mod Entered
+pub mod Missing

@@ -19,7 +19,7 @@ use Rattle.jc_shared.specs.declared.turned.Turned.{Turned}
 use Rattle.jc_shared.specs.declared.turned.Turned.TheVariants.{Asked, Replied}
 use Rattle.jc_model.specs.Asking.{AsksOf, invoked_by}
 use Rattle.jc_shared.specs.Sessions.{Sitting, Sight, BeginsWith, Sees}
-use Rattle.jc_shared.specs.Living.{Refuses}
+use Rattle.jc_shared.specs.Living.{Refuses, IsMissing}
 use Rattle.jc_shared.specs.Stated.{Stated, AreStated}
 
 -- the cache is one of the opening, and has not the processor that the call names
@@ -118,5 +118,5 @@ abbrev pub Fails : List CacheConfig → List Stated → Sitting → Sitting → 
 Fails configs stated old new id at call OutOfMemory = (new ≡ old) ⊎ Adds configs stated old new id at call end.GivenUp
 Fails configs stated old new id at call Overtaken = AddsWaiting old new id at call
 Fails configs stated old new id at call Busy = (new ≡ old) × Refuses configs (event.Begin id at call) causes.Busy
-Fails configs stated old new id at call NoSuchCache = new ≡ old
+Fails configs stated old new id at call NoSuchCache = (new ≡ old) × IsMissing configs id (event.Begin id at call)
 Fails configs stated old new id at call NoSuchProcessor = (new ≡ old) × MayLack configs id call

@@ -1,5 +1,5 @@
 -- What a session is told of caches that are created and destroyed, and of their rows.
-use Rattle.std.specs.Prelude.{◌≡◌, ℕ, Bool, true, false, List, Option, Some, None, IsSome, ⊤}
+use Rattle.std.specs.Prelude.{◌≡◌, ℕ, Bool, true, false, List, Option, Some, None, IsSome, slice_get, ⊤}
 use Rattle.jc_model.specs.declared.config.CacheConfig.{CacheConfig}
 use Rattle.jc_model.specs.declared.event.Cause.{Cause}
 use Rattle.jc_model.specs.declared.event.Cause.TheVariants as cause
@@ -93,15 +93,20 @@ pub record Refuses (configs : List CacheConfig) (event : Event) (why : Cause) : 
   pub told : AreTold configs transcript lives
   pub refusal : IsRefusedFor lives event why
 
+-- where a cache is one of the opening, the engine refuses the event since it has no cache of this number
+abbrev pub IsMissing : List CacheConfig → ℕ → Event → Type 0
+IsMissing configs id event = (c : CacheConfig) → slice_get configs id ≡ Some c → Refuses configs event cause.NoSuchCache
+
 -- why the engine destroys no cache; it takes no memory
 abbrev pub IsDestroyFault : List CacheConfig → ℕ → DestroyFault → Type 0
 IsDestroyFault configs id destroying.NoSuchCache = Refuses configs (event.Destroy id) cause.NoSuchCache
 IsDestroyFault configs id destroying.Busy = Refuses configs (event.Destroy id) cause.Busy
 IsDestroyFault configs id destroying.OutOfMemory = ⊥
 
--- why a session destroys no cache: by the engine, or because its callbacks are not found or can't be shared
+-- why a session destroys no cache: by the engine, or because the callbacks of a created one are not found or can't be
+-- shared
 abbrev pub IsDestroyRefusal : List CacheConfig → ℕ → DestroyFault → Type 0
-IsDestroyRefusal configs id destroying.NoSuchCache = ⊤
+IsDestroyRefusal configs id destroying.NoSuchCache = IsMissing configs id (event.Destroy id)
 IsDestroyRefusal configs id destroying.Busy = Refuses configs (event.Destroy id) cause.Busy
 IsDestroyRefusal configs id destroying.OutOfMemory = ⊤
 

@@ -1,7 +1,9 @@
 //! What lies under the manager's lock: the recorded engine, and which sessions there are. Each tenure begins a call,
 //! brings it on or gives it up, or creates or destroys a cache, and no callback runs in it.
-ghost use Rattle.std.specs.Prelude.{◌≡◌, ◌≢◌, ◌⊎◌, Bool, true, false, Ok, None, [], IsTrue, IfOk, IfErr, IfSome, OnOk, OnErr, Err, Some, is_some, map, option_map, slice_get};
+ghost use Rattle.std.specs.Prelude.{◌≡◌, ◌≢◌, ◌⊎◌, ℕ, Bool, true, false, Ok, None, [], IsTrue, IfOk, IfErr, IfSome, OnOk, OnErr, Err, Some, is_some, map, option_map, slice_get};
 ghost use mathlib.Core.List.{IsPrefix};
+ghost use Rattle.jc_model.specs.declared.call.Call.{Call as Called};
+ghost use Rattle.jc_model.specs.declared.event.Cause.TheVariants.{NoSuchCache};
 ghost use Rattle.jc_model.specs.declared.event.End.TheVariants.{Waiting, GivenUp, Replied as RepliedSo};
 ghost use Rattle.jc_model.specs.declared.event.Event.TheVariants.{Begin, Answer as Answered};
 ghost use Rattle.jc_model.specs.declared.event.Outcome.TheVariants.{Step as Stepped};
@@ -16,7 +18,7 @@ ghost use Rattle.jc_engine.specs.Results.{reply_in};
 ghost use Rattle.jc_shared.specs.Accounts.{Accounts, IsCloseFault, IsCloseRefusal};
 ghost use Rattle.jc_shared.specs.Admitting.{Admits};
 ghost use Rattle.jc_shared.specs.Calls.{Stands, GoesOn, IsBeginFault};
-ghost use Rattle.jc_shared.specs.Living.{IsHeld, has_live_row};
+ghost use Rattle.jc_shared.specs.Living.{IsHeld, Refuses, has_live_row};
 ghost use Rattle.jc_shared.specs.Sessions.{BeginsWith, Sees, SeesSome};
 ghost use Rattle.jc_shared.specs.Finding.{fault_of, halt_of, IsOfCall, IsOpenFor, IsOpen, StandsAt, Turns, IsReplied};
 ghost use Rattle.jc_shared.specs.Tenures.{IsTenure, IsRefusedCall, Stops, GivesUp, GivesUpApart, EndsApart, IsApart, step_of, told_or_left};
@@ -312,10 +314,13 @@ impl<N: Name> Locked<N> {
         }
     }
 
-    /// Whether a cache has this id.
+    /// Whether a cache has this id. Where none has, the engine refuses a call there for that.
     pub(crate) fn is_live(&self, id: CacheId) -> bool
-        ensures { result ≡ is_some (at_place self.now.recorded.caches id) }
+        ensures exact { result ≡ is_some (at_place self.now.recorded.caches id) }
+        ensures missing { result ≡ false → (at : ℕ) (call : Called) → Refuses N.configs (Begin id at call) NoSuchCache }
     {
+        // Read for its clauses: the transcript is legal.
+        let _legal = self.recorded.transcript();
         self.recorded.is_live(id)
     }
 

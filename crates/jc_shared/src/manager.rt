@@ -1,10 +1,13 @@
 //! The manager that threads share.
-ghost use Rattle.std.specs.Prelude.{◌≡◌, ◌⊎◌, ℕ, true, [], Ok, Err, Some, IfSome, IfOk, IfErr, length, map, option_map, slice_get};
+ghost use Rattle.std.specs.Prelude.{◌≡◌, ◌⊎◌, ℕ, true, [], Ok, Err, Some, None, IfSome, IfOk, IfErr, length, map, option_map, slice_get};
+ghost use Rattle.jc_model.specs.declared.call.Call.{Call as Called};
 ghost use Rattle.jc_model.specs.declared.config.CacheConfig.{CacheConfig};
+ghost use Rattle.jc_model.specs.declared.event.Cause.TheVariants.{NoSuchCache};
+ghost use Rattle.jc_model.specs.declared.event.Event.TheVariants.{Begin};
 ghost use Rattle.jc_model.specs.Legal.{IsLegal};
 ghost use Rattle.jc_shared.specs.Accounts.{Accounts, IsCloseRefusal};
 ghost use Rattle.jc_shared.specs.Admitting.{IsAdmission};
-ghost use Rattle.jc_shared.specs.Living.{IsNamed};
+ghost use Rattle.jc_shared.specs.Living.{IsNamed, Refuses};
 ghost use Rattle.jc_shared.specs.Sessions.{BeginsWith, SeesSome, log_of};
 ghost use Rattle.jc_shared.specs.Stated.{stated_by, AreOf, processor_counts, wanted_counts};
 
@@ -92,6 +95,7 @@ impl<N: Name, L: Loader, W: Writer, P: Processor, K: Hearer> Manager<N, L, W, P,
     pub(crate) fn opened(&self, id: CacheId) -> Option<&SharedHooks<L, P>>
         ensures stated { IfSome result (λ h. AreOf L.load_of P.verdict_of N.stated id h.now) }
         ensures counted { IfSome result (λ h. (c : CacheConfig) → slice_get N.configs id ≡ Some c → length c.processors ≡ length h.now.processors.items) }
+        ensures created { result ≡ None → slice_get N.configs id ≡ None }
     {
         let shared = shared_at(self.shared.as_slice(), id)?;
         Some(shared)
@@ -107,7 +111,7 @@ impl<N: Name, L: Loader, W: Writer, P: Processor, K: Hearer> Manager<N, L, W, P,
 
     /// What a call is told whose processor is lacking: that its cache is not there, where it is not.
     pub(crate) fn lacking<R: Wait>(&self, rt: &R, id: CacheId, fault: CallFault) -> CallFault
-        ensures { (result ≡ fault) ⊎ (result ≡ CallFault.NoSuchCache) }
+        ensures { (result ≡ fault) ⊎ ((result ≡ CallFault.NoSuchCache) × ((at : ℕ) (call : Called) → Refuses N.configs (Begin id at call) NoSuchCache)) }
     {
         if self.locked.lock(rt).is_live(id) {
             fault
