@@ -125,8 +125,8 @@ impl<'a, N: Name, L: Loader, W: Writer, P: Processor, K: Hearer> Session<'a, N, 
     /// Its entry is added to the session's own.
     ///
     /// Refused as `NoSuchCache`, `NoSuchProcessor`, then as `OutOfMemory`, `Busy` or `Overtaken`; also as `NoSuchCache`
-    /// where the cache is destroyed meanwhile, and as `OutOfMemory` at once where the callbacks of a created cache can't be shared. A call
-    /// that has not begun leaves the session as it was. Where memory is refused in the midst of the call it is given up,
+    /// where the cache is destroyed meanwhile, and as `OutOfMemory` at once where the callbacks of a created cache can't
+    /// be shared. A call that has not begun leaves the session as it was. Where memory is refused in the midst of the call it is given up,
     /// and its listeners are told what it has changed; its entry says so. By the locks no use of a manager should come
     /// to `Busy` or `Overtaken`; no clause says so.
     pub fn call<R: Wait>(
