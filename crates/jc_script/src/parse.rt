@@ -8,8 +8,8 @@ use crate::fault::ScriptFault;
 use serde_json::Value;
 use std::alloc::{AllocError, Global};
 
-/// What the bytes are as JSON, if they are.
-fn parse(alloc: Global, bytes: &[u8]) -> Result<Option<Value>, AllocError>
+/// What the bytes are as JSON, if they are. Want of memory is the one error.
+pub fn parse(alloc: Global, bytes: &[u8]) -> Result<Option<Value>, AllocError>
     ensures { IfOk result (λ o. option_map view o ≡ json_of bytes.now) }
 {
     match Value::from_slice(alloc, bytes) {

@@ -10,24 +10,9 @@ ghost use Rattle.jc_strict.specs.Members.{has_member};
 ghost use Rattle.jc_strict.specs.Stray.{all_known, op_of, knows_members, is_known, stray_line};
 
 use crate::members::has_member;
+use jc_script::parse;
 use serde_json::{Map, Value};
 use std::alloc::{AllocError, Global};
-
-/// What the bytes are as JSON, if they are.
-fn json_of(alloc: Global, bytes: &[u8]) -> Result<Option<Value>, AllocError>
-    ensures { IfOk result (λ o. option_map view o ≡ json_of bytes.now) }
-{
-    match Value::from_slice(alloc, bytes) {
-        Ok(value) => Ok(Some(value)),
-        Err(e) => {
-            if e.is_memory() {
-                Err(AllocError)
-            } else {
-                Ok(None)
-            }
-        }
-    }
-}
 
 fn has_known_keys(op: &str, members: &Map<String, Value>) -> bool
     ensures { result ≡ list_all (λ k. has_member op.now (string_bytes k)) (keys members.now) }
@@ -64,7 +49,7 @@ fn knows_members(line: &Value) -> bool
 fn is_known(alloc: Global, piece: &[u8]) -> Result<bool, AllocError>
     ensures { IfOk result (λ known. known ≡ is_known piece.now) }
 {
-    match json_of(alloc, piece)? {
+    match parse(alloc, piece)? {
         Some(line) => Ok(knows_members(&line)),
         None => Ok(true),
     }
