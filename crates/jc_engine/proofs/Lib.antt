@@ -15,4 +15,5 @@ pub mod Vacant
 pub mod Coming
 pub mod Listed
 pub mod Entries
+pub mod Opens
 pub mod Recordings

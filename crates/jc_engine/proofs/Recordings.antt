@@ -1,5 +1,5 @@
 -- What a recorded manager keeps, after each of its calls.
-use Rattle.std.proofs.Common.{◌≡◌, ℕ, zero, suc, Bool, true, false, List, [], ◌∷◌, ◌++◌, ◌+◌, length, take, Option, Some, None, Result, Ok, Err, refl, sym, ap, ap₂, subst, ◌∙◌, arith, slice_get, slice_set, option_map, MatchOption, OnOk, IsSome, is_some, is_err}
+use Rattle.std.proofs.Common.{◌≡◌, ◌⊎◌, inl, inr, IfSome, ℕ, zero, suc, Bool, true, false, List, [], ◌∷◌, ◌++◌, ◌+◌, length, take, Option, Some, None, Result, Ok, Err, refl, sym, ap, ap₂, subst, ◌∙◌, arith, slice_get, slice_set, set-set, option_map, MatchOption, OnOk, OnErr, IsSome, is_some, is_err}
 use Rattle.jc_engine.proofs.Names.{Answer, Call, Notice, CacheConfig, Event, Begin, GiveUp, Create, Destroy, Outcome, Entry, Progress, Awaited, told_by, there, at_place, Status, live_at, Said, says, answers, gives_up, idle}
 use Rattle.jc_engine.proofs.Names.{is_refused, reply_of, for_memory, answer_of, answer_in, answer_to, lives_after, Wait, one, many, telling, standing_by, History, Tells, recorded, numbered, at_first, with_outcome, with_answer}
 use Rattle.jc_engine.proofs.Names.{on_open, Noted, Advance, Replied, Asked, Told, Cache, status_of, fresh_cache, fresh_from, lives_of, step_of, is_step, is_telling, tells, FitsTurn, LeavesNotices, of_abandon, FitsAt, ClosedAt, is_open_in}
@@ -7,15 +7,12 @@ use Rattle.jc_engine.proofs.Names.{ChangesOne, IsOpenAt, HasEntry, IsRecorded, C
 use Rattle.jc_engine.proofs.Names.{length_push, same_from_push}
 use Rattle.jc_model.specs.declared.event.Life.{Life}
 use Rattle.jc_model.proofs.Recording.{one_more_event, nothing_told}
-use Rattle.jc_engine.proofs.Numbered.{Puts, put_here, put_other}
+use Rattle.jc_engine.specs.Journals.{is_replied, IsKept, Keeps, KeepsOthers}
+use Rattle.jc_engine.proofs.Places.{same_set}
+use Rattle.jc_engine.specs.Recording.{IsEntryOf}
 use Rattle.jc_engine.proofs.Moving.{plain}
 use Rattle.jc_engine.proofs.Openings.{fresh_lives, made_there}
 use Rattle.jc_engine.proofs.Entries.{get_last, opened_after, added_elsewhere, set_elsewhere, same_elsewhere, written_open}
-
--- whether a call has ended with its reply
-abbrev pub is_replied : Advance → Bool
-is_replied (Replied reply) = true
-is_replied _ = false
 
 -- a call that waits for its notices to be told then replies
 not_telling : (c : CacheConfig) (p : Progress) (w : Awaited × Wait) (a : Answer) (advance : Advance) → Stepped (step_of advance) ≡ reply_of c (standing_by c p (Some w)) (answers a) → is_replied advance ≡ false → is_telling w.1 ≡ false
@@ -34,6 +31,21 @@ entry_after (Asked request) (Some w) entries id place e fit there own untold =
     record { entry = with_outcome (Stepped (step_of (Asked request))) e; there = there; own = own; waits = refl; untold = λ h. ap (λ ns. ns ++ told_by request) (untold refl) ∙ fit.0 }
 entry_after (Told notices) (Some w) entries id place e fit there own untold =
     record { entry = with_outcome (Stepped (step_of (Told notices))) e; there = there; own = own; waits = refl; untold = λ h. absurd (let no : true ≡ false = sym fit ∙ h in cc) }
+
+-- one that has replied waits for nothing
+replied_idle : (advance : Advance) (turn : Option (Awaited × Wait)) → is_replied advance ≡ true → FitsTurn advance turn → turn ≡ None
+replied_idle (Replied reply) turn is fit = fit
+replied_idle (Asked request) turn is fit = absurd cc
+replied_idle (Told notices) turn is fit = absurd cc
+
+-- its entry stands where it is kept, if it goes on
+kept_after : (advance : Advance) (turn : Option (Awaited × Wait)) (entries : List Entry) (id place : ℕ) (kept : Option ℕ) (e : Entry) → FitsTurn advance turn
+    → slice_get entries place ≡ Some (with_outcome (Stepped (step_of advance)) e) → e.id ≡ id → (is_replied advance ≡ false → e.told ≡ []) → (is_replied advance ≡ false → kept ≡ Some place) → HasEntry entries id kept turn
+kept_after advance turn entries id place kept e fit there own untold keeps = go (is_replied advance) refl
+  where
+    go : (b : Bool) → is_replied advance ≡ b → HasEntry entries id kept turn
+    go true is = rw (replied_idle advance turn is fit) tt
+    go false is = rw (keeps is) (entry_after advance turn entries id place e fit there own untold)
 
 pub can_tell_by : (advance : Advance) (found : Option Cache) (e : Entry) → FitsAt advance found → (is_replied advance ≡ false → e.told ≡ []) → CanTell advance e
 can_tell_by (Replied reply) found e fit untold = tt
@@ -54,6 +66,12 @@ pub record FindsOpen (caches : List (Option Cache)) (entries : List Entry) (plac
   pub at : places id ≡ Some place
   pub opened : IsOpenAt entries id place busy.wait
 
+pub kept_of : {caches : List (Option Cache)} {h : History} {places : ℕ → Option ℕ} {id place : ℕ} (f : FindsOpen caches h.entries places id place) → IsKept h places id place f.opened.entry
+kept_of f = record { at = f.at; there = f.opened.there; own = f.opened.own; waits = f.opened.waits }
+
+pub entry_of : {caches : List (Option Cache)} {entries : List Entry} {places : ℕ → Option ℕ} {id place : ℕ} (f : FindsOpen caches entries places id place) → IsEntryOf entries id place f.opened.entry
+entry_of f = record { there = f.opened.there; own = f.opened.own; waits = f.opened.waits }
+
 is_taken : (o : Outcome) → is_step o ≡ true → is_refused o ≡ false
 is_taken (Stepped s) is = refl
 is_taken _ is = absurd cc
@@ -71,16 +89,15 @@ module _ {caches : List (Option Cache)} {h : History} {places : ℕ → Option �
     others other differ = ap (λ (ks : List (Option Cache)). at_place ks other) one.is ∙ ap there (at_other caches id other (Some one.cache) (λ same. differ (sym same)))
 
     -- a call has begun
-    pub begun : (session now : ℕ) (call : Call) (advance : Advance) (places' : ℕ → Option ℕ) → FitsAt advance (at_place caches' id) → Puts places id (Some (length h.entries)) places'
+    pub begun : (session now : ℕ) (call : Call) (advance : Advance) (places' : ℕ → Option ℕ) → FitsAt advance (at_place caches' id) → Keeps places id (length h.entries) advance places'
         → Stepped (step_of advance) ≡ answer_to (lives_of caches) (Begin id now call) false → lives_of caches' ≡ lives_after (lives_of caches) (Begin id now call) (Stepped (step_of advance))
         → IsRecorded caches' (with_entries (h.entries ++ with_outcome (Stepped (step_of advance)) (blank session id now call) ∷ []) h) places'
     begun session now call advance places' fit placed is leaves = record {
       told = told_on caches' session (Begin id now call) (Stepped (step_of advance)) is leaves;
       opened = opened_after id caches caches' h.entries entries places places' kept.opened others
           (added_elsewhere id h.entries entry)
-          (put_other places places' id (Some (length h.entries)) placed)
-          (λ k found. rw (put_here places places' id (Some (length h.entries)) placed)
-          (entry_after advance k.turn entries id (length h.entries) (blank session id now call) (rw found at fit) (get_last h.entries entry) refl (λ _. refl)));
+          placed.others
+          (λ k found. kept_after advance k.turn entries id (length h.entries) (places' id) (blank session id now call) (rw found at fit) (get_last h.entries entry) refl (λ _. refl) placed.own);
     }
       where
         entry : Entry
@@ -98,14 +115,14 @@ module _ {caches : List (Option Cache)} {h : History} {places : ℕ → Option �
       pub written_at : (to : Entry → Entry) → slice_set h.entries place (to f.opened.entry) ≡ on_open id to h.entries
       written_at to = written_open (lives_of caches) h id place (status_of f.busy.cache) f.opened.entry to kept.told status_here f.opened.there f.opened.own f.opened.waits
 
-      changed : (to : Entry → Entry) → Tells (with_entries (on_open id to h.entries) h) (lives_of caches') → ((k : Cache) → at_place caches' id ≡ Some k → HasEntry (slice_set h.entries place (to f.opened.entry)) id (Some place) k.turn)
-          → IsRecorded caches' (with_entries (slice_set h.entries place (to f.opened.entry)) h) places
-      changed to told has = record {
+      changed : (to : Entry → Entry) (places' : ℕ → Option ℕ) → Tells (with_entries (on_open id to h.entries) h) (lives_of caches') → KeepsOthers places id places' → ((k : Cache) → at_place caches' id ≡ Some k → HasEntry (slice_set h.entries place (to f.opened.entry)) id (places' id) k.turn)
+          → IsRecorded caches' (with_entries (slice_set h.entries place (to f.opened.entry)) h) places'
+      changed to places' told others_kept has = record {
         told = rw (written_at to) told;
-        opened = opened_after id caches caches' h.entries (slice_set h.entries place (to f.opened.entry)) places places kept.opened others
+        opened = opened_after id caches caches' h.entries (slice_set h.entries place (to f.opened.entry)) places places' kept.opened others
             (set_elsewhere id h.entries place f.opened.entry (to f.opened.entry) f.opened.there f.opened.own)
-            (λ other differ. refl)
-            (λ k found. rw f.at (has k found));
+            others_kept
+            has;
       }
 
       module _ (a : Answer) (advance : Advance) (fit : FitsAt advance (at_place caches' id)) (is : Stepped (step_of advance) ≡ answer_to (lives_of caches) (Answered id a) false) where
@@ -118,14 +135,14 @@ module _ {caches : List (Option Cache)} {h : History} {places : ℕ → Option �
         pub can_tell : CanTell advance (with_answer a f.opened.entry)
         can_tell = can_tell_by advance (at_place caches' id) (with_answer a f.opened.entry) fit untold_so
 
-        pub resumed : lives_of caches' ≡ lives_after (lives_of caches) (Answered id a) (Stepped (step_of advance))
-            → IsRecorded caches' (with_entries (slice_set h.entries place (with_outcome (Stepped (step_of advance)) (with_answer a f.opened.entry))) h) places
-        resumed leaves = changed (λ e. with_outcome (Stepped (step_of advance)) (with_answer a e)) (told_on caches' 0 (Answered id a) (Stepped (step_of advance)) is leaves)
-            (λ k found. entry_after advance k.turn _ id place (with_answer a f.opened.entry) (rw found at fit) (at_same h.entries place f.opened.entry _ f.opened.there) f.opened.own untold_so)
+        pub resumed : (places' : ℕ → Option ℕ) → Keeps places id place advance places' → lives_of caches' ≡ lives_after (lives_of caches) (Answered id a) (Stepped (step_of advance))
+            → IsRecorded caches' (with_entries (slice_set h.entries place (with_outcome (Stepped (step_of advance)) (with_answer a f.opened.entry))) h) places'
+        resumed places' keeps leaves = changed (λ e. with_outcome (Stepped (step_of advance)) (with_answer a e)) places' (told_on caches' 0 (Answered id a) (Stepped (step_of advance)) is leaves) keeps.others
+            (λ k found. kept_after advance k.turn _ id place (places' id) (with_answer a f.opened.entry) (rw found at fit) (at_same h.entries place f.opened.entry _ f.opened.there) f.opened.own untold_so keeps.own)
 
-      pub given_up : (notices : List Notice) → ClosedAt (at_place caches' id) → GivenUp notices ≡ answer_to (lives_of caches) (GiveUp id) false → lives_of caches' ≡ lives_after (lives_of caches) (GiveUp id) (GivenUp notices)
-          → IsRecorded caches' (with_entries (slice_set h.entries place (with_outcome (GivenUp notices) f.opened.entry)) h) places
-      given_up notices closed is leaves = changed (with_outcome (GivenUp notices)) (told_on caches' 0 (GiveUp id) (GivenUp notices) is leaves) (λ k found. rw (rw found at closed) tt)
+      pub given_up : (places' : ℕ → Option ℕ) (notices : List Notice) → KeepsOthers places id places' → ClosedAt (at_place caches' id) → GivenUp notices ≡ answer_to (lives_of caches) (GiveUp id) false → lives_of caches' ≡ lives_after (lives_of caches) (GiveUp id) (GivenUp notices)
+          → IsRecorded caches' (with_entries (slice_set h.entries place (with_outcome (GivenUp notices) f.opened.entry)) h) places'
+      given_up places' notices keeps closed is leaves = changed (with_outcome (GivenUp notices)) places' (told_on caches' 0 (GiveUp id) (GivenUp notices) is leaves) keeps (λ k found. rw (rw found at closed) tt)
 
   -- What an accepted answer or give-up finds: the open call's entry, at the place that is kept for the cache.
 
@@ -140,14 +157,22 @@ module _ {caches : List (Option Cache)} {h : History} {places : ℕ → Option �
         by None has = absurd has
         by (Some place) has = refl
 
+    -- it is kept
+    pub found : (place : ℕ) × FindsOpen caches h.entries places id place
+    found = by (places id) refl
+      where
+        by : (p : Option ℕ) → places id ≡ p → (place : ℕ) × FindsOpen caches h.entries places id place
+        by None is = absurd (rw is at has_entry)
+        by (Some place) is = (place, record { busy = b; at = is; opened = rw is at has_entry })
+
     pub finds : {place : ℕ} → places id ≡ Some place → FindsOpen caches h.entries places id place
     finds at = record { busy = b; at = at; opened = rw at at has_entry }
 
   -- a cache has been created
-  pub created : {caches' : List (Option Cache)} (c : CacheConfig) (id : ℕ) → caches' ≡ caches ++ Some (fresh_cache c) ∷ [] → Created id ≡ answer_to (lives_of caches) (Create c) false → lives_of caches' ≡ lives_after (lives_of caches) (Create c) (Created id) → IsRecorded caches' (with_life id c h) places
-  created {caches'} c id more is leaves = record {
+  pub created : {caches' : List (Option Cache)} (c : CacheConfig) (id : ℕ) (places' : ℕ → Option ℕ) → ((other : ℕ) → places' other ≡ places other) → caches' ≡ caches ++ Some (fresh_cache c) ∷ [] → Created id ≡ answer_to (lives_of caches) (Create c) false → lives_of caches' ≡ lives_after (lives_of caches) (Create c) (Created id) → IsRecorded caches' (with_life id c h) places'
+  created {caches'} c id places' same more is leaves = record {
     told = told_on caches' 0 (Create c) (Created id) is leaves;
-    opened = λ other k at. more_at (λ (k : Cache). HasEntry h.entries other (places other) k.turn) caches (fresh_cache c) other (kept.opened other) tt k (rw more at at);
+    opened = λ other k at. rw (same other) (more_at (λ (k : Cache). HasEntry h.entries other (places other) k.turn) caches (fresh_cache c) other (kept.opened other) tt k (rw more at at));
   }
     where
       more_at : (P : Cache → Type 0) (ks : List (Option Cache)) (new : Cache) (i : ℕ) → ((k : Cache) → at_place ks i ≡ Some k → P k) → P new → (k : Cache) → at_place (ks ++ Some new ∷ []) i ≡ Some k → P k
@@ -157,14 +182,14 @@ module _ {caches : List (Option Cache)} {h : History} {places : ℕ → Option �
       more_at P (j ∷ ks) new (suc i) old here k at = more_at P ks new i old here k at
 
   -- and one destroyed
-  pub destroyed : {caches' : List (Option Cache)} (id : ℕ) (places' : ℕ → Option ℕ) → caches' ≡ slice_set caches id None → Puts places id None places'
+  pub destroyed : {caches' : List (Option Cache)} (id : ℕ) (places' : ℕ → Option ℕ) → caches' ≡ slice_set caches id None → KeepsOthers places id places'
       → Destroyed ≡ answer_to (lives_of caches) (Destroy id) false → lives_of caches' ≡ lives_after (lives_of caches) (Destroy id) Destroyed → IsRecorded caches' h places'
   destroyed {caches'} id places' less placed is leaves = record {
     told = told_on caches' 0 (Destroy id) Destroyed is leaves;
     opened = opened_after id caches caches' h.entries h.entries places places' kept.opened
         (λ other differ. ap (λ (ks : List (Option Cache)). at_place ks other) less ∙ ap there (at_other caches id other None (λ same. differ (sym same))))
         (same_elsewhere id h.entries)
-        (put_other places places' id None placed)
+        placed
         (λ k at. let no : ◌≡◌ {A = Option Cache} None (Some k) = sym (gone caches id) ∙ rw less at at in absurd cc);
   }
     where
@@ -237,6 +262,45 @@ pub on_ok : {A E P : Type 0} (r : Result A E) → OnOk r P → is_err r ≡ fals
 on_ok (Ok x) p ok = p
 on_ok (Err e) p ok = absurd cc
 
+pub on_error : {A E P : Type 0} (r : Result A E) → OnErr r P → is_err r ≡ true → P
+on_error (Ok x) p err = absurd cc
+on_error (Err e) p err = p
+
 pub untold_left : (left : Option Noted) (k : Cache) (w : Awaited × Wait) (e : Entry) → LeavesNotices k left → k.turn ≡ Some w → (is_telling w.1 ≡ false → e.told ≡ []) → is_some left ≡ true → e.told ≡ []
 untold_left None k w e leaves waits untold some = absurd cc
 untold_left (Some left) k w e leaves waits untold some = untold (subst (λ (t : Option (Awaited × Wait)). tells t ≡ false) waits leaves.0)
+
+-- What is written to a kept entry, one thing after another.
+
+pub answered_kept : (h new : History) (places places' : ℕ → Option ℕ) (id place : ℕ) (a : Answer) (e : Entry) → IsKept h places id place e → new ≡ with_entries (slice_set h.entries place (with_answer a e)) h → ((q : ℕ) → places' q ≡ places q) → IsKept new places' id place (with_answer a e)
+answered_kept h new places places' id place a e kept entered same = record {
+  at = same id ∙ kept.at;
+  there = ap (λ (t : History). slice_get t.entries place) entered ∙ at_same h.entries place e (with_answer a e) kept.there;
+  own = kept.own;
+  waits = kept.waits;
+}
+
+pub written_twice : (h mid new : History) (place : ℕ) (x y : Entry) → mid ≡ with_entries (slice_set h.entries place x) h → new ≡ with_entries (slice_set mid.entries place y) mid → new ≡ with_entries (slice_set h.entries place y) h
+written_twice h mid new place x y first then =
+    then ∙ ap (λ (t : History). with_entries (slice_set t.entries place y) t) first ∙ ap (λ (es : List Entry). with_entries es h) (set-set h.entries place x y)
+
+pub written_back : (h mid new : History) (place : ℕ) (x e : Entry) → slice_get h.entries place ≡ Some e → mid ≡ with_entries (slice_set h.entries place x) h → new ≡ with_entries (slice_set mid.entries place e) mid → new ≡ h
+written_back h mid new place x e there first then = written_twice h mid new place x e first then ∙ ap (λ (es : List Entry). with_entries es h) (same_set h.entries place e there)
+
+pub keeps_over : (old mid new : ℕ → Option ℕ) (id place : ℕ) (advance : Advance) → ((q : ℕ) → mid q ≡ old q) → Keeps mid id place advance new → Keeps old id place advance new
+keeps_over old mid new id place advance same keeps = record { others = λ other differ. keeps.others other differ ∙ same other; own = keeps.own }
+
+-- The entry of an open call, as it is found and left.
+
+pub entry_found : {X : Type 0} (o : Option X) (now : X → Entry) (entries : List Entry) (id place : ℕ) (e : Entry) → option_map now o ≡ Some e → IsEntryOf entries id place e → IfSome o (λ x. (place : ℕ) × IsEntryOf entries id place (now x))
+entry_found None now entries id place e is of = absurd cc
+entry_found (Some x) now entries id place e is of = let same : now x ≡ e = cc in (place, subst (IsEntryOf entries id place) (sym same) of)
+
+pub some_found : {X : Type 0} (o : Option X) (now : X → Entry) (e : Entry) → option_map now o ≡ Some e → is_some o ≡ true
+some_found None now e is = absurd cc
+some_found (Some x) now e is = refl
+
+-- a call has told its notices, or they are left
+pub told_or_left : (left : Option Noted) (k : Cache) (w : Awaited × Wait) (e : Entry) → LeavesNotices k left → k.turn ≡ Some w → (is_telling w.1 ≡ false → e.told ≡ []) → (e.told ≡ []) ⊎ (left_in left ≡ [])
+told_or_left None k w e leaves waits untold = inr refl
+told_or_left (Some left) k w e leaves waits untold = inl (untold (subst (λ (t : Option (Awaited × Wait)). tells t ≡ false) waits leaves.0))

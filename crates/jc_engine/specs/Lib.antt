@@ -7,4 +7,8 @@ pub mod Sound
 pub mod Fresh
 pub mod Free
 pub mod Recording
+pub mod Journals
+pub mod Past
+pub mod Changed
+pub mod Opens
 pub mod Watching

@@ -28,6 +28,12 @@ pub record HasOpen (transcript : List Entry) (id place : ℕ) : Type 0 where
   pub own : entry.id ≡ id
   pub waits : entry.end ≡ Waiting
 
+-- this entry, of a cache's open call, stands at this place
+pub record IsEntryOf (transcript : List Entry) (id place : ℕ) (entry : Entry) : Type 0 where
+  pub there : slice_get transcript place ≡ Some entry
+  pub own : entry.id ≡ id
+  pub waits : entry.end ≡ Waiting
+
 -- the entry of a call that waits stands at this place; nothing has been told of it before its notices are told
 pub record IsOpenAt (transcript : List Entry) (id place : ℕ) (w : Awaited × Wait) : Type 0 where
   pub entry : Entry

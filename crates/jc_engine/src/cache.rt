@@ -11,6 +11,7 @@ ghost use Rattle.jc_bulk.specs.Moved.{ComesTo};
 ghost use Rattle.jc_engine.specs.Caches.{status_of};
 ghost use Rattle.jc_engine.specs.Sound.{IsAt};
 ghost use Rattle.jc_engine.specs.declared.cache.Turn.TheVariants.{Idle};
+ghost use Rattle.jc_engine.specs.Journals.{is_replied};
 ghost use Rattle.jc_engine.specs.Managed.{cache_in, turn_in, step_of, is_step, IsManaged, Moves, Settled, Abandons};
 
 use jc_bulk::call::{Moved, answer_call, start_call};
@@ -38,13 +39,20 @@ pub(crate) enum Turn {
 
 /// What an open call has come to: its step, with the copies that a transcript needs.
 #[derive(Drop)]
-pub(crate) enum Advance {
+pub enum Advance {
     Replied(Thrice<Reply>),
     Asked(Request),
     Told(Notices),
 }
 
 impl Advance {
+    /// Whether the call has ended with its reply.
+    pub(crate) fn is_replied(&self) -> bool
+        ensures { result ≡ is_replied self.now }
+    {
+        matches!(self, Advance::Replied(_))
+    }
+
     /// The step alone; the copies are let go.
     pub(crate) fn into_step(self) -> Step
         ensures { result ≡ step_of self }

@@ -3,6 +3,7 @@
 
 mod cache;
 pub mod engine;
+pub mod journal;
 mod lives;
 mod moves;
 pub mod open;

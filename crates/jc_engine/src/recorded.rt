@@ -1,5 +1,5 @@
-//! The manager with the transcript of its calls.
-ghost use Rattle.std.specs.Prelude.{◌≡◌, ◌⊎◌, ℕ, List, false, [], ◌∷◌, ◌++◌, IfSome, IfOk, IfErr, OnErr, MatchOption, is_some, option_map};
+//! The manager with a journal of its calls.
+ghost use Rattle.std.specs.Prelude.{◌≡◌, ◌⊎◌, ◌≤◌, ◌+◌, length, ℕ, List, false, [], ◌∷◌, ◌++◌, IfSome, IfOk, IfErr, OnErr, MatchOption, is_some, option_map};
 ghost use Rattle.std.specs.FinMap as table;
 ghost use Rattle.jc_model.specs.declared.event.Event.TheVariants.{Begin, Answer as Answered, GiveUp, Create, Destroy};
 ghost use Rattle.jc_model.specs.declared.event.Entry.{Entry};
@@ -10,59 +10,87 @@ ghost use Rattle.jc_engine.specs.Caches.{AreSound, lives_of, names_of, id_of, ex
 ghost use Rattle.jc_engine.specs.Opening.{open_refusal, open_refusal_from};
 ghost use Rattle.jc_engine.specs.Results.{of_recorded_begin, of_recorded_resume, of_give_up, of_create, of_destroy, reply_in};
 ghost use Rattle.jc_engine.specs.Advances.{is_open_in};
-ghost use Rattle.jc_engine.specs.Recording.{HasOpen};
+ghost use Rattle.jc_engine.specs.Recording.{IsEntryOf, blank};
+ghost use Rattle.jc_model.specs.Limits.{most_ids};
 
-mod notes;
 mod over;
 mod watched;
 
-use self::notes::{
-    begun, enter_answer, enter_life, first_lives, keep_place, kept_place, note, note_given_up,
-};
 use crate::engine::Engine;
+use crate::journal::Journal;
+use crate::journal::all_calls::AllCalls;
 use crate::open::{OpenRefusal, open_refusal_from};
+use jc_model::OutOfMemory;
 use jc_model::call::{Answer, Call, Notice, Reply};
 use jc_model::config::CacheConfig;
-use jc_model::event::{CacheId, Cause, CreateRefusal, Entry, Step};
+use jc_model::event::{CacheId, Cause, CreateRefusal, End, Entry, Step};
 use jc_model::key::Key;
 use jc_model::list::Sequence;
 use jc_model::transcript::Transcript;
 use jc_ring::ring::Ring;
 use jc_rows::rows::Rows;
 use std::alloc::Global;
-use std::collections::HashMap;
 use std::marker::Model;
 
-/// A manager with its transcript. Contracts see both.
+/// A manager with a journal: by default one that keeps all calls. Contracts see the caches and the transcript, of which
+/// the journal tells, whatever it keeps of it in memory.
 #[derive(Drop)]
-pub struct Recorded<R: Rows, G: Ring> {
+pub struct Recorded<R: Rows, G: Ring, J: Journal = AllCalls> {
     pub(crate) alloc: Global,
     pub(crate) engine: Engine<R, G>,
-    pub(crate) transcript: Transcript,
-    /// By live cache that has been called, the place of its last call in the transcript.
-    pub(crate) places: HashMap<u32, usize>,
+    pub(crate) journal: J,
 }
 
-impl<R: Rows, G: Ring> Model for Recorded<R, G> {
-    ghost use Rattle.std.specs.Prelude.{nat_eq};
-    ghost use Rattle.std.specs.HashMap.{get};
+impl<R: Rows, G: Ring, J: Journal> Model for Recorded<R, G, J> {
     ghost use Rattle.jc_engine.specs.Recording.{Recording, IsRecorded};
 
     ghost Value = { Recording };
 
-    ghost view = { λ r. record { caches = r.engine; transcript = r.transcript } };
+    ghost view = { λ r. record { caches = r.engine; transcript = J.history r.journal } };
 
-    ghost invariant = { λ r. IsRecorded r.engine r.transcript (get nat_eq r.places) };
+    ghost invariant = { λ r. IsRecorded r.engine (J.history r.journal) (J.places r.journal) };
 }
 
-impl<R: Rows, G: Ring> Recorded<R, G> {
+/// The entry of a call that is about to begin.
+fn blank(alloc: Global, session: u32, id: CacheId, now: u64, call: Call) -> Entry
+    ensures { result ≡ blank session id now call }
+{
+    Entry {
+        session,
+        id,
+        at: now,
+        call,
+        answers: Sequence::new(Vec::new(alloc)),
+        told: Sequence::new(Vec::new(alloc)),
+        end: End::Waiting,
+    }
+}
+
+/// The journal of a manager that has just been opened.
+fn first_lives<J: Journal>(
+    alloc: Global,
+    configs: &[CacheConfig],
+    first: u32,
+) -> Result<J, OutOfMemory>
+    requires { first + length configs.now ≤ most_ids }
+    ensures { IfOk result (λ j. J.history j ≡ at_first first configs.now) }
+{
+    let mut journal = J::new(alloc);
+    for (place, config) in configs.iter().enumerate() {
+        let id = CacheId::new(first + place as u32);
+        journal.create(id, config)?;
+    }
+    Ok(journal)
+}
+
+impl<R: Rows, G: Ring, J: Journal> Recorded<R, G, J> {
     /// Opens a manager with these caches, over an empty table. A cache's id is its place in the list. Nothing has been
     /// called yet.
     pub fn open(
         alloc: Global,
         rows: R,
         configs: Vec<CacheConfig>,
-    ) -> Result<Recorded<R, G>, OpenRefusal>
+    ) -> Result<Recorded<R, G, J>, OpenRefusal>
         requires { R.contents rows ≡ table.empty }
         ensures refused { IfSome (open_refusal configs.items) (λ refusal. result ≡ Err refusal) }
         ensures memory { IfErr result (λ refusal. (open_refusal configs.items ≡ Some refusal) ⊎ (refusal ≡ OpenRefusal.OutOfMemory)) }
@@ -79,7 +107,7 @@ impl<R: Rows, G: Ring> Recorded<R, G> {
         rows: R,
         configs: Vec<CacheConfig>,
         first: u32,
-    ) -> Result<Recorded<R, G>, OpenRefusal>
+    ) -> Result<Recorded<R, G, J>, OpenRefusal>
         requires { R.contents rows ≡ table.empty }
         ensures refused { IfSome (open_refusal_from first configs.items) (λ refusal. result ≡ Err refusal) }
         ensures memory { IfErr result (λ refusal. (open_refusal_from first configs.items ≡ Some refusal) ⊎ (refusal ≡ OpenRefusal.OutOfMemory)) }
@@ -89,26 +117,27 @@ impl<R: Rows, G: Ring> Recorded<R, G> {
         if let Some(refusal) = open_refusal_from(alloc, &configs, first) {
             return Err(refusal);
         }
-        let transcript = first_lives(alloc, &configs, first)?;
+        let journal = first_lives(alloc, &configs, first)?;
         let engine = Engine::open_from(alloc, rows, configs, first)?;
         Ok(Recorded {
             alloc,
             engine,
-            transcript,
-            places: HashMap::new(alloc),
+            journal,
         })
     }
 
     /// The id of the live cache with this name.
     pub fn cache(&self, name: &Key) -> Option<CacheId>
-        ensures { result ≡ id_of name.now self.now.caches }
+        ensures exact { result ≡ id_of name.now self.now.caches }
+        ensures told { Tells self.now.transcript (lives_of self.now.caches) }
     {
         self.engine.cache(name)
     }
 
     /// Whether a live cache has this id.
     pub fn is_live(&self, id: CacheId) -> bool
-        ensures { result ≡ is_some (at_place self.now.caches id) }
+        ensures exact { result ≡ is_some (at_place self.now.caches id) }
+        ensures told { Tells self.now.transcript (lives_of self.now.caches) }
     {
         self.engine.is_live(id)
     }
@@ -135,31 +164,13 @@ impl<R: Rows, G: Ring> Recorded<R, G> {
         self.engine.rows()
     }
 
-    /// The transcript so far. It is legal, and each live cache stands where its own calls there leave it.
-    pub fn transcript(&self) -> &Transcript
-        ensures value { result.now ≡ self.now.transcript }
-        ensures legal { IsLegal self.now.transcript }
-        ensures tells { Tells self.now.transcript (lives_of self.now.caches) }
-    {
-        // The clauses follow from the invariant of all fields, and so the places are read too.
-        let _places = &self.places;
-        &self.transcript
-    }
-
-    /// The entry of the call that has begun last.
-    pub fn last(&self) -> Option<&Entry>
-        ensures { MatchOption result (self.now.transcript.entries ≡ []) (λ e. (before : List Entry) × (self.now.transcript.entries ≡ before ++ e.now ∷ [])) }
-    {
-        self.transcript.last()
-    }
-
-    /// The place of the entry of a cache's open call in the transcript, if a call is open there.
-    pub fn open_place(&self, id: CacheId) -> Option<usize>
-        ensures entry { IfSome result (λ place. HasOpen self.now.transcript.entries id place) }
+    /// The entry of a cache's open call, if one is open there.
+    pub fn open_entry(&self, id: CacheId) -> Option<&Entry>
+        ensures entry { IfSome result (λ e. (place : ℕ) × IsEntryOf self.now.transcript.entries id place e.now) }
         ensures open { is_some result ≡ is_open_in (at_place self.now.caches id) }
     {
         if self.engine.is_open(id) {
-            Some(kept_place(&self.places, id))
+            self.journal.open_entry(id)
         } else {
             None
         }
@@ -177,6 +188,7 @@ impl<R: Rows, G: Ring> Recorded<R, G> {
         ensures outcome { of_recorded_begin result ≡ answer_to (lives_of self.old.caches) (Begin id now call) (for_memory (of_recorded_begin result)) }
         ensures lives { lives_of self.new.caches ≡ lives_after (lives_of self.old.caches) (Begin id now call) (of_recorded_begin result) }
         ensures transcript { self.new.transcript ≡ recorded session (Begin id now call) (of_recorded_begin result) self.old.transcript }
+        ensures told { Tells self.old.transcript (lives_of self.old.caches) × Tells self.new.transcript (lives_of self.new.caches) }
         ensures copy { IfOk result (λ s. s.1 ≡ reply_in s.0) }
         ensures back { IfErr result (λ e. e.1 ≡ call) }
         ensures refused { OnErr result (self.new ≡ self.old) }
@@ -184,26 +196,14 @@ impl<R: Rows, G: Ring> Recorded<R, G> {
         if let Some(cause) = self.engine.begin_refusal(id, &call) {
             return Err((cause, call));
         }
-        if self.places.reserve(1).is_err() {
-            return Err((Cause::OutOfMemory, call));
-        }
-        let place = self.transcript.entries().len();
-        let entry = begun(self.alloc, session, id, now, call);
-        if let Err(entry) = self.transcript.push(entry) {
-            return Err((Cause::OutOfMemory, entry.call));
-        }
-        match self
-            .engine
-            .start(id, now, &self.transcript.entries()[place].call)
-        {
-            Ok(advance) => {
-                keep_place(&mut self.places, id, place);
-                Ok(note(&mut self.transcript, place, advance))
-            }
-            Err(_) => match self.transcript.pop() {
-                Some(entry) => Err((Cause::OutOfMemory, entry.call)),
-                None => unreachable!(),
-            },
+        let entry = blank(self.alloc, session, id, now, call);
+        let held = match self.journal.enter(entry) {
+            Ok(held) => held,
+            Err(entry) => return Err((Cause::OutOfMemory, entry.call)),
+        };
+        match self.engine.start(id, now, self.journal.call(&held)) {
+            Ok(advance) => Ok(self.journal.begin(id, held, advance)),
+            Err(_) => Err((Cause::OutOfMemory, self.journal.take_back(held))),
         }
     }
 
@@ -217,6 +217,7 @@ impl<R: Rows, G: Ring> Recorded<R, G> {
         ensures outcome { of_recorded_resume result ≡ answer_to (lives_of self.old.caches) (Answered id answer) (for_memory (of_recorded_resume result)) }
         ensures lives { lives_of self.new.caches ≡ lives_after (lives_of self.old.caches) (Answered id answer) (of_recorded_resume result) }
         ensures transcript { (session : ℕ) → self.new.transcript ≡ recorded session (Answered id answer) (of_recorded_resume result) self.old.transcript }
+        ensures told { Tells self.old.transcript (lives_of self.old.caches) × Tells self.new.transcript (lives_of self.new.caches) }
         ensures copy { IfOk result (λ s. s.1 ≡ reply_in s.0) }
         ensures back { IfErr result (λ e. e.1 ≡ answer) }
         ensures refused { OnErr result (self.new ≡ self.old) }
@@ -224,14 +225,13 @@ impl<R: Rows, G: Ring> Recorded<R, G> {
         if let Some(cause) = self.engine.resume_refusal(id, &answer) {
             return Err((cause, answer));
         }
-        let place = kept_place(&self.places, id);
-        if enter_answer(&mut self.transcript, place, &answer).is_err() {
+        if self.journal.answer(id, &answer).is_err() {
             return Err((Cause::OutOfMemory, answer));
         }
         match self.engine.go_on(id, answer) {
-            Ok(advance) => Ok(note(&mut self.transcript, place, advance)),
+            Ok(advance) => Ok(self.journal.go_on(id, advance)),
             Err(answer) => {
-                self.transcript.pop_answer(place);
+                self.journal.take_answer(id);
                 Err((Cause::OutOfMemory, answer))
             }
         }
@@ -242,16 +242,18 @@ impl<R: Rows, G: Ring> Recorded<R, G> {
         ensures outcome { of_give_up result ≡ answer_to (lives_of self.old.caches) (GiveUp id) false }
         ensures lives { lives_of self.new.caches ≡ lives_after (lives_of self.old.caches) (GiveUp id) (of_give_up result) }
         ensures transcript { (session : ℕ) → self.new.transcript ≡ recorded session (GiveUp id) (of_give_up result) self.old.transcript }
+        ensures left { IfOk result (λ left. (place : ℕ) × (e : Entry) × IsEntryOf self.old.transcript.entries id place e × ((e.told ≡ []) ⊎ (left ≡ []))) }
+        ensures told { Tells self.old.transcript (lives_of self.old.caches) × Tells self.new.transcript (lives_of self.new.caches) }
         ensures refused { OnErr result (self.new ≡ self.old) }
     {
         let left = self.engine.abandon(id)?;
-        let place = kept_place(&self.places, id);
-        Ok(note_given_up(self.alloc, &mut self.transcript, place, left))
+        Ok(self.journal.give_up(self.alloc, id, left))
     }
 
     /// Why no cache can be created with this configuration now, where memory suffices.
     pub fn create_refusal(&self, config: &CacheConfig) -> Option<CreateRefusal>
-        ensures { result ≡ create_refusal (lives_of self.now.caches) config.now }
+        ensures exact { result ≡ create_refusal (lives_of self.now.caches) config.now }
+        ensures told { Tells self.now.transcript (lives_of self.now.caches) }
     {
         self.engine.create_refusal(config)
     }
@@ -261,6 +263,7 @@ impl<R: Rows, G: Ring> Recorded<R, G> {
         ensures outcome { of_create result ≡ answer_to (lives_of self.old.caches) (Create config) (for_memory (of_create result)) }
         ensures lives { lives_of self.new.caches ≡ lives_after (lives_of self.old.caches) (Create config) (of_create result) }
         ensures transcript { (session : ℕ) → self.new.transcript ≡ recorded session (Create config) (of_create result) self.old.transcript }
+        ensures told { Tells self.old.transcript (lives_of self.old.caches) × Tells self.new.transcript (lives_of self.new.caches) }
         ensures back { IfErr result (λ e. e.1 ≡ config) }
         ensures refused { OnErr result (self.new ≡ self.old) }
     {
@@ -268,13 +271,13 @@ impl<R: Rows, G: Ring> Recorded<R, G> {
             return Err((refusal, config));
         }
         let id = self.engine.next_id();
-        if enter_life(&mut self.transcript, id, &config).is_err() {
+        if self.journal.create(id, &config).is_err() {
             return Err((CreateRefusal::OutOfMemory, config));
         }
         match self.engine.create(config) {
             Ok(id) => Ok(id),
             Err(refused) => {
-                self.transcript.pop_life();
+                self.journal.take_life();
                 Err(refused)
             }
         }
@@ -285,11 +288,31 @@ impl<R: Rows, G: Ring> Recorded<R, G> {
         ensures outcome { of_destroy result ≡ answer_to (lives_of self.old.caches) (Destroy id) false }
         ensures lives { lives_of self.new.caches ≡ lives_after (lives_of self.old.caches) (Destroy id) (of_destroy result) }
         ensures transcript { (session : ℕ) → self.new.transcript ≡ recorded session (Destroy id) (of_destroy result) self.old.transcript }
+        ensures told { Tells self.old.transcript (lives_of self.old.caches) × Tells self.new.transcript (lives_of self.new.caches) }
         ensures refused { OnErr result (self.new ≡ self.old) }
     {
         self.engine.destroy(id)?;
-        let number = id.number();
-        self.places.remove(&number);
+        self.journal.destroy(id);
         Ok(())
+    }
+}
+
+impl<R: Rows, G: Ring> Recorded<R, G> {
+    /// The transcript so far. It is legal, and each live cache stands where its own calls there leave it.
+    pub fn transcript(&self) -> &Transcript
+        ensures value { result.now ≡ self.now.transcript }
+        ensures legal { IsLegal self.now.transcript }
+        ensures tells { Tells self.now.transcript (lives_of self.now.caches) }
+    {
+        // The clauses follow from the invariant of all fields, and so the engine is read too.
+        let _engine = &self.engine;
+        &self.journal.transcript
+    }
+
+    /// The entry of the call that has begun last.
+    pub fn last(&self) -> Option<&Entry>
+        ensures { MatchOption result (self.now.transcript.entries ≡ []) (λ e. (before : List Entry) × (self.now.transcript.entries ≡ before ++ e.now ∷ [])) }
+    {
+        self.journal.transcript.last()
     }
 }

@@ -1,6 +1,6 @@
--- Where a call's entry stands in the transcript.
-use Rattle.std.specs.Prelude.{◌≡◌, ℕ, Bool, true, false, List, Option, Some, None, Result, Ok, Err, slice_get, ⊤}
-use Rattle.jc_model.specs.declared.config.CacheConfig.{CacheConfig}
+-- Where an open call stands in the transcript, and what it is told.
+use Rattle.std.specs.Prelude.{◌≡◌, ◌⊎◌, ℕ, [], Bool, true, false, List, Option, Some, None, Result, Ok, Err, ⊤}
+use Rattle.jc_model.specs.declared.call.Answer.{Answer}
 use Rattle.jc_model.specs.declared.event.Cause.{Cause}
 use Rattle.jc_model.specs.declared.event.Cause.TheVariants as causes
 use Rattle.jc_shared.specs.declared.fault.CallFault.{CallFault}
@@ -13,14 +13,15 @@ use Rattle.jc_shared.specs.declared.fault.Unfound.{Unfound}
 use Rattle.jc_shared.specs.declared.fault.Unfound.TheVariants as unfound
 use Rattle.jc_model.specs.declared.event.Entry.{Entry}
 use Rattle.jc_model.specs.declared.event.End.TheVariants as end
+use Rattle.jc_model.specs.declared.event.Event.TheVariants as event
+use Rattle.jc_model.specs.declared.event.Outcome.TheVariants as outcome
 use Rattle.jc_model.specs.declared.event.Step.{Step}
 use Rattle.jc_model.specs.declared.event.Step.TheVariants.{Done, Need}
 use Rattle.jc_shared.specs.declared.turned.Turned.{Turned}
 use Rattle.jc_shared.specs.declared.turned.Turned.TheVariants.{Asked, Replied}
-use Rattle.jc_model.specs.Runs.{Lives}
-use Rattle.jc_model.specs.Legal.{History, IsLegal, Tells}
+use Rattle.jc_model.specs.Runs.{Lives, answer_to}
+use Rattle.jc_model.specs.Legal.{History, Tells}
 use Rattle.jc_engine.specs.Recording.{HasOpen}
-use Rattle.jc_shared.specs.Sessions.{BeginsWith}
 
 -- why a call has no reply, by why the engine refuses it
 abbrev pub fault_of : Cause → CallFault
@@ -54,28 +55,28 @@ abbrev pub accepted : Bool → Result ⊤ CallFault
 accepted true = Ok tt
 accepted false = Err NoSuchProcessor
 
--- the entry is of the draft's call
-pub record IsOfCall (e draft : Entry) : Type 0 where
+-- the entry is of the draft's call, which has been given these answers
+pub record IsOfCall (e draft : Entry) (answers : List Answer) : Type 0 where
   pub session : e.session ≡ draft.session
   pub at : e.at ≡ draft.at
   pub call : e.call ≡ draft.call
+  pub answers : e.answers ≡ answers
+  pub told : e.told ≡ draft.told
 
--- the open call of the draft's cache stands at this place, and is the draft's
-pub record IsOpenFor (lives : Lives) (transcript : History) (draft : Entry) (place : ℕ) : Type 0 where
+-- the entry of the draft's cache's open call stands at this place, and is the draft's after these answers
+pub record IsOpenFor (lives : Lives) (transcript : History) (draft : Entry) (answers : List Answer) (place : ℕ) : Type 0 where
   pub tells : Tells transcript lives
   pub opened : HasOpen transcript.entries draft.id place
-  pub own : IsOfCall opened.entry draft
+  pub own : IsOfCall opened.entry draft answers
 
 -- the open call of the draft's cache is the draft's
-pub record IsOpen (lives : Lives) (transcript : History) (draft : Entry) : Type 0 where
+pub record IsOpen (lives : Lives) (transcript : History) (draft : Entry) (answers : List Answer) : Type 0 where
   pub place : ℕ
-  pub here : IsOpenFor lives transcript draft place
+  pub here : IsOpenFor lives transcript draft answers place
 
--- the draft stands at this place of a legal transcript that begins with these caches, just as it is
-pub record StandsAt (configs : List CacheConfig) (transcript : History) (draft : Entry) (place : ℕ) : Type 0 where
-  pub legal : IsLegal transcript
-  pub begins : BeginsWith configs transcript
-  pub there : slice_get transcript.entries place ≡ Some draft
+-- a give-up hands out nothing where the call has told its notices
+abbrev pub LeavesNone : Lives → Entry → Type 0
+LeavesNone lives draft = (draft.told ≡ []) ⊎ (answer_to lives (event.GiveUp draft.id) false ≡ outcome.GivenUp [])
 
 -- what a step comes to
 abbrev pub Turns : Entry → Step → Turned → Entry → Type 0

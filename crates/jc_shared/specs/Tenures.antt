@@ -1,11 +1,9 @@
 -- What one tenure of the lock does to the recorded engine under it.
-use Rattle.std.specs.Prelude.{◌≡◌, ◌⊎◌, ℕ, List, [], ◌∷◌, slice_get, Some}
+use Rattle.std.specs.Prelude.{◌≡◌, ◌++◌, ℕ, List, ⊤}
 use Rattle.jc_model.specs.declared.call.Answer.{Answer}
 use Rattle.jc_model.specs.declared.call.Notice.{Notice}
-use Rattle.jc_model.specs.declared.call.Reply.{Reply}
 use Rattle.jc_model.specs.declared.event.Cause.{Cause}
 use Rattle.jc_model.specs.declared.event.Cause.TheVariants as causes
-use Rattle.jc_model.specs.declared.event.End.TheVariants as end
 use Rattle.jc_model.specs.declared.event.Entry.{Entry}
 use Rattle.jc_model.specs.declared.event.Event.{Event}
 use Rattle.jc_model.specs.declared.event.Event.TheVariants as event
@@ -22,7 +20,7 @@ use Rattle.jc_shared.specs.declared.fault.Halt.{Halt}
 use Rattle.jc_shared.specs.declared.fault.Halt.TheVariants as halts
 use Rattle.jc_shared.specs.declared.turned.Turned.{Turned}
 use Rattle.jc_shared.specs.declared.turned.Turned.TheVariants.{Asked, Replied}
-use Rattle.jc_shared.specs.Finding.{fault_of, IsOpenFor, IsOpen}
+use Rattle.jc_shared.specs.Finding.{fault_of, IsOpen}
 
 -- the engine has taken this one event of a session, and answered it so
 pub record IsTenure (old new : Recording) (session : ℕ) (event : Event) (o : Outcome) : Type 0 where
@@ -45,44 +43,14 @@ abbrev pub step_of : Turned → Step
 step_of (Asked request) = Need request
 step_of (Replied reply) = Done reply
 
--- this entry is at another place, or none
-abbrev pub IsApart : Recording → ℕ → Entry → Type 0
-IsApart r place e = slice_get r.transcript.entries place ≡ Some e → ⊥
+-- why an answer brings the draft's call no further, which has been given these before
+abbrev pub Stops : Recording → Entry → List Answer → Answer → Halt → Type 0
+Stops old draft answers a halts.OutOfMemory =
+    IsOpen (lives_of old.caches) old.transcript draft answers × IsRefusedFor (lives_of old.caches) (event.Answer draft.id a) causes.OutOfMemory
+Stops old draft answers a halts.Overtaken = ⊤
 
--- the step is a reply, and the draft that ends with it is not the entry at this place
-pub record EndsApart (r : Recording) (place : ℕ) (draft : Entry) (step : Step) : Type 0 where
-  pub reply : Reply
-  pub done : step ≡ Done reply
-  pub apart : IsApart r place (record draft { end = end.Replied reply })
-
--- the engine has taken the answer, but where the call was open its entry is not the draft's
-pub record Strays (old new : Recording) (draft : Entry) (a : Answer) : Type 0 where
-  pub place : ℕ
-  pub here : IsOpenFor (lives_of old.caches) old.transcript draft place
-  pub step : Step
-  pub tenure : IsTenure old new draft.session (event.Answer draft.id a) (outcome.Step step)
-  pub apart : EndsApart new place draft step
-
--- why an answer brings the draft's call no further, and what was done
-abbrev pub Stops : Recording → Recording → Entry → Answer → Halt → Type 0
-Stops old new draft a halts.OutOfMemory =
-    (new ≡ old) × IsOpen (lives_of old.caches) old.transcript draft × IsRefusedFor (lives_of old.caches) (event.Answer draft.id a) causes.OutOfMemory
-Stops old new draft a halts.Overtaken = (new ≡ old) ⊎ Strays old new draft a
-
--- the notices of a call that is given up: those that were told, else those that are left
-abbrev pub told_or_left : List Notice → List Notice → List Notice
-told_or_left [] left = left
-told_or_left (n ∷ told) left = n ∷ told
-
--- the draft's call was given up, and has these notices then
+-- the draft's call was given up, and has these notices then: those that were told, and those that are left
 pub record GivesUp (old new : Recording) (draft : Entry) (told : List Notice) : Type 0 where
   pub left : List Notice
   pub tenure : IsTenure old new draft.session (event.GiveUp draft.id) (outcome.GivenUp left)
-  pub notices : told ≡ told_or_left draft.told left
-
--- the same, but where it was open its entry is not the draft's
-pub record GivesUpApart (old new : Recording) (draft : Entry) (told : List Notice) : Type 0 where
-  pub place : ℕ
-  pub here : IsOpenFor (lives_of old.caches) old.transcript draft place
-  pub given_up : GivesUp old new draft told
-  pub apart : IsApart new place (record draft { told = told; end = end.GivenUp })
+  pub notices : told ≡ draft.told ++ left

@@ -13,6 +13,7 @@ ghost use Rattle.jc_shared.specs.Stated.{AreOf, IsStatedBy, AreStated};
 use crate::fault::{CallFault, Halt};
 use crate::hooks::{LockedHooks, SharedHooks};
 use crate::manager::Manager;
+use crate::keeping::Keeping;
 use crate::name::Name;
 use crate::tables::TablePass;
 use crate::turned::Turned;
@@ -62,7 +63,7 @@ fn keep_told(draft: &mut Entry, request: Request)
     }
 }
 
-impl<N: Name, L: Loader, W: Writer, P: Processor, K: Hearer> Manager<N, L, W, P, K> {
+impl<N: Name, L: Loader, W: Writer, P: Processor, K: Hearer, J: Keeping> Manager<N, L, W, P, K, J> {
     /// The answer of a cache's callbacks to a request. One that is not there fails.
     fn answer(
         &self,

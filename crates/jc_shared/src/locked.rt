@@ -1,7 +1,8 @@
 //! What lies under the manager's lock: the recorded engine, and which sessions there are. Each tenure begins a call,
 //! brings it on or gives it up, or creates or destroys a cache, and no callback runs in it.
-ghost use Rattle.std.specs.Prelude.{◌≡◌, ◌≢◌, ◌⊎◌, ℕ, Bool, true, false, Ok, None, [], IsTrue, IfOk, IfErr, IfSome, OnOk, OnErr, Err, Some, is_some, map, option_map, slice_get};
+ghost use Rattle.std.specs.Prelude.{◌≡◌, ◌≢◌, ◌⊎◌, ℕ, Bool, true, false, Ok, None, List, [], ◌∷◌, ◌++◌, IsTrue, IfOk, IfErr, IfSome, OnOk, OnErr, Err, Some, is_some, map, option_map, slice_get};
 ghost use mathlib.Core.List.{IsPrefix};
+ghost use Rattle.jc_model.specs.declared.call.Answer.{Answer as Given};
 ghost use Rattle.jc_model.specs.declared.call.Call.{Call as Called};
 ghost use Rattle.jc_model.specs.declared.event.Cause.TheVariants.{NoSuchCache};
 ghost use Rattle.jc_model.specs.declared.event.End.TheVariants.{Waiting, GivenUp, Replied as RepliedSo};
@@ -20,16 +21,18 @@ ghost use Rattle.jc_shared.specs.Admitting.{Admits};
 ghost use Rattle.jc_shared.specs.Calls.{Stands, GoesOn, IsBeginFault};
 ghost use Rattle.jc_shared.specs.Living.{IsHeld, Refuses, has_live_row};
 ghost use Rattle.jc_shared.specs.Sessions.{BeginsWith, Sees, SeesSome};
-ghost use Rattle.jc_shared.specs.Finding.{fault_of, halt_of, IsOfCall, IsOpenFor, IsOpen, StandsAt, Turns, IsReplied};
-ghost use Rattle.jc_shared.specs.Tenures.{IsTenure, IsRefusedCall, Stops, GivesUp, GivesUpApart, EndsApart, IsApart, step_of, told_or_left};
+ghost use Rattle.jc_shared.specs.Finding.{fault_of, halt_of, IsOfCall, IsOpen, LeavesNone, Turns, IsReplied};
+ghost use Rattle.jc_shared.specs.Tenures.{IsTenure, IsRefusedCall, Stops, GivesUp, step_of};
 
 mod living;
 
 use crate::auditing::{Logged, audit};
 use crate::fault::{CallFault, CloseFault, Halt, SessionRefusal};
+use crate::keeping::Keeping;
 use crate::name::Name;
 use crate::tables::{ShownTable, TablePass};
 use crate::turned::Turned;
+use jc_engine::journal::all_calls::AllCalls;
 use jc_engine::recorded::Recorded;
 use jc_model::OutOfMemory;
 use jc_model::call::{Answer, Call, Notice, Reply};
@@ -41,13 +44,10 @@ use jc_model::transcript::Transcript;
 use jc_ring::link_ring::LinkRing;
 use std::marker::PhantomData;
 
-/// The most sessions of a manager.
-const MOST_SESSIONS: u32 = 64;
-
 /// A recorded engine, whose first caches are those that the name tells.
 #[derive(Drop)]
-pub(crate) struct Locked<N: Name> {
-    recorded: Recorded<ShownTable<N>, LinkRing>,
+pub(crate) struct Locked<N: Name, J: Keeping> {
+    recorded: Recorded<ShownTable<N>, LinkRing, J>,
     /// How many numbers were given out to sessions.
     given: u32,
     closed: bool,
@@ -76,18 +76,34 @@ fn halt_of(cause: Cause) -> Halt
     }
 }
 
-/// The entry at a place.
-fn entry_at(entries: &[Entry], place: usize) -> Option<&Entry>
-    ensures { option_map (λ e. e.now) result ≡ slice_get entries.now place }
+/// Whether two lists are the same.
+fn are_same<T: Exact>(left: &[T], right: &[T]) -> bool
+    ensures { IsTrue result → left.now ≡ right.now }
 {
-    entries.get(place)
+    let mut left = left;
+    let mut right = right;
+    while let Some((first, rest)) = left.split_first() {
+        let Some((other, others)) = right.split_first() else {
+            return false;
+        };
+        if !first.same(other) {
+            return false;
+        }
+        left = rest;
+        right = others;
+    }
+    right.is_empty()
 }
 
-/// Whether an entry is of the draft's call.
-fn is_of_call(entry: &Entry, draft: &Entry) -> bool
-    ensures { IsTrue result → IsOfCall entry.now draft.now }
+/// Whether an entry that waits is of the draft's call, which has been given these answers.
+fn is_of_call(entry: &Entry, draft: &Entry, answers: &[Answer]) -> bool
+    ensures { IsTrue result → IsOfCall entry.now draft.now answers.now }
 {
-    entry.session == draft.session && entry.at == draft.at && entry.call.same(&draft.call)
+    entry.session == draft.session
+        && entry.at == draft.at
+        && entry.call.same(&draft.call)
+        && are_same(entry.answers.items(), answers)
+        && are_same(entry.told.items(), draft.told.items())
 }
 
 fn end_with(draft: &mut Entry, end: End)
@@ -98,9 +114,8 @@ fn end_with(draft: &mut Entry, end: End)
 
 /// Keeps the notices that a give-up hands out. Where the call has told its notices, none are left.
 fn keep_left(draft: &mut Entry, left: Sequence<Notice>)
-    ensures kept { draft.new ≡ record draft.old { told = draft.new.told } }
-    ensures notices { draft.new.told ≡ told_or_left draft.old.told left }
-    ensures told { (draft.old.told ≡ []) ⊎ (draft.new.told ≡ draft.old.told) }
+    requires { (draft.old.told ≡ []) ⊎ (left ≡ []) }
+    ensures { draft.new ≡ record draft.old { told = draft.old.told ++ left } }
 {
     if draft.told.items().is_empty() {
         draft.told = left;
@@ -123,8 +138,8 @@ fn turned(step: Step, copy: Option<Reply>, draft: &mut Entry) -> Turned
     }
 }
 
-impl<N: Name> Locked<N> {
-    pub(crate) fn new(recorded: Recorded<ShownTable<N>, LinkRing>) -> Locked<N>
+impl<N: Name, J: Keeping> Locked<N, J> {
+    pub(crate) fn new(recorded: Recorded<ShownTable<N>, LinkRing, J>) -> Locked<N, J>
         requires { BeginsWith N.configs recorded.transcript }
         ensures { (result.recorded ≡ recorded) × (result.given ≡ 0) × (result.closed ≡ false) }
     {
@@ -136,54 +151,14 @@ impl<N: Name> Locked<N> {
         }
     }
 
-    /// The place of the open call of the draft's cache, where that is the draft's call.
-    fn open_place(&self, draft: &Entry) -> Option<usize>
-        ensures { IfSome result (λ place. IsOpenFor (lives_of self.now.recorded.caches) self.now.recorded.transcript draft.now place) }
+    /// Whether the open call of the draft's cache is the draft's, which has been given these answers.
+    fn is_open(&self, draft: &Entry, answers: &[Answer]) -> bool
+        ensures open { IsTrue result → IsOpen (lives_of self.now.recorded.caches) self.now.recorded.transcript draft.now answers.now }
+        ensures left { IsTrue result → LeavesNone (lives_of self.now.recorded.caches) draft.now }
     {
-        let place = self.recorded.open_place(draft.id)?;
-        let open = entry_at(self.recorded.transcript().entries(), place)?;
-        if is_of_call(open, draft) {
-            Some(place)
-        } else {
-            None
-        }
-    }
-
-    /// Whether the draft stands at a place of the transcript, just as it is.
-    fn stands_at(&self, place: usize, draft: &Entry) -> bool
-        ensures stands { IsTrue result → StandsAt N.configs self.now.recorded.transcript draft.now place }
-        ensures apart { result ≡ false → IsApart self.now.recorded place draft.now }
-    {
-        match entry_at(self.recorded.transcript().entries(), place) {
-            Some(entry) => entry.same(draft),
+        match self.recorded.open_entry(draft.id) {
+            Some(entry) => is_of_call(entry, draft, answers),
             None => false,
-        }
-    }
-
-    /// What a step comes to; at a reply, whether the draft now stands in the transcript.
-    fn settle(
-        &self,
-        place: usize,
-        draft: &mut Entry,
-        step: Step,
-        copy: Option<Reply>,
-    ) -> Result<Turned, Halt>
-        requires waits { draft.old.end ≡ Waiting }
-        requires copy { copy ≡ reply_in step }
-        ensures ok { IfOk result (λ t. Turns draft.old step t draft.new × (IsReplied t → StandsAt N.configs self.now.recorded.transcript draft.new place)) }
-        ensures err { IfErr result (λ halt. (halt ≡ Halt.Overtaken) × (draft.new ≡ draft.old)) }
-        ensures apart { OnErr result (EndsApart self.now.recorded place draft.old step) }
-    {
-        match turned(step, copy, draft) {
-            Turned::Asked(request) => Ok(Turned::Asked(request)),
-            Turned::Replied(reply) => {
-                if self.stands_at(place, draft) {
-                    Ok(Turned::Replied(reply))
-                } else {
-                    end_with(draft, End::Waiting);
-                    Err(Halt::Overtaken)
-                }
-            }
         }
     }
 
@@ -236,12 +211,9 @@ impl<N: Name> Locked<N> {
         ensures same { OnErr result ((self.new.recorded ≡ self.old.recorded) × (draft.new ≡ draft.old) × (pass.new ≡ pass.old)) }
         ensures kept { (self.new.given ≡ self.old.given) × (self.new.closed ≡ self.old.closed) }
     {
-        // Read for its clauses: the transcript is legal, before and after.
-        let _told = self.recorded.transcript();
         match self.recorded.begin(draft.session, draft.id, draft.at, call) {
             Ok(pair) => {
                 let (step, copy) = pair;
-                let _after = self.recorded.transcript();
                 let turned = turned(step, copy, draft);
                 self.show_reply(&turned, pass);
                 Ok(turned)
@@ -250,30 +222,33 @@ impl<N: Name> Locked<N> {
         }
     }
 
-    /// Gives the draft's call its next answer, which the draft has already. At the reply the draft ends with it, where
-    /// the transcript has it just so, and the pass sees what the call has changed.
+    /// Gives the draft's call its next answer, which the draft has already as its last. At the reply the draft ends with
+    /// it, and the pass sees what the call has changed.
     pub(crate) fn resume(
         &mut self,
         draft: &mut Entry,
         answer: Answer,
         pass: &mut TablePass<N>,
     ) -> Result<Turned, Halt>
-        requires { draft.old.end ≡ Waiting }
+        requires waits { draft.old.end ≡ Waiting }
+        requires answered { (before : List Given) × (draft.old.answers ≡ before ++ answer ∷ []) }
         ensures ok { IfOk result (λ turned. GoesOn N.configs draft.old turned draft.new pass.new) }
         ensures tenure { IfOk result (λ turned. IsTenure self.old.recorded self.new.recorded draft.old.session (Answered draft.old.id answer) (Stepped (step_of turned))) }
         ensures front { IsPrefix pass.old.images pass.new.images }
-        ensures err { IfErr result (λ halt. halt ≡ Halt.OutOfMemory → IsOpen (lives_of self.old.recorded.caches) self.old.recorded.transcript draft.old) }
-        ensures stopped { IfErr result (λ halt. Stops self.old.recorded self.new.recorded draft.old answer halt) }
-        ensures same { OnErr result (draft.new ≡ draft.old) }
+        ensures err { IfErr result (λ halt. (before : List Given) → draft.old.answers ≡ before ++ answer ∷ [] → Stops self.old.recorded draft.old before answer halt) }
+        ensures same { OnErr result ((self.new.recorded ≡ self.old.recorded) × (draft.new ≡ draft.old) × (pass.new ≡ pass.old)) }
         ensures kept { (self.new.given ≡ self.old.given) × (self.new.closed ≡ self.old.closed) }
     {
-        let Some(place) = self.open_place(draft) else {
-            return Err(Halt::Overtaken);
+        let Some((_, before)) = draft.answers.items().split_last() else {
+            unreachable!()
         };
+        if !self.is_open(draft, before) {
+            return Err(Halt::Overtaken);
+        }
         match self.recorded.resume(draft.id, answer) {
             Ok(pair) => {
                 let (step, copy) = pair;
-                let turned = self.settle(place, draft, step, copy)?;
+                let turned = turned(step, copy, draft);
                 self.show_reply(&turned, pass);
                 Ok(turned)
             }
@@ -292,26 +267,21 @@ impl<N: Name> Locked<N> {
         ensures ok { OnOk result ((draft.new ≡ record draft.old { told = draft.new.told; end = GivenUp }) × Stands N.configs draft.new pass.new) }
         ensures given_up { OnOk result (GivesUp self.old.recorded self.new.recorded draft.old draft.new.told) }
         ensures front { IsPrefix pass.old.images pass.new.images }
-        ensures err { IfErr result (λ fault. (fault ≡ CallFault.Overtaken) × (draft.new ≡ record draft.old { told = draft.new.told })) }
-        ensures stopped { OnErr result ((self.new.recorded ≡ self.old.recorded) ⊎ GivesUpApart self.old.recorded self.new.recorded draft.old draft.new.told) }
+        ensures err { IfErr result (λ fault. fault ≡ CallFault.Overtaken) }
+        ensures same { OnErr result ((self.new.recorded ≡ self.old.recorded) × (draft.new ≡ draft.old) × (pass.new ≡ pass.old)) }
         ensures told { (draft.old.told ≡ []) ⊎ (draft.new.told ≡ draft.old.told) }
         ensures kept { (self.new.given ≡ self.old.given) × (self.new.closed ≡ self.old.closed) }
     {
-        let Some(place) = self.open_place(draft) else {
+        if !self.is_open(draft, draft.answers.items()) {
             return Err(CallFault::Overtaken);
-        };
+        }
         let Ok(left) = self.recorded.give_up(draft.id) else {
             return Err(CallFault::Overtaken);
         };
         keep_left(draft, left);
         end_with(draft, End::GivenUp);
-        if self.stands_at(place, draft) {
-            self.show(pass);
-            Ok(())
-        } else {
-            end_with(draft, End::Waiting);
-            Err(CallFault::Overtaken)
-        }
+        self.show(pass);
+        Ok(())
     }
 
     /// Whether a cache has this id. Where none has, the engine refuses a call there for that.
@@ -319,8 +289,6 @@ impl<N: Name> Locked<N> {
         ensures exact { result ≡ is_some (at_place self.now.recorded.caches id) }
         ensures missing { result ≡ false → (at : ℕ) (call : Called) → Refuses N.configs (Begin id at call) NoSuchCache }
     {
-        // Read for its clauses: the transcript is legal.
-        let _legal = self.recorded.transcript();
         self.recorded.is_live(id)
     }
 
@@ -338,20 +306,20 @@ impl<N: Name> Locked<N> {
 
     /// Gives a session its number, where there is room for its list. Numbers go upward from 0.
     pub(crate) fn admit(&mut self, room: bool) -> Result<u32, SessionRefusal>
-        ensures admits { Admits self.old.closed self.old.given room result self.new.given }
+        ensures admits { Admits J.after self.old.closed self.old.given room result self.new.given }
         ensures kept { (self.new.recorded ≡ self.old.recorded) × (self.new.closed ≡ self.old.closed) }
     {
         if self.closed {
             return Err(SessionRefusal::Closed);
         }
-        if self.given >= MOST_SESSIONS {
+        let Some(next) = J::next(self.given) else {
             return Err(SessionRefusal::TooManySessions);
-        }
+        };
         if !room {
             return Err(SessionRefusal::OutOfMemory);
         }
         let number = self.given;
-        self.given += 1;
+        self.given = next;
         Ok(number)
     }
 
@@ -359,12 +327,10 @@ impl<N: Name> Locked<N> {
     pub(crate) fn enter(&mut self, room: bool) -> Result<(u32, TablePass<N>), SessionRefusal>
         ensures sees { IfOk result (λ s. SeesSome N.configs s.1 × (s.1.met ≡ true)) }
         ensures shows { IfOk result (λ s. Sees self.old.recorded.transcript (lives_of self.old.recorded.caches) s.1) }
-        ensures admits { IfOk result (λ s. Admits self.old.closed self.old.given room (Ok s.0) self.new.given) }
-        ensures refused { IfErr result (λ fault. (roomy : Bool) × Admits self.old.closed self.old.given roomy (Err fault) self.new.given) }
+        ensures admits { IfOk result (λ s. Admits J.after self.old.closed self.old.given room (Ok s.0) self.new.given) }
+        ensures refused { IfErr result (λ fault. (roomy : Bool) × Admits J.after self.old.closed self.old.given roomy (Err fault) self.new.given) }
         ensures kept { (self.new.recorded ≡ self.old.recorded) × (self.new.closed ≡ self.old.closed) }
     {
-        // Read for its clauses: the transcript is legal.
-        let _legal = self.recorded.transcript();
         let pass = self.recorded.watch();
         let number = self.admit(room && pass.is_ok())?;
         match pass {
@@ -372,7 +338,9 @@ impl<N: Name> Locked<N> {
             Err(_) => Err(SessionRefusal::OutOfMemory),
         }
     }
+}
 
+impl<N: Name> Locked<N, AllCalls> {
     /// Closes the manager, where the logs account for the transcript, and hands the transcript out.
     pub(crate) fn finish<S: Logged>(&mut self, logs: &[S]) -> Result<Transcript, CloseFault>
         ensures legal { IfOk result (λ t. IsLegal t) }

@@ -14,9 +14,11 @@ ghost use Rattle.jc_shared.specs.Stated.{stated_by, AreOf, processor_counts, wan
 use crate::directory::{Directory, HooksLock};
 use crate::fault::{CallFault, CloseFault, SessionRefusal, Unfound};
 use crate::hooks::{LockedHooks, OpeningLock, SharedHooks};
+use crate::keeping::{Keeping, OwnCalls};
 use crate::locked::Locked;
 use crate::name::Name;
 use crate::session::Session;
+use jc_engine::journal::all_calls::AllCalls;
 use jc_hooks::{Hearer, Loader, Processor, Writer};
 use jc_model::event::CacheId;
 use jc_model::key::Key;
@@ -30,19 +32,19 @@ use std::sync::{Mutex, Wait};
 /// callbacks stand under a lock for each cache that has any, which a call on the cache holds from its begin to its end.
 /// The way from a created cache to that lock stands under a lock of its own.
 #[derive(Drop)]
-pub struct Manager<N: Name, L: Loader, W: Writer, P: Processor, K: Hearer> {
+pub struct Manager<N: Name, L: Loader, W: Writer, P: Processor, K: Hearer, J: Keeping = AllCalls> {
     pub(crate) alloc: Global,
     pub(crate) shared: Vec<SharedHooks<L, P>>,
     /// Of the caches of the opening.
     pub(crate) locks: Vec<OpeningLock<W, K>>,
     /// Of those that sessions have created.
     pub(crate) directory: Mutex<Directory<L, W, P, K>>,
-    pub(crate) locked: Mutex<Locked<N>>,
+    pub(crate) locked: Mutex<Locked<N, J>>,
     ghost stated_are: { map (stated_by L.load_of P.verdict_of) shared.items ≡ N.stated },
     ghost counted: { processor_counts shared.items ≡ wanted_counts N.configs },
 }
 
-impl<N: Name, L: Loader, W: Writer, P: Processor, K: Hearer> Manager<N, L, W, P, K> {
+impl<N: Name, L: Loader, W: Writer, P: Processor, K: Hearer, J: Keeping> Manager<N, L, W, P, K, J> {
     /// The id of the live cache with this name.
     pub fn cache<R: Wait>(&self, rt: &R, name: &Key) -> Option<CacheId>
         ensures { IsNamed N.configs name.now result }
@@ -54,40 +56,17 @@ impl<N: Name, L: Loader, W: Writer, P: Processor, K: Hearer> Manager<N, L, W, P,
     /// from 0 upward.
     ///
     /// Refused as `Closed`, `TooManySessions`, `OutOfMemory`, in this order.
-    pub fn session<R: Wait>(&self, rt: &R) -> Result<Session<'_, N, L, W, P, K>, SessionRefusal>
+    pub fn session<R: Wait>(&self, rt: &R) -> Result<Session<'_, N, L, W, P, K, J>, SessionRefusal>
         ensures calls { IfOk result (λ s. s.calls ≡ []) }
         ensures sees { IfOk result (λ s. SeesSome N.configs s.pass × (s.pass.met ≡ true)) }
-        ensures admitted { IfOk result (λ s. IsAdmission (Ok s.number)) }
-        ensures refused { IfErr result (λ refusal. IsAdmission (Err refusal)) }
+        ensures admitted { IfOk result (λ s. IsAdmission J.after (Ok s.number)) }
+        ensures refused { IfErr result (λ refusal. IsAdmission J.after (Err refusal)) }
     {
-        let own = Vec::with_capacity(self.alloc, FIRST_CALLS);
+        let own = J::Own::new(self.alloc);
         let (number, pass) = self.locked.lock(rt).enter(own.is_ok())?;
         match own {
             Ok(own) => Ok(Session::new(self, number, own, pass)),
             Err(_) => Err(SessionRefusal::OutOfMemory),
-        }
-    }
-
-    /// Ends the manager, and hands the transcript out, in which every session's entries are its own calls, in their
-    /// order, each once, and no others. The sessions are this manager's.
-    ///
-    /// `Missing` (closed already, or the numbers are not those given out, each once), `StillOpen`, `Differs`,
-    /// `OutOfMemory`, in this order: nothing has changed then, and the sessions are handed back.
-    pub fn close<'a, R: Wait>(
-        &'a self,
-        rt: &R,
-        sessions: Vec<Session<'a, N, L, W, P, K>>,
-    ) -> Result<Transcript, (CloseFault, Vec<Session<'a, N, L, W, P, K>>)>
-        ensures legal { IfOk result (λ t. IsLegal t) }
-        ensures begins { IfOk result (λ t. BeginsWith N.configs t) }
-        ensures accounts { IfOk result (λ t. (given : ℕ) × Accounts given (map log_of sessions.entry.items) t.entries) }
-        ensures refused { IfErr result (λ e. IsCloseRefusal N.configs (map log_of sessions.entry.items) e.0) }
-        ensures back { IfErr result (λ e. e.1.items ≡ sessions.entry.items) }
-    {
-        let finished = self.locked.lock(rt).finish(sessions.as_slice());
-        match finished {
-            Ok(transcript) => Ok(transcript),
-            Err(fault) => Err((fault, sessions)),
         }
     }
 
@@ -145,12 +124,34 @@ impl<N: Name, L: Loader, W: Writer, P: Processor, K: Hearer> Manager<N, L, W, P,
     }
 }
 
+impl<N: Name, L: Loader, W: Writer, P: Processor, K: Hearer> Manager<N, L, W, P, K> {
+    /// Ends the manager, and hands the transcript out, in which every session's entries are its own calls, in their
+    /// order, each once, and no others. The sessions are this manager's.
+    ///
+    /// `Missing` (closed already, or the numbers are not those given out, each once), `StillOpen`, `Differs`,
+    /// `OutOfMemory`, in this order: nothing has changed then, and the sessions are handed back.
+    pub fn close<'a, R: Wait>(
+        &'a self,
+        rt: &R,
+        sessions: Vec<Session<'a, N, L, W, P, K>>,
+    ) -> Result<Transcript, (CloseFault, Vec<Session<'a, N, L, W, P, K>>)>
+        ensures legal { IfOk result (λ t. IsLegal t) }
+        ensures begins { IfOk result (λ t. BeginsWith N.configs t) }
+        ensures accounts { IfOk result (λ t. (given : ℕ) × Accounts given (map log_of sessions.entry.items) t.entries) }
+        ensures refused { IfErr result (λ e. IsCloseRefusal N.configs (map log_of sessions.entry.items) e.0) }
+        ensures back { IfErr result (λ e. e.1.items ≡ sessions.entry.items) }
+    {
+        let finished = self.locked.lock(rt).finish(sessions.as_slice());
+        match finished {
+            Ok(transcript) => Ok(transcript),
+            Err(fault) => Err((fault, sessions)),
+        }
+    }
+}
+
 /// The loader and the processors of a cache of the opening.
 fn shared_at<L, P>(shared: &[SharedHooks<L, P>], id: CacheId) -> Option<&SharedHooks<L, P>>
     ensures { option_map (λ h. h.now) result ≡ slice_get shared.now id }
 {
     shared.get(id.number() as usize)
 }
-
-/// For how many calls a session has room at first.
-const FIRST_CALLS: usize = 16;

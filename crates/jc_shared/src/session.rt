@@ -1,6 +1,5 @@
 //! One caller's way to the caches of a manager.
 ghost use Rattle.std.specs.Prelude.{◌≡◌, ◌<◌, ◌≢◌, ◌⊎◌, suc, Bool, true, false, Some, None, IfOk, IfErr, OnOk, OnErr, Err, length, slice_get};
-ghost use Rattle.std.specs.Vec.{vec_len, vec_capacity};
 ghost use mathlib.Core.List.{IsPrefix};
 ghost use Rattle.jc_model.specs.declared.config.CacheConfig.{CacheConfig};
 ghost use Rattle.jc_model.specs.declared.event.End.TheVariants.{Replied};
@@ -21,9 +20,11 @@ ghost use Rattle.jc_shared.specs.Stated.{AreOf};
 use crate::auditing::Logged;
 use crate::fault::{CallFault, CreateFault, DestroyFault};
 use crate::hooks::{LockedHooks, OwnHooks, SharedHooks};
+use crate::keeping::{Keeping, OwnCalls};
 use crate::manager::Manager;
 use crate::name::Name;
 use crate::tables::TablePass;
+use jc_engine::journal::all_calls::AllCalls;
 use jc_hooks::{CacheHooks, Hearer, Loader, Processor, Writer, suits};
 use jc_index::lookup::Lookup;
 use jc_model::OutOfMemory;
@@ -40,20 +41,20 @@ use std::sync::Wait;
 /// A session of a manager, with the entries of its own calls, and a pass, in which it looks keys up. Contracts see its
 /// number, these, and what the pass has seen.
 #[derive(Drop)]
-pub struct Session<'a, N: Name, L: Loader, W: Writer, P: Processor, K: Hearer> {
-    manager: &'a Manager<N, L, W, P, K>,
+pub struct Session<'a, N: Name, L: Loader, W: Writer, P: Processor, K: Hearer, J: Keeping = AllCalls> {
+    manager: &'a Manager<N, L, W, P, K, J>,
     number: u32,
-    own: Vec<Entry>,
+    own: J::Own,
     pass: TablePass<N>,
 }
 
-impl<'a, N: Name, L: Loader, W: Writer, P: Processor, K: Hearer> Model
-    for Session<'a, N, L, W, P, K> {
+impl<'a, N: Name, L: Loader, W: Writer, P: Processor, K: Hearer, J: Keeping> Model
+    for Session<'a, N, L, W, P, K, J> {
     ghost use Rattle.jc_shared.specs.Sessions.{Sitting};
 
     ghost Value = { Sitting };
 
-    ghost view = { λ s. record { number = s.number; calls = s.own.items; pass = s.pass } };
+    ghost view = { λ s. record { number = s.number; calls = J.Own.calls s.own; pass = s.pass } };
 }
 
 impl<'a, N: Name, L: Loader, W: Writer, P: Processor, K: Hearer> Logged
@@ -67,24 +68,24 @@ impl<'a, N: Name, L: Loader, W: Writer, P: Processor, K: Hearer> Logged
     }
 
     fn log_calls(&self) -> &[Entry] {
-        self.own.as_slice()
+        self.own.entries.as_slice()
     }
 }
 
 /// The entry of a call that is to begin, with a copy of the call, and room for it among a session's own.
-fn draft_of(
+fn draft_of<O: OwnCalls>(
     alloc: Global,
-    own: &mut Vec<Entry>,
+    own: &mut O,
     session: u32,
     id: CacheId,
     now: u64,
     call: &Call,
 ) -> Result<Entry, OutOfMemory>
     ensures drafted { IfOk result (λ e. e ≡ blank session id now call.now) }
-    ensures room { OnOk result (vec_len own.new < vec_capacity own.new) }
-    ensures same { own.new.items ≡ own.old.items }
+    ensures room { OnOk result (O.HasRoom own.new) }
+    ensures same { O.calls own.new ≡ O.calls own.old }
 {
-    own.reserve(1)?;
+    own.make_room()?;
     let call = call.share()?;
     Ok(Entry {
         session,
@@ -97,14 +98,14 @@ fn draft_of(
     })
 }
 
-impl<'a, N: Name, L: Loader, W: Writer, P: Processor, K: Hearer> Session<'a, N, L, W, P, K> {
+impl<'a, N: Name, L: Loader, W: Writer, P: Processor, K: Hearer, J: Keeping> Session<'a, N, L, W, P, K, J> {
     pub(crate) fn new(
-        manager: &'a Manager<N, L, W, P, K>,
+        manager: &'a Manager<N, L, W, P, K, J>,
         number: u32,
-        own: Vec<Entry>,
+        own: J::Own,
         pass: TablePass<N>,
-    ) -> Session<'a, N, L, W, P, K>
-        ensures { result ≡ record { number = number; calls = own.items; pass = pass } }
+    ) -> Session<'a, N, L, W, P, K, J>
+        ensures { result ≡ record { number = number; calls = J.Own.calls own; pass = pass } }
     {
         Session {
             manager,
@@ -230,7 +231,7 @@ impl<'a, N: Name, L: Loader, W: Writer, P: Processor, K: Hearer> Session<'a, N, 
             }
         };
         let replied = manager.carry_on(rt, asked, locked, &mut draft, turned, &mut self.pass);
-        self.own.push_reserved(draft);
+        self.own.push(draft);
         replied
     }
 

@@ -11,10 +11,12 @@ ghost use Rattle.jc_shared.specs.Stated.{stated_by, shared_of};
 use crate::directory::Directory;
 use crate::fault::SharedRefusal;
 use crate::hooks::{AllHooks, apart};
+use crate::keeping::Keeping;
 use crate::locked::Locked;
 use crate::manager::Manager;
 use crate::name::Name;
 use crate::tables::BlankTable;
+use jc_engine::journal::all_calls::AllCalls;
 use jc_engine::open::open_refusal;
 use jc_engine::recorded::Recorded;
 use jc_hooks::{CacheHooks, Hearer, Loader, Processor, Writer, first_unsuited};
@@ -30,16 +32,16 @@ use std::sync::Mutex;
 /// What will be a manager once it has a name. Contracts see the configurations, and of each cache its loader and
 /// processors.
 #[derive(Drop)]
-pub struct Shared<L, W, P, K> {
+pub struct Shared<L, W, P, K, J: Keeping = AllCalls> {
     alloc: Global,
     configs: Vec<CacheConfig>,
     hooks: AllHooks<L, W, P, K>,
     /// Over no table yet.
-    recorded: Recorded<ListRows, LinkRing>,
+    recorded: Recorded<ListRows, LinkRing, J>,
     table: BlankTable,
 }
 
-impl<L, W, P, K> Model for Shared<L, W, P, K> {
+impl<L, W, P, K, J: Keeping> Model for Shared<L, W, P, K, J> {
     ghost use Rattle.jc_shared.specs.Opening.{Handed, IsOpened};
 
     ghost Value = { Handed L P };
@@ -60,10 +62,10 @@ fn copies(alloc: Global, configs: &[CacheConfig]) -> Result<Vec<CacheConfig>, Ou
 }
 
 /// The recorded engine over an empty list of rows.
-fn recorded(
+fn recorded<J: Keeping>(
     alloc: Global,
     configs: Vec<CacheConfig>,
-) -> Result<Recorded<ListRows, LinkRing>, OutOfMemory>
+) -> Result<Recorded<ListRows, LinkRing, J>, OutOfMemory>
     requires { open_refusal configs.items ≡ None }
     ensures opened { IfOk result (λ r. lives_of r.caches ≡ opened_from 0 configs.items) }
     ensures uncalled { IfOk result (λ r. r.transcript ≡ at_first 0 configs.items) }
@@ -75,12 +77,12 @@ fn recorded(
 }
 
 /// All that a manager has, where memory suffices.
-fn opened<L: Loader, W: Writer, P: Processor, K: Hearer>(
+fn opened<L: Loader, W: Writer, P: Processor, K: Hearer, J: Keeping>(
     alloc: Global,
     configs: Vec<CacheConfig>,
     hooks: Vec<CacheHooks<L, W, P, K>>,
     seed: u64,
-) -> Result<Shared<L, W, P, K>, OutOfMemory>
+) -> Result<Shared<L, W, P, K, J>, OutOfMemory>
     requires opens { open_refusal configs.items ≡ None }
     requires suit { AllSuit P.wants configs.items hooks.items }
     ensures configs { IfOk result (λ s. s.configs ≡ configs.items) }
@@ -99,7 +101,7 @@ fn opened<L: Loader, W: Writer, P: Processor, K: Hearer>(
     })
 }
 
-impl<L: Loader, W: Writer, P: Processor, K: Hearer> Shared<L, W, P, K> {
+impl<L: Loader, W: Writer, P: Processor, K: Hearer, J: Keeping> Shared<L, W, P, K, J> {
     /// Opens a manager with these caches and their callbacks, over an empty table. The seed picks the places there.
     ///
     /// Refused as `Caches`, with the engine's refusal; as `HooksDiffer`; as `OutOfMemory`.
@@ -108,7 +110,7 @@ impl<L: Loader, W: Writer, P: Processor, K: Hearer> Shared<L, W, P, K> {
         configs: Vec<CacheConfig>,
         hooks: Vec<CacheHooks<L, W, P, K>>,
         seed: u64,
-    ) -> Result<Shared<L, W, P, K>, SharedRefusal>
+    ) -> Result<Shared<L, W, P, K, J>, SharedRefusal>
         ensures configs { IfOk result (λ s. s.configs ≡ configs.items) }
         ensures shared { IfOk result (λ s. s.shared ≡ map shared_of hooks.items) }
         ensures opens { OnOk result (CanOpen P.wants configs.items hooks.items) }
@@ -130,7 +132,7 @@ impl<L: Loader, W: Writer, P: Processor, K: Hearer> Shared<L, W, P, K> {
 
     /// The manager under a name, which tells these configurations, what these loaders and processors state, and the
     /// index.
-    pub fn named<N: Name>(self) -> Manager<N, L, W, P, K>
+    pub fn named<N: Name>(self) -> Manager<N, L, W, P, K, J>
         requires configs { self.configs ≡ N.configs }
         requires stated { map (stated_by L.load_of P.verdict_of) self.shared ≡ N.stated }
         requires index { self.index ≡ N.index }

@@ -7,11 +7,12 @@ ghost use Rattle.jc_engine.specs.Caches.{lives_of};
 ghost use Rattle.jc_engine.specs.Watching.{ShowsStates, states_of};
 
 use super::Recorded;
+use crate::journal::Journal;
 use jc_model::OutOfMemory;
 use jc_ring::ring::Ring;
 use jc_rows::watched::Watched;
 
-impl<R: Watched, G: Ring> Recorded<R, G> {
+impl<R: Watched, G: Ring, J: Journal> Recorded<R, G, J> {
     /// A watcher of the table. The last image that it has seen shows the caches as the transcript leaves them.
     pub fn watch(&mut self) -> Result<R::Watcher, OutOfMemory>
         ensures same { self.new ≡ self.old }

@@ -10,20 +10,19 @@ ghost use Rattle.jc_shared.specs.Tenures.{IsTenure};
 
 use super::Locked;
 use crate::fault::{CreateFault, DestroyFault};
+use crate::keeping::Keeping;
 use crate::name::Name;
 use crate::tables::TablePass;
 use jc_model::config::CacheConfig;
 use jc_model::event::{CacheId, Cause};
 use jc_model::key::Key;
 
-impl<N: Name> Locked<N> {
+impl<N: Name, J: Keeping> Locked<N, J> {
     /// The id of the live cache with this name.
     pub(crate) fn cache(&self, name: &Key) -> Option<CacheId>
         ensures exact { result ≡ named_from (λ k. k.config.name) name.now 0 (lives_of self.now.recorded.caches) }
         ensures named { IsNamed N.configs name.now result }
     {
-        // Read for its clauses: the transcript is legal.
-        let _legal = self.recorded.transcript();
         self.recorded.cache(name)
     }
 
@@ -43,8 +42,6 @@ impl<N: Name> Locked<N> {
         ensures may { OnOk result ((suited ≡ true) × (room ≡ true)) }
         ensures back { IfErr result (λ e. e.1 ≡ config) }
     {
-        // Read for its clauses: the transcript is legal.
-        let _legal = self.recorded.transcript();
         if let Some(refusal) = self.recorded.create_refusal(&config) {
             return Err((CreateFault::Cache(refusal), config));
         }
@@ -55,10 +52,7 @@ impl<N: Name> Locked<N> {
             return Err((CreateFault::OutOfMemory, config));
         }
         match self.recorded.create(config) {
-            Ok(id) => {
-                let _after = self.recorded.transcript();
-                Ok(id)
-            }
+            Ok(id) => Ok(id),
             Err((_, config)) => Err((CreateFault::OutOfMemory, config)),
         }
     }
@@ -77,8 +71,6 @@ impl<N: Name> Locked<N> {
         ensures same { OnErr result ((self.new.recorded ≡ self.old.recorded) × (pass.new ≡ pass.old)) }
         ensures kept { (self.new.given ≡ self.old.given) × (self.new.closed ≡ self.old.closed) }
     {
-        // Read for its clauses: the transcript is legal.
-        let _legal = self.recorded.transcript();
         match self.recorded.destroy(id) {
             Ok(()) => {
                 self.show(pass);

@@ -1,68 +1,94 @@
-use Rattle.std.proofs.Common.{◌≡◌, List, Some, refl, sym, ap, ◌∙◌, slice_get, slice_set, nat_eq, length-set, set-set}
-use Rattle.jc_engine.proofs.Names.{get, Entry, History, with_outcome, with_answer, step_of, with_entries, slice_get_within, Stepped, at_same}
-use Rattle.jc_engine.proofs.Places.{same_set}
-use Rattle.jc_engine.proofs.Recordings.{FindsOpen, answer_busy, is_placed, finds, resumed, written_at, can_tell, restored, on_ok}
+use Rattle.std.proofs.Common.{◌≡◌, ℕ, refl, sym, ◌∙◌, slice_set}
+use Rattle.jc_engine.proofs.Names.{Entry, History, with_outcome, with_answer, step_of, with_entries, Stepped}
+use Rattle.jc_engine.specs.Journals.{IsKept}
+use Rattle.jc_engine.proofs.Recordings.{FindsOpen, answer_busy, found, kept_of, resumed, written_at, can_tell, restored, on_ok, on_error, answered_kept, written_twice, written_back, keeps_over}
 use Rattle.jc_engine.proofs.recorded.Recorded.resume.Given as given
 use Rattle.jc_engine.proofs.recorded.Recorded.resume.Goals as goal
 
-pub kept_place-place-requires : goal.kept_place-place-requires
-kept_place-place-requires g c = is_placed c.self.invariant (answer_busy c.self.inside.engine c.args.id c.args.answer c.in_default.ensures)
+pub answer-requires : goal.answer-requires
+answer-requires g c =
+    let at = found c.self.invariant (answer_busy c.self.inside.engine c.args.id c.args.answer c.in_default.ensures) in
+    (at.0, at.1.opened.entry, kept_of at.1)
 
-pub enter_answer-requires : goal.enter_answer-requires
-enter_answer-requires g c =
-    let f = finds c.self.invariant (answer_busy c.self.inside.engine c.args.id c.args.answer c.in_default.ensures) c.kept_place-place.ensures in
-    slice_get_within c.self.inside.transcript.entries c.kept_place-place.result f.opened.entry f.opened.there
+pub invariant_of-self : goal.invariant_of-self
+invariant_of-self g c = restored c.self.invariant refl (on_error c.answer.result c.answer.ensures.refused (sym c.is_err.ensures.value ∙ c.if-is_err.true)) c.answer.ensures.places
 
-pub note-requires : goal.note-requires
-note-requires g c =
-    let f = finds c.self.invariant (answer_busy c.self.inside.engine c.args.id c.args.answer c.in_default.ensures) c.kept_place-place.ensures in
-    let entered = on_ok c.enter_answer.result c.enter_answer.ensures.ok (sym c.is_err.ensures.value ∙ c.if-is_err.false) f.opened.entry f.opened.there in
-    rw (entered, length-set) (slice_get_within c.self.inside.transcript.entries c.kept_place-place.result f.opened.entry f.opened.there)
+pub returns-then-is_err-clause-told : goal.returns-then-is_err-clause-told
+returns-then-is_err-clause-told g c = (rw (← c.self.view_is) c.self.invariant.told, (invariant_of-self g c).told)
 
-pub pop_answer-requires : goal.pop_answer-requires
-pop_answer-requires g c =
-    let f = finds c.self.invariant (answer_busy c.self.inside.engine c.args.id c.args.answer c.in_default.ensures) c.kept_place-place.ensures in
-    let entered = on_ok c.enter_answer.result c.enter_answer.ensures.ok (sym c.is_err.ensures.value ∙ c.if-is_err.false) f.opened.entry f.opened.there in
-    rw (entered, length-set) (slice_get_within c.self.inside.transcript.entries c.kept_place-place.result f.opened.entry f.opened.there)
+pub go_on-requires-in-Ok : goal.go_on-requires-in-Ok
+go_on-requires-in-Ok g c =
+    let at = found c.self.invariant (answer_busy c.self.inside.engine c.args.id c.args.answer c.in_default.ensures) in
+    let h = g.J.Journal.history c.self.inside.journal in
+    let e : Entry = at.1.opened.entry in
+    let entered = on_ok c.answer.result c.answer.ensures.ok (sym c.is_err.ensures.value ∙ c.if-is_err.false) at.0 e (kept_of at.1) in (
+      at.0,
+      with_answer c.args.answer e,
+      answered_kept h (g.J.Journal.history c.answer.new.self) (g.J.Journal.places c.self.inside.journal) (g.J.Journal.places c.answer.new.self) c.args.id at.0 c.args.answer e (kept_of at.1) entered c.answer.ensures.places,
+      can_tell c.self.invariant c.in-Ok.ensures.one at.1 c.args.answer c.in-Ok.advance c.in-Ok.ensures.fits c.in-Ok.ensures.outcome,
+    )
 
-module _ (g : given.Over) (c : goal.After-note g) where
-  f : FindsOpen c.self.inside.engine c.self.inside.transcript.entries (get nat_eq c.self.inside.places) c.args.id c.kept_place-place.result
-  f = finds c.self.invariant (answer_busy c.self.inside.engine c.args.id c.args.answer c.in_default.ensures) c.kept_place-place.ensures
+module _ (g : given.Over) (c : goal.After-go_on-in-Ok g) where
+  abbrev h : History
+  h = g.J.Journal.history c.self.inside.journal
+
+  at : (place : ℕ) × FindsOpen c.self.inside.engine h.entries (g.J.Journal.places c.self.inside.journal) c.args.id place
+  at = found c.self.invariant (answer_busy c.self.inside.engine c.args.id c.args.answer c.in_default.ensures)
 
   abbrev answered : Entry
-  answered = with_answer c.args.answer f.opened.entry
+  answered = with_answer c.args.answer at.1.opened.entry
 
-  noted : c.note.new.transcript ≡ with_entries (slice_set c.self.inside.transcript.entries c.kept_place-place.result (with_outcome (Stepped (step_of c.in-Ok.advance)) answered)) c.self.inside.transcript
+  entered : g.J.Journal.history c.answer.new.self ≡ with_entries (slice_set h.entries at.0 answered) h
+  entered = on_ok c.answer.result c.answer.ensures.ok (sym c.is_err.ensures.value ∙ c.if-is_err.false) at.0 at.1.opened.entry (kept_of at.1)
+
+  kept : IsKept (g.J.Journal.history c.answer.new.self) (g.J.Journal.places c.answer.new.self) c.args.id at.0 answered
+  kept = answered_kept h (g.J.Journal.history c.answer.new.self) (g.J.Journal.places c.self.inside.journal) (g.J.Journal.places c.answer.new.self) c.args.id at.0 c.args.answer at.1.opened.entry (kept_of at.1) entered c.answer.ensures.places
+
+  noted : g.J.Journal.history c.go_on-in-Ok.new.self ≡ with_entries (slice_set h.entries at.0 (with_outcome (Stepped (step_of c.in-Ok.advance)) answered)) h
   noted =
-      let entered : c.enter_answer.new.transcript ≡ with_entries (slice_set c.self.inside.transcript.entries c.kept_place-place.result answered) c.self.inside.transcript = on_ok c.enter_answer.result c.enter_answer.ensures.ok (sym c.is_err.ensures.value ∙ c.if-is_err.false) f.opened.entry f.opened.there in
-      let there : slice_get c.enter_answer.new.transcript.entries c.kept_place-place.result ≡ Some answered =
-      ap (λ (t : History). slice_get t.entries c.kept_place-place.result) entered ∙ at_same c.self.inside.transcript.entries c.kept_place-place.result f.opened.entry answered f.opened.there in
-      c.note.ensures.noted answered there f.opened.waits (can_tell c.self.invariant c.in-Ok.ensures.one f c.args.answer c.in-Ok.advance c.in-Ok.ensures.fits c.in-Ok.ensures.outcome)
-      ∙ ap (λ (t : History). with_entries (slice_set t.entries c.kept_place-place.result (with_outcome (Stepped (step_of c.in-Ok.advance)) answered)) t) entered
-      ∙ ap (λ (es : List Entry). with_entries es c.self.inside.transcript) (set-set c.self.inside.transcript.entries c.kept_place-place.result answered _)
+      written_twice h (g.J.Journal.history c.answer.new.self) (g.J.Journal.history c.go_on-in-Ok.new.self) at.0 answered (with_outcome (Stepped (step_of c.in-Ok.advance)) answered) entered
+      (c.go_on-in-Ok.ensures.noted at.0 answered kept (can_tell c.self.invariant c.in-Ok.ensures.one at.1 c.args.answer c.in-Ok.advance c.in-Ok.ensures.fits c.in-Ok.ensures.outcome))
 
 pub invariant_of-self-in-Ok : goal.invariant_of-self-in-Ok
-invariant_of-self-in-Ok g c = rw (noted g c) (resumed c.self.invariant c.in-Ok.ensures.one (f g c) c.args.answer c.in-Ok.advance c.in-Ok.ensures.fits c.in-Ok.ensures.outcome c.in-Ok.ensures.lives)
+invariant_of-self-in-Ok g c =
+    rw (noted g c)
+    (resumed c.self.invariant c.in-Ok.ensures.one (at g c).1 c.args.answer c.in-Ok.advance c.in-Ok.ensures.fits c.in-Ok.ensures.outcome (g.J.Journal.places c.go_on-in-Ok.new.self)
+    (keeps_over (g.J.Journal.places c.self.inside.journal) (g.J.Journal.places c.answer.new.self) (g.J.Journal.places c.go_on-in-Ok.new.self) c.args.id (at g c).0 c.in-Ok.advance c.answer.ensures.places (c.go_on-in-Ok.ensures.places (at g c).0 (answered g c) (kept g c)))
+    c.in-Ok.ensures.lives)
 
 pub returns-in-Ok-clause-transcript : goal.returns-in-Ok-clause-transcript
-returns-in-Ok-clause-transcript g c = λ session. rw (← c.self.view_is, c.note.ensures.shown, ← written_at c.self.invariant c.in-Ok.ensures.one (f g c) (λ d. with_outcome (Stepped (step_of c.in-Ok.advance)) (with_answer c.args.answer d))) (noted g c)
+returns-in-Ok-clause-transcript g c = λ session. rw (← c.self.view_is, c.go_on-in-Ok.ensures.shown, ← written_at c.self.invariant c.in-Ok.ensures.one (at g c).1 (λ d. with_outcome (Stepped (step_of c.in-Ok.advance)) (with_answer c.args.answer d))) (noted g c)
 
-taken_back : (g : given.Over) (c : goal.After-pop_answer g) → c.pop_answer.new.self ≡ c.self.inside.transcript
+pub returns-in-Ok-clause-told : goal.returns-in-Ok-clause-told
+returns-in-Ok-clause-told g c = (rw (← c.self.view_is) c.self.invariant.told, (invariant_of-self-in-Ok g c).told)
+
+pub take_answer-requires : goal.take_answer-requires
+take_answer-requires g c =
+    let at = found c.self.invariant (answer_busy c.self.inside.engine c.args.id c.args.answer c.in_default.ensures) in
+    let e : Entry = at.1.opened.entry in
+    let entered = on_ok c.answer.result c.answer.ensures.ok (sym c.is_err.ensures.value ∙ c.if-is_err.false) at.0 e (kept_of at.1) in (
+      at.0,
+      with_answer c.args.answer e,
+      answered_kept (g.J.Journal.history c.self.inside.journal) (g.J.Journal.history c.answer.new.self) (g.J.Journal.places c.self.inside.journal) (g.J.Journal.places c.answer.new.self) c.args.id at.0 c.args.answer e (kept_of at.1) entered c.answer.ensures.places,
+    )
+
+taken_back : (g : given.Over) (c : goal.After-take_answer g) → g.J.Journal.history c.take_answer.new.self ≡ g.J.Journal.history c.self.inside.journal
 taken_back g c =
-    let f = finds c.self.invariant (answer_busy c.self.inside.engine c.args.id c.args.answer c.in_default.ensures) c.kept_place-place.ensures in
-    let answered : Entry = with_answer c.args.answer f.opened.entry in
-    let entered : c.enter_answer.new.transcript ≡ with_entries (slice_set c.self.inside.transcript.entries c.kept_place-place.result answered) c.self.inside.transcript = on_ok c.enter_answer.result c.enter_answer.ensures.ok (sym c.is_err.ensures.value ∙ c.if-is_err.false) f.opened.entry f.opened.there in
-    let there : slice_get c.enter_answer.new.transcript.entries c.kept_place-place.result ≡ Some answered =
-    ap (λ (t : History). slice_get t.entries c.kept_place-place.result) entered ∙ at_same c.self.inside.transcript.entries c.kept_place-place.result f.opened.entry answered f.opened.there in
-    c.pop_answer.ensures f.opened.entry c.args.answer there
-    ∙ ap (λ (t : History). with_entries (slice_set t.entries c.kept_place-place.result f.opened.entry) t) entered
-    ∙ ap (λ (es : List Entry). with_entries es c.self.inside.transcript) (set-set c.self.inside.transcript.entries c.kept_place-place.result answered f.opened.entry ∙ same_set c.self.inside.transcript.entries c.kept_place-place.result f.opened.entry f.opened.there)
+    let at = found c.self.invariant (answer_busy c.self.inside.engine c.args.id c.args.answer c.in_default.ensures) in
+    let h = g.J.Journal.history c.self.inside.journal in
+    let e : Entry = at.1.opened.entry in
+    let entered = on_ok c.answer.result c.answer.ensures.ok (sym c.is_err.ensures.value ∙ c.if-is_err.false) at.0 e (kept_of at.1) in
+    let kept = answered_kept h (g.J.Journal.history c.answer.new.self) (g.J.Journal.places c.self.inside.journal) (g.J.Journal.places c.answer.new.self) c.args.id at.0 c.args.answer e (kept_of at.1) entered c.answer.ensures.places in
+    written_back h (g.J.Journal.history c.answer.new.self) (g.J.Journal.history c.take_answer.new.self) at.0 (with_answer c.args.answer e) e at.1.opened.there entered (c.take_answer.ensures.back at.0 e c.args.answer kept)
 
 pub invariant_of-self-in-Err : goal.invariant_of-self-in-Err
-invariant_of-self-in-Err g c = restored c.self.invariant c.in-Err.ensures.refused (taken_back g c) (λ q. refl)
+invariant_of-self-in-Err g c = restored c.self.invariant c.in-Err.ensures.refused (taken_back g c) (λ q. c.take_answer.ensures.places q ∙ c.answer.ensures.places q)
 
 pub returns-in-Err-clause-transcript : goal.returns-in-Err-clause-transcript
 returns-in-Err-clause-transcript g c = λ session. rw (← c.self.view_is) (taken_back g c)
+
+pub returns-in-Err-clause-told : goal.returns-in-Err-clause-told
+returns-in-Err-clause-told g c = (rw (← c.self.view_is) c.self.invariant.told, (invariant_of-self-in-Err g c).told)
 
 pub returns-in-Err-clause-refused : goal.returns-in-Err-clause-refused
 returns-in-Err-clause-refused g c = rw (c.in-Err.ensures.refused, taken_back g c) c.self.view_is

@@ -1,7 +1,7 @@
 use Rattle.std.proofs.Common.{◌≡◌, ◌++◌, List, Some, is_some, slice_get, sym, ap, ◌∙◌, length-set, set-set}
 use Rattle.jc_engine.proofs.Names.{Notice, Entry, at_same}
 use Rattle.jc_engine.proofs.Entries.{some_at}
-use Rattle.jc_engine.proofs.recorded.notes.note_given_up.Goals as goal
+use Rattle.jc_engine.proofs.journal.notes.note_given_up.Goals as goal
 
 pub set_end-requires : goal.set_end-requires
 set_end-requires c = let e = some_at c.args.transcript.now.entries c.args.place c.requires in rw (c.set_told.ensures e.0 e.1, length-set) c.requires

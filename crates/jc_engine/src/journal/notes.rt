@@ -1,18 +1,17 @@
-//! What a recorded manager writes into its transcript, and where it finds what it has written.
-ghost use Rattle.std.specs.Prelude.{◌≡◌, ◌≤◌, ◌<◌, ◌+◌, ℕ, [], Some, IsSome, IfOk, OnOk, OnErr, length, nat_eq, if◌then◌else◌, slice_get, slice_set};
+//! What is written into a transcript, and where it is found.
+ghost use Rattle.std.specs.Prelude.{◌≡◌, ◌≤◌, ◌<◌, ℕ, [], Some, IsSome, IfOk, OnOk, OnErr, length, nat_eq, if◌then◌else◌, slice_get, slice_set};
 ghost use Rattle.std.specs.HashMap.{get, spare};
 ghost use Rattle.jc_model.specs.declared.event.Outcome.TheVariants.{Step as Stepped, GivenUp};
 ghost use Rattle.jc_model.specs.declared.event.End.TheVariants.{Waiting};
 ghost use Rattle.jc_model.specs.declared.event.Entry.{Entry};
-ghost use Rattle.jc_model.specs.Limits.{most_ids};
-ghost use Rattle.jc_model.specs.Legal.{at_first, with_outcome, with_answer};
+ghost use Rattle.jc_model.specs.Legal.{with_outcome, with_answer};
 ghost use Rattle.jc_engine.specs.Results.{reply_in};
 ghost use Rattle.jc_engine.specs.Managed.{step_of};
-ghost use Rattle.jc_engine.specs.Recording.{CanTell, blank, left_in, with_entries, with_life};
+ghost use Rattle.jc_engine.specs.Recording.{CanTell, left_in, with_entries, with_life};
 
 use crate::cache::Advance;
 use jc_model::OutOfMemory;
-use jc_model::call::{Answer, Call, Notice, Reply, Request};
+use jc_model::call::{Answer, Notice, Reply, Request};
 use jc_model::config::CacheConfig;
 use jc_model::event::{CacheId, End, Entry, Life, Step};
 use jc_model::list::Sequence;
@@ -21,23 +20,6 @@ use jc_model::transcript::Transcript;
 use jc_state::notices::Notices;
 use std::alloc::Global;
 use std::collections::HashMap;
-
-/// The transcript of a manager that has just been opened.
-pub(crate) fn first_lives(
-    alloc: Global,
-    configs: &[CacheConfig],
-    first: u32,
-) -> Result<Transcript, OutOfMemory>
-    requires { first + length configs.now ≤ most_ids }
-    ensures { IfOk result (λ t. t ≡ at_first first configs.now) }
-{
-    let mut transcript = Transcript::new(alloc);
-    for (place, config) in configs.iter().enumerate() {
-        let id = CacheId::new(first + place as u32);
-        enter_life(&mut transcript, id, config)?;
-    }
-    Ok(transcript)
-}
 
 /// Adds a life to a transcript.
 pub(crate) fn enter_life(
@@ -52,13 +34,13 @@ pub(crate) fn enter_life(
     transcript.push_life(Life { id, config })
 }
 
-/// Keeps the place of a cache's last call, for which there is room.
-pub(crate) fn keep_place(places: &mut HashMap<u32, usize>, id: CacheId, place: usize)
-    requires { 1 ≤ spare places.old }
-    ensures { (other : ℕ) → get nat_eq places.new other ≡ (if nat_eq id other then Some place else get nat_eq places.old other) }
+/// Puts a value of a cache into a map, where there is room for it.
+pub(super) fn put_of<T: Drop>(map: &mut HashMap<u32, T>, id: CacheId, value: T)
+    requires { 1 ≤ spare map.old }
+    ensures { (other : ℕ) → get nat_eq map.new other ≡ (if nat_eq id other then Some value else get nat_eq map.old other) }
 {
     let number = id.number();
-    if places.insert(number, place).is_err() {
+    if map.insert(number, value).is_err() {
         unreachable!()
     }
 }
@@ -72,21 +54,6 @@ pub(crate) fn kept_place(places: &HashMap<u32, usize>, id: CacheId) -> usize
     match places.get(&number) {
         Some(place) => *place,
         None => unreachable!(),
-    }
-}
-
-/// The entry of a call that is about to begin.
-pub(crate) fn begun(alloc: Global, session: u32, id: CacheId, now: u64, call: Call) -> Entry
-    ensures { result ≡ blank session id now call }
-{
-    Entry {
-        session,
-        id,
-        at: now,
-        call,
-        answers: Sequence::new(Vec::new(alloc)),
-        told: Sequence::new(Vec::new(alloc)),
-        end: End::Waiting,
     }
 }
 

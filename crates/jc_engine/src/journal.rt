@@ -1,0 +1,120 @@
+//! What a recorded manager keeps of its calls.
+pub mod all_calls;
+mod change;
+mod notes;
+mod open_call;
+pub mod open_calls;
+pub mod past;
+
+use crate::cache::Advance;
+use jc_model::OutOfMemory;
+use jc_model::call::{Answer, Call, Notice, Reply};
+use jc_model::config::CacheConfig;
+use jc_model::event::{CacheId, Entry, Step};
+use jc_model::list::Sequence;
+use jc_state::notices::Notices;
+use std::alloc::Global;
+
+/// It tells of all lives and calls. It may keep all of their entries in memory, or only those of the calls that wait:
+/// the history is what the clauses see.
+pub trait Journal: Drop {
+    ghost use Rattle.std.specs.Prelude.{◌≡◌, ◌∷◌, ◌++◌, ℕ, List, [], Option, Some, None, IsSome, OnOk, OnErr, IfOk, IfErr, length, option_map, slice_set, slice_get};
+    ghost use Rattle.jc_model.specs.declared.call.Answer.{Answer as Answered};
+    ghost use Rattle.jc_model.specs.declared.config.CacheConfig.{CacheConfig as Configured};
+    ghost use Rattle.jc_model.specs.declared.event.End.TheVariants.{Waiting};
+    ghost use Rattle.jc_model.specs.declared.event.Entry.{Entry};
+    ghost use Rattle.jc_model.specs.declared.event.Outcome.TheVariants.{Step as Stepped, GivenUp};
+    ghost use Rattle.jc_model.specs.Legal.{History, with_answer, with_outcome};
+    ghost use Rattle.jc_engine.specs.Managed.{step_of};
+    ghost use Rattle.jc_engine.specs.Results.{reply_in};
+    ghost use Rattle.jc_engine.specs.Recording.{CanTell, left_in, with_entries, with_life};
+    ghost use Rattle.jc_engine.specs.Journals.{IsKept, Keeps, KeepsOthers, kept_at};
+
+    /// The lives and the calls that it tells of.
+    ghost history: { Self → History };
+
+    /// By cache, where the entry of its open call stands there.
+    ghost places: { Self → ℕ → Option ℕ };
+
+    /// It tells of this history, over which the call with this entry is about to begin; what it has handed back of it.
+    ghost Enters: { History → Self → Option Entry → Entry → Type 0 };
+
+    /// No lives and no calls.
+    fn new(alloc: Global) -> Self
+        ensures { history result ≡ record { lives = []; entries = [] } };
+
+    /// The entry of a cache's open call.
+    fn open_entry(&self, id: CacheId) -> Option<&Entry>
+        ensures { option_map (λ e. e.now) result ≡ kept_at (history self.now) (places self.now id) };
+
+    /// Makes room for a call that is about to begin. A journal that keeps calls only while they wait hands the entry
+    /// back. Where memory is refused nothing has changed.
+    fn enter(&mut self, entry: Entry) -> Result<Option<Entry>, Entry>
+        ensures entered { IfOk result (λ held. Enters (history self.old) self.new held entry) }
+        ensures places { (id : ℕ) → places self.new id ≡ places self.old id }
+        ensures back { IfErr result (λ back. back ≡ entry) }
+        ensures refused { OnErr result (history self.new ≡ history self.old) };
+
+    /// The call that is about to begin.
+    fn call<'a>(&'a self, held: &'a Option<Entry>) -> &'a Call
+        requires { (h : History) × (e : Entry) × Enters h self.now held.now e }
+        ensures { (h : History) (e : Entry) → Enters h self.now held.now e → result.now ≡ e.call };
+
+    /// The call does not begin. It is handed back.
+    fn take_back(&mut self, held: Option<Entry>) -> Call
+        requires { (h : History) × (e : Entry) × Enters h self.old held e }
+        ensures back { (h : History) (e : Entry) → Enters h self.old held e → (result ≡ e.call) × (history self.new ≡ h) }
+        ensures places { (id : ℕ) → places self.new id ≡ places self.old id };
+
+    /// The call has begun, and come to this. The result is what the caller is shown, and a copy of the reply.
+    fn begin(&mut self, id: CacheId, held: Option<Entry>, advance: Advance) -> (Step, Option<Reply>)
+        requires { (h : History) × (e : Entry) × Enters h self.old held e × (e.id ≡ id) × (e.end ≡ Waiting) × CanTell advance e }
+        ensures shown { result.0 ≡ step_of advance }
+        ensures copy { result.1 ≡ reply_in result.0 }
+        ensures noted { (h : History) (e : Entry) → Enters h self.old held e → e.end ≡ Waiting → CanTell advance e → history self.new ≡ with_entries (h.entries ++ with_outcome (Stepped (step_of advance)) e ∷ []) h }
+        ensures places { (h : History) (e : Entry) → Enters h self.old held e → Keeps (places self.old) id (length h.entries) advance (places self.new) };
+
+    /// Adds an answer to the entry of a cache's open call. Where memory is refused nothing has changed.
+    fn answer(&mut self, id: CacheId, answer: &Answer) -> Result<(), OutOfMemory>
+        requires { (place : ℕ) × (e : Entry) × IsKept (history self.old) (places self.old) id place e }
+        ensures ok { OnOk result ((place : ℕ) (e : Entry) → IsKept (history self.old) (places self.old) id place e → history self.new ≡ with_entries (slice_set (history self.old).entries place (with_answer answer.now e)) (history self.old)) }
+        ensures refused { OnErr result (history self.new ≡ history self.old) }
+        ensures places { (other : ℕ) → places self.new other ≡ places self.old other };
+
+    /// Takes the last answer back.
+    fn take_answer(&mut self, id: CacheId)
+        requires { (place : ℕ) × (e : Entry) × IsKept (history self.old) (places self.old) id place e }
+        ensures back { (place : ℕ) (e : Entry) (a : Answered) → IsKept (history self.old) (places self.old) id place (with_answer a e) → history self.new ≡ with_entries (slice_set (history self.old).entries place e) (history self.old) }
+        ensures places { (other : ℕ) → places self.new other ≡ places self.old other };
+
+    /// A cache's open call has come to this.
+    fn go_on(&mut self, id: CacheId, advance: Advance) -> (Step, Option<Reply>)
+        requires { (place : ℕ) × (e : Entry) × IsKept (history self.old) (places self.old) id place e × CanTell advance e }
+        ensures shown { result.0 ≡ step_of advance }
+        ensures copy { result.1 ≡ reply_in result.0 }
+        ensures noted { (place : ℕ) (e : Entry) → IsKept (history self.old) (places self.old) id place e → CanTell advance e → history self.new ≡ with_entries (slice_set (history self.old).entries place (with_outcome (Stepped (step_of advance)) e)) (history self.old) }
+        ensures places { (place : ℕ) (e : Entry) → IsKept (history self.old) (places self.old) id place e → Keeps (places self.old) id place advance (places self.new) };
+
+    /// A cache's open call was given up. The result is the notices that are left.
+    fn give_up(&mut self, alloc: Global, id: CacheId, left: Option<Notices>) -> Sequence<Notice>
+        requires { (place : ℕ) × (e : Entry) × IsKept (history self.old) (places self.old) id place e × (IsSome left → e.told ≡ []) }
+        ensures left { result ≡ left_in left }
+        ensures noted { (place : ℕ) (e : Entry) → IsKept (history self.old) (places self.old) id place e → (IsSome left → e.told ≡ []) → history self.new ≡ with_entries (slice_set (history self.old).entries place (with_outcome (GivenUp (left_in left)) e)) (history self.old) }
+        ensures places { KeepsOthers (places self.old) id (places self.new) };
+
+    /// Adds a life. Where memory is refused nothing has changed.
+    fn create(&mut self, id: CacheId, config: &CacheConfig) -> Result<(), OutOfMemory>
+        ensures ok { OnOk result (history self.new ≡ with_life id config.now (history self.old)) }
+        ensures refused { OnErr result (history self.new ≡ history self.old) }
+        ensures places { (other : ℕ) → places self.new other ≡ places self.old other };
+
+    /// Takes the last life back.
+    fn take_life(&mut self)
+        ensures back { (h : History) (id : ℕ) (c : Configured) → history self.old ≡ with_life id c h → history self.new ≡ h }
+        ensures places { (other : ℕ) → places self.new other ≡ places self.old other };
+
+    /// A cache has gone, in which no call is open. Its life and its calls stay in the history.
+    fn destroy(&mut self, id: CacheId)
+        ensures same { history self.new ≡ history self.old }
+        ensures places { KeepsOthers (places self.old) id (places self.new) };
+}

@@ -1,0 +1,117 @@
+//! A journal that keeps the entries of all calls.
+ghost use Rattle.std.specs.Prelude.{◌≡◌, ◌≤◌, ◌∷◌, ◌++◌, [], nat_eq};
+ghost use Rattle.std.specs.HashMap.{get, spare};
+ghost use Rattle.jc_engine.specs.Recording.{with_entries};
+
+use super::Journal;
+use super::notes::{enter_answer, enter_life, kept_place, note, note_given_up, put_of};
+use crate::cache::Advance;
+use jc_model::OutOfMemory;
+use jc_model::call::{Answer, Call, Notice, Reply};
+use jc_model::config::CacheConfig;
+use jc_model::event::{CacheId, Entry, Step};
+use jc_model::list::Sequence;
+use jc_model::transcript::Transcript;
+use jc_state::notices::Notices;
+use std::alloc::Global;
+use std::collections::HashMap;
+
+/// The transcript, and where the open calls stand in it.
+#[derive(Drop)]
+pub struct AllCalls {
+    pub(crate) transcript: Transcript,
+    /// By cache, the place of the last call that has waited.
+    places: HashMap<u32, usize>,
+}
+
+impl Journal for AllCalls {
+    ghost history = { λ j. j.transcript };
+
+    ghost places = { λ j. get nat_eq j.places };
+
+    ghost Enters = { λ h j held e. (j.transcript ≡ with_entries (h.entries ++ e ∷ []) h) × (1 ≤ spare j.places) };
+
+    fn new(alloc: Global) -> AllCalls {
+        AllCalls {
+            transcript: Transcript::new(alloc),
+            places: HashMap::new(alloc),
+        }
+    }
+
+    fn open_entry(&self, id: CacheId) -> Option<&Entry> {
+        let number = id.number();
+        let place = self.places.get(&number)?;
+        self.transcript.entries().get(*place)
+    }
+
+    fn enter(&mut self, entry: Entry) -> Result<Option<Entry>, Entry> {
+        if self.places.reserve(1).is_err() {
+            return Err(entry);
+        }
+        self.transcript.push(entry)?;
+        Ok(None)
+    }
+
+    fn call<'a>(&'a self, _held: &'a Option<Entry>) -> &'a Call {
+        match self.transcript.last() {
+            Some(entry) => &entry.call,
+            None => unreachable!(),
+        }
+    }
+
+    fn take_back(&mut self, _held: Option<Entry>) -> Call {
+        match self.transcript.pop() {
+            Some(entry) => entry.call,
+            None => unreachable!(),
+        }
+    }
+
+    fn begin(
+        &mut self,
+        id: CacheId,
+        held: Option<Entry>,
+        advance: Advance,
+    ) -> (Step, Option<Reply>) {
+        drop(held);
+        let place = self.transcript.entries().len() - 1;
+        let replied = advance.is_replied();
+        let shown = note(&mut self.transcript, place, advance);
+        if !replied {
+            put_of(&mut self.places, id, place);
+        }
+        shown
+    }
+
+    fn answer(&mut self, id: CacheId, answer: &Answer) -> Result<(), OutOfMemory> {
+        let place = kept_place(&self.places, id);
+        enter_answer(&mut self.transcript, place, answer)
+    }
+
+    fn take_answer(&mut self, id: CacheId) {
+        let place = kept_place(&self.places, id);
+        self.transcript.pop_answer(place);
+    }
+
+    fn go_on(&mut self, id: CacheId, advance: Advance) -> (Step, Option<Reply>) {
+        let place = kept_place(&self.places, id);
+        note(&mut self.transcript, place, advance)
+    }
+
+    fn give_up(&mut self, alloc: Global, id: CacheId, left: Option<Notices>) -> Sequence<Notice> {
+        let place = kept_place(&self.places, id);
+        note_given_up(alloc, &mut self.transcript, place, left)
+    }
+
+    fn create(&mut self, id: CacheId, config: &CacheConfig) -> Result<(), OutOfMemory> {
+        enter_life(&mut self.transcript, id, config)
+    }
+
+    fn take_life(&mut self) {
+        self.transcript.pop_life();
+    }
+
+    fn destroy(&mut self, id: CacheId) {
+        let number = id.number();
+        self.places.remove(&number);
+    }
+}

@@ -1,0 +1,13 @@
+//! One change of a history that exists in proofs alone.
+use jc_model::config::CacheConfig;
+use jc_model::event::{CacheId, Entry};
+use std::snapshot::Snapshot;
+
+/// A call was entered behind all others; the entry at a place was written; a life began; the last life was taken back.
+#[derive(Drop)]
+pub(crate) enum Change {
+    Entered(Snapshot<Entry>),
+    Written(usize, Snapshot<Entry>),
+    Lived(CacheId, Snapshot<CacheConfig>),
+    Unlived,
+}

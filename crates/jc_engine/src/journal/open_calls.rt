@@ -1,0 +1,194 @@
+//! A journal that keeps the entries of open calls alone. The history of which it tells exists in proofs.
+ghost use Rattle.std.specs.Prelude.{◌≡◌, ◌<◌, ◌≤◌, ◌+◌, ◌^◌, ℕ, false, Some, nat_eq, slice_set};
+ghost use Rattle.std.specs.HashMap.{get, spare};
+ghost use Rattle.jc_model.specs.declared.event.Entry.{Entry};
+ghost use Rattle.jc_model.specs.declared.event.Outcome.TheVariants.{Step as Stepped};
+ghost use Rattle.jc_model.specs.Legal.{with_outcome};
+ghost use Rattle.jc_engine.specs.Results.{reply_in};
+ghost use Rattle.jc_engine.specs.Managed.{step_of};
+ghost use Rattle.jc_engine.specs.Recording.{CanTell, with_entries};
+ghost use Rattle.jc_engine.specs.Journals.{IsKept, KeepsOthers, is_replied};
+ghost use Rattle.jc_engine.specs.Opens.{AreOpen, place_of};
+
+use super::Journal;
+use super::notes::put_of;
+use super::open_call::{OpenCall, add_answer, take_answer, write_given_up, write_outcome};
+use super::past::Past;
+use crate::cache::Advance;
+use jc_model::OutOfMemory;
+use jc_model::call::{Answer, Call, Notice, Reply};
+use jc_model::config::CacheConfig;
+use jc_model::event::{CacheId, Entry, Step};
+use jc_model::list::Sequence;
+use jc_state::notices::Notices;
+use std::alloc::Global;
+use std::collections::HashMap;
+
+/// By cache its open call. Of all others memory has a number alone.
+#[derive(Drop)]
+pub struct OpenCalls {
+    past: Past,
+    /// How many calls have begun.
+    begun: usize,
+    waiting: HashMap<u32, OpenCall>,
+    ghost are_open: { AreOpen past.history begun (get nat_eq waiting) },
+}
+
+impl OpenCalls {
+    /// A call that goes on has come to this.
+    fn wait(&mut self, id: CacheId, advance: Advance) -> (Step, Option<Reply>)
+        requires kept { (place : ℕ) × (e : Entry) × IsKept self.old.past.history (λ id. place_of (get nat_eq self.old.waiting id)) id place e × CanTell advance e }
+        requires waits { is_replied advance ≡ false }
+        ensures shown { result.0 ≡ step_of advance }
+        ensures copy { result.1 ≡ reply_in result.0 }
+        ensures noted { (place : ℕ) (e : Entry) → IsKept self.old.past.history (λ id. place_of (get nat_eq self.old.waiting id)) id place e → CanTell advance e → self.new.past.history ≡ with_entries (slice_set self.old.past.history.entries place (with_outcome (Stepped (step_of advance)) e)) self.old.past.history }
+        ensures places { (other : ℕ) → place_of (get nat_eq self.new.waiting other) ≡ place_of (get nat_eq self.old.waiting other) }
+    {
+        let number = id.number();
+        match self.waiting.get_mut(&number) {
+            Some(call) => {
+                let shown = write_outcome(&mut call.entry, advance);
+                self.past.set(call.place, &call.entry);
+                shown
+            }
+            None => unreachable!(),
+        }
+    }
+
+    /// A call has ended with this reply. Its entry is let go.
+    fn end(&mut self, id: CacheId, advance: Advance) -> (Step, Option<Reply>)
+        requires kept { (place : ℕ) × (e : Entry) × IsKept self.old.past.history (λ id. place_of (get nat_eq self.old.waiting id)) id place e × CanTell advance e }
+        ensures shown { result.0 ≡ step_of advance }
+        ensures copy { result.1 ≡ reply_in result.0 }
+        ensures noted { (place : ℕ) (e : Entry) → IsKept self.old.past.history (λ id. place_of (get nat_eq self.old.waiting id)) id place e → CanTell advance e → self.new.past.history ≡ with_entries (slice_set self.old.past.history.entries place (with_outcome (Stepped (step_of advance)) e)) self.old.past.history }
+        ensures places { KeepsOthers (λ id. place_of (get nat_eq self.old.waiting id)) id (λ id. place_of (get nat_eq self.new.waiting id)) }
+    {
+        let number = id.number();
+        let Some(mut call) = self.waiting.remove(&number) else {
+            unreachable!()
+        };
+        let shown = write_outcome(&mut call.entry, advance);
+        self.past.set(call.place, &call.entry);
+        shown
+    }
+}
+
+impl Journal for OpenCalls {
+    ghost history = { λ j. j.past.history };
+
+    ghost places = { λ j. (λ id. place_of (get nat_eq j.waiting id)) };
+
+    ghost Enters = { λ h j held e. (j.past.history ≡ h) × (held ≡ Some e) × (1 ≤ spare j.waiting) × (j.begun + 1 < 2 ^ 64) };
+
+    fn new(alloc: Global) -> OpenCalls {
+        OpenCalls {
+            past: Past::new(),
+            begun: 0,
+            waiting: HashMap::new(alloc),
+        }
+    }
+
+    fn open_entry(&self, id: CacheId) -> Option<&Entry> {
+        let number = id.number();
+        match self.waiting.get(&number) {
+            Some(call) => Some(&call.entry),
+            None => None,
+        }
+    }
+
+    fn enter(&mut self, entry: Entry) -> Result<Option<Entry>, Entry> {
+        if self.begun == usize::MAX || self.waiting.reserve(1).is_err() {
+            return Err(entry);
+        }
+        Ok(Some(entry))
+    }
+
+    fn call<'a>(&'a self, held: &'a Option<Entry>) -> &'a Call {
+        match held {
+            Some(entry) => &entry.call,
+            None => unreachable!(),
+        }
+    }
+
+    fn take_back(&mut self, held: Option<Entry>) -> Call {
+        match held {
+            Some(entry) => entry.call,
+            None => unreachable!(),
+        }
+    }
+
+    fn begin(
+        &mut self,
+        id: CacheId,
+        held: Option<Entry>,
+        advance: Advance,
+    ) -> (Step, Option<Reply>) {
+        let Some(mut entry) = held else {
+            unreachable!()
+        };
+        let waits = !advance.is_replied();
+        let shown = write_outcome(&mut entry, advance);
+        self.past.push(&entry);
+        let place = self.begun;
+        self.begun += 1;
+        if waits {
+            put_of(&mut self.waiting, id, OpenCall { place, entry });
+        }
+        shown
+    }
+
+    fn answer(&mut self, id: CacheId, answer: &Answer) -> Result<(), OutOfMemory> {
+        let number = id.number();
+        match self.waiting.get_mut(&number) {
+            Some(call) => {
+                add_answer(&mut call.entry, answer)?;
+                self.past.set(call.place, &call.entry);
+                Ok(())
+            }
+            None => unreachable!(),
+        }
+    }
+
+    fn take_answer(&mut self, id: CacheId) {
+        let number = id.number();
+        match self.waiting.get_mut(&number) {
+            Some(call) => {
+                take_answer(&mut call.entry);
+                self.past.set(call.place, &call.entry);
+            }
+            None => unreachable!(),
+        }
+    }
+
+    fn go_on(&mut self, id: CacheId, advance: Advance) -> (Step, Option<Reply>) {
+        if advance.is_replied() {
+            self.end(id, advance)
+        } else {
+            self.wait(id, advance)
+        }
+    }
+
+    fn give_up(&mut self, alloc: Global, id: CacheId, left: Option<Notices>) -> Sequence<Notice> {
+        let number = id.number();
+        let Some(mut call) = self.waiting.remove(&number) else {
+            unreachable!()
+        };
+        let left = write_given_up(alloc, &mut call.entry, left);
+        self.past.set(call.place, &call.entry);
+        left
+    }
+
+    fn create(&mut self, id: CacheId, config: &CacheConfig) -> Result<(), OutOfMemory> {
+        self.past.push_life(id, config);
+        Ok(())
+    }
+
+    fn take_life(&mut self) {
+        self.past.pop_life();
+    }
+
+    fn destroy(&mut self, id: CacheId) {
+        let number = id.number();
+        self.waiting.remove(&number);
+    }
+}

@@ -1,0 +1,86 @@
+//! A history that exists in proofs alone: it is made of its changes, and none of them is in memory.
+ghost use Rattle.std.specs.Prelude.{◌≡◌, ◌-◌, ◌∷◌, ◌++◌, [], length, take, slice_set};
+ghost use Rattle.jc_engine.specs.Recording.{with_life};
+ghost use Rattle.jc_engine.specs.Changed.{changed};
+ghost use Rattle.jc_engine.specs.Past.{nothing};
+
+use crate::journal::change::Change;
+use jc_model::config::CacheConfig;
+use jc_model::event::{CacheId, Entry};
+use std::marker::Model;
+use std::snapshot::Snapshot;
+
+/// The lives and the calls that there were. Contracts see their lists; memory has none of them.
+#[cycle(past)]
+#[derive(Drop)]
+pub struct Past {
+    last: Option<Happened>,
+}
+
+/// What there was before, and a change of it.
+#[cycle(past)]
+#[derive(Drop)]
+struct Happened {
+    before: Snapshot<Past>,
+    change: Change,
+}
+
+impl Model for Past {
+    ghost use Rattle.std.specs.Prelude.{option_map};
+    ghost use Rattle.jc_engine.specs.Changed.{changed};
+    ghost use Rattle.jc_engine.specs.Past.{Told, told_by, after, change_count};
+
+    ghost Value = { Told };
+
+    ghost view = { λ p. told_by (option_map (λ e. after (changed e.change) e.before.value) p.last) };
+
+    ghost size = { change_count };
+
+    ghost use Rattle.std.proofs.Common.{arith};
+
+    ghost size_decreases = { λ p h. Prim.grind (arith) };
+}
+
+impl Past {
+    /// No lives and no calls.
+    pub fn new() -> Past
+        ensures { result.history ≡ nothing }
+    {
+        Past { last: None }
+    }
+
+    fn change(&mut self, change: Change)
+        ensures { self.new.history ≡ changed change self.old.history }
+    {
+        let before = Snapshot::of(&*self);
+        self.last = Some(Happened { before, change });
+    }
+
+    /// A call more, the last.
+    pub fn push(&mut self, entry: &Entry)
+        ensures { self.new.history ≡ record self.old.history { entries = self.old.history.entries ++ entry.now ∷ [] } }
+    {
+        self.change(Change::Entered(Snapshot::of(entry)));
+    }
+
+    /// The call at a place has this entry now.
+    pub(crate) fn set(&mut self, place: usize, entry: &Entry)
+        ensures { self.new.history ≡ record self.old.history { entries = slice_set self.old.history.entries place entry.now } }
+    {
+        self.change(Change::Written(place, Snapshot::of(entry)));
+    }
+
+    /// A life more, the last.
+    pub(crate) fn push_life(&mut self, id: CacheId, config: &CacheConfig)
+        ensures { self.new.history ≡ with_life id config.now self.old.history }
+    {
+        self.change(Change::Lived(id, Snapshot::of(config)));
+    }
+
+    /// The last life is taken back.
+    pub(crate) fn pop_life(&mut self)
+        ensures { self.new.history ≡ record self.old.history { lives = take (length self.old.history.lives - 1) self.old.history.lives } }
+    {
+        self.change(Change::Unlived);
+    }
+}
