@@ -168,6 +168,7 @@ impl<R: Rows, G: Ring, J: Journal> Recorded<R, G, J> {
     pub fn open_entry(&self, id: CacheId) -> Option<&Entry>
         ensures entry { IfSome result (λ e. (place : ℕ) × IsEntryOf self.now.transcript.entries id place e.now) }
         ensures open { is_some result ≡ is_open_in (at_place self.now.caches id) }
+        ensures told { Tells self.now.transcript (lives_of self.now.caches) }
     {
         if self.engine.is_open(id) {
             self.journal.open_entry(id)

@@ -40,6 +40,11 @@ pub on_err : {A E P : Type 0} (r : Result A E) → OnErr r P → is_err r ≡ tr
 on_err (Ok x) p err = absurd cc
 on_err (Err e) p err = p
 
+-- of three things that hold where it failed, the second
+pub second_on_err : {A E : Type 0} (P Q R : Type 0) (r : Result A E) (e : E) → r ≡ Err e → OnErr r (P × Q × R) → Q
+second_on_err P Q R (Ok x) e is h = absurd cc
+second_on_err P Q R (Err d) e is h = h.1
+
 -- What the listeners were told, from one moment to the next.
 module _ {W K : Type 0} (state_after : K → List Notice → List ℕ) where
   -- they were not told anything

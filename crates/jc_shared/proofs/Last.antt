@@ -14,7 +14,8 @@ use Rattle.jc_model.specs.Solo.{run_of, after_call, standing_from}
 use Rattle.jc_model.specs.Legal.{is_waiting, played, IsLegalEntry, IsLegalFrom, entries_of, History, Tells, on_open}
 use Rattle.jc_model.proofs.Lives.{at_same}
 use Rattle.jc_model.proofs.OneCache.{IsBusy, by_end, none_after}
-use Rattle.jc_engine.specs.Recording.{HasOpen}
+use Rattle.std.proofs.lemmas.List.{same_from_push}
+use Rattle.jc_engine.specs.Recording.{HasOpen, IsEntryOf}
 use Rattle.jc_engine.proofs.Entries.{written_open}
 
 pub id_is_id : (id : ℕ) → (id == id) ≡ true
@@ -80,6 +81,23 @@ module _ (lives : Lives) (transcript : History) (tells : Tells transcript lives)
 
   pub open_stands : (k : Status) (at : live_at lives id ≡ Some k) → k.standing ≡ standing_of (answered (run_of k.config (open_last k at).state (played open_there.entry)) open_there.entry.answers)
   open_stands k at = (tells.each id k at).1 ∙ ap (λ (es : List Entry). standing_from k.config fresh (map played es)) split ∙ (open_last k at).stands
+
+  -- its entry, changed where it stands
+  pub changed_there : (k : Status) → live_at lives id ≡ Some k → (f : Entry → Entry) → slice_get (on_open id f transcript.entries) place ≡ Some (f open_there.entry)
+  changed_there k at f =
+      ap (λ (es : List Entry). slice_get es place) (sym (written_open lives transcript id place k open_there.entry f tells at open_there.there open_there.own open_there.waits))
+      ∙ at_same transcript.entries place open_there.entry (f open_there.entry) open_there.there
+
+  -- no other is open there
+  pub open_same : (k : Status) → live_at lives id ≡ Some k → (other : ℕ) (e : Entry) → IsEntryOf transcript.entries id other e → e ≡ open_there.entry
+  open_same k at other e is =
+      let theirs : (e.id == id) ≡ true = ap (λ (n : ℕ). n == id) is.own ∙ id_is_id id in
+      let apart : entries_of id transcript.entries ≡ entries_of id (take other transcript.entries) ++ e ∷ entries_of id (drop (suc other) transcript.entries) = entries_split id transcript.entries other e is.there theirs in
+      let legal = subst (λ (es : List Entry). IsLegalFrom k.config fresh es) apart (tells.legal.each id k.config (tells.each id k at).0) in
+      let none = (last_open k.config fresh (entries_of id (take other transcript.entries)) e (entries_of id (drop (suc other) transcript.entries)) legal is.waits).none in
+      let here : before ++ open_there.entry ∷ [] ≡ entries_of id transcript.entries = ap (λ (es : List Entry). before ++ open_there.entry ∷ es) (sym (open_last k at).none) ∙ sym split in
+      let there : entries_of id transcript.entries ≡ entries_of id (take other transcript.entries) ++ e ∷ [] = apart ∙ ap (λ (es : List Entry). entries_of id (take other transcript.entries) ++ e ∷ es) none in
+      sym (same_from_push before (entries_of id (take other transcript.entries)) open_there.entry e (here ∙ there)).1
 
   -- its entry, changed where it stands, is the last of its cache
   pub changed_last : (k : Status) → live_at lives id ≡ Some k → (f : Entry → Entry) → ((e : Entry) → (f e).id ≡ e.id) → (draft : Entry) → slice_get (on_open id f transcript.entries) place ≡ Some draft

@@ -1,12 +1,14 @@
 -- What a tenure of the lock makes of the call that it brings on.
-use Rattle.std.proofs.Common.{◌≡◌, ℕ, zero, suc, Bool, true, false, if◌then◌else◌, List, [], ◌∷◌, length, take, Option, Some, None, Result, Err, inl, inr, refl, sym, ◌∙◌, ap, subst, arith}
+use Rattle.std.proofs.Common.{◌≡◌, ℕ, zero, suc, Bool, true, false, if◌then◌else◌, List, [], ◌∷◌, ◌++◌, ◌⊎◌, length, take, Option, Some, None, Result, Err, inl, inr, refl, sym, ◌∙◌, ap, subst, arith}
 use Rattle.std.specs.Prelude.{◌==◌, ◌+◌, slice_get, IsSome, IfErr}
 use Rattle.std.proofs.lemmas.Bool.Decides.{nat_tests}
+use Rattle.std.proofs.lemmas.List.{same_from_push}
 use Rattle.jc_model.specs.declared.call.Answer.{Answer}
 use Rattle.jc_model.specs.declared.call.Call.{Call}
 use Rattle.jc_model.specs.declared.call.Call.TheVariants.{Invoke, InvokeAll}
 use Rattle.jc_model.specs.declared.call.Notice.{Notice}
 use Rattle.jc_model.specs.declared.call.Reply.{Reply}
+use Rattle.jc_model.specs.declared.event.End.{End}
 use Rattle.jc_model.specs.declared.event.End.TheVariants as ends
 use Rattle.jc_model.specs.declared.config.CacheConfig.{CacheConfig}
 use Rattle.jc_model.specs.declared.event.Cause.{Cause}
@@ -21,7 +23,7 @@ use Rattle.jc_model.specs.declared.event.Step.TheVariants.{Done, Need}
 use Rattle.jc_model.specs.State.{State}
 use Rattle.jc_model.specs.Run.{Run, ended, waiting, answered, fits, awaited_by}
 use Rattle.jc_model.specs.Whole.{whole}
-use Rattle.jc_model.specs.Runs.{Standing, idle, busy, Status, Lives, live_at, Said, says, begins as begins_with, answers, gives_up, has_processor, standing_of, shown, reply_of, is_refused, refuse_last, for_memory, answer_of, answer_to, moved, put_moved, lives_by, lives_after}
+use Rattle.jc_model.specs.Runs.{Standing, idle, busy, Status, Lives, live_at, Said, says, begins as begins_with, answers as given_answer, gives_up, has_processor, standing_of, shown, reply_of, is_refused, refuse_last, for_memory, answer_of, answer_to, moved, put_moved, lives_by, lives_after}
 use Rattle.jc_model.specs.Solo.{run_of}
 use Rattle.jc_model.specs.Legal.{played, History, IsLegal, Tells, config_of, numbered, entries_of, on_open, lives_with, accepted_in, recorded, with_outcome, with_answer}
 use Rattle.jc_model.specs.Everywhere.{AtEach}
@@ -30,7 +32,7 @@ use Rattle.jc_model.specs.declared.event.Life.{Life}
 use Rattle.jc_model.proofs.Lives.{live_same}
 use Rattle.jc_model.proofs.Recording.{event_of}
 use Rattle.jc_engine.specs.Caches.{lives_of}
-use Rattle.jc_engine.specs.Recording.{Recording, HasOpen, blank}
+use Rattle.jc_engine.specs.Recording.{Recording, HasOpen, IsEntryOf, blank}
 use Rattle.jc_model.specs.Asking.{AsksOf, AsksIn, invoked_by}
 use Rattle.jc_shared.specs.declared.fault.CallFault.{CallFault}
 use Rattle.jc_shared.specs.declared.fault.CallFault.TheVariants as faults
@@ -39,12 +41,12 @@ use Rattle.jc_shared.specs.declared.fault.Halt.TheVariants as halts
 use Rattle.jc_shared.specs.declared.turned.Turned.{Turned}
 use Rattle.jc_shared.specs.declared.turned.Turned.TheVariants.{Asked, Replied}
 use Rattle.jc_shared.specs.Sessions.{Sight, BeginsWith, Sees}
-use Rattle.jc_shared.specs.Calls.{Stands, GoesOn, MayLack, IsBeginFault}
-use Rattle.jc_shared.specs.Finding.{fault_of, halt_of, IsOpenFor, IsOpen, StandsAt, Turns, IsReplied}
+use Rattle.jc_shared.specs.Calls.{Stands, GoesOn, MayLack, IsBeginFault, called}
+use Rattle.jc_shared.specs.Finding.{fault_of, halt_of, IsOfCall, IsOpen, Turns, IsReplied}
 use Rattle.jc_shared.specs.Living.{Refuses}
-use Rattle.jc_shared.specs.Tenures.{IsTenure, IsRefusedFor, Stops, Strays, step_of}
+use Rattle.jc_shared.specs.Tenures.{IsTenure, IsRefusedFor, Stops, step_of}
 use Rattle.jc_model.proofs.Asking.{whole_asks}
-use Rattle.jc_shared.proofs.Last.{open_last, open_stands, changed_last, added_last}
+use Rattle.jc_shared.proofs.Last.{open_last, open_stands, changed_there, open_same, changed_last, added_last}
 
 kept_lives : (session id : ℕ) (said : Said) (o : Outcome) (t : History) → (recorded session (event_of id said) o t).lives ≡ t.lives
 kept_lives session id said o t = go (is_refused o) said
@@ -52,7 +54,7 @@ kept_lives session id said o t = go (is_refused o) said
     go : (b : Bool) (said : Said) → (if b then t else record { lives = lives_with (event_of id said) o t.lives; entries = accepted_in session (event_of id said) o t.entries }).lives ≡ t.lives
     go true said = refl
     go false (begins_with now call) = refl
-    go false (answers a) = refl
+    go false (given_answer a) = refl
     go false gives_up = refl
 
 pub still_begins : (configs : List CacheConfig) (t new : History) (session id : ℕ) (said : Said) (o : Outcome) → BeginsWith configs t → new ≡ recorded session (event_of id said) o t → BeginsWith configs new
@@ -101,7 +103,7 @@ pub resumed_asks : (lives : Lives) (transcript : History) → Tells transcript l
     → outcome.Step step ≡ answer_to lives (event.Answer id a) m → AsksIn there.entry.call step
 resumed_asks lives transcript tells id place there a step m is = at (live_at lives id) refl is
   where
-    goes_on : (c : CacheConfig) (run : Run) → Asks there.entry.call run → outcome.Step step ≡ reply_of c (standing_of run) (answers a) → AsksIn there.entry.call step
+    goes_on : (c : CacheConfig) (run : Run) → Asks there.entry.call run → outcome.Step step ≡ reply_of c (standing_of run) (given_answer a) → AsksIn there.entry.call step
     goes_on c (ended p r) h is = absurd cc
     goes_on c (waiting q p resumed) h is = go (fits (awaited_by q) a) is
       where
@@ -109,14 +111,14 @@ resumed_asks lives transcript tells id place there a step m is = at (live_at liv
         go true is = shown_asks there.entry.call (resumed a) step (h.1 a) is
         go false is = absurd cc
 
-    at : (found : Option Status) → live_at lives id ≡ found → outcome.Step step ≡ answer_of found (answers a) m → AsksIn there.entry.call step
+    at : (found : Option Status) → live_at lives id ≡ found → outcome.Step step ≡ answer_of found (given_answer a) m → AsksIn there.entry.call step
     at None here is = absurd cc
     at (Some k) here is =
         let e : Entry = there.entry in
         let s : State = (open_last lives transcript tells id place there k here).state in
         let run : Run = answered (run_of k.config s (played e)) e.answers in
         goes_on k.config run (at_each-answered (λ q p. AsksOf e.call q) (λ p r. Unit {0}) (run_of k.config s (played e)) e.answers (whole_asks k.config e.at e.call s))
-        (not_refused step m (reply_of k.config k.standing (answers a)) is ∙ ap (λ (t : Standing). reply_of k.config t (answers a)) (open_stands lives transcript tells id place there k here))
+        (not_refused step m (reply_of k.config k.standing (given_answer a)) is ∙ ap (λ (t : Standing). reply_of k.config t (given_answer a)) (open_stands lives transcript tells id place there k here))
 
 -- the step that a tenure tells is the engine's
 turns_step : (draft draft' : Entry) (step : Step) (turned : Turned) → Turns draft step turned draft' → step ≡ step_of turned
@@ -132,17 +134,13 @@ is_tenure old mid new session event step turned draft draft' turns same answered
     (subst (λ (s : Step). IsTenure old mid session event (outcome.Step s)) (turns_step draft draft' step turned turns) (record { answered = answered; transcript = written; lives = after }))
 
 -- why an answer was not taken
-pub stops : (old new : Recording) (draft : Entry) (a : Answer) (cause : Cause) → new ≡ old → IsOpen (lives_of old.caches) old.transcript draft → IsRefusedFor (lives_of old.caches) (event.Answer draft.id a) cause → Stops old new draft a (halt_of cause)
-stops old new draft a causes.NoSuchCache same here refusal = inl same
-stops old new draft a causes.NoSuchProcessor same here refusal = inl same
-stops old new draft a causes.Busy same here refusal = inl same
-stops old new draft a causes.NoTurn same here refusal = inl same
-stops old new draft a causes.WrongAnswer same here refusal = inl same
-stops old new draft a causes.OutOfMemory same here refusal = (same, here, refusal)
-
-pub strays : {T : Type 0} (old new : Recording) (draft : Entry) (a : Answer) (r : Result T Halt) (halt : Halt) → (y : Halt) × (r ≡ Err y) × (y ≡ halt) → halt ≡ halts.Overtaken → Strays old new draft a → IfErr r (λ h. Stops old new draft a h)
-strays old new draft a r halt passed overtaken stray =
-    subst (λ s. IfErr s (λ h. Stops old new draft a h)) (sym passed.1) (subst (λ (h : Halt). Stops old new draft a h) (sym (passed.2 ∙ overtaken)) (inr stray))
+pub stops : (old : Recording) (draft : Entry) (answers : List Answer) (a : Answer) (cause : Cause) → IsOpen (lives_of old.caches) old.transcript draft answers → IsRefusedFor (lives_of old.caches) (event.Answer draft.id a) cause → Stops old draft answers a (halt_of cause)
+stops old draft answers a causes.NoSuchCache here refusal = tt
+stops old draft answers a causes.NoSuchProcessor here refusal = tt
+stops old draft answers a causes.Busy here refusal = tt
+stops old draft answers a causes.NoTurn here refusal = tt
+stops old draft answers a causes.WrongAnswer here refusal = tt
+stops old draft answers a causes.OutOfMemory here refusal = (here, refusal)
 
 -- Why a call does not begin.
 
@@ -267,33 +265,73 @@ begun_goes_on configs t new draft draft' pass call (Done r) (Replied r') is turn
       subst (λ (d : Entry). Stands configs d pass) (sym same) (record { transcript = new; legal = legal; begins = first; before = entries_of draft.id t.entries; last = ap (λ (h : History). entries_of draft.id h.entries) written ∙ added_last t.entries e; lives = lives; shown = live; sees = sees tt }),
     )
 
-module _ (configs : List CacheConfig) (lives lives' : Lives) (t new : History) (draft draft' : Entry) (pass : Sight) (place : ℕ) (found : IsOpenFor lives t draft place) where
-  -- the draft stands where the open call's entry was changed
-  stands_there : (f : Entry → Entry) → ((e : Entry) → (f e).id ≡ e.id) → new.entries ≡ on_open draft.id f t.entries → StandsAt configs new draft' place → Sees new lives' pass → draft'.id ≡ draft.id → IsSome (live_at lives' draft.id) → (k : Status) → live_at lives draft.id ≡ Some k → Stands configs draft' pass
-  stands_there f keeps written stands sees same live k at =
-      let last = changed_last lives t found.tells draft.id place found.opened k at f keeps draft' (ap (λ (es : List Entry). slice_get es place) (sym written) ∙ stands.there) in
-      record { transcript = new; legal = stands.legal; begins = stands.begins; before = last.0; last = ap (λ (id : ℕ). entries_of id new.entries) same ∙ ap (entries_of draft.id) written ∙ last.1; lives = lives'; shown = subst (λ (i : ℕ). IsSome (live_at lives' i)) (sym same) live; sees = sees }
+-- the last answer is the one that is given
+pub last_given : {A : Type 0} (all before others : List A) (x a : A) → all ≡ before ++ x ∷ [] → all ≡ others ++ a ∷ [] → all ≡ before ++ a ∷ []
+last_given all before others x a is given = is ∙ ap (λ y. before ++ y ∷ []) (same_from_push before others x a (sym is ∙ given)).1
 
-  pub resumed_goes_on : (a : Answer) (step : Step) (turned : Turned) (m : Bool) → Turns draft step turned draft' → (IsReplied turned → StandsAt configs new draft' place) → (IsReplied turned → Sees new lives' pass)
-      → lives' ≡ lives_by lives (says draft.id (answers a)) (outcome.Step step) → new ≡ recorded draft.session (event.Answer draft.id a) (outcome.Step step) t → outcome.Step step ≡ answer_to lives (event.Answer draft.id a) m → GoesOn configs draft turned draft' pass
-  resumed_goes_on a (Need q) (Asked q') m turns stands sees after written is =
-      let asks : AsksOf found.opened.entry.call q = resumed_asks lives t found.tells draft.id place found.opened a (Need q) m is in
-      (turns.1, subst (λ (c : Call). AsksOf c q') found.own.call (subst (AsksOf found.opened.entry.call) (sym turns.0) asks))
-  resumed_goes_on a (Need q) (Replied r) m turns stands sees after written is = absurd turns
-  resumed_goes_on a (Done r) (Asked q') m turns stands sees after written is = absurd turns
-  resumed_goes_on a (Done r) (Replied r') m turns stands sees after written is =
+-- the entry of an open call is the draft, but for an answer that is not taken yet
+draft_of : (e draft : Entry) (answers : List Answer) → IsOfCall e draft answers → e.id ≡ draft.id → e.end ≡ ends.Waiting → draft.end ≡ ends.Waiting → e ≡ record draft { answers = answers }
+draft_of e draft answers own same waits draft_waits =
+    ap (λ (n : ℕ). called n e.id e.at e.call e.answers e.told e.end) own.session
+    ∙ ap (λ (n : ℕ). called draft.session n e.at e.call e.answers e.told e.end) same
+    ∙ ap (λ (n : ℕ). called draft.session draft.id n e.call e.answers e.told e.end) own.at
+    ∙ ap (λ (c : Call). called draft.session draft.id draft.at c e.answers e.told e.end) own.call
+    ∙ ap (λ (given : List Answer). called draft.session draft.id draft.at draft.call given e.told e.end) own.given
+    ∙ ap (λ (ns : List Notice). called draft.session draft.id draft.at draft.call answers ns e.end) own.told
+    ∙ ap (λ (n : End). called draft.session draft.id draft.at draft.call answers draft.told n) (waits ∙ sym draft_waits)
+
+module _ (configs : List CacheConfig) (lives lives' : Lives) (t new : History) (draft draft' : Entry) (answers : List Answer) (pass : Sight) (found : IsOpen lives t draft answers) (waits : draft.end ≡ ends.Waiting) where
+  abbrev opened : Entry
+  opened = found.here.opened.entry
+
+  is_draft : opened ≡ record draft { answers = answers }
+  is_draft = draft_of opened draft answers found.here.own found.here.opened.own found.here.opened.waits waits
+
+  -- the draft stands where the open call's entry was changed
+  stands_there : (f : Entry → Entry) → ((e : Entry) → (f e).id ≡ e.id) → new.entries ≡ on_open draft.id f t.entries → draft' ≡ f (record draft { answers = answers }) → IsLegal new → BeginsWith configs new → Sees new lives' pass → draft'.id ≡ draft.id
+      → IsSome (live_at lives' draft.id) → (k : Status) → live_at lives draft.id ≡ Some k → Stands configs draft' pass
+  stands_there f keeps written is legal first sees same live k at =
+      let there : slice_get (on_open draft.id f t.entries) found.place ≡ Some draft' = changed_there lives t found.here.tells draft.id found.place found.here.opened k at f ∙ ap Some (ap f is_draft ∙ sym is) in
+      let last = changed_last lives t found.here.tells draft.id found.place found.here.opened k at f keeps draft' there in
+      record { transcript = new; legal = legal; begins = first; before = last.0; last = ap (λ (id : ℕ). entries_of id new.entries) same ∙ ap (entries_of draft.id) written ∙ last.1; lives = lives'; shown = subst (λ (i : ℕ). IsSome (live_at lives' i)) (sym same) live; sees = sees }
+
+  pub resumed_goes_on : (a : Answer) (step : Step) (turned : Turned) (m : Bool) → draft.answers ≡ answers ++ a ∷ [] → Turns draft step turned draft' → IsLegal new → BeginsWith configs new → (IsReplied turned → Sees new lives' pass)
+      → lives' ≡ lives_by lives (says draft.id (given_answer a)) (outcome.Step step) → new ≡ recorded draft.session (event.Answer draft.id a) (outcome.Step step) t → outcome.Step step ≡ answer_to lives (event.Answer draft.id a) m → GoesOn configs draft turned draft' pass
+  resumed_goes_on a (Need q) (Asked q') m all turns legal first sees after written is =
+      let asks : AsksOf opened.call q = resumed_asks lives t found.here.tells draft.id found.place found.here.opened a (Need q) m is in
+      (turns.1, subst (λ (c : Call). AsksOf c q') found.here.own.call (subst (AsksOf opened.call) (sym turns.0) asks))
+  resumed_goes_on a (Need q) (Replied r) m all turns legal first sees after written is = absurd turns
+  resumed_goes_on a (Done r) (Asked q') m all turns legal first sees after written is = absurd turns
+  resumed_goes_on a (Done r) (Replied r') m all turns legal first sees after written is =
       (turns.1 ∙ ap (λ (reply : Reply). record draft { end = ends.Replied reply }) (sym turns.0), at (live_at lives draft.id) refl is)
     where
-      at : (k : Option Status) → live_at lives draft.id ≡ k → outcome.Step (Done r) ≡ answer_of k (answers a) m → Stands configs draft' pass
+      at : (k : Option Status) → live_at lives draft.id ≡ k → outcome.Step (Done r) ≡ answer_of k (given_answer a) m → Stands configs draft' pass
       at None here is = absurd cc
-      at (Some k) here is = stands_there (λ d. with_outcome (outcome.Step (Done r)) (with_answer a d)) (λ d. refl) (ap (λ (h : History). h.entries) written) (stands tt) (sees tt) (ap (λ (e : Entry). e.id) turns.1)
-          (stays_there lives lives' draft.id (answers a) k (outcome.Step (Done r)) here refl after) k here
+      at (Some k) here is =
+          stands_there (λ d. with_outcome (outcome.Step (Done r)) (with_answer a d)) (λ d. refl) (ap (λ (h : History). h.entries) written)
+          (turns.1 ∙ ap (λ (given : List Answer). record draft { answers = given; end = ends.Replied r }) all) legal first (sees tt) (ap (λ (e : Entry). e.id) turns.1)
+          (stays_there lives lives' draft.id (given_answer a) k (outcome.Step (Done r)) here refl after) k here
 
-  pub given_up_stands : (left : List Notice) → new ≡ recorded draft.session (event.GiveUp draft.id) (outcome.GivenUp left) t → outcome.GivenUp left ≡ answer_to lives (event.GiveUp draft.id) false
-      → lives' ≡ lives_by lives (says draft.id gives_up) (outcome.GivenUp left) → draft'.id ≡ draft.id → StandsAt configs new draft' place → Sees new lives' pass → Stands configs draft' pass
-  given_up_stands left written is after same stands sees = at (live_at lives draft.id) refl is
+  -- a call that is given up has told its notices, or they are left
+  pub told_or_left : (left : List Notice) → outcome.GivenUp left ≡ answer_to lives (event.GiveUp draft.id) false → (place : ℕ) × (e : Entry) × IsEntryOf t.entries draft.id place e × ((e.told ≡ []) ⊎ (left ≡ [])) → (draft.told ≡ []) ⊎ (left ≡ [])
+  told_or_left left is open_entry = at (live_at lives draft.id) refl is
+    where
+      at : (k : Option Status) → live_at lives draft.id ≡ k → outcome.GivenUp left ≡ answer_of k gives_up false → (draft.told ≡ []) ⊎ (left ≡ [])
+      at None here is = absurd cc
+      at (Some k) here is =
+          let same : open_entry.1 ≡ opened = open_same lives t found.here.tells draft.id found.place found.here.opened k here open_entry.0 open_entry.1 open_entry.2 in
+          elim open_entry.3 [
+            | inl none ↦ inl (sym found.here.own.told ∙ (ap (λ (e : Entry). e.told) (sym same) ∙ none))
+            | inr none ↦ inr none
+          ]
+
+  pub given_up_stands : (left : List Notice) → draft.answers ≡ answers → draft' ≡ record draft { told = draft.told ++ left; end = ends.GivenUp } → new ≡ recorded draft.session (event.GiveUp draft.id) (outcome.GivenUp left) t
+      → outcome.GivenUp left ≡ answer_to lives (event.GiveUp draft.id) false → lives' ≡ lives_by lives (says draft.id gives_up) (outcome.GivenUp left) → IsLegal new → BeginsWith configs new → Sees new lives' pass → Stands configs draft' pass
+  given_up_stands left all ends_so written is after legal first sees = at (live_at lives draft.id) refl is
     where
       at : (k : Option Status) → live_at lives draft.id ≡ k → outcome.GivenUp left ≡ answer_of k gives_up false → Stands configs draft' pass
       at None here is = absurd cc
-      at (Some k) here is = stands_there (with_outcome (outcome.GivenUp left)) (λ d. refl) (ap (λ (h : History). h.entries) written) stands sees same
+      at (Some k) here is =
+          stands_there (with_outcome (outcome.GivenUp left)) (λ d. refl) (ap (λ (h : History). h.entries) written)
+          (ends_so ∙ ap (λ (given : List Answer). record draft { answers = given; told = draft.told ++ left; end = ends.GivenUp }) all) legal first sees (ap (λ (e : Entry). e.id) ends_so)
           (stays_there lives lives' draft.id gives_up k (outcome.GivenUp left) here refl after) k here

@@ -1,5 +1,5 @@
 -- Where an open call stands in the transcript, and what it is told.
-use Rattle.std.specs.Prelude.{◌≡◌, ◌⊎◌, ℕ, [], Bool, true, false, List, Option, Some, None, Result, Ok, Err, ⊤}
+use Rattle.std.specs.Prelude.{◌≡◌, ℕ, Bool, true, false, List, Option, Some, None, Result, Ok, Err, ⊤}
 use Rattle.jc_model.specs.declared.call.Answer.{Answer}
 use Rattle.jc_model.specs.declared.event.Cause.{Cause}
 use Rattle.jc_model.specs.declared.event.Cause.TheVariants as causes
@@ -13,13 +13,11 @@ use Rattle.jc_shared.specs.declared.fault.Unfound.{Unfound}
 use Rattle.jc_shared.specs.declared.fault.Unfound.TheVariants as unfound
 use Rattle.jc_model.specs.declared.event.Entry.{Entry}
 use Rattle.jc_model.specs.declared.event.End.TheVariants as end
-use Rattle.jc_model.specs.declared.event.Event.TheVariants as event
-use Rattle.jc_model.specs.declared.event.Outcome.TheVariants as outcome
 use Rattle.jc_model.specs.declared.event.Step.{Step}
 use Rattle.jc_model.specs.declared.event.Step.TheVariants.{Done, Need}
 use Rattle.jc_shared.specs.declared.turned.Turned.{Turned}
 use Rattle.jc_shared.specs.declared.turned.Turned.TheVariants.{Asked, Replied}
-use Rattle.jc_model.specs.Runs.{Lives, answer_to}
+use Rattle.jc_model.specs.Runs.{Lives}
 use Rattle.jc_model.specs.Legal.{History, Tells}
 use Rattle.jc_engine.specs.Recording.{HasOpen}
 
@@ -60,7 +58,7 @@ pub record IsOfCall (e draft : Entry) (answers : List Answer) : Type 0 where
   pub session : e.session ≡ draft.session
   pub at : e.at ≡ draft.at
   pub call : e.call ≡ draft.call
-  pub answers : e.answers ≡ answers
+  pub given : e.answers ≡ answers
   pub told : e.told ≡ draft.told
 
 -- the entry of the draft's cache's open call stands at this place, and is the draft's after these answers
@@ -73,10 +71,6 @@ pub record IsOpenFor (lives : Lives) (transcript : History) (draft : Entry) (ans
 pub record IsOpen (lives : Lives) (transcript : History) (draft : Entry) (answers : List Answer) : Type 0 where
   pub place : ℕ
   pub here : IsOpenFor lives transcript draft answers place
-
--- a give-up hands out nothing where the call has told its notices
-abbrev pub LeavesNone : Lives → Entry → Type 0
-LeavesNone lives draft = (draft.told ≡ []) ⊎ (answer_to lives (event.GiveUp draft.id) false ≡ outcome.GivenUp [])
 
 -- what a step comes to
 abbrev pub Turns : Entry → Step → Turned → Entry → Type 0

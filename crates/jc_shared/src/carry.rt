@@ -12,8 +12,8 @@ ghost use Rattle.jc_shared.specs.Stated.{AreOf, IsStatedBy, AreStated};
 
 use crate::fault::{CallFault, Halt};
 use crate::hooks::{LockedHooks, SharedHooks};
-use crate::manager::Manager;
 use crate::keeping::Keeping;
+use crate::manager::Manager;
 use crate::name::Name;
 use crate::tables::TablePass;
 use crate::turned::Turned;
@@ -198,12 +198,12 @@ impl<N: Name, L: Loader, W: Writer, P: Processor, K: Hearer, J: Keeping> Manager
     {
         let untold = draft.told.items().is_empty();
         let given_up = self.locked.lock(rt).give_up(draft, pass);
+        if given_up.is_err() {
+            return CallFault::Overtaken;
+        }
         if untold {
             tell_all(hooks.listeners.as_mut_slice(), draft.told.items());
         }
-        match given_up {
-            Ok(()) => CallFault::OutOfMemory,
-            Err(_) => CallFault::Overtaken,
-        }
+        CallFault::OutOfMemory
     }
 }

@@ -21,7 +21,7 @@ ghost use Rattle.jc_shared.specs.Admitting.{Admits};
 ghost use Rattle.jc_shared.specs.Calls.{Stands, GoesOn, IsBeginFault};
 ghost use Rattle.jc_shared.specs.Living.{IsHeld, Refuses, has_live_row};
 ghost use Rattle.jc_shared.specs.Sessions.{BeginsWith, Sees, SeesSome};
-ghost use Rattle.jc_shared.specs.Finding.{fault_of, halt_of, IsOfCall, IsOpen, LeavesNone, Turns, IsReplied};
+ghost use Rattle.jc_shared.specs.Finding.{fault_of, halt_of, IsOfCall, IsOpen, Turns, IsReplied};
 ghost use Rattle.jc_shared.specs.Tenures.{IsTenure, IsRefusedCall, Stops, GivesUp, step_of};
 
 mod living;
@@ -80,19 +80,19 @@ fn halt_of(cause: Cause) -> Halt
 fn are_same<T: Exact>(left: &[T], right: &[T]) -> bool
     ensures { IsTrue result → left.now ≡ right.now }
 {
-    let mut left = left;
-    let mut right = right;
-    while let Some((first, rest)) = left.split_first() {
-        let Some((other, others)) = right.split_first() else {
+    let mut ours = left;
+    let mut theirs = right;
+    while let Some((first, rest)) = ours.split_first() {
+        let Some((other, others)) = theirs.split_first() else {
             return false;
         };
         if !first.same(other) {
             return false;
         }
-        left = rest;
-        right = others;
+        ours = rest;
+        theirs = others;
     }
-    right.is_empty()
+    theirs.is_empty()
 }
 
 /// Whether an entry that waits is of the draft's call, which has been given these answers.
@@ -153,8 +153,7 @@ impl<N: Name, J: Keeping> Locked<N, J> {
 
     /// Whether the open call of the draft's cache is the draft's, which has been given these answers.
     fn is_open(&self, draft: &Entry, answers: &[Answer]) -> bool
-        ensures open { IsTrue result → IsOpen (lives_of self.now.recorded.caches) self.now.recorded.transcript draft.now answers.now }
-        ensures left { IsTrue result → LeavesNone (lives_of self.now.recorded.caches) draft.now }
+        ensures { IsTrue result → IsOpen (lives_of self.now.recorded.caches) self.now.recorded.transcript draft.now answers.now }
     {
         match self.recorded.open_entry(draft.id) {
             Some(entry) => is_of_call(entry, draft, answers),

@@ -41,7 +41,15 @@ use std::sync::Wait;
 /// A session of a manager, with the entries of its own calls, and a pass, in which it looks keys up. Contracts see its
 /// number, these, and what the pass has seen.
 #[derive(Drop)]
-pub struct Session<'a, N: Name, L: Loader, W: Writer, P: Processor, K: Hearer, J: Keeping = AllCalls> {
+pub struct Session<
+    'a,
+    N: Name,
+    L: Loader,
+    W: Writer,
+    P: Processor,
+    K: Hearer,
+    J: Keeping = AllCalls,
+> {
     manager: &'a Manager<N, L, W, P, K, J>,
     number: u32,
     own: J::Own,
@@ -98,7 +106,15 @@ fn draft_of<O: OwnCalls>(
     })
 }
 
-impl<'a, N: Name, L: Loader, W: Writer, P: Processor, K: Hearer, J: Keeping> Session<'a, N, L, W, P, K, J> {
+impl<'a, N: Name, L: Loader, W: Writer, P: Processor, K: Hearer, J: Keeping> Session<
+    'a,
+    N,
+    L,
+    W,
+    P,
+    K,
+    J,
+> {
     pub(crate) fn new(
         manager: &'a Manager<N, L, W, P, K, J>,
         number: u32,

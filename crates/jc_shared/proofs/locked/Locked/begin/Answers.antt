@@ -18,7 +18,7 @@ returns-in-Ok-clause-ok g c =
     let new = c.begin.new.self in
     let draft = c.args.draft.now in
     begun_goes_on g.N.Name.configs old.transcript new.transcript draft c.turned-turned.new.draft c.show_reply.new.pass c.args.call c.in-Ok.pair.0 c.turned-turned.result
-    c.requires c.turned-turned.ensures c.transcript-after.ensures.legal
+    c.requires c.turned-turned.ensures c.in-Ok.ensures.told.1.legal
     (still_begins g.N.Name.configs old.transcript new.transcript draft.session draft.id (begins draft.at c.args.call) (of_recorded_begin c.begin.result) c.args.self.now.begins c.begin.ensures.transcript)
     (lives_of new.caches) (begun_live (lives_of old.caches) (lives_of new.caches) draft.id draft.at c.args.call c.in-Ok.pair.0 _ c.in-Ok.ensures.outcome c.in-Ok.ensures.lives)
     c.show_reply.ensures.sees c.in-Ok.ensures.transcript (begun_asks (lives_of old.caches) draft.id draft.at c.args.call c.in-Ok.pair.0 _ c.in-Ok.ensures.outcome)
@@ -32,7 +32,7 @@ returns-in-Ok-clause-tenure g c =
 pub returns-clause-err : goal.returns-clause-err
 returns-clause-err g c =
     let old = c.args.self.now.recorded in
-    rw c.fault_of.ensures (begin_faults (lives_of old.caches) g.N.Name.configs old.transcript c.args.self.now.begins c.transcript-told.ensures.tells c.args.draft.now.id c.args.draft.now.at c.args.call c.in-Err.cause c.in-Err.ensures.outcome)
+    rw c.fault_of.ensures (begin_faults (lives_of old.caches) g.N.Name.configs old.transcript c.args.self.now.begins c.in-Err.ensures.told.0 c.args.draft.now.id c.args.draft.now.at c.args.call c.in-Err.cause c.in-Err.ensures.outcome)
 
 pub returns-clause-refused : goal.returns-clause-refused
 returns-clause-refused g c = record { cause = c.in-Err.cause; told = c.fault_of.ensures; refusal = c.in-Err.ensures.outcome }

@@ -4,15 +4,14 @@ use Rattle.jc_shared.proofs.Livings.{named_lives}
 use Rattle.jc_shared.proofs.locked.Locked.cache.Goals as goal
 
 pub returns-clause-exact : goal.returns-clause-exact
-returns-clause-exact g c = c.cache.ensures ∙ named_lives c.args.name.now 0 c.args.self.now.recorded.caches
+returns-clause-exact g c = c.cache.ensures.exact ∙ named_lives c.args.name.now 0 c.args.self.now.recorded.caches
 
 pub returns-clause-named : goal.returns-clause-named
 returns-clause-named g c =
     let recorded = c.args.self.now.recorded in
-    let told = c.transcript-legal.ensures in
     record {
       transcript = recorded.transcript;
       lives = lives_of recorded.caches;
-      told = record { legal = told.legal; begins = c.args.self.now.begins; tells = told.tells };
-      named = c.cache.ensures ∙ named_lives c.args.name.now 0 recorded.caches;
+      told = record { legal = c.cache.ensures.told.legal; begins = c.args.self.now.begins; tells = c.cache.ensures.told };
+      named = c.cache.ensures.exact ∙ named_lives c.args.name.now 0 recorded.caches;
     }

@@ -10,6 +10,6 @@ returns-in-Ok-clause-tenure g c = λ session. record { answered = c.in-Ok.ensure
 
 pub returns-in-Ok-clause-created : goal.returns-in-Ok-clause-created
 returns-in-Ok-clause-created g c =
-    let told = c.transcript-legal.ensures in
-    is_created g.N.Name.configs c.args.self.now.recorded c.create.new.self (record { legal = told.legal; begins = c.args.self.now.begins; tells = told.tells }) c.args.config c.in-Ok.id
-    (λ session. record { answered = c.in-Ok.ensures.outcome; transcript = c.in-Ok.ensures.transcript session; lives = c.in-Ok.ensures.lives }) c.transcript-after.ensures.legal c.transcript-after.ensures.tells
+    let told = c.in-Ok.ensures.told in
+    is_created g.N.Name.configs c.args.self.now.recorded c.create.new.self (record { legal = told.0.legal; begins = c.args.self.now.begins; tells = told.0 }) c.args.config c.in-Ok.id
+    (λ session. record { answered = c.in-Ok.ensures.outcome; transcript = c.in-Ok.ensures.transcript session; lives = c.in-Ok.ensures.lives }) told.1.legal told.1

@@ -16,6 +16,6 @@ returns-in-Ok-clause-tenure g c = λ session.
 
 pub returns-in-Ok-clause-gone : goal.returns-in-Ok-clause-gone
 returns-in-Ok-clause-gone g c =
-    let told = c.transcript-legal.ensures in
-    has_gone g.N.Name.configs c.args.self.now.recorded c.destroy.new.self (record { legal = told.legal; begins = c.args.self.now.begins; tells = told.tells }) c.args.id c.show.new.pass
+    let told = c.in-Ok.ensures.told.0 in
+    has_gone g.N.Name.configs c.args.self.now.recorded c.destroy.new.self (record { legal = told.legal; begins = c.args.self.now.begins; tells = told }) c.args.id c.show.new.pass
     (λ session. record { answered = c.in-Ok.ensures.outcome; transcript = c.in-Ok.ensures.transcript session; lives = c.in-Ok.ensures.lives }) c.show.ensures.sees

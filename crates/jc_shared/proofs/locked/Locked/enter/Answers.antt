@@ -7,7 +7,7 @@ returns-in-Ok-clause-sees g c =
     let shown = c.in-Ok.ensures.watcher in (
       record {
         transcript = recorded.transcript;
-        legal = c.transcript-legal.ensures.legal;
+        legal = c.in-Ok.ensures.tells.legal;
         begins = c.args.self.now.begins;
         lives = lives_of recorded.caches;
         sees = record { tells = c.in-Ok.ensures.tells; shows = λ _. shown.0 };

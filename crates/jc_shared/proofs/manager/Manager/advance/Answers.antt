@@ -4,7 +4,7 @@ use Rattle.jc_model.specs.declared.call.Notice.{Notice}
 use Rattle.jc_model.specs.declared.event.Entry.{Entry}
 use Rattle.jc_shared.specs.Serving.{told_behind, Tells}
 use Rattle.jc_engine.proofs.Recordings.{on_ok}
-use Rattle.jc_shared.proofs.Carrying.{on_err, served_on, noted_waits, goes_stays, goes_untold, goes_unanswered}
+use Rattle.jc_shared.proofs.Carrying.{second_on_err, on_err, served_on, noted_waits, goes_stays, goes_untold, goes_unanswered}
 use Rattle.jc_shared.proofs.manager.Manager.advance.Goals as goal
 
 pub returns-in-Ok-resumed-clause-brought : goal.returns-in-Ok-resumed-clause-brought
@@ -25,7 +25,7 @@ pub returns-in-Err-OutOfMemory-clause-told : goal.returns-in-Err-OutOfMemory-cla
 returns-in-Err-OutOfMemory-clause-told g c =
     let told = told_behind c.args.request c.args.draft.now.told in
     let noted = on_ok c.note_answer.result c.note_answer.ensures.ok (sym c.is_err.ensures.value ∙ c.if-is_err.false) in
-    let same : c.resume-resumed.new.draft ≡ c.note_answer.new.draft = subst (λ r. OnErr r (c.resume-resumed.new.draft ≡ c.note_answer.new.draft)) c.in-Err-OutOfMemory.is c.resume-resumed.ensures.same in
+    let same : c.resume-resumed.new.draft ≡ c.note_answer.new.draft = second_on_err _ _ _ c.resume-resumed.result _ c.in-Err-OutOfMemory.is c.resume-resumed.ensures.same in
     let back = c.take_back.ensures c.keep_told.new.draft.answers c.in-Ok.answer (ap (λ (e : Entry). e.answers) (same ∙ noted)) in
     let kept : c.take_back.new.draft.told ≡ told = ap (λ (e : Entry). e.told) back ∙ ap (λ (e : Entry). e.told) (same ∙ noted) ∙ ap (λ (e : Entry). e.told) c.keep_told.ensures in
     let served = served_on g.K.Hearer.state_after g.W.Writer.may c.args.hooks.now c.answer.new.hooks c.args.request c.in-Ok.answer c.args.draft.now.told (c.tells_again.ensures c.if-tells_again.false) c.in-Ok.ensures.served in

@@ -11,18 +11,18 @@ pub returns-clause-ok : goal.returns-clause-ok
 returns-clause-ok g c =
     let e = c.carry_on-replied.new.draft in
     let same : IsSameCall c.in-Ok.draft e = same_call c.in-Ok.draft c.begin-begun.new.draft e (begun_same g.N.Name.configs c.in-Ok.draft c.begin-begun.new.draft c.begin-begun.new.pass c.in-Ok-begun.turned c.in-Ok-begun.ensures.ok) c.carry_on-replied.ensures.same in
-    let added : c.push_reserved.new.self.items ≡ c.self.inside.own.items ++ e ∷ [] = c.push_reserved.ensures.items ∙ ap (λ (es : List Entry). es ++ e ∷ []) c.draft_of-drafted.ensures.same in
+    let added : g.J.Own.OwnCalls.calls c.push.new.self ≡ g.J.Own.OwnCalls.calls c.self.inside.own ++ e ∷ [] = c.push.ensures ∙ ap (λ (es : List Entry). es ++ e ∷ []) c.draft_of-drafted.ensures.same in
     rw (← c.self.view_is)
-    (added_ok g.N.Name.configs g.N.Name.stated (record { number = c.self.inside.number; calls = c.self.inside.own.items; pass = c.self.inside.pass }) (record { number = c.self.inside.number; calls = c.push_reserved.new.self.items; pass = c.carry_on-replied.new.pass }) c.args.id c.args.now c.args.call
+    (added_ok g.N.Name.configs g.N.Name.stated (record { number = c.self.inside.number; calls = g.J.Own.OwnCalls.calls c.self.inside.own; pass = c.self.inside.pass }) (record { number = c.self.inside.number; calls = g.J.Own.OwnCalls.calls c.push.new.self; pass = c.carry_on-replied.new.pass }) c.args.id c.args.now c.args.call
     c.in-Ok.draft e c.in-Ok.ensures.drafted same added c.carry_on-replied.result c.carry_on-replied.ensures.ends)
 
 pub returns-clause-err : goal.returns-clause-err
 returns-clause-err g c =
     let e = c.carry_on-replied.new.draft in
     let same : IsSameCall c.in-Ok.draft e = same_call c.in-Ok.draft c.begin-begun.new.draft e (begun_same g.N.Name.configs c.in-Ok.draft c.begin-begun.new.draft c.begin-begun.new.pass c.in-Ok-begun.turned c.in-Ok-begun.ensures.ok) c.carry_on-replied.ensures.same in
-    let added : c.push_reserved.new.self.items ≡ c.self.inside.own.items ++ e ∷ [] = c.push_reserved.ensures.items ∙ ap (λ (es : List Entry). es ++ e ∷ []) c.draft_of-drafted.ensures.same in
+    let added : g.J.Own.OwnCalls.calls c.push.new.self ≡ g.J.Own.OwnCalls.calls c.self.inside.own ++ e ∷ [] = c.push.ensures ∙ ap (λ (es : List Entry). es ++ e ∷ []) c.draft_of-drafted.ensures.same in
     rw (← c.self.view_is)
-    (added_err g.N.Name.configs g.N.Name.stated (record { number = c.self.inside.number; calls = c.self.inside.own.items; pass = c.self.inside.pass }) (record { number = c.self.inside.number; calls = c.push_reserved.new.self.items; pass = c.carry_on-replied.new.pass }) c.args.id c.args.now c.args.call
+    (added_err g.N.Name.configs g.N.Name.stated (record { number = c.self.inside.number; calls = g.J.Own.OwnCalls.calls c.self.inside.own; pass = c.self.inside.pass }) (record { number = c.self.inside.number; calls = g.J.Own.OwnCalls.calls c.push.new.self; pass = c.carry_on-replied.new.pass }) c.args.id c.args.now c.args.call
     c.in-Ok.draft e c.in-Ok.ensures.drafted same added c.carry_on-replied.result c.carry_on-replied.ensures.ends)
 
 pub returns-clause-front : goal.returns-clause-front
@@ -31,12 +31,12 @@ returns-clause-front g c = rw (← c.self.view_is) (prefix_trans _ _ _ c.begin-b
 pub returns-in-Err-begun-clause-err : goal.returns-in-Err-begun-clause-err
 returns-in-Err-begun-clause-err g c =
     rw (← c.self.view_is)
-    (begin_fails g.N.Name.configs g.N.Name.stated (record { number = c.self.inside.number; calls = c.self.inside.own.items; pass = c.self.inside.pass }) (record { number = c.self.inside.number; calls = c.draft_of-drafted.new.own.items; pass = c.begin-begun.new.pass }) c.args.id c.args.now c.args.call
+    (begin_fails g.N.Name.configs g.N.Name.stated (record { number = c.self.inside.number; calls = g.J.Own.OwnCalls.calls c.self.inside.own; pass = c.self.inside.pass }) (record { number = c.self.inside.number; calls = g.J.Own.OwnCalls.calls c.draft_of-drafted.new.own; pass = c.begin-begun.new.pass }) c.args.id c.args.now c.args.call
     c.in-Ok.draft c.in-Err-begun.fault c.in-Ok.ensures.drafted (λ i. record { number = c.self.inside.number; calls = c.draft_of-drafted.ensures.same i; pass = c.in-Err-begun.ensures.same.2 i }) c.in-Err-begun.ensures.err)
 
 pub returns-in-Err-clause-err : goal.returns-in-Err-clause-err
 returns-in-Err-clause-err g c =
-    let own : Sitting = record { number = c.self.inside.number; calls = c.self.inside.own.items; pass = c.self.inside.pass } in
+    let own : Sitting = record { number = c.self.inside.number; calls = g.J.Own.OwnCalls.calls c.self.inside.own; pass = c.self.inside.pass } in
     let refused = c.in-Err.ensures in
     let fails = unaccepted_fails g.N.Name.configs g.N.Name.stated own own c.args.id c.args.now c.args.call c.in-Err.fault refused.err refl (record { names = refused.names; lacks = λ k at. not_accepted (has_processor k c.args.call) c.in-Err.fault (refused.agrees k (c.requires.counted k at)) }) in
     rw (← c.self.view_is) (told_or_gone g.N.Name.configs g.N.Name.stated own own c.args.id c.args.now c.args.call c.in-Err.fault c.lacking.result refl c.lacking.ensures fails)

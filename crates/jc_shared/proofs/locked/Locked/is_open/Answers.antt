@@ -1,0 +1,13 @@
+use Rattle.jc_shared.proofs.locked.Locked.is_open.Goals as goal
+
+pub returns-in-Some : goal.returns-in-Some
+returns-in-Some g c = λ is.
+    let found = c.in-Some.ensures.entry in
+    record {
+      place = found.0;
+      here = record {
+        tells = c.in-Some.ensures.told;
+        opened = record { entry = c.in-Some.entry.now; there = found.1.there; own = found.1.own; waits = found.1.waits };
+        own = c.is_of_call.ensures is;
+      };
+    }

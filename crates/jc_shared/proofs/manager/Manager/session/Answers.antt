@@ -1,0 +1,9 @@
+use Rattle.std.proofs.Common.{Ok, sym, ap, subst}
+use Rattle.jc_shared.specs.Admitting.{IsAdmission}
+use Rattle.jc_shared.specs.Sessions.{Sitting}
+use Rattle.jc_shared.proofs.manager.Manager.session.Goals as goal
+
+pub returns-in-Ok-clause-admitted : goal.returns-in-Ok-clause-admitted
+returns-in-Ok-clause-admitted g c =
+    subst (λ n. IsAdmission g.J.Keeping.after (Ok n)) (sym (ap (λ (s : Sitting). s.number) c.new.ensures))
+    (record { closed = c.deref_mut.result.now.closed; given = c.deref_mut.result.now.given; room = c.is_ok.result; after = c.enter.new.self.given; admits = c.in_ok-number.ensures.admits })
