@@ -22,7 +22,7 @@ pub use fault::{Member, ScriptFault};
 pub use following::{Followed, follow, same_lives};
 pub use line::{Line, LineCall};
 pub use managed::{ManageOp, Managed};
-pub use parse::parse;
+pub use parse::read_json;
 pub use reply::reply_text;
 pub use report_text::report;
 pub use script::read_script;

@@ -9,7 +9,7 @@ use serde_json::Value;
 use std::alloc::{AllocError, Global};
 
 /// What the bytes are as JSON, if they are. Want of memory is the one error.
-pub fn parse(alloc: Global, bytes: &[u8]) -> Result<Option<Value>, AllocError>
+pub fn read_json(alloc: Global, bytes: &[u8]) -> Result<Option<Value>, AllocError>
     ensures { IfOk result (λ o. option_map view o ≡ json_of bytes.now) }
 {
     match Value::from_slice(alloc, bytes) {
@@ -29,7 +29,7 @@ pub fn parse(alloc: Global, bytes: &[u8]) -> Result<Option<Value>, AllocError>
 pub fn read_object(alloc: Global, bytes: &[u8], line: usize) -> Result<Value, ScriptFault>
     ensures { Gives view result (object_of line bytes.now) }
 {
-    match parse(alloc, bytes)? {
+    match read_json(alloc, bytes)? {
         None => Err(ScriptFault::NotJson { line }),
         Some(value) => {
             if value.is_object() {

@@ -10,7 +10,7 @@ ghost use Rattle.jc_strict.specs.Members.{has_member};
 ghost use Rattle.jc_strict.specs.Stray.{all_known, op_of, knows_members, is_known, stray_line};
 
 use crate::members::has_member;
-use jc_script::parse;
+use jc_script::read_json;
 use serde_json::{Map, Value};
 use std::alloc::{AllocError, Global};
 
@@ -49,7 +49,7 @@ fn knows_members(line: &Value) -> bool
 fn is_known(alloc: Global, piece: &[u8]) -> Result<bool, AllocError>
     ensures { IfOk result (λ known. known ≡ is_known piece.now) }
 {
-    match parse(alloc, piece)? {
+    match read_json(alloc, piece)? {
         Some(line) => Ok(knows_members(&line)),
         None => Ok(true),
     }

@@ -5,7 +5,7 @@ use Rattle.std.specs.Str.{is_utf8}
 use Rattle.serde_json.specs.Data.{Data}
 use Rattle.serde_json.specs.Read.{read}
 use Rattle.jc_script.specs.Member.{json_of}
-use Rattle.jc_script.proofs.parse.parse.Goals as goal
+use Rattle.jc_script.proofs.parse.read_json.Goals as goal
 
 json_found : (bs : List ℕ) (d : Data) → IsUtf8 bs → read bs ≡ Some d → Some d ≡ json_of bs
 unfolding json_of
