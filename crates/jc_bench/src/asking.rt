@@ -1,10 +1,11 @@
 //! What one thread does, and what comes of it.
-use crate::caches::{Seat, cache, put};
+use crate::caches::{Seat, put};
 use crate::words::Kind;
 use jc_index::lookup::Lookup;
 use jc_model::call::Call;
+use jc_model::event::CacheId;
 use jc_model::key::Key;
-use jc_shared::Name;
+use jc_shared::{Keeping, Name};
 use std::alloc::Global;
 use std::sync::Wait;
 use std::sync::atomic::{AtomicU32, Ordering};
@@ -77,18 +78,19 @@ fn looked_up(lookup: Lookup) -> Outcome {
     }
 }
 
-fn ask<N: Name, R: Wait>(
+fn ask<N: Name, J: Keeping, R: Wait>(
     rt: &R,
     alloc: Global,
-    seat: &mut Seat<'_, N>,
+    seat: &mut Seat<'_, N, J>,
     kind: Kind,
+    cache: CacheId,
     key: &Key,
 ) -> Outcome {
     match kind {
-        Kind::Lookup | Kind::Miss => looked_up(seat.contains_key(cache(), key, 0)),
-        Kind::Contains => held(seat.contains(rt, cache(), key, 0)),
-        Kind::Get => answered(seat.call(rt, cache(), 0, Call::Get(*key))),
-        Kind::Put | Kind::Write => answered(put(rt, alloc, seat, key)),
+        Kind::Lookup | Kind::Miss => looked_up(seat.contains_key(cache, key, 0)),
+        Kind::Contains => held(seat.contains(rt, cache, key, 0)),
+        Kind::Get => answered(seat.call(rt, cache, 0, Call::Get(*key))),
+        Kind::Put | Kind::Write => answered(put(rt, alloc, seat, cache, key)),
     }
 }
 
@@ -97,6 +99,11 @@ fn following(number: u64) -> u64 {
     number
         .wrapping_mul(6_364_136_223_846_793_005)
         .wrapping_add(1_442_695_040_888_963_407)
+}
+
+/// The cache that a number picks, by its uppermost bits.
+fn cache_picked(caches: u32, number: u64) -> CacheId {
+    CacheId::new(((number >> 48) % caches.max(1) as u64) as u32)
 }
 
 /// The key that a number picks, by its upper bits.
@@ -108,32 +115,31 @@ fn picked(keys: &[Key], number: u64) -> Option<&Key> {
     keys.get(((number >> 33) % count) as usize)
 }
 
-/// Does it so often, each time for one of the keys, picked by numbers that follow `first`.
-pub fn ask_often<N: Name, R: Wait>(
+/// Does it so often, each time for one of the keys of one of the caches, picked by numbers that follow `first`.
+pub fn ask_often<N: Name, J: Keeping, R: Wait>(
     rt: &R,
     alloc: Global,
-    seat: &mut Seat<'_, N>,
+    seat: &mut Seat<'_, N, J>,
     kind: Kind,
-    keys: &[Key],
+    (caches, keys): (u32, &[Key]),
     calls: u32,
     first: u64,
-) -> Counts {
-    let mut counts = Counts::none();
+    counts: &mut Counts,
+) {
     let mut number = first;
     for _ in 0..calls {
         number = following(number);
         if let Some(key) = picked(keys, number) {
-            counts.add(ask(rt, alloc, seat, kind, key));
+            counts.add(ask(rt, alloc, seat, kind, cache_picked(caches, number), key));
         }
     }
-    counts
 }
 
 /// Puts one of its keys and removes another, in turn, while any other thread is busy.
-pub fn write_meanwhile<N: Name, R: Wait>(
+pub fn write_meanwhile<N: Name, J: Keeping, R: Wait>(
     rt: &R,
     alloc: Global,
-    seat: &mut Seat<'_, N>,
+    seat: &mut Seat<'_, N, J>,
     keys: &[Key],
     busy: &AtomicU32,
 ) -> Counts {
@@ -144,10 +150,10 @@ pub fn write_meanwhile<N: Name, R: Wait>(
             return counts;
         }
         if let Some(key) = keys.get((round % WRITTEN as u64) as usize) {
-            counts.add(ask(rt, alloc, seat, Kind::Write, key));
+            counts.add(ask(rt, alloc, seat, Kind::Write, CacheId::new(0), key));
         }
         if let Some(key) = keys.get(((round + half) % WRITTEN as u64) as usize) {
-            counts.add(answered(seat.call(rt, cache(), 0, Call::Remove(*key))));
+            counts.add(answered(seat.call(rt, CacheId::new(0), 0, Call::Remove(*key))));
         }
     }
     counts

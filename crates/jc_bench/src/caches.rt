@@ -1,4 +1,4 @@
-//! The manager that is measured: one cache of the program's kind without callbacks, filled.
+//! The manager that is measured: caches of the program's kind without callbacks, filled.
 use crate::fault::Fault;
 use crate::words::Size;
 use jc_config::plain_cache;
@@ -9,21 +9,32 @@ use jc_model::config::Policy;
 use jc_model::event::CacheId;
 use jc_model::key::Key;
 use jc_model::value::Value;
-use jc_shared::{Manager, Name, Session, Shared};
+use jc_shared::{Keeping, Manager, Name, Session, Shared};
 use std::alloc::Global;
 use std::sync::Wait;
 
 /// A manager before it has a name.
-pub type Unnamed = Shared<EchoLoader, CheckWriter, ProgramProcessor, ProgramListener>;
+pub type Unnamed<J> = Shared<EchoLoader, CheckWriter, ProgramProcessor, ProgramListener, J>;
 
 /// The manager.
-pub type Caches<N> = Manager<N, EchoLoader, CheckWriter, ProgramProcessor, ProgramListener>;
+pub type Caches<N, J> = Manager<N, EchoLoader, CheckWriter, ProgramProcessor, ProgramListener, J>;
 
 /// A session of it.
-pub type Seat<'a, N> = Session<'a, N, EchoLoader, CheckWriter, ProgramProcessor, ProgramListener>;
+pub type Seat<'a, N, J> = Session<
+    'a,
+    N,
+    EchoLoader,
+    CheckWriter,
+    ProgramProcessor,
+    ProgramListener,
+    J,
+>;
 
-/// The most rows that the cache may have.
-const CAPACITY: u32 = 65_536;
+/// The most rows that all caches may have together.
+const CAPACITY: u32 = 262_144;
+
+/// The most rows that one of them may have.
+const MOST_ROWS: u32 = 65_536;
 
 /// Keys of cache 0 that share two buckets of every table under the seed 0: four of them go to the stash.
 static STASHED: [&str; 12] = [
@@ -31,22 +42,20 @@ static STASHED: [&str; 12] = [
     "iBYmx", "iXlqW",
 ];
 
-/// The only cache.
-pub fn cache() -> CacheId {
-    CacheId::new(0)
-}
-
-/// A manager of one empty cache, whose table places rows under the seed 0.
-pub fn opened(alloc: Global) -> Result<Unnamed, Fault> {
+/// A manager of so many empty caches, whose table places rows under the seed 0.
+pub fn opened<J: Keeping>(alloc: Global, caches: u32) -> Result<Unnamed<J>, Fault> {
+    let capacity = MOST_ROWS.min(CAPACITY / caches.max(1));
     let mut configs = Vec::new(alloc);
-    configs.push(plain_cache(alloc, Key::from_text("a")?, CAPACITY, Policy::Eternal))?;
     let mut hooks: Vec<ProgramHooks> = Vec::new(alloc);
-    hooks.push(CacheHooks {
-        loader: None,
-        writer: None,
-        processors: Vec::new(alloc),
-        listeners: Vec::new(alloc),
-    })?;
+    for name in numbered(alloc, "cache", caches)? {
+        configs.push(plain_cache(alloc, name, capacity, Policy::Eternal))?;
+        hooks.push(CacheHooks {
+            loader: None,
+            writer: None,
+            processors: Vec::new(alloc),
+            listeners: Vec::new(alloc),
+        })?;
+    }
     Ok(Shared::open(alloc, configs, hooks, 0)?)
 }
 
@@ -61,32 +70,37 @@ pub fn numbered(alloc: Global, front: &str, count: u32) -> Result<Vec<Key>, Faul
 }
 
 /// Puts a value of one byte.
-pub fn put<N: Name, R: Wait>(
+pub fn put<N: Name, J: Keeping, R: Wait>(
     rt: &R,
     alloc: Global,
-    seat: &mut Seat<'_, N>,
+    seat: &mut Seat<'_, N, J>,
+    cache: CacheId,
     key: &Key,
 ) -> Result<(), Fault> {
     let value = Value::new(alloc, b"v".to_vec(alloc)?)?;
-    seat.call(rt, cache(), 0, Call::Put(*key, value))?;
+    seat.call(rt, cache, 0, Call::Put(*key, value))?;
     Ok(())
 }
 
 /// Puts the rows that a run begins with.
-pub fn fill<N: Name, R: Wait>(
+pub fn fill<N: Name, J: Keeping, R: Wait>(
     rt: &R,
     alloc: Global,
-    manager: &Caches<N>,
+    manager: &Caches<N, J>,
     size: Size,
 ) -> Result<(), Fault> {
     let mut seat = manager.session(rt)?;
     if size.stashed {
         for text in &STASHED {
-            put(rt, alloc, &mut seat, &Key::from_text(text)?)?;
+            let key = Key::from_text(text)?;
+            put(rt, alloc, &mut seat, CacheId::new(0), &key)?;
         }
     }
-    for key in &numbered(alloc, "key", size.rows)? {
-        put(rt, alloc, &mut seat, key)?;
+    let keys = numbered(alloc, "key", size.rows)?;
+    for cache in 0..size.caches {
+        for key in &keys {
+            put(rt, alloc, &mut seat, CacheId::new(cache), key)?;
+        }
     }
     Ok(())
 }

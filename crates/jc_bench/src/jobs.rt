@@ -10,7 +10,7 @@ use crate::fault::Fault;
 use crate::timing::Moment;
 use crate::words::{Kind, Size};
 use jc_model::key::Key;
-use jc_shared::Name;
+use jc_shared::{AllCalls, Keeping, Name, OpenCalls};
 use std::alloc::Global;
 use std::marker::Brand;
 use std::sync::Wait;
@@ -20,11 +20,12 @@ use std::time::{Clock, CpuClock};
 
 /// What one thread is given.
 #[derive(Drop)]
-struct Job<'a, N: Name> {
-    seat: Seat<'a, N>,
+struct Job<'a, N: Name, J: Keeping> {
+    manager: &'a Caches<N, J>,
+    seat: Seat<'a, N, J>,
     kind: Kind,
     keys: &'a [Key],
-    calls: u32,
+    size: Size,
     /// The number that its picks follow.
     first: u64,
     /// How many threads that are no writers are not done yet.
@@ -39,19 +40,59 @@ pub struct Done {
     pub took: Moment,
 }
 
-fn work<N: Name, R: Wait + Clock + CpuClock>(rt: &R, alloc: Global, job: Job<'_, N>) -> Done {
+/// Asks in its sessions, one after the other. Where none is given any more, it stops.
+fn ask_in_turn<N: Name, J: Keeping, R: Wait>(
+    rt: &R,
+    alloc: Global,
+    manager: &Caches<N, J>,
+    seat: Seat<'_, N, J>,
+    (kind, size): (Kind, Size),
+    keys: &[Key],
+    first: u64,
+) -> Counts {
+    let mut counts = Counts::none();
+    let calls = size.calls / size.sessions.max(1);
+    let mut seat = seat;
+    for turn in 0..size.sessions {
+        if turn > 0 {
+            match manager.session(rt) {
+                Ok(next) => seat = next,
+                Err(_) => return counts,
+            }
+        }
+        let from = first.wrapping_add(turn as u64);
+        ask_often(
+            rt,
+            alloc,
+            &mut seat,
+            kind,
+            (size.caches, keys),
+            calls,
+            from,
+            &mut counts,
+        );
+    }
+    counts
+}
+
+fn work<N: Name, J: Keeping, R: Wait + Clock + CpuClock>(
+    rt: &R,
+    alloc: Global,
+    job: Job<'_, N, J>,
+) -> Done {
     let Job {
+        manager,
         mut seat,
         kind,
         keys,
-        calls,
+        size,
         first,
         busy,
     } = job;
     let began = Moment::now(rt);
     let counts = match kind {
         Kind::Write => write_meanwhile(rt, alloc, &mut seat, keys, busy),
-        _ => ask_often(rt, alloc, &mut seat, kind, keys, calls, first),
+        _ => ask_in_turn(rt, alloc, manager, seat, (kind, size), keys, first),
     };
     let took = Moment::now(rt).since(began);
     if kind != Kind::Write {
@@ -78,18 +119,19 @@ fn keys_of(alloc: Global, kind: Kind, size: Size) -> Result<Keys, Fault> {
 }
 
 /// A job for each thread. The sessions have seen the table as it is now.
-fn jobs<'a, N: Name, R: Wait>(
+fn jobs<'a, N: Name, J: Keeping, R: Wait>(
     rt: &R,
     alloc: Global,
-    manager: &'a Caches<N>,
+    manager: &'a Caches<N, J>,
     (kind, size): (Kind, Size),
     keys: &'a Keys,
     busy: &'a AtomicU32,
-) -> Result<Vec<Job<'a, N>>, Fault> {
+) -> Result<Vec<Job<'a, N, J>>, Fault> {
     let mut jobs = Vec::new(alloc);
     for number in 0..size.threads.wrapping_add(size.writers) {
         let asks = number < size.threads;
         jobs.push(Job {
+            manager,
             seat: manager.session(rt)?,
             kind: if asks { kind } else { Kind::Write },
             keys: if asks {
@@ -97,7 +139,7 @@ fn jobs<'a, N: Name, R: Wait>(
             } else {
                 keys.written.as_slice()
             },
-            calls: size.calls,
+            size,
             first: number as u64,
             busy,
         })?;
@@ -106,13 +148,16 @@ fn jobs<'a, N: Name, R: Wait>(
 }
 
 /// Fills the manager, and does it on all threads.
-fn timed<N: Name + Send + Sync, R: Threads + Wait + Clock + CpuClock + Sync>(
+fn timed<N: Name + Send + Sync, J: Keeping + Send, R: Threads + Wait + Clock + CpuClock + Sync>(
     rt: &R,
     alloc: Global,
-    manager: &Caches<N>,
+    manager: &Caches<N, J>,
     kind: Kind,
     size: Size,
-) -> Result<Vec<Done>, Fault> {
+) -> Result<Vec<Done>, Fault>
+where
+    J::Own: Send,
+{
     fill(rt, alloc, manager, size)?;
     let keys = keys_of(alloc, kind, size)?;
     let busy = AtomicU32::new(size.threads);
@@ -120,13 +165,15 @@ fn timed<N: Name + Send + Sync, R: Threads + Wait + Clock + CpuClock + Sync>(
     Ok(map_vec(rt, jobs, &|job| work(rt, alloc, job))?)
 }
 
-fn played_by<N: Name + Send + Sync, R: Threads + Wait + Clock + CpuClock + Sync>(
+fn played_by<N: Name + Send + Sync, J: Keeping + Send, R: Threads + Wait + Clock + CpuClock + Sync>(
     rt: &R,
     alloc: Global,
-    unnamed: Unnamed,
+    unnamed: Unnamed<J>,
     kind: Kind,
     size: Size,
 ) -> Result<Vec<Done>, Fault>
+where
+    J::Own: Send,
     requires configs { unnamed.configs ≡ N.configs }
     requires stated { map (stated_by (λ _. echoed) verdict_by) unnamed.shared ≡ N.stated }
     requires index { unnamed.index ≡ N.index }
@@ -136,22 +183,31 @@ fn played_by<N: Name + Send + Sync, R: Threads + Wait + Clock + CpuClock + Sync>
 }
 
 /// The same, under a name that this call picks.
-fn named<R: Threads + Wait + Clock + CpuClock + Sync>(
+fn named<J: Keeping + Send, R: Threads + Wait + Clock + CpuClock + Sync>(
     rt: &R,
     alloc: Global,
-    unnamed: Unnamed,
+    unnamed: Unnamed<J>,
     kind: Kind,
     size: Size,
-) -> Result<Vec<Done>, Fault> {
-    played_by::<Brand, R>(rt, alloc, unnamed, kind, size)
+) -> Result<Vec<Done>, Fault>
+where
+    J::Own: Send,
+{
+    played_by::<Brand, J, R>(rt, alloc, unnamed, kind, size)
 }
 
-/// Does one kind on a manager of its own. The result has what each thread did, the writers last.
+/// Does one kind on a manager of its own, which keeps all calls, or the open ones alone. The result has what each thread
+/// did, the writers last.
 pub fn play<R: Threads + Wait + Clock + CpuClock + Sync>(
     rt: &R,
     alloc: Global,
     kind: Kind,
     size: Size,
+    open: bool,
 ) -> Result<Vec<Done>, Fault> {
-    named(rt, alloc, opened(alloc)?, kind, size)
+    if open {
+        named::<OpenCalls, R>(rt, alloc, opened(alloc, size.caches)?, kind, size)
+    } else {
+        named::<AllCalls, R>(rt, alloc, opened(alloc, size.caches)?, kind, size)
+    }
 }

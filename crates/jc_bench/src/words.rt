@@ -51,7 +51,9 @@ impl Kind {
 /// How large a run is.
 #[derive(Clone, Copy)]
 pub struct Size {
-    /// Rows of the one cache.
+    /// How many caches there are.
+    pub caches: u32,
+    /// Rows of each cache.
     pub rows: u32,
     /// Threads that do what is asked.
     pub threads: u32,
@@ -59,6 +61,8 @@ pub struct Size {
     pub writers: u32,
     /// How often each thread does it.
     pub calls: u32,
+    /// How many sessions each thread has for it, one after the other.
+    pub sessions: u32,
     /// Whether some rows are in the table's stash.
     pub stashed: bool,
 }
@@ -68,6 +72,8 @@ pub struct Size {
 pub struct Asked {
     pub kinds: Vec<Kind>,
     pub size: Size,
+    /// Whether the manager keeps the open calls alone.
+    pub open: bool,
     /// Whether lines are printed without times, and so are the same in each run that has no writers.
     pub counts: bool,
 }
@@ -97,7 +103,7 @@ fn flag<'a>(alloc: Global, name: &'a str, help: &'a str) -> Arg<'a> {
         .action(ArgAction::SetTrue)
 }
 
-/// The program's command. A manager has 64 sessions in its life: one fills its table, and each thread has one.
+/// The program's command. A manager that keeps all calls has 64 sessions in its life: one fills its table.
 fn command<'a>(alloc: Global) -> Result<Command<'a>, AllocError> {
     let kinds = Arg::new(alloc, "KIND")
         .help("What each thread does, on a manager of its own for each kind")
@@ -107,7 +113,8 @@ fn command<'a>(alloc: Global) -> Result<Command<'a>, AllocError> {
     Command::new(alloc, "jc_bench")
         .about("Lookups and calls of a shared manager by many threads")
         .arg(kinds)?
-        .arg(number(alloc, "rows", "Rows of the cache", (1, 65_000), "1000"))?
+        .arg(number(alloc, "caches", "Caches", (1, 64), "1"))?
+        .arg(number(alloc, "rows", "Rows of each cache", (1, 65_000), "1000"))?
         .arg(number(alloc, "threads", "Threads that do it", (1, 32), "1"))?
         .arg(number(
             alloc,
@@ -123,16 +130,26 @@ fn command<'a>(alloc: Global) -> Result<Command<'a>, AllocError> {
             (1, 100_000_000),
             "100000",
         ))?
+        .arg(number(
+            alloc,
+            "sessions",
+            "How many sessions each thread has, one after the other",
+            (1, 1_000_000),
+            "1",
+        ))?
+        .arg(flag(alloc, "open", "The manager keeps the open calls alone"))?
         .arg(flag(alloc, "stashed", "Some rows are in the table's stash"))?
         .arg(flag(alloc, "counts", "Print no times"))
 }
 
 fn size_of(matches: &ArgMatches<'_>) -> Option<Size> {
     Some(Size {
+        caches: matches.get_one::<u32>("caches")?,
         rows: matches.get_one::<u32>("rows")?,
         threads: matches.get_one::<u32>("threads")?,
         writers: matches.get_one::<u32>("writers")?,
         calls: matches.get_one::<u32>("calls")?,
+        sessions: matches.get_one::<u32>("sessions")?,
         stashed: matches.get_flag("stashed"),
     })
 }
@@ -157,6 +174,7 @@ pub fn read_words(alloc: Global, words: &[String]) -> Result<Asked, Fault> {
     Ok(Asked {
         kinds: kinds_of(alloc, &matches)?,
         size,
+        open: matches.get_flag("open"),
         counts: matches.get_flag("counts"),
     })
 }
