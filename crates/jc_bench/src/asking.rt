@@ -142,19 +142,19 @@ pub fn write_meanwhile<N: Name, J: Keeping, R: Wait>(
     seat: &mut Seat<'_, N, J>,
     keys: &[Key],
     busy: &AtomicU32,
-) -> Counts {
-    let mut counts = Counts::none();
+    counts: &mut Counts,
+) {
     let half = WRITTEN as u64 / 2;
+    let cache = CacheId::new(0);
     for round in 0..ROUNDS {
         if busy.load(Ordering::SeqCst) == 0 {
-            return counts;
+            return;
         }
         if let Some(key) = keys.get((round % WRITTEN as u64) as usize) {
-            counts.add(ask(rt, alloc, seat, Kind::Write, CacheId::new(0), key));
+            counts.add(ask(rt, alloc, seat, Kind::Write, cache, key));
         }
         if let Some(key) = keys.get(((round + half) % WRITTEN as u64) as usize) {
-            counts.add(answered(seat.call(rt, CacheId::new(0), 0, Call::Remove(*key))));
+            counts.add(answered(seat.call(rt, cache, 0, Call::Remove(*key))));
         }
     }
-    counts
 }

@@ -5,7 +5,7 @@ ghost use Rattle.jc_hooks.specs.Processors.{verdict_by};
 ghost use Rattle.jc_shared.specs.Stated.{stated_by};
 
 use crate::asking::{Counts, WRITTEN, ask_often, write_meanwhile};
-use crate::caches::{Caches, Seat, Unnamed, fill, numbered, opened};
+use crate::caches::{Caches, Unnamed, fill, numbered, opened};
 use crate::fault::Fault;
 use crate::timing::Moment;
 use crate::words::{Kind, Size};
@@ -22,7 +22,6 @@ use std::time::{Clock, CpuClock};
 #[derive(Drop)]
 struct Job<'a, N: Name, J: Keeping> {
     manager: &'a Caches<N, J>,
-    seat: Seat<'a, N, J>,
     kind: Kind,
     keys: &'a [Key],
     size: Size,
@@ -40,39 +39,49 @@ pub struct Done {
     pub took: Moment,
 }
 
-/// Asks in its sessions, one after the other. Where none is given any more, it stops.
+/// Asks so often in a session of its own. Where none is given any more, it says so.
+fn ask_in_session<N: Name, J: Keeping, R: Wait>(
+    rt: &R,
+    alloc: Global,
+    job: &Job<'_, N, J>,
+    calls: u32,
+    first: u64,
+    counts: &mut Counts,
+) -> bool {
+    let Ok(mut seat) = job.manager.session(rt) else {
+        return false;
+    };
+    let keys = (job.size.caches, job.keys);
+    ask_often(rt, alloc, &mut seat, job.kind, keys, calls, first, counts);
+    true
+}
+
+/// Asks in its sessions, one after the other.
 fn ask_in_turn<N: Name, J: Keeping, R: Wait>(
     rt: &R,
     alloc: Global,
-    manager: &Caches<N, J>,
-    seat: Seat<'_, N, J>,
-    (kind, size): (Kind, Size),
-    keys: &[Key],
-    first: u64,
-) -> Counts {
-    let mut counts = Counts::none();
-    let calls = size.calls / size.sessions.max(1);
-    let mut seat = seat;
-    for turn in 0..size.sessions {
-        if turn > 0 {
-            match manager.session(rt) {
-                Ok(next) => seat = next,
-                Err(_) => return counts,
-            }
+    job: &Job<'_, N, J>,
+    counts: &mut Counts,
+) {
+    let calls = job.size.calls / job.size.sessions.max(1);
+    for turn in 0..job.size.sessions {
+        let first = job.first.wrapping_add(turn as u64);
+        if !ask_in_session(rt, alloc, job, calls, first, counts) {
+            return;
         }
-        let from = first.wrapping_add(turn as u64);
-        ask_often(
-            rt,
-            alloc,
-            &mut seat,
-            kind,
-            (size.caches, keys),
-            calls,
-            from,
-            &mut counts,
-        );
     }
-    counts
+}
+
+/// Writes in a session of its own, where it is given one.
+fn write_in_session<N: Name, J: Keeping, R: Wait>(
+    rt: &R,
+    alloc: Global,
+    job: &Job<'_, N, J>,
+    counts: &mut Counts,
+) {
+    if let Ok(mut seat) = job.manager.session(rt) {
+        write_meanwhile(rt, alloc, &mut seat, job.keys, job.busy, counts);
+    }
 }
 
 fn work<N: Name, J: Keeping, R: Wait + Clock + CpuClock>(
@@ -80,25 +89,21 @@ fn work<N: Name, J: Keeping, R: Wait + Clock + CpuClock>(
     alloc: Global,
     job: Job<'_, N, J>,
 ) -> Done {
-    let Job {
-        manager,
-        mut seat,
-        kind,
-        keys,
-        size,
-        first,
-        busy,
-    } = job;
+    let mut counts = Counts::none();
     let began = Moment::now(rt);
-    let counts = match kind {
-        Kind::Write => write_meanwhile(rt, alloc, &mut seat, keys, busy),
-        _ => ask_in_turn(rt, alloc, manager, seat, (kind, size), keys, first),
-    };
-    let took = Moment::now(rt).since(began);
-    if kind != Kind::Write {
-        busy.fetch_sub(1, Ordering::SeqCst);
+    match job.kind {
+        Kind::Write => write_in_session(rt, alloc, &job, &mut counts),
+        _ => ask_in_turn(rt, alloc, &job, &mut counts),
     }
-    Done { kind, counts, took }
+    let took = Moment::now(rt).since(began);
+    if job.kind != Kind::Write {
+        job.busy.fetch_sub(1, Ordering::SeqCst);
+    }
+    Done {
+        kind: job.kind,
+        counts,
+        took,
+    }
 }
 
 /// The keys of a run.
@@ -118,9 +123,8 @@ fn keys_of(alloc: Global, kind: Kind, size: Size) -> Result<Keys, Fault> {
     })
 }
 
-/// A job for each thread. The sessions have seen the table as it is now.
-fn jobs<'a, N: Name, J: Keeping, R: Wait>(
-    rt: &R,
+/// A job for each thread.
+fn jobs<'a, N: Name, J: Keeping>(
     alloc: Global,
     manager: &'a Caches<N, J>,
     (kind, size): (Kind, Size),
@@ -132,7 +136,6 @@ fn jobs<'a, N: Name, J: Keeping, R: Wait>(
         let asks = number < size.threads;
         jobs.push(Job {
             manager,
-            seat: manager.session(rt)?,
             kind: if asks { kind } else { Kind::Write },
             keys: if asks {
                 keys.asked.as_slice()
@@ -154,14 +157,11 @@ fn timed<N: Name + Send + Sync, J: Keeping + Send, R: Threads + Wait + Clock + C
     manager: &Caches<N, J>,
     kind: Kind,
     size: Size,
-) -> Result<Vec<Done>, Fault>
-where
-    J::Own: Send,
-{
+) -> Result<Vec<Done>, Fault> {
     fill(rt, alloc, manager, size)?;
     let keys = keys_of(alloc, kind, size)?;
     let busy = AtomicU32::new(size.threads);
-    let jobs = jobs(rt, alloc, manager, (kind, size), &keys, &busy)?;
+    let jobs = jobs(alloc, manager, (kind, size), &keys, &busy)?;
     Ok(map_vec(rt, jobs, &|job| work(rt, alloc, job))?)
 }
 
@@ -172,8 +172,6 @@ fn played_by<N: Name + Send + Sync, J: Keeping + Send, R: Threads + Wait + Clock
     kind: Kind,
     size: Size,
 ) -> Result<Vec<Done>, Fault>
-where
-    J::Own: Send,
     requires configs { unnamed.configs ≡ N.configs }
     requires stated { map (stated_by (λ _. echoed) verdict_by) unnamed.shared ≡ N.stated }
     requires index { unnamed.index ≡ N.index }
@@ -189,10 +187,7 @@ fn named<J: Keeping + Send, R: Threads + Wait + Clock + CpuClock + Sync>(
     unnamed: Unnamed<J>,
     kind: Kind,
     size: Size,
-) -> Result<Vec<Done>, Fault>
-where
-    J::Own: Send,
-{
+) -> Result<Vec<Done>, Fault> {
     played_by::<Brand, J, R>(rt, alloc, unnamed, kind, size)
 }
 
