@@ -150,8 +150,38 @@ fn jobs<'a, N: Name, J: Keeping>(
     Ok(jobs)
 }
 
+/// A journal whose manager threads share.
+trait OnThreads: Keeping {
+    /// Does all jobs, each on a thread of its own where one can be made.
+    fn on_threads<N: Name + Send + Sync, R: Threads + Wait + Clock + CpuClock + Sync>(
+        rt: &R,
+        alloc: Global,
+        jobs: Vec<Job<'_, N, Self>>,
+    ) -> Result<Vec<Done>, Fault>;
+}
+
+impl OnThreads for AllCalls {
+    fn on_threads<N: Name + Send + Sync, R: Threads + Wait + Clock + CpuClock + Sync>(
+        rt: &R,
+        alloc: Global,
+        jobs: Vec<Job<'_, N, AllCalls>>,
+    ) -> Result<Vec<Done>, Fault> {
+        Ok(map_vec(rt, jobs, &|job| work(rt, alloc, job))?)
+    }
+}
+
+impl OnThreads for OpenCalls {
+    fn on_threads<N: Name + Send + Sync, R: Threads + Wait + Clock + CpuClock + Sync>(
+        rt: &R,
+        alloc: Global,
+        jobs: Vec<Job<'_, N, OpenCalls>>,
+    ) -> Result<Vec<Done>, Fault> {
+        Ok(map_vec(rt, jobs, &|job| work(rt, alloc, job))?)
+    }
+}
+
 /// Fills the manager, and does it on all threads.
-fn timed<N: Name + Send + Sync, J: Keeping + Send, R: Threads + Wait + Clock + CpuClock + Sync>(
+fn timed<N: Name + Send + Sync, J: OnThreads, R: Threads + Wait + Clock + CpuClock + Sync>(
     rt: &R,
     alloc: Global,
     manager: &Caches<N, J>,
@@ -162,10 +192,10 @@ fn timed<N: Name + Send + Sync, J: Keeping + Send, R: Threads + Wait + Clock + C
     let keys = keys_of(alloc, kind, size)?;
     let busy = AtomicU32::new(size.threads);
     let jobs = jobs(alloc, manager, (kind, size), &keys, &busy)?;
-    Ok(map_vec(rt, jobs, &|job| work(rt, alloc, job))?)
+    J::on_threads(rt, alloc, jobs)
 }
 
-fn played_by<N: Name + Send + Sync, J: Keeping + Send, R: Threads + Wait + Clock + CpuClock + Sync>(
+fn played_by<N: Name + Send + Sync, J: OnThreads, R: Threads + Wait + Clock + CpuClock + Sync>(
     rt: &R,
     alloc: Global,
     unnamed: Unnamed<J>,
@@ -181,7 +211,7 @@ fn played_by<N: Name + Send + Sync, J: Keeping + Send, R: Threads + Wait + Clock
 }
 
 /// The same, under a name that this call picks.
-fn named<J: Keeping + Send, R: Threads + Wait + Clock + CpuClock + Sync>(
+fn named<J: OnThreads, R: Threads + Wait + Clock + CpuClock + Sync>(
     rt: &R,
     alloc: Global,
     unnamed: Unnamed<J>,

@@ -17,7 +17,7 @@ use jc_model::transcript::Transcript;
 use jc_ring::list_ring::ListRing;
 use jc_rows::list_rows::ListRows;
 use jc_shared::{
-    CallFault, CloseFault, Manager, Name, Session, SessionLog, SessionRefusal, Shared,
+    AllCalls, CallFault, CloseFault, Manager, Name, Session, SessionLog, SessionRefusal, Shared,
     SharedRefusal, audit,
 };
 use std::alloc::Global;
@@ -98,7 +98,7 @@ fn managers_open_over_the_callbacks_that_are_named(rt: HostRuntime) -> Result<()
     for (number, (capacity, left_out, count, refusal)) in OPENINGS.iter().enumerate() {
         let configs = full_caches(alloc, *capacity)?;
         let hooks = hooks_of(alloc, *left_out, *count)?;
-        let refused = Shared::open(alloc, configs, hooks, 7).err();
+        let refused = Shared::<_, _, _, _, AllCalls>::open(alloc, configs, hooks, 7).err();
         assert_eq!(rt; &refused, refusal, "{number}");
     }
     Ok(())
