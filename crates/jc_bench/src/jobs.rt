@@ -150,41 +150,11 @@ fn jobs<'a, N: Name, J: Keeping>(
     Ok(jobs)
 }
 
-/// A journal whose manager threads share.
-trait OnThreads: Keeping {
-    /// Does all jobs, each on a thread of its own where one can be made.
-    fn on_threads<N: Name + Send + Sync, R: Threads + Wait + Clock + CpuClock + Sync>(
-        rt: &R,
-        alloc: Global,
-        jobs: Vec<Job<'_, N, Self>>,
-    ) -> Result<Vec<Done>, Fault>;
-}
-
-impl OnThreads for AllCalls {
-    fn on_threads<N: Name + Send + Sync, R: Threads + Wait + Clock + CpuClock + Sync>(
-        rt: &R,
-        alloc: Global,
-        jobs: Vec<Job<'_, N, AllCalls>>,
-    ) -> Result<Vec<Done>, Fault> {
-        Ok(map_vec(rt, jobs, &|job| work(rt, alloc, job))?)
-    }
-}
-
-impl OnThreads for OpenCalls {
-    fn on_threads<N: Name + Send + Sync, R: Threads + Wait + Clock + CpuClock + Sync>(
-        rt: &R,
-        alloc: Global,
-        jobs: Vec<Job<'_, N, OpenCalls>>,
-    ) -> Result<Vec<Done>, Fault> {
-        Ok(map_vec(rt, jobs, &|job| work(rt, alloc, job))?)
-    }
-}
-
-/// Fills the manager, and does it on all threads.
-fn timed<N: Name + Send + Sync, J: OnThreads, R: Threads + Wait + Clock + CpuClock + Sync>(
+/// Fills a manager that keeps all calls, and does it on all threads.
+fn timed_all<N: Name + Send + Sync, R: Threads + Wait + Clock + CpuClock + Sync>(
     rt: &R,
     alloc: Global,
-    manager: &Caches<N, J>,
+    manager: &Caches<N, AllCalls>,
     kind: Kind,
     size: Size,
 ) -> Result<Vec<Done>, Fault> {
@@ -192,13 +162,13 @@ fn timed<N: Name + Send + Sync, J: OnThreads, R: Threads + Wait + Clock + CpuClo
     let keys = keys_of(alloc, kind, size)?;
     let busy = AtomicU32::new(size.threads);
     let jobs = jobs(alloc, manager, (kind, size), &keys, &busy)?;
-    J::on_threads(rt, alloc, jobs)
+    Ok(map_vec(rt, jobs, &|job| work(rt, alloc, job))?)
 }
 
-fn played_by<N: Name + Send + Sync, J: OnThreads, R: Threads + Wait + Clock + CpuClock + Sync>(
+fn played_all<N: Name + Send + Sync, R: Threads + Wait + Clock + CpuClock + Sync>(
     rt: &R,
     alloc: Global,
-    unnamed: Unnamed<J>,
+    unnamed: Unnamed<AllCalls>,
     kind: Kind,
     size: Size,
 ) -> Result<Vec<Done>, Fault>
@@ -207,18 +177,59 @@ fn played_by<N: Name + Send + Sync, J: OnThreads, R: Threads + Wait + Clock + Cp
     requires index { unnamed.index ≡ N.index }
 {
     let manager = unnamed.named::<N>();
-    timed(rt, alloc, &manager, kind, size)
+    timed_all(rt, alloc, &manager, kind, size)
 }
 
 /// The same, under a name that this call picks.
-fn named<J: OnThreads, R: Threads + Wait + Clock + CpuClock + Sync>(
+fn named_all<R: Threads + Wait + Clock + CpuClock + Sync>(
     rt: &R,
     alloc: Global,
-    unnamed: Unnamed<J>,
+    unnamed: Unnamed<AllCalls>,
     kind: Kind,
     size: Size,
 ) -> Result<Vec<Done>, Fault> {
-    played_by::<Brand, J, R>(rt, alloc, unnamed, kind, size)
+    played_all::<Brand, R>(rt, alloc, unnamed, kind, size)
+}
+
+/// Fills a manager that keeps the open calls alone, and does it on all threads.
+fn timed_open<N: Name + Send + Sync, R: Threads + Wait + Clock + CpuClock + Sync>(
+    rt: &R,
+    alloc: Global,
+    manager: &Caches<N, OpenCalls>,
+    kind: Kind,
+    size: Size,
+) -> Result<Vec<Done>, Fault> {
+    fill(rt, alloc, manager, size)?;
+    let keys = keys_of(alloc, kind, size)?;
+    let busy = AtomicU32::new(size.threads);
+    let jobs = jobs(alloc, manager, (kind, size), &keys, &busy)?;
+    Ok(map_vec(rt, jobs, &|job| work(rt, alloc, job))?)
+}
+
+fn played_open<N: Name + Send + Sync, R: Threads + Wait + Clock + CpuClock + Sync>(
+    rt: &R,
+    alloc: Global,
+    unnamed: Unnamed<OpenCalls>,
+    kind: Kind,
+    size: Size,
+) -> Result<Vec<Done>, Fault>
+    requires configs { unnamed.configs ≡ N.configs }
+    requires stated { map (stated_by (λ _. echoed) verdict_by) unnamed.shared ≡ N.stated }
+    requires index { unnamed.index ≡ N.index }
+{
+    let manager = unnamed.named::<N>();
+    timed_open(rt, alloc, &manager, kind, size)
+}
+
+/// The same, under a name that this call picks.
+fn named_open<R: Threads + Wait + Clock + CpuClock + Sync>(
+    rt: &R,
+    alloc: Global,
+    unnamed: Unnamed<OpenCalls>,
+    kind: Kind,
+    size: Size,
+) -> Result<Vec<Done>, Fault> {
+    played_open::<Brand, R>(rt, alloc, unnamed, kind, size)
 }
 
 /// Does one kind on a manager of its own, which keeps all calls, or the open ones alone. The result has what each thread
@@ -231,8 +242,8 @@ pub fn play<R: Threads + Wait + Clock + CpuClock + Sync>(
     open: bool,
 ) -> Result<Vec<Done>, Fault> {
     if open {
-        named::<OpenCalls, R>(rt, alloc, opened(alloc, size.caches)?, kind, size)
+        named_open(rt, alloc, opened(alloc, size.caches)?, kind, size)
     } else {
-        named::<AllCalls, R>(rt, alloc, opened(alloc, size.caches)?, kind, size)
+        named_all(rt, alloc, opened(alloc, size.caches)?, kind, size)
     }
 }

@@ -2,10 +2,10 @@ use Rattle.std.proofs.Common.{map}
 use Rattle.jc_hooks.specs.Program.{echoed}
 use Rattle.jc_hooks.specs.Processors.{verdict_by}
 use Rattle.jc_shared.specs.Stated.{stated_by}
-use Rattle.jc_bench.proofs.jobs.named.Given as goal
+use Rattle.jc_bench.proofs.jobs.named_all.Given as goal
 
-abbrev pub ghosts-played_by : goal.ghosts-played_by
-ghosts-played_by g a = record {
+abbrev pub ghosts-played_all : goal.ghosts-played_all
+ghosts-played_all g a = record {
   configs = a.unnamed.configs;
   stated = map (stated_by (λ _. echoed) verdict_by) a.unnamed.shared;
   index = a.unnamed.index;
