@@ -253,10 +253,12 @@ pub(crate) fn play_lasting<L: Loader, W: Writer, P: Processor, K: Hearer, R: Wai
 /// The lives of caches at the opening.
 pub(crate) fn first_lives(alloc: Global, configs: &[CacheConfig]) -> Result<Vec<Life>, Trouble> {
     let mut lives = Vec::new(alloc);
+    let mut number: u32 = 0;
     for config in configs {
-        let id = CacheId::new(lives.len() as u32);
+        let id = CacheId::new(number);
         let config = config.share()?;
         lives.push(Life { id, config })?;
+        number = number.wrapping_add(1);
     }
     Ok(lives)
 }
