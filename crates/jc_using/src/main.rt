@@ -6,10 +6,9 @@ ghost use Rattle.jc_model.specs.Run.{is_answer_to};
 
 use jc_engine::engine::Engine;
 use jc_model::call::{Answer, Call, ProcessorFault, Request};
-use jc_model::config::{CacheConfig, Policy};
+use jc_model::config::CacheConfig;
 use jc_model::event::{CacheId, Step};
 use jc_model::key::Key;
-use jc_model::list::Sequence;
 use jc_model::value::Value;
 use jc_ring::list_ring::ListRing;
 use jc_rows::list_rows::ListRows;
@@ -36,15 +35,9 @@ fn answer(alloc: Global, request: Request) -> Answer
 /// Gets one name at three moments, in milliseconds, and prints each reply.
 fn greet(rt: &HostRuntime) -> Option<()> {
     let (alloc, cache, ann) = (rt.alloc(), CacheId::new(0), Key::from_text("ann").ok()?);
-    let config = CacheConfig {
-        name: Key::from_text("greetings").ok()?,
-        capacity: 100,
-        policy: Policy::Created(60_000),
-        loader: true,
-        writer: false,
-        processors: Sequence::new(Vec::new(alloc)),
-        listeners: 0,
-    };
+    let config = CacheConfig::new(alloc, Key::from_text("greetings").ok()?, 100)
+        .expire_after_creation(60_000)
+        .read_through();
     let caches = vec![in alloc; config].ok()?;
     let mut manager = Engine::<ListRows, ListRing>::open(alloc, ListRows::new(alloc), caches).ok()?;
     for now in [0, 59_999, 60_000] {
