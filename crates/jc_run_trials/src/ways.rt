@@ -1,5 +1,6 @@
 //! One script in each way: by `serial`, by sessions on caches of the opening or on created ones, by sessions of a manager
-//! that keeps the open calls alone, and by workers. Each gives the same report and asks the same of the callbacks. Loaders and processors are stored closures.
+//! that keeps the open calls alone, and by workers. Each gives the same report and asks the same of the callbacks.
+//! Loaders and processors are stored closures.
 
 use crate::closures::{echo_closure, processor_closure};
 use crate::crews::{PointGate, gathered};
