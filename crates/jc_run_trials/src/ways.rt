@@ -1,12 +1,11 @@
-//! One script in each way: by `serial`, by sessions on caches of the opening or on created ones, by sessions of a manager
-//! that keeps the open calls alone, and by workers. Each gives the same report and asks the same of the callbacks.
-//! Loaders and processors are stored closures.
+//! One script in each way: by `serial`, by sessions on caches of the opening or on created ones, and by workers. Each
+//! gives the same report and asks the same of the callbacks. Loaders and processors are stored closures.
 
 use crate::closures::{echo_closure, processor_closure};
 use crate::crews::{PointGate, gathered};
 use crate::ran::{Ran, ran_into, report_of};
 use crate::scenes::{ALL_CALLBACKS, Behaviour, POOR, SCENES, Scene, USUAL};
-use crate::sessions::{Caches, Script, first_lives, play, play_lasting};
+use crate::sessions::{Caches, Script, play};
 use jc_config::{Configuration, HookKinds, ProcessorKind, read_config};
 use jc_hooks::program::{CheckWriter, ProgramProcessor};
 use jc_hooks::{CacheHooks, ClosureLoader, ClosureProcessor};
@@ -148,26 +147,6 @@ fn by_sessions<R: Wait>(
     play(rt, alloc, shared, script)
 }
 
-/// The report of a scene by sessions of a manager that keeps the open calls alone.
-fn by_lasting<R: Wait>(rt: &R, alloc: Global, scene: &Scene, log: &Log) -> Result<String, Trouble> {
-    let Configuration { settings, .. } = read_config(alloc, scene.caches.as_bytes())?;
-    let lines = read_script(alloc, scene.calls.as_bytes(), &settings)?;
-    let hooks = all_hooks(alloc, scene, log)?;
-    let configs = settings.into_caches();
-    let lives = first_lives(alloc, configs.as_slice())?;
-    let shared = Shared::open(alloc, configs, hooks, 7)?;
-    let script = Script {
-        sessions: scene.sessions,
-        created: Caches {
-            configs: Vec::new(alloc),
-            hooks: Vec::new(alloc),
-        },
-        lines,
-        log,
-    };
-    play_lasting(rt, alloc, shared, lives, script)
-}
-
 /// A way to make the calls of a script.
 #[derive(Clone, Copy, Debug, PartialEq, Eq)]
 enum Way {
@@ -177,17 +156,9 @@ enum Way {
     Opened,
     /// Sessions, on caches that one of them creates.
     Created,
-    /// Sessions of a manager that keeps the open calls alone.
-    Lasting,
 }
 
-static WAYS: [Way; 5] = [
-    Way::Serial,
-    Way::Workers,
-    Way::Opened,
-    Way::Created,
-    Way::Lasting,
-];
+static WAYS: [Way; 4] = [Way::Serial, Way::Workers, Way::Opened, Way::Created];
 
 /// What comes of a scene in a way.
 fn ran_by<R: Threads + Wait + Sync>(
@@ -203,10 +174,6 @@ fn ran_by<R: Threads + Wait + Sync>(
         Way::Opened | Way::Created => {
             let created = way == Way::Created;
             let (report, _) = by_sessions(rt, alloc, scene, created, log)?;
-            Ok(Ok(report.into_bytes()))
-        }
-        Way::Lasting => {
-            let report = by_lasting(rt, alloc, scene, log)?;
             Ok(Ok(report.into_bytes()))
         }
     }
