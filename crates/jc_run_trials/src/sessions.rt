@@ -5,10 +5,12 @@ ghost use Rattle.jc_shared.specs.Stated.{stated_by};
 use jc_hooks::{CacheHooks, Hearer, Loader, Processor, Writer};
 use jc_model::call::Reply;
 use jc_model::config::CacheConfig;
-use jc_model::event::{End, Entry};
+use jc_model::event::{CacheId, End, Entry, Life};
+use jc_model::list::Sequence;
+use jc_model::share::Share;
 use jc_model::transcript::Transcript;
 use jc_script::{Line, LineCall, report};
-use jc_shared::{CallFault, Manager, Name, Session, Shared};
+use jc_shared::{CallFault, Keeping, Manager, Name, OpenCalls, Session, Shared};
 use jc_trials::{Log, Text, Trouble, seated};
 use std::alloc::Global;
 use std::marker::Brand;
@@ -57,9 +59,9 @@ fn mark(answered: &Answered) -> &'static [u8] {
 }
 
 /// Makes a call by its session.
-fn make_call<N: Name, L: Loader, W: Writer, P: Processor, K: Hearer, R: Wait>(
+fn make_call<N: Name, L: Loader, W: Writer, P: Processor, K: Hearer, J: Keeping, R: Wait>(
     rt: &R,
-    sessions: &mut [Session<'_, N, L, W, P, K>],
+    sessions: &mut [Session<'_, N, L, W, P, K, J>],
     made: LineCall,
 ) -> Option<Answered> {
     match sessions.get_mut(made.session as usize) {
@@ -72,10 +74,10 @@ fn make_call<N: Name, L: Loader, W: Writer, P: Processor, K: Hearer, R: Wait>(
 }
 
 /// Makes the calls of a script, each by its session.
-fn make_all<N: Name, L: Loader, W: Writer, P: Processor, K: Hearer, R: Wait>(
+fn make_all<N: Name, L: Loader, W: Writer, P: Processor, K: Hearer, J: Keeping, R: Wait>(
     rt: &R,
     alloc: Global,
-    sessions: &mut [Session<'_, N, L, W, P, K>],
+    sessions: &mut [Session<'_, N, L, W, P, K, J>],
     lines: Vec<Line>,
     log: &Log,
 ) -> Vec<Answered> {
@@ -162,4 +164,101 @@ pub(crate) fn play<L: Loader, W: Writer, P: Processor, K: Hearer, R: Wait>(
     script: Script<'_, L, W, P, K>,
 ) -> Result<(String, usize), Trouble> {
     played::<Brand, L, W, P, K, R>(rt, alloc, shared, script)
+}
+
+/// The entries of calls that have not been made yet.
+fn entries_of(alloc: Global, lines: &[Line]) -> Result<Vec<Entry>, Trouble> {
+    let mut entries = Vec::new(alloc);
+    for line in lines {
+        if let Line::Call(made) = line {
+            entries.push(Entry {
+                session: made.session,
+                id: made.id,
+                at: made.at,
+                call: made.call.share()?,
+                answers: Sequence::new(Vec::new(alloc)),
+                told: Sequence::new(Vec::new(alloc)),
+                end: End::GivenUp,
+            })?;
+        }
+    }
+    Ok(entries)
+}
+
+/// The report of these calls, as they were answered.
+fn reported_of(
+    alloc: Global,
+    lives: Vec<Life>,
+    entries: Vec<Entry>,
+    answers: Vec<Answered>,
+) -> Result<String, Trouble> {
+    let mut transcript = Transcript::new(alloc);
+    for life in lives {
+        transcript.push_life(life)?;
+    }
+    for (mut entry, answered) in entries.into_iter().zip(answers) {
+        if let Ok(reply) = answered {
+            entry.end = End::Replied(reply);
+        }
+        drop(transcript.push(entry));
+    }
+    Ok(report(alloc, &transcript, &[])?)
+}
+
+/// Follows a script on a manager that keeps the open calls alone, and makes the report of what the calls were answered.
+fn answered<N: Name, L: Loader, W: Writer, P: Processor, K: Hearer, R: Wait>(
+    rt: &R,
+    alloc: Global,
+    manager: &Manager<N, L, W, P, K, OpenCalls>,
+    lives: Vec<Life>,
+    script: Script<'_, L, W, P, K>,
+) -> Result<String, Trouble> {
+    let mut sessions = Vec::new(alloc);
+    for _ in 0..script.sessions {
+        sessions.push(manager.session(rt)?)?;
+    }
+    drop(script.created);
+    let entries = entries_of(alloc, script.lines.as_slice())?;
+    let answers = make_all(rt, alloc, sessions.as_mut_slice(), script.lines, script.log);
+    reported_of(alloc, lives, entries, answers)
+}
+
+/// The same, under this name.
+fn lasted<N: Name, L: Loader, W: Writer, P: Processor, K: Hearer, R: Wait>(
+    rt: &R,
+    alloc: Global,
+    shared: Shared<L, W, P, K, OpenCalls>,
+    lives: Vec<Life>,
+    script: Script<'_, L, W, P, K>,
+) -> Result<String, Trouble>
+    requires configs { shared.configs ≡ N.configs }
+    requires stated { map (stated_by L.load_of P.verdict_of) shared.shared ≡ N.stated }
+    requires index { shared.index ≡ N.index }
+{
+    let manager = shared.named::<N>();
+    answered(rt, alloc, &manager, lives, script)
+}
+
+/// The report of a script on a manager that keeps the open calls alone, under a name that this call picks.
+pub(crate) fn play_lasting<L: Loader, W: Writer, P: Processor, K: Hearer, R: Wait>(
+    rt: &R,
+    alloc: Global,
+    shared: Shared<L, W, P, K, OpenCalls>,
+    lives: Vec<Life>,
+    script: Script<'_, L, W, P, K>,
+) -> Result<String, Trouble> {
+    lasted::<Brand, L, W, P, K, R>(rt, alloc, shared, lives, script)
+}
+
+/// The lives of caches at the opening.
+pub(crate) fn first_lives(alloc: Global, configs: &[CacheConfig]) -> Result<Vec<Life>, Trouble> {
+    let mut lives = Vec::new(alloc);
+    let mut number: u32 = 0;
+    for config in configs {
+        let id = CacheId::new(number);
+        let config = config.share()?;
+        lives.push(Life { id, config })?;
+        number = number.wrapping_add(1);
+    }
+    Ok(lives)
 }

@@ -1,11 +1,12 @@
-//! One script in each way: by `serial`, by sessions on caches of the opening or on created ones, and by workers. Each
-//! gives the same report and asks the same of the callbacks. Loaders and processors are stored closures.
+//! One script in each way: by `serial`, by sessions on caches of the opening or on created ones, by sessions of a manager
+//! that keeps the open calls alone, and by workers. Each asks the same of the callbacks, and gives the same report but for
+//! the notices, which nothing keeps where the open calls are kept alone. Loaders and processors are stored closures.
 
 use crate::closures::{echo_closure, processor_closure};
 use crate::crews::{PointGate, gathered};
 use crate::ran::{Ran, ran_into, report_of};
 use crate::scenes::{ALL_CALLBACKS, Behaviour, POOR, SCENES, Scene, USUAL};
-use crate::sessions::{Caches, Script, play};
+use crate::sessions::{Caches, Script, first_lives, play, play_lasting};
 use jc_config::{Configuration, HookKinds, ProcessorKind, read_config};
 use jc_hooks::program::{CheckWriter, ProgramProcessor};
 use jc_hooks::{CacheHooks, ClosureLoader, ClosureProcessor};
@@ -147,6 +148,26 @@ fn by_sessions<R: Wait>(
     play(rt, alloc, shared, script)
 }
 
+/// The report of a scene by sessions of a manager that keeps the open calls alone.
+fn by_lasting<R: Wait>(rt: &R, alloc: Global, scene: &Scene, log: &Log) -> Result<String, Trouble> {
+    let Configuration { settings, .. } = read_config(alloc, scene.caches.as_bytes())?;
+    let lines = read_script(alloc, scene.calls.as_bytes(), &settings)?;
+    let hooks = all_hooks(alloc, scene, log)?;
+    let configs = settings.into_caches();
+    let lives = first_lives(alloc, configs.as_slice())?;
+    let shared = Shared::open(alloc, configs, hooks, 7)?;
+    let script = Script {
+        sessions: scene.sessions,
+        created: Caches {
+            configs: Vec::new(alloc),
+            hooks: Vec::new(alloc),
+        },
+        lines,
+        log,
+    };
+    play_lasting(rt, alloc, shared, lives, script)
+}
+
 /// A way to make the calls of a script.
 #[derive(Clone, Copy, Debug, PartialEq, Eq)]
 enum Way {
@@ -156,9 +177,17 @@ enum Way {
     Opened,
     /// Sessions, on caches that one of them creates.
     Created,
+    /// Sessions of a manager that keeps the open calls alone.
+    Lasting,
 }
 
-static WAYS: [Way; 4] = [Way::Serial, Way::Workers, Way::Opened, Way::Created];
+static WAYS: [Way; 5] = [
+    Way::Serial,
+    Way::Workers,
+    Way::Opened,
+    Way::Created,
+    Way::Lasting,
+];
 
 /// What comes of a scene in a way.
 fn ran_by<R: Threads + Wait + Sync>(
@@ -176,7 +205,29 @@ fn ran_by<R: Threads + Wait + Sync>(
             let (report, _) = by_sessions(rt, alloc, scene, created, log)?;
             Ok(Ok(report.into_bytes()))
         }
+        Way::Lasting => {
+            let report = by_lasting(rt, alloc, scene, log)?;
+            Ok(Ok(report.into_bytes()))
+        }
     }
+}
+
+/// Whether a line of a report tells a notice.
+fn is_event(line: &str) -> bool {
+    line.split_whitespace().nth(1) == Some("event")
+}
+
+/// The report of a scene in a way: where the open calls are kept alone, nothing tells the notices of the others.
+fn report_in(alloc: Global, scene: &Scene, way: Way) -> Result<Vec<u8>, AllocError> {
+    let mut report = Vec::new(alloc);
+    for line in scene.report.lines() {
+        if way == Way::Lasting && is_event(line) {
+            continue;
+        }
+        report.extend_from_slice(line.as_bytes())?;
+        report.push(b'\n')?;
+    }
+    Ok(report)
 }
 
 /// What the callbacks of a scene are asked, without the points after calls: `serial` tells nobody when a call has ended.
@@ -211,13 +262,13 @@ fn came_of<R: Threads + Wait + Sync>(
 }
 
 #[test]
-fn the_program_in_three_ways(rt: HostRuntime) -> Result<(), Trouble> {
+fn the_program_in_each_way(rt: HostRuntime) -> Result<(), Trouble> {
     for scene in SCENES.iter().chain([&ALL_CALLBACKS]) {
         for way in WAYS {
             let (ran, is_asked) = came_of(&rt, rt.alloc(), scene, way)?;
             assert_eq!(rt;
-                report_of(ran)?.as_slice(),
-                scene.report.as_bytes(),
+                report_of(ran)?,
+                report_in(rt.alloc(), scene, way)?,
                 "{way:?}"
             );
             assert!(rt; is_asked, "{way:?} {}", scene.calls);
@@ -265,8 +316,8 @@ fn hooks_without_memory(rt: HostRuntime) -> Result<(), Trouble> {
                 assert_eq!(rt; ran, Err(RunFault::Memory));
             } else {
                 assert_eq!(rt;
-                    report_of(ran)?.as_slice(),
-                    scene.report.as_bytes(),
+                    report_of(ran)?,
+                    report_in(rt.alloc(), scene, way)?,
                     "{way:?}"
                 );
                 assert!(rt; is_asked, "{way:?} {}", scene.calls);
