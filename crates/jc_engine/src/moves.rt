@@ -1,6 +1,6 @@
 //! The manager's calls in two parts: whether they are refused, and the move of one cache. Both the plain manager
 //! and the recorded one are made of these.
-ghost use Rattle.std.specs.Prelude.{◌≡◌, ℕ, true, false, IsOk, IfOk, IfErr, OnOk, OnErr, MatchOption};
+ghost use Rattle.std.specs.Prelude.{◌≡◌, ℕ, None, true, false, IsOk, IfSome, IfOk, IfErr, OnOk, OnErr, MatchOption};
 ghost use Rattle.jc_model.specs.declared.event.Event.TheVariants.{Begin, Answer as Answered, GiveUp};
 ghost use Rattle.jc_model.specs.declared.event.Outcome.TheVariants.{Refused};
 ghost use Rattle.jc_model.specs.Runs.{answer_to, lives_after, for_memory};
@@ -30,6 +30,20 @@ impl<R: Rows, G: Ring> Engine<R, G> {
             Some(cache) => cache.is_open(),
             None => false,
         }
+    }
+
+    /// The first cache whose call is open, if any is.
+    pub(crate) fn open_call(&self) -> Option<CacheId>
+        ensures none { result ≡ None → (id : ℕ) → is_open_in (at_place self.now id) ≡ false }
+        ensures some { IfSome result (λ id. is_open_in (at_place self.now id) ≡ true) }
+    {
+        for number in 0..self.next_id().number() {
+            let id = CacheId::new(number);
+            if self.is_open(id) {
+                return Some(id);
+            }
+        }
+        None
     }
 
     /// Why a call can't begin now, where memory suffices.

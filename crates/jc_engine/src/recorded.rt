@@ -1,5 +1,5 @@
 //! The manager with a journal of its calls.
-ghost use Rattle.std.specs.Prelude.{◌≡◌, ◌⊎◌, ◌≤◌, ◌+◌, length, ℕ, List, false, [], ◌∷◌, ◌++◌, IfSome, IfOk, IfErr, OnErr, MatchOption, is_some, option_map};
+ghost use Rattle.std.specs.Prelude.{◌≡◌, ◌⊎◌, ◌≤◌, ◌+◌, length, ℕ, List, None, true, false, [], ◌∷◌, ◌++◌, IfSome, IfOk, IfErr, OnErr, MatchOption, is_some, option_map};
 ghost use Rattle.std.specs.FinMap as table;
 ghost use Rattle.jc_model.specs.declared.event.Event.TheVariants.{Begin, Answer as Answered, GiveUp, Create, Destroy};
 ghost use Rattle.jc_model.specs.declared.event.Entry.{Entry};
@@ -175,6 +175,15 @@ impl<R: Rows, G: Ring, J: Journal> Recorded<R, G, J> {
         } else {
             None
         }
+    }
+
+    /// The first cache whose call is open, if any is.
+    pub fn open_call(&self) -> Option<CacheId>
+        ensures none { result ≡ None → (id : ℕ) → is_open_in (at_place self.now.caches id) ≡ false }
+        ensures some { IfSome result (λ id. is_open_in (at_place self.now.caches id) ≡ true) }
+        ensures told { Tells self.now.transcript (lives_of self.now.caches) }
+    {
+        self.engine.open_call()
     }
 
     /// Begins a call of a session, which becomes the transcript's last entry. At `Done` the second part is an equal

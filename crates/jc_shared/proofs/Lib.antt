@@ -5,6 +5,7 @@ pub mod Livings
 pub mod Asked
 pub mod Comparing
 pub mod Carrying
+pub mod GivingUp
 pub mod Writing
 pub mod Opened
 pub mod Entered

@@ -1,6 +1,6 @@
 -- What a tenure of the lock makes of the call that it brings on.
-use Rattle.std.proofs.Common.{◌≡◌, ℕ, zero, suc, Bool, true, false, if◌then◌else◌, List, [], ◌∷◌, ◌++◌, ◌⊎◌, length, take, Option, Some, None, Result, Err, inl, inr, refl, sym, ◌∙◌, ap, subst, arith}
-use Rattle.std.specs.Prelude.{◌==◌, ◌+◌, slice_get, IsSome, IfErr}
+use Rattle.std.proofs.Common.{◌≡◌, ℕ, zero, suc, Bool, true, false, if◌then◌else◌, List, [], ◌∷◌, ◌++◌, ◌⊎◌, length, take, Option, Some, None, inl, inr, refl, sym, ◌∙◌, ap, subst, arith}
+use Rattle.std.specs.Prelude.{◌==◌, ◌+◌, slice_get, IsSome}
 use Rattle.std.proofs.lemmas.Bool.Decides.{nat_tests}
 use Rattle.std.proofs.lemmas.List.{same_from_push}
 use Rattle.jc_model.specs.declared.call.Answer.{Answer}
@@ -36,14 +36,13 @@ use Rattle.jc_engine.specs.Recording.{Recording, HasOpen, IsEntryOf, blank}
 use Rattle.jc_model.specs.Asking.{AsksOf, AsksIn, invoked_by}
 use Rattle.jc_shared.specs.declared.fault.CallFault.{CallFault}
 use Rattle.jc_shared.specs.declared.fault.CallFault.TheVariants as faults
-use Rattle.jc_shared.specs.declared.fault.Halt.{Halt}
-use Rattle.jc_shared.specs.declared.fault.Halt.TheVariants as halts
 use Rattle.jc_shared.specs.declared.turned.Turned.{Turned}
 use Rattle.jc_shared.specs.declared.turned.Turned.TheVariants.{Asked, Replied}
 use Rattle.jc_shared.specs.Sessions.{Sight, BeginsWith, Sees}
 use Rattle.jc_shared.specs.Calls.{Stands, GoesOn, MayLack, IsBeginFault, called}
-use Rattle.jc_shared.specs.Finding.{fault_of, halt_of, IsOfCall, IsOpen, Turns, IsReplied}
+use Rattle.jc_shared.specs.Finding.{fault_of, answer_fault_of, IsOfCall, IsOpen, Turns, IsReplied}
 use Rattle.jc_shared.specs.Living.{Refuses}
+use Rattle.jc_shared.specs.Pending.{IsRefusedAnswer}
 use Rattle.jc_shared.specs.Tenures.{IsTenure, IsRefusedFor, Stops, step_of}
 use Rattle.jc_model.proofs.Asking.{whole_asks}
 use Rattle.jc_shared.proofs.Last.{open_last, open_stands, changed_there, open_same, changed_last, added_last}
@@ -134,13 +133,23 @@ is_tenure old mid new session event step turned draft draft' turns same answered
     (subst (λ (s : Step). IsTenure old mid session event (outcome.Step s)) (turns_step draft draft' step turned turns) (record { answered = answered; transcript = written; lives = after }))
 
 -- why an answer was not taken
-pub stops : (old : Recording) (draft : Entry) (answers : List Answer) (a : Answer) (cause : Cause) → IsOpen (lives_of old.caches) old.transcript draft answers → IsRefusedFor (lives_of old.caches) (event.Answer draft.id a) cause → Stops old draft answers a (halt_of cause)
+pub stops : (old : Recording) (draft : Entry) (answers : List Answer) (a : Answer) (cause : Cause) → IsOpen (lives_of old.caches) old.transcript draft answers → IsRefusedFor (lives_of old.caches) (event.Answer draft.id a) cause → Stops old draft answers a (answer_fault_of cause)
 stops old draft answers a causes.NoSuchCache here refusal = tt
 stops old draft answers a causes.NoSuchProcessor here refusal = tt
 stops old draft answers a causes.Busy here refusal = tt
 stops old draft answers a causes.NoTurn here refusal = tt
-stops old draft answers a causes.WrongAnswer here refusal = tt
+stops old draft answers a causes.WrongAnswer here refusal = (here, refusal)
 stops old draft answers a causes.OutOfMemory here refusal = (here, refusal)
+
+-- and the session that asks is told so
+pub refused_answer : (configs : List CacheConfig) (lives : Lives) (t : History) → BeginsWith configs t → Tells t lives → (id : ℕ) (a : Answer) (cause : Cause) → IsRefusedFor lives (event.Answer id a) cause → IsRefusedAnswer configs id a (answer_fault_of cause)
+refused_answer configs lives t begins tells id a causes.WrongAnswer refusal =
+    record { transcript = t; lives = lives; told = record { legal = tells.legal; begins = begins; tells = tells }; refusal = refusal }
+refused_answer configs lives t begins tells id a causes.NoSuchCache refusal = tt
+refused_answer configs lives t begins tells id a causes.NoSuchProcessor refusal = tt
+refused_answer configs lives t begins tells id a causes.Busy refusal = tt
+refused_answer configs lives t begins tells id a causes.NoTurn refusal = tt
+refused_answer configs lives t begins tells id a causes.OutOfMemory refusal = tt
 
 -- Why a call does not begin.
 

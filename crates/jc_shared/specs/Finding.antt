@@ -7,8 +7,8 @@ use Rattle.jc_shared.specs.declared.fault.CallFault.{CallFault}
 use Rattle.jc_shared.specs.declared.fault.CallFault.TheVariants.{NoSuchCache, NoSuchProcessor, Busy, Overtaken, OutOfMemory}
 use Rattle.jc_shared.specs.declared.fault.DestroyFault.{DestroyFault}
 use Rattle.jc_shared.specs.declared.fault.DestroyFault.TheVariants as destroying
-use Rattle.jc_shared.specs.declared.fault.Halt.{Halt}
-use Rattle.jc_shared.specs.declared.fault.Halt.TheVariants as halts
+use Rattle.jc_shared.specs.declared.fault.AnswerFault.{AnswerFault}
+use Rattle.jc_shared.specs.declared.fault.AnswerFault.TheVariants as answering
 use Rattle.jc_shared.specs.declared.fault.Unfound.{Unfound}
 use Rattle.jc_shared.specs.declared.fault.Unfound.TheVariants as unfound
 use Rattle.jc_model.specs.declared.event.Entry.{Entry}
@@ -31,9 +31,10 @@ fault_of causes.WrongAnswer = Overtaken
 fault_of causes.OutOfMemory = OutOfMemory
 
 -- why no further answer is taken, by why the engine refuses it
-abbrev pub halt_of : Cause → Halt
-halt_of causes.OutOfMemory = halts.OutOfMemory
-halt_of _ = halts.Overtaken
+abbrev pub answer_fault_of : Cause → AnswerFault
+answer_fault_of causes.OutOfMemory = answering.OutOfMemory
+answer_fault_of causes.WrongAnswer = answering.WrongAnswer
+answer_fault_of _ = answering.Overtaken
 
 -- a hooks lock that is there is refused for memory alone
 abbrev pub unfound_at : {A : Type 0} → Option A → Unfound

@@ -1,6 +1,8 @@
 pub mod Stated
 pub mod Sessions
 pub mod Calls
+pub mod Pending
+pub mod Progress
 pub mod Accounts
 pub mod Opening
 pub mod Tenures

@@ -4,7 +4,7 @@ use Rattle.jc_model.specs.declared.config.CacheConfig.{CacheConfig}
 use Rattle.jc_model.specs.declared.event.Cause.{Cause}
 use Rattle.jc_model.specs.declared.event.Cause.TheVariants as cause
 use Rattle.jc_model.specs.declared.event.CreateRefusal.{CreateRefusal}
-use Rattle.jc_model.specs.Places.{named_from}
+use Rattle.jc_model.specs.Places.{at_place, named_from}
 use Rattle.jc_model.specs.declared.event.Event.{Event}
 use Rattle.jc_model.specs.declared.event.Event.TheVariants as event
 use Rattle.jc_model.specs.declared.event.Outcome.TheVariants.{Created, Destroyed}
@@ -12,6 +12,7 @@ use Rattle.jc_model.specs.Runs.{Status, Lives, live_at, create_refusal}
 use Rattle.jc_model.specs.Solo.{state_of}
 use Rattle.jc_model.specs.Whole.{holds}
 use Rattle.jc_model.specs.Legal.{History, IsLegal, Tells, config_of}
+use Rattle.jc_engine.specs.Advances.{is_open_in}
 use Rattle.jc_engine.specs.Caches.{lives_of}
 use Rattle.jc_engine.specs.Recording.{Recording}
 use Rattle.jc_rows.specs.Images.{last_image}
@@ -109,6 +110,18 @@ abbrev pub IsDestroyRefusal : List CacheConfig → ℕ → DestroyFault → Type
 IsDestroyRefusal configs id destroying.NoSuchCache = IsMissing configs id (event.Destroy id)
 IsDestroyRefusal configs id destroying.Busy = Refuses configs (event.Destroy id) cause.Busy
 IsDestroyRefusal configs id destroying.OutOfMemory = ⊤
+
+-- no call is open
+pub record IsIdle (configs : List CacheConfig) : Type 0 where
+  pub recorded : Recording
+  pub told : IsToldOf configs recorded
+  pub idle : (id : ℕ) → is_open_in (at_place recorded.caches id) ≡ false
+
+-- the cache's call is open
+pub record HasOpenCall (configs : List CacheConfig) (id : ℕ) : Type 0 where
+  pub recorded : Recording
+  pub told : IsToldOf configs recorded
+  pub opened : is_open_in (at_place recorded.caches id) ≡ true
 
 -- whether a cache that may be live has a live row of this key
 abbrev pub has_live_row : ℕ → List ℕ → Option Status → Bool

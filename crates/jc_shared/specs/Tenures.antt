@@ -16,8 +16,8 @@ use Rattle.jc_model.specs.Legal.{recorded}
 use Rattle.jc_engine.specs.Caches.{lives_of}
 use Rattle.jc_engine.specs.Recording.{Recording}
 use Rattle.jc_shared.specs.declared.fault.CallFault.{CallFault}
-use Rattle.jc_shared.specs.declared.fault.Halt.{Halt}
-use Rattle.jc_shared.specs.declared.fault.Halt.TheVariants as halts
+use Rattle.jc_shared.specs.declared.fault.AnswerFault.{AnswerFault}
+use Rattle.jc_shared.specs.declared.fault.AnswerFault.TheVariants as answering
 use Rattle.jc_shared.specs.declared.turned.Turned.{Turned}
 use Rattle.jc_shared.specs.declared.turned.Turned.TheVariants.{Asked, Replied}
 use Rattle.jc_shared.specs.Finding.{fault_of, IsOpen}
@@ -44,10 +44,12 @@ step_of (Asked request) = Need request
 step_of (Replied reply) = Done reply
 
 -- why an answer brings the draft's call no further, which has been given these before
-abbrev pub Stops : Recording → Entry → List Answer → Answer → Halt → Type 0
-Stops old draft answers a halts.OutOfMemory =
+abbrev pub Stops : Recording → Entry → List Answer → Answer → AnswerFault → Type 0
+Stops old draft answers a answering.WrongAnswer =
+    IsOpen (lives_of old.caches) old.transcript draft answers × IsRefusedFor (lives_of old.caches) (event.Answer draft.id a) causes.WrongAnswer
+Stops old draft answers a answering.OutOfMemory =
     IsOpen (lives_of old.caches) old.transcript draft answers × IsRefusedFor (lives_of old.caches) (event.Answer draft.id a) causes.OutOfMemory
-Stops old draft answers a halts.Overtaken = ⊤
+Stops old draft answers a answering.Overtaken = ⊤
 
 -- the draft's call was given up, and has these notices then: those that were told, and those that are left
 pub record GivesUp (old new : Recording) (draft : Entry) (told : List Notice) : Type 0 where

@@ -1,5 +1,5 @@
 //! Carrying an open call on: each request is answered outside the engine's lock, each answer goes in under it.
-ghost use Rattle.std.specs.Prelude.{◌≡◌, ◌++◌, ◌∷◌, [], List, false, IsTrue, IfOk, OnOk, OnErr, MatchResult, slice_get};
+ghost use Rattle.std.specs.Prelude.{◌≡◌, ◌++◌, ◌∷◌, [], List, Some, false, IsTrue, IfOk, OnOk, OnErr, MatchResult, slice_get};
 ghost use mathlib.Core.List.{IsPrefix};
 ghost use Rattle.jc_model.specs.declared.call.Answer.{Answer as Given};
 ghost use Rattle.jc_model.specs.declared.event.End.TheVariants.{Waiting};
@@ -10,7 +10,7 @@ ghost use Rattle.jc_shared.specs.Serving.{Serves, TellsOn, TellsOnce, told_behin
 ghost use Rattle.jc_shared.specs.declared.turned.Turned.TheVariants.{Asked, Replied};
 ghost use Rattle.jc_shared.specs.Stated.{AreOf, IsStatedBy, AreStated};
 
-use crate::fault::{CallFault, Halt};
+use crate::fault::{AnswerFault, CallFault};
 use crate::hooks::{LockedHooks, SharedHooks};
 use crate::keeping::Keeping;
 use crate::manager::Manager;
@@ -28,7 +28,7 @@ use jc_model::share::Share;
 use std::sync::Wait;
 
 /// Adds an equal copy of the answer to the draft.
-fn note_answer(draft: &mut Entry, answer: &Answer) -> Result<(), OutOfMemory>
+pub(crate) fn note_answer(draft: &mut Entry, answer: &Answer) -> Result<(), OutOfMemory>
     ensures ok { OnOk result (draft.new ≡ record draft.old { answers = draft.old.answers ++ answer.now ∷ [] }) }
     ensures err { OnErr result (draft.new ≡ draft.old) }
 {
@@ -37,14 +37,15 @@ fn note_answer(draft: &mut Entry, answer: &Answer) -> Result<(), OutOfMemory>
 }
 
 /// Takes the last answer back.
-fn take_back(draft: &mut Entry)
-    ensures { (answers : List Given) (a : Given) → draft.old.answers ≡ answers ++ a ∷ [] → draft.new ≡ record draft.old { answers = answers } }
+pub(crate) fn take_back(draft: &mut Entry) -> Option<Answer>
+    ensures taken { (answers : List Given) (a : Given) → draft.old.answers ≡ answers ++ a ∷ [] → draft.new ≡ record draft.old { answers = answers } }
+    ensures answer { (answers : List Given) (a : Given) → draft.old.answers ≡ answers ++ a ∷ [] → result ≡ Some a }
 {
-    draft.answers.pop();
+    draft.answers.pop()
 }
 
 /// Whether a request tells notices of a call that has told its notices.
-fn tells_again(draft: &Entry, request: &Request) -> bool
+pub(crate) fn tells_again(draft: &Entry, request: &Request) -> bool
     ensures { result ≡ false → TellsOnce request.now draft.now.told }
 {
     match request {
@@ -139,11 +140,11 @@ impl<N: Name, L: Loader, W: Writer, P: Processor, K: Hearer, J: Keeping> Manager
         let resumed = self.locked.lock(rt).resume(draft, answer, pass);
         match resumed {
             Ok(turned) => Ok(turned),
-            Err(Halt::OutOfMemory) => {
+            Err(AnswerFault::OutOfMemory) => {
                 take_back(draft);
                 Err(self.give_up(rt, hooks, draft, pass))
             }
-            Err(Halt::Overtaken) => {
+            Err(_) => {
                 take_back(draft);
                 Err(CallFault::Overtaken)
             }

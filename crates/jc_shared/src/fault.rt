@@ -88,9 +88,11 @@ impl From<Unfound> for DestroyFault {
     }
 }
 
-/// Why a tenure of the lock brings an open call no further.
-#[derive(Clone, Copy)]
-pub(crate) enum Halt {
+/// Why an open call does not take an answer.
+#[derive(Clone, Copy, Debug, PartialEq, Eq)]
+pub enum AnswerFault {
+    /// It is of another kind than the one that the call's request awaits.
+    WrongAnswer,
     /// The entry under the lock is not that of this call.
     Overtaken,
     OutOfMemory,

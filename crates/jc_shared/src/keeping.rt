@@ -69,7 +69,7 @@ impl OwnCalls for OwnList {
 /// Entries that exist in proofs alone.
 #[derive(Drop)]
 pub struct OwnPast {
-    past: Past,
+    pub(crate) past: Past,
 }
 
 impl OwnCalls for OwnPast {

@@ -2,27 +2,35 @@
 #![tactic(auto)]
 
 mod auditing;
+mod by_hand;
 mod carry;
 mod directory;
 mod fault;
 mod hooks;
 mod keeping;
+mod lent;
 mod locked;
 mod manager;
 mod name;
+mod pending;
+mod service;
 mod session;
 mod shared;
 mod tables;
 mod turned;
 
 pub use auditing::{Logged, SessionLog, audit};
-pub use fault::{CallFault, CloseFault, CreateFault, DestroyFault, SessionRefusal, SharedRefusal};
+pub use fault::{
+    AnswerFault, CallFault, CloseFault, CreateFault, DestroyFault, SessionRefusal, SharedRefusal,
+};
 pub use hooks::SharedHooks;
 pub use jc_engine::journal::all_calls::AllCalls;
 pub use jc_engine::journal::open_calls::OpenCalls;
 pub use keeping::{Keeping, OwnCalls, OwnList, OwnPast};
 pub use manager::Manager;
 pub use name::Name;
+pub use pending::{PendingCall, Progress};
+pub use service::Service;
 pub use session::Session;
 pub use shared::Shared;
 pub use tables::{Table, table};

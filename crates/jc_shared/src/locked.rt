@@ -19,15 +19,16 @@ ghost use Rattle.jc_engine.specs.Results.{reply_in};
 ghost use Rattle.jc_shared.specs.Accounts.{Accounts, IsCloseFault, IsCloseRefusal};
 ghost use Rattle.jc_shared.specs.Admitting.{Admits};
 ghost use Rattle.jc_shared.specs.Calls.{Stands, GoesOn, IsBeginFault};
-ghost use Rattle.jc_shared.specs.Living.{IsHeld, Refuses, has_live_row};
+ghost use Rattle.jc_shared.specs.Living.{IsHeld, IsIdle, HasOpenCall, Refuses, has_live_row};
+ghost use Rattle.jc_shared.specs.Pending.{IsRefusedAnswer};
 ghost use Rattle.jc_shared.specs.Sessions.{BeginsWith, Sees, SeesSome};
-ghost use Rattle.jc_shared.specs.Finding.{fault_of, halt_of, IsOfCall, IsOpen, Turns, IsReplied};
+ghost use Rattle.jc_shared.specs.Finding.{fault_of, answer_fault_of, IsOfCall, IsOpen, Turns, IsReplied};
 ghost use Rattle.jc_shared.specs.Tenures.{IsTenure, IsRefusedCall, Stops, GivesUp, step_of};
 
 mod living;
 
 use crate::auditing::{Logged, audit};
-use crate::fault::{CallFault, CloseFault, Halt, SessionRefusal};
+use crate::fault::{AnswerFault, CallFault, CloseFault, SessionRefusal};
 use crate::keeping::Keeping;
 use crate::name::Name;
 use crate::tables::{ShownTable, TablePass};
@@ -67,12 +68,13 @@ fn fault_of(cause: Cause) -> CallFault
     }
 }
 
-fn halt_of(cause: Cause) -> Halt
-    ensures { result ≡ halt_of cause }
+fn answer_fault_of(cause: Cause) -> AnswerFault
+    ensures { result ≡ answer_fault_of cause }
 {
     match cause {
-        Cause::OutOfMemory => Halt::OutOfMemory,
-        _ => Halt::Overtaken,
+        Cause::OutOfMemory => AnswerFault::OutOfMemory,
+        Cause::WrongAnswer => AnswerFault::WrongAnswer,
+        _ => AnswerFault::Overtaken,
     }
 }
 
@@ -187,6 +189,7 @@ impl<N: Name, J: Keeping> Locked<N, J> {
         ensures same { (self.new.recorded ≡ self.old.recorded) × (self.new.given ≡ self.old.given) × (self.new.closed ≡ self.old.closed) }
         ensures front { IsPrefix pass.old.images pass.new.images }
         ensures sees { IsReplied turned.now → Sees self.old.recorded.transcript (lives_of self.old.recorded.caches) pass.new }
+        ensures unseen { IsReplied turned.now ⊎ (pass.new ≡ pass.old) }
     {
         match turned {
             Turned::Asked(_) => {}
@@ -203,6 +206,7 @@ impl<N: Name, J: Keeping> Locked<N, J> {
     ) -> Result<Turned, CallFault>
         requires { draft.old ≡ blank draft.old.session draft.old.id draft.old.at call }
         ensures ok { IfOk result (λ turned. GoesOn N.configs draft.old turned draft.new pass.new) }
+        ensures unseen { IfOk result (λ turned. IsReplied turned ⊎ (pass.new ≡ pass.old)) }
         ensures tenure { IfOk result (λ turned. IsTenure self.old.recorded self.new.recorded draft.old.session (Begin draft.old.id draft.old.at call) (Stepped (step_of turned))) }
         ensures front { IsPrefix pass.old.images pass.new.images }
         ensures err { IfErr result (λ fault. IsBeginFault N.configs draft.old.id draft.old.at call fault) }
@@ -228,21 +232,23 @@ impl<N: Name, J: Keeping> Locked<N, J> {
         draft: &mut Entry,
         answer: Answer,
         pass: &mut TablePass<N>,
-    ) -> Result<Turned, Halt>
+    ) -> Result<Turned, AnswerFault>
         requires waits { draft.old.end ≡ Waiting }
         requires answered { (before : List Given) × (draft.old.answers ≡ before ++ answer ∷ []) }
         ensures ok { IfOk result (λ turned. GoesOn N.configs draft.old turned draft.new pass.new) }
+        ensures unseen { IfOk result (λ turned. IsReplied turned ⊎ (pass.new ≡ pass.old)) }
         ensures tenure { IfOk result (λ turned. IsTenure self.old.recorded self.new.recorded draft.old.session (Answered draft.old.id answer) (Stepped (step_of turned))) }
         ensures front { IsPrefix pass.old.images pass.new.images }
-        ensures err { IfErr result (λ halt. (before : List Given) → draft.old.answers ≡ before ++ answer ∷ [] → Stops self.old.recorded draft.old before answer halt) }
+        ensures err { IfErr result (λ fault. (before : List Given) → draft.old.answers ≡ before ++ answer ∷ [] → Stops self.old.recorded draft.old before answer fault) }
         ensures same { OnErr result ((self.new.recorded ≡ self.old.recorded) × (draft.new ≡ draft.old) × (pass.new ≡ pass.old)) }
+        ensures refused { IfErr result (λ fault. IsRefusedAnswer N.configs draft.old.id answer fault) }
         ensures kept { (self.new.given ≡ self.old.given) × (self.new.closed ≡ self.old.closed) }
     {
         let Some((_, before)) = draft.answers.items().split_last() else {
             unreachable!()
         };
         if !self.is_open(draft, before) {
-            return Err(Halt::Overtaken);
+            return Err(AnswerFault::Overtaken);
         }
         match self.recorded.resume(draft.id, answer) {
             Ok(pair) => {
@@ -251,7 +257,7 @@ impl<N: Name, J: Keeping> Locked<N, J> {
                 self.show_reply(&turned, pass);
                 Ok(turned)
             }
-            Err((cause, _)) => Err(halt_of(cause)),
+            Err((cause, _)) => Err(answer_fault_of(cause)),
         }
     }
 
@@ -281,6 +287,14 @@ impl<N: Name, J: Keeping> Locked<N, J> {
         end_with(draft, End::GivenUp);
         self.show(pass);
         Ok(())
+    }
+
+    /// The first cache whose call is open, if any is.
+    pub(crate) fn open_call(&self) -> Option<CacheId>
+        ensures none { result ≡ None → IsIdle N.configs }
+        ensures some { IfSome result (λ id. HasOpenCall N.configs id) }
+    {
+        self.recorded.open_call()
     }
 
     /// Whether a cache has this id. Where none has, the engine refuses a call there for that.

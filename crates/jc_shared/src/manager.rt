@@ -1,5 +1,5 @@
 //! The manager that threads share.
-ghost use Rattle.std.specs.Prelude.{◌≡◌, ◌⊎◌, ℕ, true, [], Ok, Err, Some, None, IfSome, IfOk, IfErr, length, map, option_map, slice_get};
+ghost use Rattle.std.specs.Prelude.{◌≡◌, ◌⊎◌, ℕ, true, [], Ok, Err, Some, None, IfSome, IfOk, IfErr, OnOk, length, map, option_map, slice_get};
 ghost use Rattle.jc_model.specs.declared.call.Call.{Call as Called};
 ghost use Rattle.jc_model.specs.declared.config.CacheConfig.{CacheConfig};
 ghost use Rattle.jc_model.specs.declared.event.Cause.TheVariants.{NoSuchCache};
@@ -7,7 +7,7 @@ ghost use Rattle.jc_model.specs.declared.event.Event.TheVariants.{Begin};
 ghost use Rattle.jc_model.specs.Legal.{IsLegal};
 ghost use Rattle.jc_shared.specs.Accounts.{Accounts, IsCloseRefusal};
 ghost use Rattle.jc_shared.specs.Admitting.{IsAdmission};
-ghost use Rattle.jc_shared.specs.Living.{IsNamed, Refuses};
+ghost use Rattle.jc_shared.specs.Living.{HasOpenCall, IsIdle, IsNamed, Refuses};
 ghost use Rattle.jc_shared.specs.Sessions.{BeginsWith, SeesSome, log_of};
 ghost use Rattle.jc_shared.specs.Stated.{stated_by, AreOf, processor_counts, wanted_counts};
 
@@ -19,6 +19,7 @@ use crate::locked::Locked;
 use crate::name::Name;
 use crate::session::Session;
 use jc_engine::journal::all_calls::AllCalls;
+use jc_engine::journal::open_calls::OpenCalls;
 use jc_hooks::{Hearer, Loader, Processor, Writer};
 use jc_model::event::CacheId;
 use jc_model::key::Key;
@@ -26,7 +27,8 @@ use jc_model::transcript::Transcript;
 use std::alloc::Global;
 use std::sync::{Mutex, Wait};
 
-/// Caches that many sessions share, and which they may create and destroy.
+/// Caches that many sessions share, and which they may create and destroy. It keeps all calls, with which its sessions
+/// are compared when it closes, or over the journal `OpenCalls` those alone that wait: then calls may be made by hand.
 ///
 /// One lock holds the recorded engine. The loaders and processors of the opening stand beside all locks. All other
 /// callbacks stand under a lock for each cache that has any, which a call on the cache holds from its begin to its end.
@@ -145,6 +147,38 @@ impl<N: Name, L: Loader, W: Writer, P: Processor, K: Hearer> Manager<N, L, W, P,
         match finished {
             Ok(transcript) => Ok(transcript),
             Err(fault) => Err((fault, sessions)),
+        }
+    }
+}
+
+impl<N: Name, L: Loader, W: Writer, P: Processor, K: Hearer> Manager<N, L, W, P, K, OpenCalls> {
+    /// Ends the manager, where no call is open. Its sessions have ended before, since they borrow it.
+    ///
+    /// Else the first cache whose call is open is told, and the manager is handed back.
+    pub fn end(self) -> Result<(), (CacheId, Manager<N, L, W, P, K, OpenCalls>)>
+        ensures ended { OnOk result (IsIdle N.configs) }
+        ensures open { IfErr result (λ e. HasOpenCall N.configs e.0) }
+    {
+        let Manager {
+            alloc,
+            shared,
+            locks,
+            directory,
+            locked,
+        } = self;
+        let locked = locked.into_inner();
+        match locked.open_call() {
+            None => Ok(()),
+            Some(id) => Err((
+                id,
+                Manager {
+                    alloc,
+                    shared,
+                    locks,
+                    directory,
+                    locked: Mutex::new(locked),
+                },
+            )),
         }
     }
 }

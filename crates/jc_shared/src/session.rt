@@ -39,7 +39,7 @@ use std::marker::Model;
 use std::sync::Wait;
 
 /// A session of a manager, with the entries of its own calls, and a pass, in which it looks keys up. Contracts see its
-/// number, these, and what the pass has seen.
+/// number, these, and what the pass has seen; over the journal `OpenCalls` its own calls are not in memory.
 #[derive(Drop)]
 pub struct Session<
     'a,
@@ -50,10 +50,10 @@ pub struct Session<
     K: Hearer,
     J: Keeping = AllCalls,
 > {
-    manager: &'a Manager<N, L, W, P, K, J>,
-    number: u32,
-    own: J::Own,
-    pass: TablePass<N>,
+    pub(crate) manager: &'a Manager<N, L, W, P, K, J>,
+    pub(crate) number: u32,
+    pub(crate) own: J::Own,
+    pub(crate) pass: TablePass<N>,
 }
 
 impl<'a, N: Name, L: Loader, W: Writer, P: Processor, K: Hearer, J: Keeping> Model
@@ -81,7 +81,7 @@ impl<'a, N: Name, L: Loader, W: Writer, P: Processor, K: Hearer> Logged
 }
 
 /// The entry of a call that is to begin, with a copy of the call, and room for it among a session's own.
-fn draft_of<O: OwnCalls>(
+pub(crate) fn draft_of<O: OwnCalls>(
     alloc: Global,
     own: &mut O,
     session: u32,
@@ -144,8 +144,8 @@ impl<'a, N: Name, L: Loader, W: Writer, P: Processor, K: Hearer, J: Keeping> Ses
     /// Refused as `NoSuchCache`, `NoSuchProcessor`, then as `OutOfMemory`, `Busy` or `Overtaken`; also as `NoSuchCache`
     /// where the cache is destroyed meanwhile, and as `OutOfMemory` at once where the callbacks of a created cache can't
     /// be shared. A call that has not begun leaves the session as it was. Where memory is refused in the midst of the call it is given up,
-    /// and its listeners are told what it has changed; its entry says so. By the locks no use of a manager should come
-    /// to `Busy` or `Overtaken`; no clause says so.
+    /// and its listeners are told what it has changed; its entry says so. `Busy` is for a cache on which a call by hand
+    /// is open: by the locks nothing else should come to it, nor to `Overtaken`; no clause says so.
     pub fn call<R: Wait>(
         &mut self,
         rt: &R,
@@ -286,7 +286,7 @@ impl<'a, N: Name, L: Loader, W: Writer, P: Processor, K: Hearer, J: Keeping> Ses
     /// it at once.
     ///
     /// Refused as `NoSuchCache`, `Busy`; as `OutOfMemory` at once where the callbacks of a created cache can't be
-    /// shared. The session is then as it was. By the locks none should come to `Busy`; no clause says so.
+    /// shared. The session is then as it was. `Busy` is as for a call.
     pub fn destroy<R: Wait>(&mut self, rt: &R, id: CacheId) -> Result<(), DestroyFault>
         ensures gone { OnOk result (HasGone N.configs id self.new.pass) }
         ensures fault { IfErr result (λ fault. IsDestroyRefusal N.configs id fault) }

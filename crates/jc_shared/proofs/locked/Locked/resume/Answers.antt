@@ -3,7 +3,7 @@ use Rattle.jc_model.specs.declared.event.Event.TheVariants as event
 use Rattle.jc_model.specs.Runs.{answers}
 use Rattle.jc_engine.specs.Caches.{lives_of}
 use Rattle.jc_engine.specs.Results.{of_recorded_resume}
-use Rattle.jc_shared.proofs.Tenures.{still_begins, resumed_goes_on, is_tenure, stops, last_given}
+use Rattle.jc_shared.proofs.Tenures.{still_begins, resumed_goes_on, is_tenure, refused_answer, last_given}
 use Rattle.jc_shared.proofs.locked.Locked.resume.Goals as goal
 
 pub invariant_of-self : goal.invariant_of-self
@@ -29,3 +29,8 @@ returns-in-Ok-clause-tenure g c =
     let draft = c.args.draft.now in
     is_tenure c.args.self.now.recorded c.resume.new.self c.show_reply.new.self.recorded draft.session (event.Answer draft.id c.args.answer) c.in-Ok.pair.0 c.turned-turned.result draft c.turned-turned.new.draft
     c.turned-turned.ensures c.show_reply.ensures.same.0 c.in-Ok.ensures.outcome (c.in-Ok.ensures.transcript draft.session) c.in-Ok.ensures.lives
+
+pub returns-clause-refused : goal.returns-clause-refused
+returns-clause-refused g c =
+    let old = c.args.self.now.recorded in
+    rw c.answer_fault_of.ensures (refused_answer g.N.Name.configs (lives_of old.caches) old.transcript c.args.self.now.begins c.in-Err.ensures.told.0 c.args.draft.now.id c.args.answer c.in-Err.cause c.in-Err.ensures.outcome)

@@ -1,7 +1,7 @@
-use Rattle.std.proofs.Common.{◌≡◌, List, [], ◌∷◌, ◌++◌, sym, ◌∙◌, ap, subst}
-use Rattle.std.specs.Prelude.{OnErr}
+use Rattle.std.proofs.Common.{◌≡◌, List, [], ◌∷◌, ◌++◌, refl, sym, ◌∙◌, ap, subst}
 use Rattle.jc_model.specs.declared.call.Notice.{Notice}
 use Rattle.jc_model.specs.declared.event.Entry.{Entry}
+use Rattle.jc_shared.specs.Calls.{IsSameCall}
 use Rattle.jc_shared.specs.Serving.{told_behind, Tells}
 use Rattle.jc_engine.proofs.Recordings.{on_ok}
 use Rattle.jc_shared.proofs.Carrying.{second_on_err, on_err, served_on, noted_waits, goes_stays, goes_untold, goes_unanswered}
@@ -26,10 +26,30 @@ returns-in-Err-OutOfMemory-clause-told g c =
     let told = told_behind c.args.request c.args.draft.now.told in
     let noted = on_ok c.note_answer.result c.note_answer.ensures.ok (sym c.is_err.ensures.value ∙ c.if-is_err.false) in
     let same : c.resume-resumed.new.draft ≡ c.note_answer.new.draft = second_on_err _ _ _ c.resume-resumed.result _ c.in-Err-OutOfMemory.is c.resume-resumed.ensures.same in
-    let back = c.take_back.ensures c.keep_told.new.draft.answers c.in-Ok.answer (ap (λ (e : Entry). e.answers) (same ∙ noted)) in
+    let back = c.take_back.ensures.taken c.keep_told.new.draft.answers c.in-Ok.answer (ap (λ (e : Entry). e.answers) (same ∙ noted)) in
     let kept : c.take_back.new.draft.told ≡ told = ap (λ (e : Entry). e.told) back ∙ ap (λ (e : Entry). e.told) (same ∙ noted) ∙ ap (λ (e : Entry). e.told) c.keep_told.ensures in
     let served = served_on g.K.Hearer.state_after g.W.Writer.may c.args.hooks.now c.answer.new.hooks c.args.request c.in-Ok.answer c.args.draft.now.told (c.tells_again.ensures c.if-tells_again.false) c.in-Ok.ensures.served in
     λ first h. c.give_up-in-Err-OutOfMemory.ensures.told first (subst (λ (ns : List Notice). Tells g.K.Hearer.state_after first c.answer.new.hooks ns) (sym kept) (served first h))
+
+pub returns-in-Err : goal.returns-in-Err
+returns-in-Err g c =
+    let draft = c.args.draft.now in
+    let told = told_behind c.args.request draft.told in
+    let held = c.keep_told.new.draft in
+    let new = c.take_back-in-Err.new.draft in
+    let noted = on_ok c.note_answer.result c.note_answer.ensures.ok (sym c.is_err.ensures.value ∙ c.if-is_err.false) in
+    let same : c.resume-resumed.new.draft ≡ record held { answers = held.answers ++ c.in-Ok.answer ∷ [] } = c.in-Err.ensures.same.1 ∙ noted in
+    let back : new ≡ record draft { told = told } =
+    c.take_back-in-Err.ensures.taken held.answers c.in-Ok.answer (ap (λ (e : Entry). e.answers) same) ∙ (ap (λ (e : Entry). record e { answers = held.answers }) same ∙ c.keep_told.ensures) in
+    let served = served_on g.K.Hearer.state_after g.W.Writer.may c.args.hooks.now c.answer.new.hooks c.args.request c.in-Ok.answer draft.told (c.tells_again.ensures c.if-tells_again.false) c.in-Ok.ensures.served in
+    record {
+      same = subst (IsSameCall draft) (sym back) refl;
+      served = tt;
+      kept = ap (λ (e : Entry). e.answers) back;
+      brought = ap (λ (e : Entry). e.end) back ∙ c.requires.asked.waits;
+      front = c.resume-resumed.ensures.front;
+      told = λ first h. subst (λ (ns : List Notice). Tells g.K.Hearer.state_after first c.answer.new.hooks ns) (sym (ap (λ (e : Entry). e.told) back)) (served first h);
+    }
 
 pub returns-in-Ok-resumed-clause-told : goal.returns-in-Ok-resumed-clause-told
 returns-in-Ok-resumed-clause-told g c =

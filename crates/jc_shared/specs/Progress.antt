@@ -1,0 +1,53 @@
+-- How far a session has brought a call.
+use Rattle.std.specs.Prelude.{◌≡◌, ◌⊎◌, ◌++◌, ◌∷◌, [], ℕ, List}
+use Rattle.jc_model.specs.declared.call.Answer.{Answer}
+use Rattle.jc_model.specs.declared.call.Call.{Call}
+use Rattle.jc_model.specs.declared.call.Notice.{Notice}
+use Rattle.jc_model.specs.declared.config.CacheConfig.{CacheConfig}
+use Rattle.jc_model.specs.declared.event.End.{End}
+use Rattle.jc_model.specs.declared.event.End.TheVariants as ends
+use Rattle.jc_model.specs.declared.event.Entry.{Entry}
+use Rattle.jc_model.specs.declared.event.Event.TheVariants as event
+use Rattle.jc_model.specs.Asking.{AsksOf}
+use Rattle.jc_engine.specs.Recording.{blank}
+use Rattle.jc_shared.specs.Calls.{IsBeginFault, called}
+use Rattle.jc_shared.specs.Living.{IsMissing}
+use Rattle.jc_shared.specs.declared.fault.CallFault.{CallFault}
+use Rattle.jc_shared.specs.declared.fault.CallFault.TheVariants as faults
+use Rattle.jc_shared.specs.declared.pending.Progress.{Progress}
+use Rattle.jc_shared.specs.declared.pending.Progress.TheVariants as progress
+use Rattle.jc_shared.specs.declared.turned.Turned.{Turned}
+use Rattle.jc_shared.specs.declared.turned.Turned.TheVariants.{Asked, Replied}
+use Rattle.jc_shared.specs.Pending.{Pending, AddsEntry}
+use Rattle.jc_shared.specs.Sessions.{Sitting}
+
+-- the call of this entry has its reply, and the session has it among its own calls; or it waits, for what it asks for
+-- itself, and the session is as it was
+abbrev pub IsBroughtTo : List CacheConfig → Sitting → Sitting → Entry → Progress Pending → Type 0
+IsBroughtTo configs old new e (progress.Replied reply) = AddsEntry configs old new (record e { end = ends.Replied reply })
+IsBroughtTo configs old new e (progress.Waits p) = (new ≡ old) × (p.draft ≡ e) × AsksOf e.call p.request
+
+-- what a tenure of the lock has brought a call to is shown so
+abbrev pub ShowsAs : Sitting → Entry → Turned → Sitting → Progress Pending → Type 0
+ShowsAs old e (Replied reply) new (progress.Replied shown) = (shown ≡ reply) × (new ≡ record old { calls = old.calls ++ e ∷ [] })
+ShowsAs old e (Asked request) new (progress.Waits p) = (p ≡ record { draft = e; request = request }) × (new ≡ old)
+ShowsAs old e _ new _ = ⊥
+
+-- the session's list has grown by the call of this entry, which was given some answers, has told some notices, and ended so
+pub record AddsCall (configs : List CacheConfig) (old new : Sitting) (e : Entry) (n : End) : Type 0 where
+  pub answers : List Answer
+  pub told : List Notice
+  pub adds : AddsEntry configs old new (called e.session e.id e.at e.call answers told n)
+
+-- why a call that has begun has no reply: it was given up, or the manager has no such call
+abbrev pub EndsBy : List CacheConfig → Sitting → Sitting → Entry → CallFault → Type 0
+EndsBy configs old new e faults.OutOfMemory = AddsCall configs old new e ends.GivenUp
+EndsBy configs old new e faults.Overtaken = new ≡ old
+EndsBy configs old new e fault = ⊥
+
+-- why a call has no reply, whose requests were answered by what was lent to it
+abbrev pub FailsBy : List CacheConfig → Sitting → Sitting → ℕ → ℕ → Call → CallFault → Type 0
+FailsBy configs old new id at call faults.OutOfMemory = (new ≡ old) ⊎ AddsCall configs old new (blank old.number id at call) ends.GivenUp
+FailsBy configs old new id at call faults.Overtaken = new ≡ old
+FailsBy configs old new id at call faults.NoSuchCache = (new ≡ old) × IsMissing configs id (event.Begin id at call)
+FailsBy configs old new id at call fault = (new ≡ old) × IsBeginFault configs id at call fault

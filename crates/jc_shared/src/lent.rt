@@ -1,0 +1,150 @@
+//! Calls whose requests are answered by what is lent to them.
+ghost use Rattle.std.specs.Prelude.{◌≡◌, IfOk, IfErr};
+ghost use mathlib.Core.List.{IsPrefix};
+ghost use Rattle.jc_model.specs.declared.event.End.TheVariants.{Replied};
+ghost use Rattle.jc_engine.specs.Recording.{blank};
+ghost use Rattle.jc_shared.specs.Progress.{AddsCall, EndsBy, FailsBy};
+
+use crate::fault::CallFault;
+use crate::name::Name;
+use crate::pending::{PendingCall, Progress};
+use crate::session::Session;
+use jc_engine::journal::open_calls::OpenCalls;
+use jc_hooks::{Hearer, Loader, Processor, Responder, Writer};
+use jc_model::call::{Call, Reply, Request};
+use jc_model::event::CacheId;
+use std::sync::Wait;
+
+impl<'a, N: Name, L: Loader, W: Writer, P: Processor, K: Hearer> Session<
+    'a,
+    N,
+    L,
+    W,
+    P,
+    K,
+    OpenCalls,
+> {
+    /// Makes a call whose requests are answered by what is lent to it. Such calls on a cache, and those that its callbacks
+    /// answer, wait for each other.
+    ///
+    /// Refused as `begin`; also as `OutOfMemory` at once where the callbacks of a created cache can't be shared. Where an
+    /// answer or memory for it is lacking the call is given up, and the notices that are left are told: `OutOfMemory`.
+    pub fn call_by<R: Wait, A: Responder>(
+        &mut self,
+        rt: &R,
+        id: CacheId,
+        now: u64,
+        call: Call,
+        responder: &mut A,
+    ) -> Result<Reply, CallFault>
+        ensures number { self.new.number ≡ self.old.number }
+        ensures ok { IfOk result (λ reply. AddsCall N.configs self.old self.new (blank self.old.number id now call) (Replied reply)) }
+        ensures err { IfErr result (λ fault. FailsBy N.configs self.old self.new id now call fault) }
+        ensures front { IsPrefix self.old.pass.images self.new.pass.images }
+    {
+        let manager = self.manager;
+        if manager.opened(id).is_some() {
+            return self.call_opened_by(rt, id, now, call, responder);
+        }
+        let lock = match manager.hooks_lock(rt, id) {
+            Ok(lock) => lock,
+            Err(unfound) => {
+                drop(call);
+                return Err(CallFault::from(unfound));
+            }
+        };
+        let _turn = lock.lock(rt);
+        self.make_by(rt, id, now, call, responder)
+    }
+
+    /// The same on a cache of the opening.
+    fn call_opened_by<R: Wait, A: Responder>(
+        &mut self,
+        rt: &R,
+        id: CacheId,
+        now: u64,
+        call: Call,
+        responder: &mut A,
+    ) -> Result<Reply, CallFault>
+        ensures number { self.new.number ≡ self.old.number }
+        ensures ok { IfOk result (λ reply. AddsCall N.configs self.old self.new (blank self.old.number id now call) (Replied reply)) }
+        ensures err { IfErr result (λ fault. FailsBy N.configs self.old self.new id now call fault) }
+        ensures front { IsPrefix self.old.pass.images self.new.pass.images }
+    {
+        let manager = self.manager;
+        let Some(lock) = manager.opened_lock(id) else {
+            return self.make_by(rt, id, now, call, responder);
+        };
+        let _turn = lock.lock(rt);
+        self.make_by(rt, id, now, call, responder)
+    }
+
+    /// The same in the cache's turn.
+    fn make_by<R: Wait, A: Responder>(
+        &mut self,
+        rt: &R,
+        id: CacheId,
+        now: u64,
+        call: Call,
+        responder: &mut A,
+    ) -> Result<Reply, CallFault>
+        ensures number { self.new.number ≡ self.old.number }
+        ensures ok { IfOk result (λ reply. AddsCall N.configs self.old self.new (blank self.old.number id now call) (Replied reply)) }
+        ensures err { IfErr result (λ fault. FailsBy N.configs self.old self.new id now call fault) }
+        ensures front { IsPrefix self.old.pass.images self.new.pass.images }
+    {
+        match self.begin(rt, id, now, call) {
+            Ok(Progress::Replied(reply)) => Ok(reply),
+            Ok(Progress::Waits(pending)) => self.carry(rt, pending, responder),
+            Err((fault, _)) => Err(fault),
+        }
+    }
+
+    /// Carries a call to its end.
+    fn carry<R: Wait, A: Responder>(
+        &mut self,
+        rt: &R,
+        pending: PendingCall<N>,
+        responder: &mut A,
+    ) -> Result<Reply, CallFault>
+        ensures number { self.new.number ≡ self.old.number }
+        ensures ok { IfOk result (λ reply. AddsCall N.configs self.old self.new pending.draft (Replied reply)) }
+        ensures err { IfErr result (λ fault. EndsBy N.configs self.old self.new pending.draft fault) }
+        ensures front { IsPrefix self.old.pass.images self.new.pass.images }
+    {
+        let mut pending = pending;
+        for _ in rt.forever() {
+            let Ok(answer) = responder.respond(pending.request()) else {
+                return Err(self.abandon(rt, pending, responder));
+            };
+            match self.resume(rt, pending, answer) {
+                Ok(Progress::Replied(reply)) => return Ok(reply),
+                Ok(Progress::Waits(next)) => pending = next,
+                Err((_, back, _)) => return Err(self.abandon(rt, back, responder)),
+            }
+        }
+        unreachable!()
+    }
+
+    /// Gives a call up, and tells the notices that are left.
+    fn abandon<R: Wait, A: Responder>(
+        &mut self,
+        rt: &R,
+        pending: PendingCall<N>,
+        responder: &mut A,
+    ) -> CallFault
+        ensures number { self.new.number ≡ self.old.number }
+        ensures ends { EndsBy N.configs self.old self.new pending.draft result }
+        ensures front { IsPrefix self.old.pass.images self.new.pass.images }
+    {
+        match self.give_up(rt, pending) {
+            Ok(left) => {
+                if !left.items().is_empty() {
+                    let _ = responder.respond(&Request::Tell(left));
+                }
+                CallFault::OutOfMemory
+            }
+            Err(fault) => fault,
+        }
+    }
+}
