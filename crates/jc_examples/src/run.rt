@@ -1,7 +1,10 @@
 //! Runs of the program, over the words of an example.
 
 use crate::over::{a_list_for_all_keys, one_bucket_for_all_keys};
-use jc_runner::{Disk, HostDisk, OpenFault, Opened, RunFault, Standard, program};
+use jc_explain::Kept;
+use jc_program::{KeepingDisk, run_program};
+use jc_runner::{Disk, OpenFault, Opened, RunFault, Standard, program};
+use std::alloc::Global;
 use std::fs::Files;
 use std::sync::Wait;
 use std::thread::Threads;
@@ -49,21 +52,47 @@ impl<'a> Disk for Texts<'a> {
     }
 }
 
-/// Runs the program on these words.
-fn printed<D: Disk, R: Threads + Wait + Sync + AllocGlobal>(
-    rt: &R,
-    words: &[&str],
-    disk: &mut D,
-    input: &[u8],
-) -> io::Result<Written> {
-    let alloc = rt.alloc();
+/// The words, each of its own.
+fn owned(alloc: Global, words: &[&str]) -> io::Result<Vec<String>> {
     let mut given = Vec::with_capacity(alloc, words.len())?;
     for word in words {
         given.push(word.to_string(alloc)?)?;
     }
+    Ok(given)
+}
+
+/// Runs the program on these words, without explanations.
+fn printed<D: Disk, R: Threads + Wait + Sync + AllocGlobal>(
+    rt: &R,
+    words: &[&str],
+    disk: &mut D,
+) -> io::Result<Written> {
+    let alloc = rt.alloc();
+    let given = owned(alloc, words)?;
     let mut opened = Opened::none();
+    let input: &[u8] = &[];
     let mut standard = Standard::new(input, Vec::new(alloc), Vec::new(alloc));
     let ended = program(rt, alloc, Ok(given), disk, &mut opened, &mut standard);
+    Ok(Written {
+        output: standard.output.into_inner(),
+        errors: standard.errors.into_inner(),
+        status: ended.status,
+    })
+}
+
+/// Runs the program on these words and the machine's files.
+fn printed_from_files<R: Files + Threads + Wait + Sync + AllocGlobal>(
+    rt: &R,
+    words: &[&str],
+    input: &[u8],
+) -> io::Result<Written> {
+    let alloc = rt.alloc();
+    let given = owned(alloc, words)?;
+    let mut disk = KeepingDisk::new(alloc, rt, true);
+    let mut opened = Opened::none();
+    let input = Kept::new(alloc, input, true);
+    let mut standard = Standard::new(input, Vec::new(alloc), Vec::new(alloc));
+    let ended = run_program(rt, alloc, Ok(given), &mut disk, &mut opened, &mut standard);
     Ok(Written {
         output: standard.output.into_inner(),
         errors: standard.errors.into_inner(),
@@ -95,12 +124,11 @@ pub fn run_words<R: Files + Print + Threads + Wait + Sync + AllocGlobal>(
     rt: &R,
     words: &[&str],
 ) -> io::Result<()> {
-    let mut disk = HostDisk { files: rt };
     let (words, input) = match words {
         [front @ .., sign, file] if *sign == "<" => (front, fs::read(rt, file)?),
         words => (words, Vec::new(rt.alloc())),
     };
-    show(rt, &printed(rt, words, &mut disk, input.as_slice())?)
+    show(rt, &printed_from_files(rt, words, input.as_slice())?)
 }
 
 /// Runs a configuration and a script, with these words.
@@ -110,9 +138,8 @@ fn worded<'a, R: Files + Threads + Wait + Sync + AllocGlobal>(
     script: &'a str,
     words: &[&'a str; 2],
 ) -> io::Result<Written> {
-    let mut disk = HostDisk { files: rt };
     let words = ["run", config, script, words[0], words[1]];
-    printed(rt, &words, &mut disk, &[])
+    printed_from_files(rt, &words, &[])
 }
 
 /// Runs a configuration and a script. With other seeds, in the order of the lines, where all keys share two buckets, and
@@ -160,7 +187,7 @@ fn run_texts<R: Files + Print + Threads + Wait + Sync + AllocGlobal>(
 ) -> io::Result<()> {
     let mut texts = Texts { config, script };
     let words = ["run", "config", "script"];
-    show_text(rt, &printed(rt, &words, &mut texts, &[])?)
+    show_text(rt, &printed(rt, &words, &mut texts)?)
 }
 
 /// Runs each line of a file as a script of its own.

@@ -49,13 +49,15 @@ module _ {L W P K : Type 0} (wants : P → Bool) where
   pub opened_suits : (caches caches' : List CacheConfig) (hooks : List (CacheHooks L W P K)) → caches' ≡ caches → CanOpen wants caches' hooks → AreSuited wants caches hooks
   opened_suits caches caches' hooks same opens = suited wants caches hooks (subst (λ (cs : List CacheConfig). AllSuit wants cs hooks) same opens.1)
 
-  pub opens_in_memory : (caches caches' : List CacheConfig) (hooks : List (CacheHooks L W P K)) (f : SharedRefusal) → caches' ≡ caches → f ≡ OutOfMemory → IsRefusal wants caches' hooks f → CannotOpen wants caches hooks → ⊥
-  opens_in_memory caches caches' hooks f same is refused cannot =
-      let opens : CanOpen wants caches' hooks = subst (IsRefusal wants caches' hooks) is refused in
+  pub opened_takes : (caches caches' : List CacheConfig) (hooks : List (CacheHooks L W P K)) → caches' ≡ caches → CanOpen wants caches' hooks → CannotOpen wants caches hooks → ⊥
+  opened_takes caches caches' hooks same opens cannot =
       elim cannot [
         | inl differ ↦ differ (opened_suits caches caches' hooks same opens)
         | inr closed ↦ absurd (false≢true (ap is_some (sym opens.0 ∙ ap open_refusal same) ∙ closed))
       ]
+
+  pub opens_in_memory : (caches caches' : List CacheConfig) (hooks : List (CacheHooks L W P K)) (f : SharedRefusal) → caches' ≡ caches → f ≡ OutOfMemory → IsRefusal wants caches' hooks f → CannotOpen wants caches hooks → ⊥
+  opens_in_memory caches caches' hooks f same is refused = opened_takes caches caches' hooks same (subst (IsRefusal wants caches' hooks) is refused)
 
 -- What was refused, line by line.
 

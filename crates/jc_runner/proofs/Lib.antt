@@ -19,3 +19,4 @@ pub mod Sessions
 pub mod Apart
 pub mod Kept
 pub mod Named
+pub mod Traces

@@ -4,18 +4,23 @@ use Rattle.std.specs.Prelude.{Bool, true, false, not, ◌&&◌, if◌then◌else
 use Rattle.std.specs.Io.KnownBytes.{Appends}
 use Rattle.clap.specs.Words.{kind_of}
 use Rattle.clap.specs.declared.error.kind.ErrorKind.TheVariants as kinds
-use Rattle.jc_runner.specs.Faults.{fault_line, is_of_report}
+use Rattle.jc_runner.specs.Faults.{fault_line, explained_line, is_of_report}
 use Rattle.jc_runner.specs.Meters.{next_if}
 use Rattle.jc_runner.specs.declared.ending.Ending.{Ending}
-use Rattle.jc_runner.specs.declared.ending.Ending.TheVariants.{Done, Faulty, Refused, NotText}
+use Rattle.jc_runner.specs.declared.ending.Ending.TheVariants.{Done, Faulty, Explained, Refused, NotText}
 use Rattle.jc_runner.specs.declared.fault.ProgramFault.{ProgramFault}
 use Rattle.jc_runner.specs.declared.fault.ProgramFault.TheVariants.{Run}
 use Rattle.jc_runner.specs.declared.fault.RunFault.TheVariants.{Memory}
 use Rattle.jc_runner.specs.declared.watched.WatchedWriter.{WatchedWriter}
 
-abbrev pub ending_of : {T : Type 0} → Result T ProgramFault → Ending
-ending_of (Ok done) = Done
-ending_of (Err fault) = Faulty fault
+-- a fault is told alone, or explained
+abbrev pub told_so : Bool → ProgramFault → Ending
+told_so false fault = Faulty fault
+told_so true fault = Explained fault
+
+abbrev pub ending_of : {T : Type 0} → Bool → Result T ProgramFault → Ending
+ending_of explain (Ok done) = Done
+ending_of explain (Err fault) = told_so explain fault
 
 abbrev pub no_memory : Ending
 no_memory = Faulty (Run Memory)
@@ -33,6 +38,7 @@ unwritten unheard = if unheard then 141 else 1
 abbrev pub HasStatus : Ending → Bool → Bool → ℕ → Type 0
 HasStatus Done told unheard status = status ≡ 0
 HasStatus (Faulty fault) told unheard status = status ≡ unwritten (is_unheard fault unheard)
+HasStatus (Explained fault) told unheard status = status ≡ unwritten (is_unheard fault unheard)
 HasStatus (Refused e) told unheard status =
     ((kind_of e ≡ kinds.DisplayHelp) ⊎ (kind_of e ≡ kinds.DisplayVersion) → status ≡ (if told then 0 else unwritten unheard))
     × (kind_of e ≢ kinds.DisplayHelp → kind_of e ≢ kinds.DisplayVersion → status ≡ 2)
@@ -47,17 +53,18 @@ module _ {E : Type 0} (said : E → Option (List ℕ)) where
   SaysNothing told old new = (told ≡ true) × (new ≡ old)
 
   -- a fault, which is not told where nobody reads the report any more
-  abbrev pub SaysFault : Bool → ProgramFault → Bool → WatchedWriter E → WatchedWriter E → Type 0
-  SaysFault true fault told old new = SaysNothing told old new
-  SaysFault false fault told old new = TellsLine (fault_line fault) told old new
+  abbrev pub SaysFault : Bool → List ℕ → Bool → WatchedWriter E → WatchedWriter E → Type 0
+  SaysFault true lines told old new = SaysNothing told old new
+  SaysFault false lines told old new = TellsLine lines told old new
 
-  -- nothing where there is nothing to say
-  abbrev pub SaysSo : Ending → Bool → Bool → WatchedWriter E → WatchedWriter E → Type 0
-  SaysSo Done told unheard old new = SaysNothing told old new
-  SaysSo (Faulty fault) told unheard old new = SaysFault (is_unheard fault unheard) fault told old new
-  SaysSo (Refused e) told unheard old new =
+  -- nothing where there is nothing to say; the explanation's lines only where the fault is to be explained
+  abbrev pub SaysSo : List ℕ → Ending → Bool → Bool → WatchedWriter E → WatchedWriter E → Type 0
+  SaysSo lines Done told unheard old new = SaysNothing told old new
+  SaysSo lines (Faulty fault) told unheard old new = SaysFault (is_unheard fault unheard) (fault_line fault) told old new
+  SaysSo lines (Explained fault) told unheard old new = SaysFault (is_unheard fault unheard) (explained_line fault lines) told old new
+  SaysSo lines (Refused e) told unheard old new =
       ((kind_of e ≡ kinds.DisplayHelp) ⊎ (kind_of e ≡ kinds.DisplayVersion) → new ≡ old) × (kind_of e ≢ kinds.DisplayHelp → kind_of e ≢ kinds.DisplayVersion → new.failures ≡ next_if (not told) old.failures)
-  SaysSo NotText told unheard old new = TellsLine (codes "error: a word is not UTF-8\n") told old new
+  SaysSo lines NotText told unheard old new = TellsLine (codes "error: a word is not UTF-8\n") told old new
 
 -- it was written and flushed, or its writer failed
 abbrev pub IsPrinted : {O : Type 0} → Bool → WatchedWriter O → WatchedWriter O → Type 0

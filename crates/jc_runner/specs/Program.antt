@@ -12,11 +12,13 @@ use Rattle.jc_hooks.specs.Processors.{verdict_by}
 use Rattle.jc_hooks.specs.Program.{echoed, AllChecked}
 use Rattle.jc_model.specs.Limits.{text_bytes}
 use Rattle.jc_model.specs.declared.config.CacheConfig.{CacheConfig}
+use Rattle.jc_replay.specs.Table.{replay_table}
 use Rattle.jc_script.specs.declared.line.Line.{Line}
 use Rattle.jc_script.specs.Script.{lines}
 use Rattle.jc_words.specs.Program.{AsksFor, MayRefuse, is_input}
 use Rattle.jc_words.specs.declared.asked.Asked.TheVariants as asks
 use Rattle.jc_words.specs.declared.asked.Check.{Check}
+use Rattle.jc_words.specs.declared.asked.Replay.{Replay}
 use Rattle.jc_words.specs.declared.run.Run.{Run}
 use Rattle.jc_runner.specs.Demonstration.{demonstration_caches}
 use Rattle.jc_runner.specs.Disks.{IsFound, MayBeMissing, Asks}
@@ -106,8 +108,8 @@ module _ {I : Type 0} (remaining : I → Option (List ℕ)) (reader reader' : Wa
   ConfigRead (Ok c) = IfSome (remaining reader.inner) (λ bytes. configuration_of bytes ≡ Ok c) × IsAtEnd (remaining reader'.inner)
   ConfigRead (Err program.ConfigRead) = failed_once reader reader'
   ConfigRead (Err (program.Config fault)) = IfSome (remaining reader.inner) (λ bytes. configuration_of bytes ≡ Err fault)
-  ConfigRead (Err program.NoCaches) = ⊥
   ConfigRead (Err (program.Run fault)) = fault ≡ run.Memory
+  ConfigRead (Err _) = ⊥
 
 -- A file that holds this.
 module _ {F : Type 0} (remaining : F → Option (List ℕ)) (held : Option (Option (List ℕ))) where
@@ -197,6 +199,49 @@ module _ {F I : Type 0} (of_file : F → Option (List ℕ)) (of_input : I → Op
     pub reads : ConfigFrom of_file of_input (holds (string_bytes check.config)) (string_bytes check.config) asked before input between (is_input (string_bytes check.config)) config read
     pub goes_on : ReadsOn before between (allowed check.strict read) result
 
+-- the table of a trace's replay, of which this is true
+abbrev pub Tables : List ℕ → (List ℕ → Type 0) → List ℕ → Type 0
+Tables capacities IsSo trace = (text : List ℕ) × (replay_table trace capacities ≡ Ok text) × IsSo text
+
+-- A trace that is replayed: how that ends. The table is written, or a front of it.
+module _ {I O : Type 0} (remaining : I → Option (List ℕ)) (contents : O → Option (List ℕ)) (capacities : List ℕ) (reader reader' : Watched I) (writer writer' : WatchedWriter O) where
+  abbrev pub TraceEnds : Result (Unit {0}) ProgramFault → Type 0
+  TraceEnds (Ok done) =
+      IfSome (remaining reader.inner) (Tables capacities (Appends (contents writer.inner) (contents writer'.inner)))
+      × IsAtEnd (remaining reader'.inner) × (writer'.failures ≡ writer.failures) × (writer'.flushed ≡ true)
+  TraceEnds (Err program.TraceRead) = failed_once reader reader' × Keeps (contents writer.inner) (contents writer'.inner)
+  TraceEnds (Err (program.Trace fault)) =
+      IfSome (remaining reader.inner) (λ trace. replay_table trace capacities ≡ Err fault) × Keeps (contents writer.inner) (contents writer'.inner)
+  TraceEnds (Err (program.Run run.Write)) =
+      IfSome (remaining reader.inner) (Tables capacities (WritesFront (contents writer.inner) (contents writer'.inner))) × (writer'.failures ≡ next writer.failures)
+  TraceEnds (Err (program.Run run.Memory)) = Keeps (contents writer.inner) (contents writer'.inner)
+  TraceEnds (Err _) = ⊥
+
+-- a trace in a file that holds this
+module _ {F O : Type 0} (of_file : F → Option (List ℕ)) (contents : O → Option (List ℕ)) (held : Option (Option (List ℕ))) (capacities : List ℕ) (writer writer' : WatchedWriter O) where
+  abbrev pub TraceFileEnds : Option (Watched F) → Result (Unit {0}) ProgramFault → Type 0
+  TraceFileEnds None result =
+      (((result ≡ Err program.TraceRead) × MayBeMissing held) ⊎ (result ≡ Err (program.Run run.Memory))) × Keeps (contents writer.inner) (contents writer'.inner)
+  TraceFileEnds (Some reader) result =
+      (file : F) × IsFound held (of_file file) × AddsAtMost most_reads 0 reader.reads × HasNotFailed program.TraceRead result (unread file) reader
+      × TraceEnds of_file contents capacities (unread file) reader writer writer' result
+
+-- or on standard input
+module _ {F I O : Type 0} (of_file : F → Option (List ℕ)) (of_input : I → Option (List ℕ)) (contents : O → Option (List ℕ)) (held : Option (Option (List ℕ))) (path : List ℕ) (asked asked' : Option (List (List ℕ))) (capacities : List ℕ)
+    (input input' : Watched I) (writer writer' : WatchedWriter O) where
+  abbrev pub TraceFrom : Bool → Option (Watched F) → Result (Unit {0}) ProgramFault → Type 0
+  TraceFrom true opened result =
+      (opened ≡ None) × (asked' ≡ asked) × AddsAtMost most_reads input.reads input'.reads × HasNotFailed program.TraceRead result input input'
+      × TraceEnds of_input contents capacities input input' writer writer' result
+  TraceFrom false opened result = (input' ≡ input) × Asks asked asked' path × TraceFileEnds of_file contents held capacities writer writer' opened result
+
+-- the trace of a replay; no configuration is read
+module _ {F I O : Type 0} (of_file : F → Option (List ℕ)) (of_input : I → Option (List ℕ)) (contents : O → Option (List ℕ)) (holds : List ℕ → Option (Option (List ℕ))) (asked asked' : Option (List (List ℕ))) (replay : Replay)
+    (config trace : Option (Watched F)) (input input' : Watched I) (writer writer' : WatchedWriter O) where
+  pub record ReplayEnds (result : Result (Unit {0}) ProgramFault) : Type 0 where
+    pub unconfigured : config ≡ None
+    pub ends : TraceFrom of_file of_input contents (holds (string_bytes replay.trace)) (string_bytes replay.trace) asked asked' replay.capacities.items input input' writer writer' (is_input (string_bytes replay.trace)) trace result
+
 -- the demonstration's configuration
 abbrev pub no_kinds : HookKinds
 no_kinds = record { loader = None; writer = None; processors = [] }
@@ -217,9 +262,10 @@ module _ {F I O : Type 0} (of_file : F → Option (List ℕ)) (of_input : I → 
   -- What words ask for, and how that ends. Where they are mistaken, or memory is wanting, nothing is run.
   module _ (words : List Text) (ending : Ending) where
     pub data WordsEnd : Type 0 where
-      plays : words ≡ [] → (ran : Result (Unit {0}) RunFault) → RunEnds of_input contents true false demonstration input input' writer writer' ran → AddsAtMost most_reads input.reads input'.reads → HasNotFailed run.Read ran input input' → OpensNone → ending ≡ ending_of (as_program ran) → WordsEnd
-      runs : (run : Run) → AsksFor words (asks.Run run) → (ran : Result (Unit {0}) ProgramFault) → FilesEnd of_file of_input contents holds asked asked' run opened'.config opened'.script input input' writer writer' ran → ending ≡ ending_of ran → WordsEnd
-      checks : (check : Check) → AsksFor words (asks.Check check) → (ran : Result (Unit {0}) ProgramFault) → CheckEnds of_file of_input holds asked asked' check opened'.config opened'.script input input' ran → writer' ≡ writer → ending ≡ ending_of ran → WordsEnd
+      plays : words ≡ [] → (ran : Result (Unit {0}) RunFault) → RunEnds of_input contents true false demonstration input input' writer writer' ran → AddsAtMost most_reads input.reads input'.reads → HasNotFailed run.Read ran input input' → OpensNone → ending ≡ ending_of false (as_program ran) → WordsEnd
+      runs : (run : Run) → AsksFor words (asks.Run run) → (ran : Result (Unit {0}) ProgramFault) → FilesEnd of_file of_input contents holds asked asked' run opened'.config opened'.script input input' writer writer' ran → ending ≡ ending_of run.explain ran → WordsEnd
+      checks : (check : Check) → AsksFor words (asks.Check check) → (ran : Result (Unit {0}) ProgramFault) → CheckEnds of_file of_input holds asked asked' check opened'.config opened'.script input input' ran → writer' ≡ writer → ending ≡ ending_of check.explain ran → WordsEnd
+      replays : (replay : Replay) → AsksFor words (asks.Replay replay) → (ran : Result (Unit {0}) ProgramFault) → ReplayEnds of_file of_input contents holds asked asked' replay opened'.config opened'.script input input' writer writer' ran → ending ≡ ending_of false ran → WordsEnd
       refuses : (e : Error) → words ≢ [] → MayRefuse words e → kind_of e ≢ OutOfMemory → ending ≡ Refused e → RunsNone → WordsEnd
       lacks_memory : ending ≡ no_memory → RunsNone → WordsEnd
 
@@ -230,11 +276,11 @@ module _ {F I O : Type 0} (of_file : F → Option (List ℕ)) (of_input : I → 
 
 module _ {F I O E : Type 0} (of_file : F → Option (List ℕ)) (of_input : I → Option (List ℕ)) (contents : O → Option (List ℕ)) (said : E → Option (List ℕ)) (holds : List ℕ → Option (Option (List ℕ))) (asked asked' : Option (List (List ℕ)))
     (opened opened' : Opened F) (standard standard' : Standard I O E) where
-  -- the program has obeyed the words, and then said how that ended
-  pub record Ends (words : Result (List Text) WordsFault) (result : Ended) : Type 0 where
+  -- the program has obeyed the words, and then said how that ended, with these lines below a fault that is explained
+  pub record Ends (lines : List ℕ) (words : Result (List Text) WordsFault) (result : Ended) : Type 0 where
     pub ending : Ending
     pub written : WatchedWriter O
     pub obeys : Obeys of_file of_input contents holds asked asked' opened opened' standard.input standard'.input standard.output written words ending
     pub status : HasStatus ending result.told standard'.output.unheard result.status
-    pub says : SaysSo said ending result.told standard'.output.unheard standard.errors standard'.errors
+    pub says : SaysSo said lines ending result.told standard'.output.unheard standard.errors standard'.errors
     pub leaves : Leaves ending result.told written standard'.output

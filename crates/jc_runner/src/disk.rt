@@ -56,6 +56,18 @@ fn words_fault(error: &Error) -> WordsFault
     }
 }
 
+/// The fault of a file that the machine does not open.
+pub fn open_fault(error: &Error) -> OpenFault
+    ensures memory { error_kind error.now ≡ ErrorKind.OutOfMemory → result ≡ OpenFault.OutOfMemory }
+    ensures others { error_kind error.now ≢ ErrorKind.OutOfMemory → result ≡ OpenFault.Unreadable }
+{
+    if is_of_memory(error) {
+        OpenFault::OutOfMemory
+    } else {
+        OpenFault::Unreadable
+    }
+}
+
 /// The words after the program's name. Nothing is known of what the machine hands over, so no clause says what they are.
 pub fn words_of<R: Env + AllocGlobal>(rt: &R) -> Result<Vec<String>, WordsFault> {
     match env::args(rt) {
@@ -85,8 +97,7 @@ impl<'a, R: Files> Disk for HostDisk<'a, R> {
     fn open(&mut self, path: &str) -> Result<R::File, OpenFault> {
         match fs::open(self.files, path) {
             Ok(file) => Ok(file),
-            Err(error) if is_of_memory(&error) => Err(OpenFault::OutOfMemory),
-            Err(_) => Err(OpenFault::Unreadable),
+            Err(error) => Err(open_fault(&error)),
         }
     }
 }

@@ -6,10 +6,12 @@ use clap::Error;
 /// How the program ends.
 #[derive(Drop)]
 pub enum Ending {
-    /// All was done: the report was printed, or the files that were checked are fine.
+    /// All was done: the report or the table was printed, or the files that were checked are fine.
     Done,
     /// A fault, whose line is to be told on standard error.
     Faulty(ProgramFault),
+    /// A fault that is to be explained: its line has the program's name before it, and the explanation's lines below it.
+    Explained(ProgramFault),
     /// Help was asked for, or the words are mistaken.
     Refused(Error),
     /// One of the words is no text.

@@ -1,13 +1,14 @@
 //! Why a run ends, and the line that says so.
-ghost use Rattle.std.specs.Prelude.{◌≡◌, not, is_err, OnOk};
+ghost use Rattle.std.specs.Prelude.{◌≡◌, not, is_err, OnOk, codes, option_map};
 ghost use Rattle.std.specs.Bool.{OnTrue};
 ghost use Rattle.std.specs.Io.KnownBytes.{Appends};
 ghost use Rattle.jc_runner.specs.declared.fault.RunFault.TheVariants.{Memory};
-ghost use Rattle.jc_runner.specs.Faults.{of_work, bad_line, bad_cache_line, script_line, config_line, run_line, fault_line, is_of_report};
+ghost use Rattle.jc_runner.specs.Faults.{of_work, bad_line, bad_cache_line, script_line, config_line, trace_line, run_line, fault_line, explained_line, told_lines, is_of_report};
 ghost use Rattle.jc_runner.specs.Meters.{next_if};
 
 use crate::watched::WatchedWriter;
 use jc_config::ConfigFault;
+use jc_replay::ReplayFault;
 use jc_script::ScriptFault;
 use jc_threads::WorkFault;
 use std::alloc::{AllocError, AllocFailed};
@@ -72,6 +73,10 @@ pub enum ProgramFault {
     Config(ConfigFault),
     #[error("the configuration has no caches")]
     NoCaches,
+    #[error("the trace can't be read")]
+    TraceRead,
+    #[error("the trace is faulty: {0:?}")]
+    Trace(ReplayFault),
     #[error("the run ended: {0:?}")]
     Run(RunFault),
 }
@@ -141,6 +146,17 @@ fn write_run_fault<W: Write>(fault: &RunFault, writer: &mut WatchedWriter<W>) ->
     }
 }
 
+fn write_replay_fault<W: Write>(fault: ReplayFault, writer: &mut WatchedWriter<W>) -> io::Result<()>
+    ensures bytes { OnOk result (Appends (W.contents writer.old.inner) (W.contents writer.new.inner) (trace_line fault)) }
+    ensures failures { writer.new.failures ≡ next_if (is_err result) writer.old.failures }
+{
+    match fault {
+        ReplayFault::TooLong => writeln!(writer, "trace: too long"),
+        ReplayFault::BadKey { line } => writeln!(writer, "trace line {line}: bad key"),
+        ReplayFault::OutOfMemory => writeln!(writer, "out of memory"),
+    }
+}
+
 /// Whether a fault is that the report could not be written.
 pub fn is_of_report(fault: &ProgramFault) -> bool
     ensures { result ≡ is_of_report fault.now }
@@ -157,6 +173,7 @@ pub fn is_of_report(fault: &ProgramFault) -> bool
             | RunFault::Memory,
         ) => false,
         ProgramFault::ConfigRead | ProgramFault::Config(_) | ProgramFault::NoCaches => false,
+        ProgramFault::TraceRead | ProgramFault::Trace(_) => false,
     }
 }
 
@@ -169,7 +186,56 @@ pub fn write_fault<W: Write>(fault: &ProgramFault, writer: &mut WatchedWriter<W>
         ProgramFault::ConfigRead => writeln!(writer, "config: cannot be read"),
         ProgramFault::Config(fault) => write_config_fault(*fault, writer),
         ProgramFault::NoCaches => writeln!(writer, "config: no caches"),
+        ProgramFault::TraceRead => writeln!(writer, "trace: cannot be read"),
+        ProgramFault::Trace(fault) => write_replay_fault(*fault, writer),
         ProgramFault::Run(fault) => write_run_fault(fault, writer),
     };
     result.is_ok()
+}
+
+fn write_name<W: Write>(writer: &mut WatchedWriter<W>) -> bool
+    ensures told { OnTrue result (Appends (W.contents writer.old.inner) (W.contents writer.new.inner) (codes "jcache: ")) }
+    ensures failures { writer.new.failures ≡ next_if (not result) writer.old.failures }
+{
+    write!(writer, "jcache: ").is_ok()
+}
+
+fn write_lines<W: Write>(lines: &str, writer: &mut WatchedWriter<W>) -> bool
+    ensures told { OnTrue result (Appends (W.contents writer.old.inner) (W.contents writer.new.inner) lines.now) }
+    ensures failures { writer.new.failures ≡ next_if (not result) writer.old.failures }
+{
+    write!(writer, "{lines}").is_ok()
+}
+
+/// Writes the program's name, the line of a fault, and the lines of its explanation; false where the writer failed.
+fn write_explained<W: Write>(
+    fault: &ProgramFault,
+    lines: &str,
+    writer: &mut WatchedWriter<W>,
+) -> bool
+    ensures told { OnTrue result (Appends (W.contents writer.old.inner) (W.contents writer.new.inner) (explained_line fault.now lines.now)) }
+    ensures failures { writer.new.failures ≡ next_if (not result) writer.old.failures }
+{
+    if !write_name(writer) {
+        return false;
+    }
+    if !write_fault(fault, writer) {
+        return false;
+    }
+    write_lines(lines, writer)
+}
+
+/// Writes the line of a fault, and its explanation where there is one; false where the writer failed.
+pub fn write_told<W: Write>(
+    fault: &ProgramFault,
+    lines: Option<&str>,
+    writer: &mut WatchedWriter<W>,
+) -> bool
+    ensures told { OnTrue result (Appends (W.contents writer.old.inner) (W.contents writer.new.inner) (told_lines fault.now (option_map (λ l. l.now) lines.entry))) }
+    ensures failures { writer.new.failures ≡ next_if (not result) writer.old.failures }
+{
+    match lines {
+        None => write_fault(fault, writer),
+        Some(lines) => write_explained(fault, lines, writer),
+    }
 }

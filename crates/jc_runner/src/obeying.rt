@@ -1,5 +1,5 @@
 //! The program over its words, a disk and the standard streams.
-ghost use Rattle.std.specs.Prelude.{◌≡◌, ◌≢◌, ◌↔◌, ℕ, List, true, false, IsTrue, IfOk, IfErr, Ok, Err, map, string_bytes};
+ghost use Rattle.std.specs.Prelude.{◌≡◌, ◌≢◌, ◌↔◌, ℕ, List, [], true, false, IsTrue, IfOk, IfErr, Ok, Err, map, string_bytes};
 ghost use Rattle.clap.specs.Words.{kind_of};
 ghost use Rattle.jc_runner.specs.Meters.{most_reads, AddsAtMost};
 ghost use Rattle.jc_runner.specs.Program.{RunEnds, WordsEnd, Obeys, Ends, no_kinds, demonstration as demonstration_read};
@@ -11,6 +11,7 @@ use crate::ending::{Ended, Ending, WordsFault};
 use crate::fault::{ProgramFault, RunFault};
 use crate::files::{play, run_files};
 use crate::presets::demonstration;
+use crate::replaying::replay_file;
 use crate::saying::{ending_of, say};
 use crate::streams::{Opened, Standard};
 use crate::watched::{Watched, WatchedWriter};
@@ -98,10 +99,16 @@ fn obey<D: Disk, I: Read, O: Write, R: Threads + Wait + Sync>(
     };
     match read_words(alloc, texts.as_slice()) {
         Ok(Some(Asked::Run(run))) => {
-            ending_of(run_files(rt, alloc, disk, opened, &run, input, output))
+            let ran = run_files(rt, alloc, disk, opened, &run, input, output);
+            ending_of(run.explain, ran)
         }
         Ok(Some(Asked::Check(check))) => {
-            ending_of(check_files(alloc, disk, opened, &check, input))
+            let ran = check_files(alloc, disk, opened, &check, input);
+            ending_of(check.explain, ran)
+        }
+        Ok(Some(Asked::Replay(replay))) => {
+            let ran = replay_file(alloc, disk, opened, &replay, input, output);
+            ending_of(false, ran)
         }
         Ok(None) => match demonstrate(alloc, input, output) {
             Ok(()) => Ending::Done,
@@ -117,7 +124,7 @@ fn obey<D: Disk, I: Read, O: Write, R: Threads + Wait + Sync>(
 }
 
 /// Does what the words ask for, where they are there.
-fn heed<D: Disk, I: Read, O: Write, R: Threads + Wait + Sync>(
+pub fn heed<D: Disk, I: Read, O: Write, R: Threads + Wait + Sync>(
     rt: &R,
     alloc: Global,
     words: Result<Vec<String>, WordsFault>,
@@ -142,7 +149,8 @@ fn heed<D: Disk, I: Read, O: Write, R: Threads + Wait + Sync>(
 /// Without words the script on standard input is run on the demonstration's caches. Faults come in this order: the
 /// words, reading the configuration, its text, whether it has caches where that is asked for, reading the script, its
 /// text, members that its ops do not need where that is asked for, the run, the writing of the report. A check of the
-/// files ends before the run, and says nothing where they are fine. A report that nobody reads any more is told by the
+/// files ends before the run, and says nothing where they are fine. A replay reads the trace, counts, and writes the
+/// table. A report that nobody reads any more is told by the
 /// status alone.
 ///
 /// Standard output has the report and nothing else, and nothing at all after a fault, save a prefix of the report
@@ -155,11 +163,11 @@ pub fn program<D: Disk, I: Read, O: Write, E: Write, R: Threads + Wait + Sync>(
     opened: &mut Opened<D::File>,
     standard: &mut Standard<I, O, E>,
 ) -> Ended
-    ensures ends { IfOk words (λ v. Ends D.File.remaining I.remaining O.contents E.contents (D.holds disk.old) (D.asked disk.old) (D.asked disk.new) opened.old opened.new standard.old standard.new (Ok (map string_bytes v.items)) result) }
-    ensures wordless { IfErr words (λ fault. Ends D.File.remaining I.remaining O.contents E.contents (D.holds disk.old) (D.asked disk.old) (D.asked disk.new) opened.old opened.new standard.old standard.new (Err fault) result) }
+    ensures ends { IfOk words (λ v. Ends D.File.remaining I.remaining O.contents E.contents (D.holds disk.old) (D.asked disk.old) (D.asked disk.new) opened.old opened.new standard.old standard.new [] (Ok (map string_bytes v.items)) result) }
+    ensures wordless { IfErr words (λ fault. Ends D.File.remaining I.remaining O.contents E.contents (D.holds disk.old) (D.asked disk.old) (D.asked disk.new) opened.old opened.new standard.old standard.new [] (Err fault) result) }
     ensures same { (other : List ℕ) → D.holds disk.new other ≡ D.holds disk.old other }
 {
     let input = &mut standard.input;
     let ending = heed(rt, alloc, words, disk, opened, input, &mut standard.output);
-    say(&ending, &mut standard.output, &mut standard.errors)
+    say(&ending, "", &mut standard.output, &mut standard.errors)
 }

@@ -1,23 +1,30 @@
 //! What the program says in the end.
-ghost use Rattle.std.specs.Prelude.{◌≡◌, is_err, OnOk, codes};
+ghost use Rattle.std.specs.Prelude.{◌≡◌, is_err, OnOk, [], codes, option_map};
 ghost use Rattle.std.specs.Io.KnownBytes.{Appends};
 ghost use Rattle.jc_runner.specs.Endings.{HasStatus, SaysSo, SaysFault, IsPrinted, Leaves, ending_of, is_unheard, unwritten};
+ghost use Rattle.jc_runner.specs.Faults.{told_lines};
 ghost use Rattle.jc_runner.specs.Meters.{next_if};
 
 use crate::ending::{Ended, Ending};
-use crate::fault::{ProgramFault, is_of_report, write_fault};
+use crate::fault::{ProgramFault, is_of_report, write_told};
 use crate::watched::WatchedWriter;
 use clap::Error;
 use std::io;
 use std::io::Write;
 
-/// How a run ended: `Done`, or with its fault.
-pub fn ending_of(ran: Result<(), ProgramFault>) -> Ending
-    ensures { result ≡ ending_of ran }
+/// How a run ended: `Done`, or with its fault, which may have to be explained.
+pub fn ending_of(explain: bool, ran: Result<(), ProgramFault>) -> Ending
+    ensures { result ≡ ending_of explain ran }
 {
     match ran {
         Ok(()) => Ending::Done,
-        Err(fault) => Ending::Faulty(fault),
+        Err(fault) => {
+            if explain {
+                Ending::Explained(fault)
+            } else {
+                Ending::Faulty(fault)
+            }
+        }
     }
 }
 
@@ -43,7 +50,7 @@ fn refuse<O: Write, E: Write>(
     errors: &mut WatchedWriter<E>,
 ) -> Ended
     ensures status { HasStatus (Ending.Refused error.now) result.told output.new.unheard result.status }
-    ensures says { SaysSo E.contents (Ending.Refused error.now) result.told output.new.unheard errors.old errors.new }
+    ensures says { SaysSo E.contents [] (Ending.Refused error.now) result.told output.new.unheard errors.old errors.new }
     ensures leaves { Leaves (Ending.Refused error.now) result.told output.old output.new }
 {
     if error.use_stderr() {
@@ -58,10 +65,15 @@ fn refuse<O: Write, E: Write>(
     }
 }
 
-/// Tells a fault, but for a report that nobody reads any more.
-fn say_fault<E: Write>(fault: &ProgramFault, unheard: bool, errors: &mut WatchedWriter<E>) -> Ended
+/// Tells a fault, but for a report that nobody reads any more; the lines are those of its explanation.
+fn say_fault<E: Write>(
+    fault: &ProgramFault,
+    lines: Option<&str>,
+    unheard: bool,
+    errors: &mut WatchedWriter<E>,
+) -> Ended
     ensures status { result.status ≡ unwritten (is_unheard fault.now unheard) }
-    ensures says { SaysFault E.contents (is_unheard fault.now unheard) fault.now result.told errors.old errors.new }
+    ensures says { SaysFault E.contents (is_unheard fault.now unheard) (told_lines fault.now (option_map (λ l. l.now) lines.entry)) result.told errors.old errors.new }
 {
     if is_of_report(fault) && unheard {
         return Ended {
@@ -71,18 +83,19 @@ fn say_fault<E: Write>(fault: &ProgramFault, unheard: bool, errors: &mut Watched
     }
     Ended {
         status: 1,
-        told: write_fault(fault, errors),
+        told: write_told(fault, lines, errors),
     }
 }
 
-/// Says how the program ends, and with which status.
+/// Says how the program ends, and with which status; the lines are those of an explanation.
 pub fn say<O: Write, E: Write>(
     ending: &Ending,
+    lines: &str,
     output: &mut WatchedWriter<O>,
     errors: &mut WatchedWriter<E>,
 ) -> Ended
     ensures status { HasStatus ending.now result.told output.new.unheard result.status }
-    ensures says { SaysSo E.contents ending.now result.told output.new.unheard errors.old errors.new }
+    ensures says { SaysSo E.contents lines.now ending.now result.told output.new.unheard errors.old errors.new }
     ensures leaves { Leaves ending.now result.told output.old output.new }
 {
     match ending {
@@ -90,7 +103,8 @@ pub fn say<O: Write, E: Write>(
             status: 0,
             told: true,
         },
-        Ending::Faulty(fault) => say_fault(fault, output.unheard(), errors),
+        Ending::Faulty(fault) => say_fault(fault, None, output.unheard(), errors),
+        Ending::Explained(fault) => say_fault(fault, Some(lines), output.unheard(), errors),
         Ending::Refused(error) => refuse(error, output, errors),
         Ending::NotText => Ended {
             status: 2,

@@ -53,8 +53,10 @@ fn unnamed<L: Loader, W: Writer, P: Processor, K: Hearer>(
     ensures configs { IfOk result (λ s. s.configs ≡ setup.settings) }
     ensures shared { IfOk result (λ s. s.shared ≡ map shared_of setup.hooks.items) }
     ensures suit { OnOk result (AreSuited P.wants setup.settings setup.hooks.items) }
+    ensures opens { OnOk result (CannotOpen P.wants setup.settings setup.hooks.items → ⊥) }
     ensures refused { result ≡ Err faults.Open → CannotOpen P.wants setup.settings setup.hooks.items }
     ensures memory { result ≡ Err faults.Memory → CannotOpen P.wants setup.settings setup.hooks.items → ⊥ }
+    ensures closed { result ≢ Err faults.Close }
     ensures faults { IfErr result IsOfThreads }
 {
     let Setup {
@@ -170,6 +172,7 @@ fn gathered<L: Loader, W: Writer, P: Processor, K: Hearer, G: Gate, R: Threads +
     ensures text { IfOk result (λ s. Gathers (stated_of L.load_of P.verdict_of setup.hooks.items) setup.settings lines.items (string_bytes s)) }
     ensures suit { OnOk result (AreSuited P.wants setup.settings setup.hooks.items) }
     ensures refused { result ≡ Err faults.Open → CannotOpen P.wants setup.settings setup.hooks.items }
+    ensures closed { result ≡ Err faults.Close → CannotOpen P.wants setup.settings setup.hooks.items → ⊥ }
     ensures faults { IfErr result IsOfThreads }
 {
     let followed = follow(alloc, &setup.settings, lines.as_slice())?;
@@ -209,6 +212,7 @@ pub fn threaded<
     ensures flushed { OnOk result ((writer.new.flushed ≡ true) × (writer.new.failures ≡ writer.old.failures)) }
     ensures suit { HasRun result → AreSuited P.wants setup.settings setup.hooks.items }
     ensures refused { result ≡ Err faults.Open → CannotOpen P.wants setup.settings setup.hooks.items }
+    ensures closed { result ≡ Err faults.Close → CannotOpen P.wants setup.settings setup.hooks.items → ⊥ }
     ensures front { result ≡ Err faults.Write → GathersSo (stated_of L.load_of P.verdict_of setup.hooks.items) setup.settings lines.items (λ text. WritesFront (O.contents writer.old.inner) (O.contents writer.new.inner) text) }
     ensures write_failed { result ≡ Err faults.Write → writer.new.failures ≡ next writer.old.failures }
     ensures nothing { IfErr result (λ e. e ≢ faults.Write → Keeps (O.contents writer.old.inner) (O.contents writer.new.inner)) }

@@ -53,6 +53,13 @@ impl<R: Read> Watched<R> {
         }
     }
 
+    /// The reader itself.
+    pub fn inner(&self) -> &R
+        ensures { result.now ≡ self.now.inner }
+    {
+        &self.inner
+    }
+
     /// How often it was read.
     pub fn reads(&self) -> u64
         ensures { result ≡ self.now.reads }

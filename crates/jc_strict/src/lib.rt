@@ -6,4 +6,5 @@ mod members;
 mod stray;
 
 pub use laws::others_are_ignored;
+pub use members::has_member;
 pub use stray::stray_line;

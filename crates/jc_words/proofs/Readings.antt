@@ -74,6 +74,10 @@ is_simple_program = refl
 pub text_read : (o : Option (Bor (List ℕ))) (v : Bor (List ℕ)) (t : Option Text) (bytes : Text) → option_map (λ s. s.now) o ≡ t → o ≡ Some v → bytes ≡ v.now → t ≡ Some bytes
 text_read o v t bytes e is same = sym e ∙ (ap (λ (x : Option (Bor (List ℕ))). option_map (λ s. s.now) x) is ∙ ap (λ (text : Text). Some text) (sym same))
 
+-- the text of an id, by its row
+pub text_of_rows : (f : Found) (id : Text) (o : Option (Bor (List ℕ))) (v : Bor (List ℕ)) → option_map (λ s. s.now) o ≡ first_value f id → o ≡ Some v → first_of id (rows_of f) ≡ Some v.now
+text_of_rows f id o v reads is = sym (first_value-rows f id) ∙ text_read o v _ _ reads is refl
+
 pub some_asks : (o : Option Asked) (p : Text × List Row) (a : Asked) → IfSome o (AsksBy p) → o ≡ Some a → AsksBy p a
 some_asks o p a asks is = let Q : Option Asked → Type 0 = λ x. IfSome x (AsksBy p) in subst Q is asks
 

@@ -1,5 +1,6 @@
 -- The program's command, and what words ask of it as `clap` reads them.
-use Rattle.std.specs.Prelude.{◌≡◌, ◌≢◌, ◌≤◌, ◌<◌, ◌^◌, ◌⊎◌, ◌&&◌, ℕ, pos, Bool, true, false, if◌then◌else◌, List, [], ◌∷◌, find, Option, Some, None, option_map, option_and_then, codes, string_bytes, ⊤}
+use Rattle.std.specs.Prelude.{◌≡◌, ◌≢◌, ◌≤◌, ◌<◌, ◌^◌, ◌⊎◌, ◌&&◌, ◌==◌, ℕ, pos, Bool, true, false, if◌then◌else◌, List, [], ◌∷◌, find, Option, Some, None, option_map, option_and_then, codes, string_bytes, ⊤}
+use Rattle.std.specs.List.{All, slice_split}
 use Rattle.std.specs.Str.{bytes_eq}
 use Rattle.std.specs.Str.Parse.{IsNumeral, without_leading_plus, digits_value}
 use Rattle.clap.specs.Kinds.{HasKind}
@@ -13,12 +14,13 @@ use Rattle.clap.specs.declared.error.kind.ErrorKind.TheVariants as kinds
 use Rattle.jc_words.specs.declared.asked.Asked.{Asked}
 use Rattle.jc_words.specs.declared.asked.Asked.TheVariants as asked
 use Rattle.jc_words.specs.declared.asked.Check.{Check}
+use Rattle.jc_words.specs.declared.asked.Replay.{Replay}
 use Rattle.jc_words.specs.declared.clash.Clash.{Clash}
 use Rattle.jc_words.specs.declared.clash.Clash.TheVariants as clash
 use Rattle.jc_words.specs.declared.run.Run.{Run}
 use Rattle.jc_words.specs.declared.run.Options.{Options}
 
--- The arguments of `run` and `check`.
+-- The arguments of `run`, `check` and `replay`.
 
 -- a path, and whether it has to be there
 abbrev pub path_rule : Text → Bool → Rule
@@ -39,17 +41,23 @@ abbrev pub files_app : Text → Bool → App
 files_app name has_script = with_rule (with_rule (new_app name) (path_rule (codes "CONFIG") true)) (path_rule (codes "SCRIPT") has_script)
 
 abbrev pub run_app : App
-run_app = with_rule (with_rule (with_rule (with_rule (files_app (codes "run") true) workers_rule) seed_rule) (flag_rule (codes "serial"))) (flag_rule (codes "strict"))
+run_app = with_rule (with_rule (with_rule (with_rule (with_rule (files_app (codes "run") true) workers_rule) seed_rule) (flag_rule (codes "serial"))) (flag_rule (codes "strict"))) (flag_rule (codes "explain"))
 
 abbrev pub check_app : App
-check_app = with_rule (files_app (codes "check") false) (flag_rule (codes "strict"))
+check_app = with_rule (with_rule (files_app (codes "check") false) (flag_rule (codes "strict"))) (flag_rule (codes "explain"))
+
+abbrev pub capacity_rule : Rule
+capacity_rule = record (new_rule (codes "capacity")) { long = Some (codes "capacity"); required = true; action = Some Set; value_names = 1 }
+
+abbrev pub replay_app : App
+replay_app = with_rule (with_rule (new_app (codes "replay")) (path_rule (codes "TRACE") true)) capacity_rule
 
 -- the words begin after the program's name, one of them has to be a subcommand, and there is a version to print
 abbrev pub bare_app : App
 bare_app = record (new_app (codes "jcache")) { top = record (new_app (codes "jcache")).top { has_version = true; no_binary_name = true; subcommand_required = true } }
 
 abbrev pub program : App
-program = with_subcommand (with_subcommand bare_app run_app.top) check_app.top
+program = with_subcommand (with_subcommand (with_subcommand bare_app run_app.top) check_app.top) replay_app.top
 
 -- What is asked.
 
@@ -68,9 +76,10 @@ pub record AsksOptions (rows : List Row) (options : Options) : Type 0 where
   pub seed : IsNumber (one_of (codes "seed") rows) options.seed
   pub serial : one_of (codes "serial") rows ≡ Some (truth options.serial)
   pub strict : one_of (codes "strict") rows ≡ Some (truth options.strict)
+  pub explain : one_of (codes "explain") rows ≡ Some (truth options.explain)
 
 abbrev pub options_of : Run → Options
-options_of run = record { workers = run.workers; seed = run.seed; serial = run.serial; strict = run.strict }
+options_of run = record { workers = run.workers; seed = run.seed; serial = run.serial; strict = run.strict; explain = run.explain }
 
 -- where the value of an id came from, and whether that is the words
 abbrev pub source_of : Text → List Row → Option ValueSource
@@ -109,11 +118,33 @@ pub record AsksCheck (rows : List Row) (check : Check) : Type 0 where
   pub config : first_of (codes "CONFIG") rows ≡ Some (string_bytes check.config)
   pub script : first_of (codes "SCRIPT") rows ≡ option_map string_bytes check.script
   pub strict : one_of (codes "strict") rows ≡ Some (truth check.strict)
+  pub explain : one_of (codes "explain") rows ≡ Some (truth check.explain)
+
+-- how many rows a cache may have
+abbrev pub IsCapacity : ℕ → Type 0
+IsCapacity n = (1 ≤ n) × (n ≤ 65536)
+
+-- each text is a capacity
+abbrev pub AreCapacities : List Text → List ℕ → Type 0
+AreCapacities [] [] = ⊤
+AreCapacities (text ∷ texts) (n ∷ ns) = (IsNumber (Some text) n × IsCapacity n) × AreCapacities texts ns
+AreCapacities _ _ = ⊥
+
+-- a list of capacities, with a comma between two
+abbrev pub ListsCapacities : Option Text → List ℕ → Type 0
+ListsCapacities None ns = ⊥
+ListsCapacities (Some text) ns = AreCapacities (slice_split (λ b. b == 44) text) ns
+
+-- the replay that rows of matches ask for
+pub record AsksReplay (rows : List Row) (replay : Replay) : Type 0 where
+  pub trace : first_of (codes "TRACE") rows ≡ Some (string_bytes replay.trace)
+  pub capacities : ListsCapacities (first_of (codes "capacity") rows) replay.capacities.items
 
 -- what a subcommand and its matches ask for
 abbrev pub AsksBy : Text × List Row → Asked → Type 0
 AsksBy p (asked.Run run) = (p.0 ≡ codes "run") × Asks p.1 run
 AsksBy p (asked.Check check) = (p.0 ≡ codes "check") × AsksCheck p.1 check
+AsksBy p (asked.Replay replay) = (p.0 ≡ codes "replay") × AsksReplay p.1 replay
 
 -- the words name the subcommand, its matches ask for this, and they can stand together
 abbrev pub AsksFor : List Text → Asked → Type 0
@@ -130,8 +161,9 @@ IsWithinLimits options = (1 ≤ options.workers) × (options.workers ≤ 8) × (
 abbrev pub KeepsLimits : Asked → Type 0
 KeepsLimits (asked.Run run) = IsWithinLimits (options_of run)
 KeepsLimits (asked.Check check) = ⊤
+KeepsLimits (asked.Replay replay) = All IsCapacity replay.capacities.items
 
--- rows of matches that ask for no options, for no run, for no check
+-- rows of matches that ask for no options, for no run, for no check, for no replay
 abbrev pub HaveNoOptions : List Row → Type 0
 HaveNoOptions rows = (options : Options) → AsksOptions rows options → IsWithinLimits options → ⊥
 
@@ -140,6 +172,9 @@ HaveNoRun rows = (run : Run) → Asks rows run → IsWithinLimits (options_of ru
 
 abbrev pub HaveNoCheck : List Row → Type 0
 HaveNoCheck rows = (check : Check) → AsksCheck rows check → ⊥
+
+abbrev pub HaveNoReplay : List Row → Type 0
+HaveNoReplay rows = (replay : Replay) → AsksReplay rows replay → ⊥
 
 -- a subcommand and its matches, or words, that ask for nothing
 abbrev pub AsksForNone : Text × List Row → Type 0

@@ -2,12 +2,20 @@
 
 use crate::run::Run;
 
-/// A check of a configuration and, where its path is there, of a script; `strict` is a run's.
+/// A check of a configuration and, where its path is there, of a script; `strict` and `explain` are a run's.
 #[derive(Drop)]
 pub struct Check {
     pub config: String,
     pub script: Option<String>,
     pub strict: bool,
+    pub explain: bool,
+}
+
+/// A replay of a trace on a cache of each of these capacities, in their order.
+#[derive(Drop)]
+pub struct Replay {
+    pub trace: String,
+    pub capacities: Vec<u32>,
 }
 
 /// What the program is to do.
@@ -17,4 +25,6 @@ pub enum Asked {
     Run(Run),
     /// Read the files and run nothing.
     Check(Check),
+    /// Count the lookups of a trace that find a value.
+    Replay(Replay),
 }

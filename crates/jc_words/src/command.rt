@@ -3,7 +3,7 @@
 ghost use Rattle.std.specs.Prelude.{◌≡◌, IfOk, true, false};
 ghost use Rattle.clap.specs.Words.{app_of, new_app, rule_of};
 ghost use Rattle.clap.specs.declared.builder.Command.TheViews.{out-Command};
-ghost use Rattle.jc_words.specs.Program.{path_rule, workers_rule, seed_rule, flag_rule, run_app, check_app, bare_app, program as program_app};
+ghost use Rattle.jc_words.specs.Program.{path_rule, workers_rule, seed_rule, flag_rule, capacity_rule, run_app, check_app, replay_app, bare_app, program as program_app};
 
 use crate::help;
 use clap::{Arg, ArgAction, Command, value_parser};
@@ -82,7 +82,8 @@ fn run<'a>(alloc: Global) -> Result<Command<'a>, AllocError>
         .arg(workers(alloc))?
         .arg(seed(alloc))?
         .arg(flag(alloc, "serial", help::SERIAL))?
-        .arg(flag(alloc, "strict", help::STRICT))
+        .arg(flag(alloc, "strict", help::STRICT))?
+        .arg(flag(alloc, "explain", help::EXPLAIN))
 }
 
 fn check<'a>(alloc: Global) -> Result<Command<'a>, AllocError>
@@ -92,7 +93,29 @@ fn check<'a>(alloc: Global) -> Result<Command<'a>, AllocError>
     described(alloc, "check", help::CHECK)
         .arg(path(alloc, "CONFIG", help::CONFIG))?
         .arg(optional_path(alloc, "SCRIPT", help::SCRIPT))?
-        .arg(flag(alloc, "strict", help::STRICT))
+        .arg(flag(alloc, "strict", help::STRICT))?
+        .arg(flag(alloc, "explain", help::EXPLAIN))
+}
+
+fn capacity<'a>(alloc: Global) -> Arg<'a>
+    ensures rule { rule_of result ≡ capacity_rule }
+    ensures global { result.global ≡ false }
+{
+    Arg::new(alloc, "capacity")
+        .long("capacity")
+        .value_name("LIST")
+        .help(help::CAPACITY)
+        .action(ArgAction::Set)
+        .required(true)
+}
+
+fn replay<'a>(alloc: Global) -> Result<Command<'a>, AllocError>
+    ensures app { IfOk result (λ c. app_of c ≡ replay_app) }
+    ensures local { IfOk result (λ c. (out-Command c).has_globals ≡ false) }
+{
+    described(alloc, "replay", help::REPLAY)
+        .arg(path(alloc, "TRACE", help::TRACE))?
+        .arg(capacity(alloc))
 }
 
 /// The program's command without its subcommands.
@@ -113,5 +136,6 @@ pub fn program<'a>(alloc: Global) -> Result<Command<'a>, AllocError>
 {
     bare(alloc)?
         .subcommand(run(alloc)?)?
-        .subcommand(check(alloc)?)
+        .subcommand(check(alloc)?)?
+        .subcommand(replay(alloc)?)
 }

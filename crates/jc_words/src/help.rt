@@ -12,10 +12,14 @@ pub const RUN: &str = "Runs the calls of SCRIPT on the caches of CONFIG";
 /// What `check` does, in a line.
 pub const CHECK: &str = "Reads CONFIG and SCRIPT, runs nothing, and tells the first fault";
 
+/// What `replay` does, in a line.
+pub const REPLAY: &str = "Counts the lookups of TRACE that find a value, by capacity";
+
 /// All ways to start the program.
 pub const USAGE: &str = "\
 jcache run [OPTIONS] <CONFIG> <SCRIPT>
        jcache check [OPTIONS] <CONFIG> [SCRIPT]
+       jcache replay <TRACE> --capacity <LIST>
        jcache < SCRIPT";
 
 /// The first argument, in a line.
@@ -23,6 +27,12 @@ pub const CONFIG: &str = "Path of the configuration, a TOML file; - is standard 
 
 /// The second argument, in a line.
 pub const SCRIPT: &str = "Path of the script, one JSON object a line; - is standard input";
+
+/// The argument of `replay`, in a line.
+pub const TRACE: &str = "Path of the trace, one key a line; - is standard input";
+
+/// The option `--capacity`, in a line; `jc_words::capacities` has the limits.
+pub const CAPACITY: &str = "Rows of the cache, from 1 to 65536, or several with commas between";
 
 /// The option `--workers`, in a line; `jc_words::command` has the limits.
 pub const WORKERS: &str = "From 1 to 8; session s makes its calls on worker s mod N";
@@ -38,6 +48,14 @@ pub const SERIAL: &str =
 /// The option `--strict`, in a line.
 pub const STRICT: &str =
     "Refuses members of a line that its op does not need, and a configuration without caches";
+
+/// The option `--explain`, in a line.
+pub const EXPLAIN: &str =
+    "Tells a fault with the program's name before it, and on lines below it the details";
+
+/// What words are told whose capacities are no list.
+pub const NO_LIST: &str =
+    "invalid value for '--capacity <LIST>': not numbers in 1..=65536 with commas between";
 
 /// What stands below the arguments in short help.
 pub const BRIEF: &str = "--help shows an example of each file, all ops, and the statuses.";
@@ -94,9 +112,13 @@ A MEMBER THAT THE OP DOES NOT NEED IS IGNORED, ALSO WHERE IT IS MISSPELT: with
 \"expire\" and \"duraton\" for \"expiry\" and \"duration\" create makes a cache that
 never expires. --strict refuses such a line.
 
+replay reads TRACE, which has a key a line, for a cache of each capacity in the
+list. Every key is looked up, and put where it was not there. A line for each
+capacity tells it, the lookups, the hits, and these in percent.
+
 Status:
-    0  the report was printed, or the files that were checked are fine, or help
-       or the version was asked for
+    0  the report or the table was printed, or the files that were checked are
+       fine, or help or the version was asked for
     1  a file is faulty, or reading, writing or memory failed; standard error
        has one line that says which
     2  the command line was refused; standard error says why

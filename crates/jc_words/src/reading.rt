@@ -1,12 +1,15 @@
 //! The words after the program's name, as `clap` reads them.
 
 ghost use Rattle.std.specs.Prelude.{◌≡◌, ◌≤◌, ◌<◌, ◌^◌, ◌↔◌, [], IfOk, IfErr, IfSome, None, Ok, map, option_map, string_bytes};
+ghost use Rattle.std.specs.List.{All};
 ghost use Rattle.clap.specs.Words.{found_of, rows_of};
-ghost use Rattle.jc_words.specs.Program.{Asks, AsksBy, AsksCheck, AsksFor, AsksForNone, AsksOptions, HaveNoCheck, HaveNoOptions, HaveNoRun, KeepsLimits, MayRefuse};
+ghost use Rattle.jc_words.specs.Program.{Asks, AsksBy, AsksCheck, AsksFor, AsksForNone, AsksOptions, AsksReplay, HaveNoCheck, HaveNoOptions, HaveNoReplay, HaveNoRun, IsCapacity, KeepsLimits, MayRefuse};
 
-use crate::asked::{Asked, Check};
+use crate::asked::{Asked, Check, Replay};
+use crate::capacities::read_capacities;
 use crate::clash::clash_of;
 use crate::command::program;
+use crate::help;
 use crate::run::{Options, Run};
 use clap::error::ErrorKind;
 use clap::{ArgMatches, Error};
@@ -25,6 +28,7 @@ fn options(matches: &ArgMatches<'_>) -> Option<Options>
     let seed = matches.get_one::<u64>("seed")?;
     let serial = matches.get_one::<bool>("serial")?;
     let strict = matches.get_one::<bool>("strict")?;
+    let explain = matches.get_one::<bool>("explain")?;
     if workers < 1 || workers > 8 || seed > MAX_SEED {
         return None;
     }
@@ -33,6 +37,7 @@ fn options(matches: &ArgMatches<'_>) -> Option<Options>
         seed,
         serial,
         strict,
+        explain,
     })
 }
 
@@ -59,6 +64,7 @@ fn run_asked(alloc: Global, matches: &ArgMatches<'_>) -> Result<Option<Run>, All
         seed: options.seed,
         serial: options.serial,
         strict: options.strict,
+        explain: options.explain,
     }))
 }
 
@@ -83,13 +89,36 @@ fn check_asked(alloc: Global, matches: &ArgMatches<'_>) -> Result<Option<Check>,
     let Some(strict) = matches.get_one::<bool>("strict") else {
         return Ok(None);
     };
+    let Some(explain) = matches.get_one::<bool>("explain") else {
+        return Ok(None);
+    };
     let script = owned(alloc, matches.get_str("SCRIPT"))?;
     let config = String::from_str(alloc, config)?;
     Ok(Some(Check {
         config,
         script,
         strict,
+        explain,
     }))
+}
+
+/// What the matches of `replay` ask for.
+fn replay_asked(alloc: Global, matches: &ArgMatches<'_>) -> Result<Option<Replay>, AllocError>
+    ensures asks { IfOk result (λ replay. IfSome replay (AsksReplay (rows_of (found_of matches.now)))) }
+    ensures limits { IfOk result (λ replay. IfSome replay (λ r. All IsCapacity r.capacities.items)) }
+    ensures none { IfOk result (λ replay. replay ≡ None → HaveNoReplay (rows_of (found_of matches.now))) }
+{
+    let Some(trace) = matches.get_str("TRACE") else {
+        return Ok(None);
+    };
+    let Some(list) = matches.get_str("capacity") else {
+        return Ok(None);
+    };
+    let Some(capacities) = read_capacities(alloc, list)? else {
+        return Ok(None);
+    };
+    let trace = String::from_str(alloc, trace)?;
+    Ok(Some(Replay { trace, capacities }))
 }
 
 /// What the matches of a subcommand ask for.
@@ -110,15 +139,22 @@ fn asked(alloc: Global, name: &str, matches: &ArgMatches<'_>) -> Result<Option<A
             None => Ok(None),
         };
     }
+    if name == "replay" {
+        return match replay_asked(alloc, matches)? {
+            Some(replay) => Ok(Some(Asked::Replay(replay))),
+            None => Ok(None),
+        };
+    }
     Ok(None)
 }
 
-/// What the words after the program's name ask for: nothing where there are none, else a run or a check.
+/// What the words after the program's name ask for: nothing where there are none, else a run, a check or a replay.
 ///
 /// The error's text is for the user; it is the help where that was asked for.
 ///
-/// Words that ask for a check, or for a run within the limits, are refused for a fault of `clap`'s or for want of memory
-/// alone. `--serial` beside `--workers` asks for nothing, nor does standard input for both files.
+/// Words that ask for a check, for a replay, or for a run within the limits, are refused for a fault of `clap`'s or for
+/// want of memory alone. `--serial` beside `--workers` asks for nothing, nor does standard input for both files, nor
+/// capacities that are no list.
 ///
 /// What the clauses do not say: that words which `clap` takes ask for a run or a check, since its contract does not give
 /// the rows of a subcommand for every such words; that want of memory comes only where memory was refused; which of
@@ -143,5 +179,5 @@ pub fn read_words<'a>(alloc: Global, words: &'a [&'a str]) -> Result<Option<Aske
             return Ok(Some(asked));
         }
     }
-    Err(command.error(ErrorKind::InvalidSubcommand, "the words ask for nothing")?)
+    Err(command.error(ErrorKind::InvalidSubcommand, help::NO_LIST)?)
 }

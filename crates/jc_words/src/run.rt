@@ -1,7 +1,7 @@
 //! A run that words ask for.
 
-/// One run of the program: two paths, the number of workers, the table's seed, whether one thread makes all calls, and
-/// whether members that an op does not need are refused.
+/// One run of the program: two paths, the number of workers, the table's seed, whether one thread makes all calls,
+/// whether members that an op does not need are refused, and whether a fault is explained.
 #[derive(Drop)]
 pub struct Run {
     pub config: String,
@@ -10,6 +10,7 @@ pub struct Run {
     pub seed: u64,
     pub serial: bool,
     pub strict: bool,
+    pub explain: bool,
 }
 
 /// The options of a run.
@@ -19,4 +20,5 @@ pub struct Options {
     pub seed: u64,
     pub serial: bool,
     pub strict: bool,
+    pub explain: bool,
 }

@@ -3,20 +3,19 @@
 //! Without words the script is read from standard input and run on the demonstration's caches.
 #![tactic(auto)]
 
-use jc_runner::{HostDisk, Opened, Standard, program, words_of};
+use jc_explain::Kept;
+use jc_program::{KeepingDisk, asks_to_explain, run_program};
+use jc_runner::{Opened, Standard, words_of};
 use std::process::ExitCode;
 
 fn main(rt: HostRuntime) -> ExitCode {
-    let mut disk = HostDisk { files: &rt };
+    let alloc = rt.alloc();
+    let words = words_of(&rt);
+    let keeps = asks_to_explain(&words);
+    let mut disk = KeepingDisk::new(alloc, &rt, keeps);
     let mut opened = Opened::none();
-    let mut standard = Standard::new(rt.stdin(), rt.stdout(), rt.stderr());
-    let ended = program(
-        &rt,
-        rt.alloc(),
-        words_of(&rt),
-        &mut disk,
-        &mut opened,
-        &mut standard,
-    );
+    let input = Kept::new(alloc, rt.stdin(), keeps);
+    let mut standard = Standard::new(input, rt.stdout(), rt.stderr());
+    let ended = run_program(&rt, alloc, words, &mut disk, &mut opened, &mut standard);
     ExitCode::from(ended.status)
 }

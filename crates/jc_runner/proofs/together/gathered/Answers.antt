@@ -15,6 +15,11 @@ returns-in_err-shared-clause-refused g c = λ is.
     let p = err_from_is_err_and c.from_residual-in_err-shared.result c.from_residual-in_err-shared.ensures.1 in
     c.unnamed.ensures.refused (c.in_err-shared.was ∙ ap Err (passed_fault c.from_residual-in_err-shared.result c.in_err-shared.field-0.0 _ p is))
 
+pub returns-in_err-shared-clause-closed : goal.returns-in_err-shared-clause-closed
+returns-in_err-shared-clause-closed g c = λ is.
+    let p = err_from_is_err_and c.from_residual-in_err-shared.result c.from_residual-in_err-shared.ensures.1 in
+    absurd (c.unnamed.ensures.closed (c.in_err-shared.was ∙ ap Err (passed_fault c.from_residual-in_err-shared.result c.in_err-shared.field-0.0 _ p is)))
+
 pub returns-clause-text : goal.returns-clause-text
 returns-clause-text g c =
     let caches = c.args.setup.settings in

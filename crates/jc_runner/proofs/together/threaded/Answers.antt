@@ -14,6 +14,11 @@ returns-in_err-text-clause-refused g c = λ is.
     let p = err_from_is_err_and c.from_residual.result c.from_residual.ensures.1 in
     c.gathered.ensures.refused (c.in_err-text.was ∙ ap Err (passed_fault c.from_residual.result c.in_err-text.field-0.0 _ p is))
 
+pub returns-in_err-text-clause-closed : goal.returns-in_err-text-clause-closed
+returns-in_err-text-clause-closed g c = λ is.
+    let p = err_from_is_err_and c.from_residual.result c.from_residual.ensures.1 in
+    c.gathered.ensures.closed (c.in_err-text.was ∙ ap Err (passed_fault c.from_residual.result c.in_err-text.field-0.0 _ p is))
+
 pub returns-clause-ok : goal.returns-clause-ok
 returns-clause-ok g c =
     on_ok_weaker c.write_text.result

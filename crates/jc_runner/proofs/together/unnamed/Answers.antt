@@ -1,8 +1,11 @@
-use Rattle.jc_runner.proofs.Gathering.{opened_suits, opens_in_memory, refused_caches, refused_hooks}
+use Rattle.jc_runner.proofs.Gathering.{opened_suits, opened_takes, opens_in_memory, refused_caches, refused_hooks}
 use Rattle.jc_runner.proofs.together.unnamed.Goals as goal
 
 pub returns-in-Ok-clause-suit : goal.returns-in-Ok-clause-suit
 returns-in-Ok-clause-suit g c = opened_suits g.P.Processor.wants c.args.setup.settings c.into_caches.result.items c.args.setup.hooks.items c.into_caches.ensures c.in-Ok.ensures.opens
+
+pub returns-in-Ok-clause-opens : goal.returns-in-Ok-clause-opens
+returns-in-Ok-clause-opens g c = opened_takes g.P.Processor.wants c.args.setup.settings c.into_caches.result.items c.args.setup.hooks.items c.into_caches.ensures c.in-Ok.ensures.opens
 
 pub returns-in-Err-Caches-clause-refused : goal.returns-in-Err-Caches-clause-refused
 returns-in-Err-Caches-clause-refused g c = λ e.

@@ -13,6 +13,7 @@ returns-clause-asks c =
       seed = rw (← one_text-rows found (codes "seed")) (number_read (λ bs r. ParsesUnsigned 64 10 bs r × ExplainsUnsignedError 10 bs r × HasUnsignedDigitsIfOk bs r) 64 (one_text found (codes "seed")) c.in_ok-seed.seed (λ t r g. g.0) c.in_ok-seed.ensures.none c.in_ok-seed.ensures.value);
       serial = sym (one_text-rows found (codes "serial")) ∙ truth_read (one_text found (codes "serial")) c.in_ok-serial.serial c.in_ok-serial.ensures.none c.in_ok-serial.ensures.value;
       strict = sym (one_text-rows found (codes "strict")) ∙ truth_read (one_text found (codes "strict")) c.in_ok-strict.strict c.in_ok-strict.ensures.none c.in_ok-strict.ensures.value;
+      explain = sym (one_text-rows found (codes "explain")) ∙ truth_read (one_text found (codes "explain")) c.in_ok-explain.explain c.in_ok-explain.ensures.none c.in_ok-explain.ensures.value;
     }
 
 pub returns-in_err-workers-clause-none : goal.returns-in_err-workers-clause-none
@@ -34,6 +35,11 @@ pub returns-in_err-strict-clause-none : goal.returns-in_err-strict-clause-none
 returns-in_err-strict-clause-none c e o asks within =
     let found = found_of c.args.matches.now in
     no_truth (one_text found (codes "strict")) o.strict c.in_err-strict.ensures.value (one_text-rows found (codes "strict") ∙ asks.strict)
+
+pub returns-in_err-explain-clause-none : goal.returns-in_err-explain-clause-none
+returns-in_err-explain-clause-none c e o asks within =
+    let found = found_of c.args.matches.now in
+    no_truth (one_text found (codes "explain")) o.explain c.in_err-explain.ensures.value (one_text-rows found (codes "explain") ∙ asks.explain)
 
 pub returns-then-workers-lt1-clause-none : goal.returns-then-workers-lt1-clause-none
 returns-then-workers-lt1-clause-none c e o asks within =

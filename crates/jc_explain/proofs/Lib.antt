@@ -1,0 +1,3 @@
+pub mod MemberNames
+pub mod Pieces
+pub mod TableNames

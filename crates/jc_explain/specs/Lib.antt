@@ -1,0 +1,10 @@
+pub mod Config
+pub mod Found
+pub mod Lines
+pub mod Other
+pub mod Place
+pub mod Script
+pub mod Spelling
+pub mod Stranger
+pub mod Unread
+pub mod Words

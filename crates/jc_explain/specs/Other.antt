@@ -1,0 +1,28 @@
+-- Members of a script's line that its op does not have.
+use Rattle.std.specs.Prelude.{ℕ, Bool, if◌then◌else◌, List, [], ◌∷◌, Option, Some, None, option_and_then}
+use Rattle.serde_json.specs.Data.{Data, Members, no_members, member}
+use Rattle.serde_json.specs.Find.{as_object}
+use Rattle.jc_strict.specs.Members.{has_member}
+use Rattle.jc_strict.specs.Stray.{op_of}
+use Rattle.jc_explain.specs.Stranger.{is_known}
+use Rattle.jc_explain.specs.Words.{script_members}
+
+-- the op has the member; where there is no op, any has it
+abbrev pub is_member : Option (List ℕ) → List ℕ → Bool
+is_member None name = is_known script_members name
+is_member (Some op) name = has_member op name
+
+abbrev pub other_among : Option (List ℕ) → List (List ℕ) → Option (List ℕ)
+other_among op [] = None
+other_among op (name ∷ names) = if is_member op name then other_among op names else Some name
+
+abbrev pub names_of : Members → List (List ℕ)
+names_of no_members = []
+names_of (member k d ms) = k ∷ names_of ms
+
+abbrev pub other_of : Option (List ℕ) → Members → Option (List ℕ)
+other_of op ms = other_among op (names_of ms)
+
+-- the first member of a line, in the order of their names, that its op does not have
+abbrev pub other_in : Data → Option (List ℕ)
+other_in d = option_and_then (other_of (op_of d)) (as_object d)

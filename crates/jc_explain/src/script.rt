@@ -1,0 +1,274 @@
+//! Explanations of a script's faults.
+ghost use Rattle.std.specs.Prelude.{◌≡◌, IfOk, map, option_map, string_bytes};
+ghost use Rattle.std.specs.List.{slice_split};
+ghost use Rattle.serde_json.specs.View.{view};
+ghost use Rattle.jc_script.specs.Script.{is_feed};
+ghost use Rattle.jc_explain.specs.Script.{piece_at, json_at, column_line, TellsColumn, object_line, near_value, value_line, near_other, other_line, member_lines, names_line, joined, further, bad_lines, lines_at, too_long_line, Tells};
+
+use crate::found::show_json;
+use crate::lines::{member_line, missing_line, no_member_line, plain_line, show_text, suggest};
+use crate::other::other_in;
+use crate::spelling::nearest;
+use crate::stranger::is_known;
+use crate::words::{script_allowed, script_members, script_words};
+use jc_script::{Member, ScriptFault, read_json};
+use serde_json::Value;
+use std::alloc::{AllocError, Global};
+
+/// The bytes, cut at each line feed.
+fn pieces(alloc: Global, bytes: &[u8]) -> Result<Vec<&[u8]>, AllocError>
+    ensures { IfOk result (λ v. map (λ piece. piece.now) v.items ≡ slice_split is_feed bytes.now) }
+{
+    bytes.split(|b| *b == b'\n').collect(alloc)
+}
+
+/// The line with this number, counted from 1.
+fn piece_at(alloc: Global, bytes: &[u8], line: usize) -> Result<Option<&[u8]>, AllocError>
+    ensures { IfOk result (λ o. option_map (λ piece. piece.now) o ≡ piece_at line bytes.now) }
+{
+    let pieces = pieces(alloc, bytes)?;
+    let place = line.saturating_sub(1);
+    for (i, piece) in pieces.as_slice().iter().enumerate() {
+        if i == place {
+            return Ok(Some(*piece));
+        }
+    }
+    Ok(None)
+}
+
+/// What that line is as JSON, if it is there and is JSON.
+fn json_at(alloc: Global, bytes: &[u8], line: usize) -> Result<Option<Value>, AllocError>
+    ensures { IfOk result (λ o. option_map view o ≡ json_at line bytes.now) }
+{
+    match piece_at(alloc, bytes, line)? {
+        Some(piece) => read_json(alloc, piece),
+        None => Ok(None),
+    }
+}
+
+fn column_line(alloc: Global, line: usize, column: usize, why: &str) -> Result<String, AllocError>
+    ensures { IfOk result (λ s. string_bytes s ≡ column_line line column why.now) }
+{
+    format!(in alloc; "  line {line}, column {column}: {why}\n")
+}
+
+/// The column at which bytes cease to be JSON, and why.
+fn end_of_json(alloc: Global, piece: &[u8]) -> Result<(usize, &'static str), AllocError> {
+    match Value::from_slice(alloc, piece) {
+        Ok(_) => Ok((1, "read again, it is JSON")),
+        Err(error) => {
+            if error.is_memory() {
+                Err(AllocError)
+            } else if error.is_eof() {
+                Ok((error.column(), "the JSON ends too soon"))
+            } else {
+                Ok((error.column(), "no JSON from here on"))
+            }
+        }
+    }
+}
+
+/// Where the line ceases to be JSON.
+fn not_json(alloc: Global, bytes: &[u8], line: usize) -> Result<String, AllocError>
+    ensures { IfOk result (λ s. TellsColumn line (string_bytes s)) }
+{
+    let (column, why) = match piece_at(alloc, bytes, line)? {
+        Some(piece) => end_of_json(alloc, piece)?,
+        None => (1, "read again, it is not there"),
+    };
+    column_line(alloc, line, column, why)
+}
+
+/// A line that is JSON and no object.
+fn object_line(alloc: Global, value: &Value) -> Result<String, AllocError>
+    ensures { IfOk result (λ s. string_bytes s ≡ object_line (view value.now)) }
+{
+    let shown = show_json(alloc, value)?;
+    format!(in alloc; "  the line is {shown}; it has to be an object\n")
+}
+
+/// The word nearest to a member's text, where the member has few words.
+fn near_value<'a>(
+    alloc: Global,
+    value: &Value,
+    words: &[&'a str],
+) -> Result<Option<&'a str>, AllocError>
+    ensures { IfOk result (λ near. option_map (λ w. w.now) near ≡ near_value (view value.now) (map (λ w. w.now) words.now)) }
+{
+    match value.as_str() {
+        Some(text) => nearest(alloc, text, words),
+        None => Ok(None),
+    }
+}
+
+/// A member of a line as it is, and as it has to be.
+fn value_line(
+    alloc: Global,
+    value: &Value,
+    member: Member,
+    names: &[&str],
+) -> Result<String, AllocError>
+    ensures { IfOk result (λ s. string_bytes s ≡ value_line (map (λ w. w.now) names.now) member (view value.now)) }
+{
+    let near = near_value(alloc, value, script_words(member, names))?;
+    let suggestion = suggest(alloc, near)?;
+    let shown = show_json(alloc, value)?;
+    member_line(
+        alloc,
+        member.name(),
+        shown.as_str(),
+        script_allowed(member),
+        suggestion.as_str(),
+    )
+}
+
+/// The member nearest to one that no op has.
+fn near_other(alloc: Global, word: &str) -> Result<Option<&'static str>, AllocError>
+    ensures { IfOk result (λ near. option_map (λ w. w.now) near ≡ near_other word.now) }
+{
+    if is_known(script_members(), word) {
+        return Ok(None);
+    }
+    nearest(alloc, word, script_members())
+}
+
+/// The line of the first member that the line's op does not have, if there is one.
+fn other_line(alloc: Global, line: &Value) -> Result<String, AllocError>
+    ensures { IfOk result (λ s. string_bytes s ≡ other_line (view line.now)) }
+{
+    let Some(word) = other_in(line) else {
+        return Ok(String::new(alloc));
+    };
+    let near = near_other(alloc, word)?;
+    let suggestion = suggest(alloc, near)?;
+    let shown = show_text(alloc, word)?;
+    no_member_line(alloc, shown.as_str(), suggestion.as_str())
+}
+
+/// A member of a line that is bad. Where it is missing, the first that the op does not have may be meant for it.
+fn member_lines(
+    alloc: Global,
+    line: &Value,
+    member: Member,
+    names: &[&str],
+) -> Result<String, AllocError>
+    ensures { IfOk result (λ s. string_bytes s ≡ member_lines (map (λ w. w.now) names.now) member (view line.now)) }
+{
+    match line.get(member.name()) {
+        Some(value) => value_line(alloc, value, member, names),
+        None => {
+            let missing = missing_line(alloc, member.name(), script_allowed(member))?;
+            let other = other_line(alloc, line)?;
+            format!(in alloc; "{missing}{other}")
+        }
+    }
+}
+
+/// The names with a blank before each.
+fn joined(alloc: Global, names: &[&str]) -> Result<String, AllocError>
+    ensures { IfOk result (λ s. string_bytes s ≡ joined (map (λ w. w.now) names.now)) }
+{
+    let mut text = String::new(alloc);
+    for name in names {
+        text.push(' ')?;
+        text.push_str(name)?;
+    }
+    Ok(text)
+}
+
+/// The caches that a configuration has, or how many.
+fn names_line(alloc: Global, names: &[&str]) -> Result<String, AllocError>
+    ensures { IfOk result (λ s. string_bytes s ≡ names_line (map (λ w. w.now) names.now)) }
+{
+    if names.is_empty() {
+        return plain_line(alloc, "the configuration has no caches");
+    }
+    if names.len() > 16 {
+        return format!(in alloc; "  the configuration has {} caches\n", names.len());
+    }
+    let joined = joined(alloc, names)?;
+    format!(in alloc; "  the configuration has the caches{joined}\n")
+}
+
+/// What is told besides: at a cache the names that there are.
+fn further(alloc: Global, member: Member, names: &[&str]) -> Result<String, AllocError>
+    ensures { IfOk result (λ s. string_bytes s ≡ further (map (λ w. w.now) names.now) member) }
+{
+    match member {
+        Member::Cache => names_line(alloc, names),
+        _ => Ok(String::new(alloc)),
+    }
+}
+
+fn bad_lines(
+    alloc: Global,
+    line: &Value,
+    member: Member,
+    names: &[&str],
+) -> Result<String, AllocError>
+    ensures { IfOk result (λ s. string_bytes s ≡ bad_lines (map (λ w. w.now) names.now) member (view line.now)) }
+{
+    let lines = member_lines(alloc, line, member, names)?;
+    let further = further(alloc, member, names)?;
+    format!(in alloc; "{lines}{further}")
+}
+
+fn bad_member(
+    alloc: Global,
+    bytes: &[u8],
+    line: usize,
+    member: Member,
+    names: &[&str],
+) -> Result<String, AllocError>
+    ensures { IfOk result (λ s. string_bytes s ≡ lines_at (bad_lines (map (λ w. w.now) names.now) member) (json_at line bytes.now)) }
+{
+    match json_at(alloc, bytes, line)? {
+        Some(value) => bad_lines(alloc, &value, member, names),
+        None => Ok(String::new(alloc)),
+    }
+}
+
+fn not_object(alloc: Global, bytes: &[u8], line: usize) -> Result<String, AllocError>
+    ensures { IfOk result (λ s. string_bytes s ≡ lines_at object_line (json_at line bytes.now)) }
+{
+    match json_at(alloc, bytes, line)? {
+        Some(value) => object_line(alloc, &value),
+        None => Ok(String::new(alloc)),
+    }
+}
+
+/// The line that names a member which the op of this line does not need, by the line's number.
+pub fn explain_other(alloc: Global, bytes: &[u8], line: usize) -> Result<String, AllocError>
+    ensures { IfOk result (λ s. string_bytes s ≡ lines_at other_line (json_at line bytes.now)) }
+{
+    match json_at(alloc, bytes, line)? {
+        Some(value) => other_line(alloc, &value),
+        None => Ok(String::new(alloc)),
+    }
+}
+
+/// The lines that explain a fault of a script, of which these are the bytes; the names are those of the configuration's
+/// caches.
+pub fn explain_script(
+    alloc: Global,
+    bytes: &[u8],
+    names: &[&str],
+    fault: ScriptFault,
+) -> Result<String, AllocError>
+    ensures { IfOk result (λ s. Tells bytes.now (map (λ w. w.now) names.now) fault (string_bytes s)) }
+{
+    match fault {
+        ScriptFault::TooLong => explain_too_long(alloc),
+        ScriptFault::NotJson { line } => not_json(alloc, bytes, line),
+        ScriptFault::NotObject { line } => not_object(alloc, bytes, line),
+        ScriptFault::Bad { line, member } => bad_member(alloc, bytes, line, member, names),
+        ScriptFault::OutOfMemory => Ok(String::new(alloc)),
+    }
+}
+
+/// The line that explains why a script is too long.
+pub fn explain_too_long(alloc: Global) -> Result<String, AllocError>
+    ensures { IfOk result (λ s. string_bytes s ≡ too_long_line) }
+{
+    plain_line(alloc, "at most 8388608 bytes are read")
+}

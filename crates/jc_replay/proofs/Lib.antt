@@ -1,0 +1,4 @@
+pub mod Counting
+pub mod Keys
+pub mod Lines
+pub mod Traces

@@ -1,0 +1,3 @@
+pub mod Hits
+pub mod Table
+pub mod Trace

@@ -1,0 +1,36 @@
+-- How the replay of a trace ends.
+use Rattle.std.proofs.Common.{◌≡◌, ◌<◌, ℕ, List, length, Option, Some, None, Err, refl, ap}
+use Rattle.std.specs.Prelude.{IfSome}
+use Rattle.jc_model.specs.Limits.{text_bytes}
+use Rattle.jc_replay.specs.Table.{as_table, replay_table}
+use Rattle.jc_replay.specs.Hits.{ratios_of}
+use Rattle.jc_replay.specs.declared.fault.ReplayFault.TheVariants as replay
+use Rattle.jc_replay.proofs.Traces.{too_long}
+use Rattle.jc_runner.specs.Faults.{of_trace}
+use Rattle.jc_runner.specs.Program.{TraceEnds, failed_once}
+use Rattle.jc_runner.specs.Streams.{IsOfReading}
+use Rattle.jc_runner.specs.declared.fault.RunFault.{RunFault}
+use Rattle.jc_runner.specs.declared.fault.RunFault.TheVariants as run
+use Rattle.jc_runner.specs.declared.watched.Watched.{Watched}
+use Rattle.jc_runner.specs.declared.watched.WatchedWriter.{WatchedWriter}
+use Rattle.jc_runner.proofs.Named.{keeps_same}
+
+long_table : (trace capacities : List ℕ) → text_bytes < length trace → replay_table trace capacities ≡ Err replay.TooLong
+long_table trace capacities long = ap (λ keys. as_table (ratios_of capacities keys)) (too_long trace long)
+
+if_long : (capacities : List ℕ) (input : Option (List ℕ)) → IfSome input (λ trace. text_bytes < length trace) → IfSome input (λ trace. replay_table trace capacities ≡ Err replay.TooLong)
+if_long capacities None long = tt
+if_long capacities (Some trace) long = long_table trace capacities long
+
+module _ {I O : Type 0} (remaining : I → Option (List ℕ)) (contents : O → Option (List ℕ)) (capacities : List ℕ) (reader reader' : Watched I) (writer : WatchedWriter O) where
+  -- the trace was not read to its end
+  pub ends_unread : (fault : RunFault) → IsOfReading fault → (fault ≡ run.Read → failed_once reader reader') → (fault ≡ run.TooLong → IfSome (remaining reader.inner) (λ trace. text_bytes < length trace))
+      → TraceEnds remaining contents capacities reader reader' writer writer (Err (of_trace fault))
+  ends_unread run.Read is failed long = (failed refl, keeps_same _)
+  ends_unread run.TooLong is failed long = (if_long capacities _ (long refl), keeps_same _)
+  ends_unread run.Memory is failed long = keeps_same _
+  ends_unread (run.Script fault) is failed long = absurd is
+  ends_unread (run.Entry n) is failed long = absurd is
+  ends_unread run.Open is failed long = absurd is
+  ends_unread run.Close is failed long = absurd is
+  ends_unread run.Write is failed long = absurd is

@@ -1,0 +1,55 @@
+//! A list of capacities.
+ghost use Rattle.std.specs.Prelude.{◌≡◌, ◌==◌, ℕ, List, IfOk, IfSome, Some, MatchOption, map};
+ghost use Rattle.std.specs.List.{All, slice_split};
+ghost use Rattle.jc_words.specs.Program.{AreCapacities, IsCapacity, IsNumber, ListsCapacities};
+
+use std::alloc::{AllocError, Global};
+
+/// The greatest capacity.
+const MOST_ROWS: u32 = 65_536;
+
+/// The texts between the commas.
+fn parts_of<'a>(alloc: Global, list: &'a str) -> Result<Vec<&'a str>, AllocError>
+    ensures { IfOk result (λ v. map (λ part. part.now) v.items ≡ slice_split (λ b. b == 44) list.entry.now) }
+{
+    list.split(',').collect(alloc)
+}
+
+/// A whole number from 1 to 65,536.
+fn read_capacity(text: &str) -> Option<u32>
+    ensures { MatchOption result ((n : ℕ) → IsNumber (Some text.now) n → IsCapacity n → ⊥) (λ n. IsNumber (Some text.now) n × IsCapacity n) }
+{
+    match text.parse::<u32>() {
+        Ok(n) => {
+            if n < 1 || n > MOST_ROWS {
+                return None;
+            }
+            Some(n)
+        }
+        Err(_) => None,
+    }
+}
+
+/// The capacities that are all of these texts, if they are.
+fn read_parts(alloc: Global, parts: &[&str]) -> Result<Option<Vec<u32>>, AllocError>
+    ensures read { IfOk result (λ read. MatchOption read ((ns : List ℕ) → AreCapacities (map (λ part. part.now) parts.now) ns → ⊥) (λ v. AreCapacities (map (λ part. part.now) parts.now) v.items)) }
+    ensures limits { IfOk result (λ read. IfSome read (λ v. All IsCapacity v.items)) }
+{
+    let mut capacities = Vec::new(alloc);
+    for part in parts {
+        let Some(capacity) = read_capacity(part) else {
+            return Ok(None);
+        };
+        capacities.push(capacity)?;
+    }
+    Ok(Some(capacities))
+}
+
+/// The capacities in a list with a comma between two, if it is one.
+pub(crate) fn read_capacities(alloc: Global, list: &str) -> Result<Option<Vec<u32>>, AllocError>
+    ensures read { IfOk result (λ read. MatchOption read ((ns : List ℕ) → ListsCapacities (Some list.now) ns → ⊥) (λ v. ListsCapacities (Some list.now) v.items)) }
+    ensures limits { IfOk result (λ read. IfSome read (λ v. All IsCapacity v.items)) }
+{
+    let parts = parts_of(alloc, list)?;
+    read_parts(alloc, parts.as_slice())
+}
