@@ -10,7 +10,7 @@ ghost use Rattle.jc_model.specs.Step.{step as step_of};
 ghost use Rattle.jc_model.specs.Suspended.{one, many, key_run, bulk_run};
 ghost use Rattle.jc_model.specs.Bulk.{empty_sum};
 ghost use Rattle.jc_model.specs.Whole.{plan, steps_in, gathers, is_at_once, each, carried_out, is_free};
-ghost use Rattle.jc_state.specs.Kept.{Kept, items_of, state_of, progress_of, IsTied, Remains, IsUnmoved};
+ghost use Rattle.jc_state.specs.Kept.{Kept, items_of, state_of, progress_of, IsTied, FoundRow, Remains, IsUnmoved};
 ghost use Rattle.jc_ops.specs.Stepped.{StepsTo, IsWaiting};
 ghost use Rattle.jc_bulk.specs.Awaiting.{awaited};
 ghost use Rattle.jc_bulk.specs.Moved.{ComesTo, IsSuspended, wait_run};
@@ -70,21 +70,22 @@ fn with_notices(next: Next, notices: Notices) -> Moved
     }
 }
 
-/// Begins a call on one key, which is this step.
-fn start_key<R: Rows, G: Ring>(
+/// Begins a call on one key, which is this step, where the key has this row, if it has one.
+pub fn start_key<R: Rows, G: Ring>(
     alloc: Global,
     state: &mut CacheState<G>,
     rows: &mut R,
     now: u64,
+    row: Option<u32>,
     step: KeyCall,
 ) -> Result<Moved, OutOfMemory>
     requires tied { IsTied (R.contents rows.old) state.old }
+    requires row { FoundRow step.key state.old row }
     ensures remains { Remains (R.contents rows.old) state.old (R.contents rows.new) state.new }
     ensures ok { IfOk result (λ m. ComesTo state.old.config (step_of state.old.config now step (begun (state_of state.old))) m state.new) }
     ensures same { OnErr result (IsUnmoved (R.contents rows.old) state.old (R.contents rows.new) state.new) }
 {
     let mut notices = Notices::none(alloc);
-    let row = state.find(rows, &step.key);
     let supply = Supply::for_step(state, rows, &mut notices, now, row, &step)?;
     let next = KeyStep::start(state, rows, &mut notices, now, step, row, supply);
     Ok(with_notices(next, notices))
@@ -123,7 +124,10 @@ fn start_steps<R: Rows, G: Ring>(
     ensures same { OnErr result (IsUnmoved (R.contents rows.old) state.old (R.contents rows.new) state.new) }
 {
     match key_step(call)? {
-        Some(step) => start_key(alloc, state, rows, now, step),
+        Some(step) => {
+            let row = state.find(rows, &step.key);
+            start_key(alloc, state, rows, now, row, step)
+        }
         None => start_many(alloc, state, rows, now, call),
     }
 }

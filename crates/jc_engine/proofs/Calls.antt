@@ -1,10 +1,11 @@
 -- One cache and its call: what the call has come to is what the cache is to answer.
 use Rattle.jc_engine.proofs.Names.{common_steps, Answer, Call, Request, CacheConfig, Cause, WrongAnswer, Outcome, Progress, begun, Run, ended, waiting, and_then, resume, for_tell, fits, plan, carried_out}
 use Rattle.jc_engine.proofs.Names.{told_first, Standing, Status, begins, answers, shown, standing_of, reply_of, Wait, one, many, telling, run_of, standing_by, Kept, progress_of, Waits, wait_run, WaitsOn, Advance}
-use Rattle.jc_engine.proofs.Names.{Asked, Idle, Waiting, Telling, Cache, turn_in, notices_in, is_step, WaitsThere, Settled, Moves, Refused}
-use Rattle.std.proofs.Common.{◌≡◌, ℕ, Bool, true, false, if◌then◌else◌, refl, sym, ap, subst, ◌∙◌, arith}
+use Rattle.jc_engine.proofs.Names.{Asked, Replied, Idle, Waiting, Telling, Cache, turn_in, notices_in, is_step, WaitsThere, Settled, Moves, Refused}
+use Rattle.std.proofs.Common.{◌≡◌, ℕ, List, Option, Some, None, Bool, true, false, if◌then◌else◌, [], refl, sym, ap, subst, ◌∙◌, arith}
 use Rattle.jc_model.specs.declared.call.Reply.{Reply}
-use Rattle.jc_state.specs.Kept.{state_of}
+use Rattle.jc_model.specs.State.{Item, live, is_live}
+use Rattle.jc_state.specs.Kept.{state_of, has_live, IsRow}
 use Rattle.jc_engine.specs.declared.cache.Turn.{Turn}
 use Rattle.jc_engine.proofs.Untold.{not_told, carried_out-untold, resume-untold, wait_run-untold}
 
@@ -23,6 +24,22 @@ pub began : (c : CacheConfig) (k : Kept) (turn : Turn) (now : ℕ) (call : Call)
 began c k Idle now call k' turn' advance allowed settled = grind (arith, carried_out-untold)
 began c k (Waiting s) now call k' turn' advance allowed settled = absurd cc
 began c k (Telling r) now call k' turn' advance allowed settled = absurd cc
+
+-- a call that has ended, and told nothing, stands as its run does
+settled_at_once : (c : CacheConfig) (run : Run) (k : Kept) (reply : Reply) → run ≡ ended (progress_of k []) reply → Settled c run k Idle (Replied reply)
+settled_at_once c run k reply is = grind (arith, common_steps)
+
+-- the key's row is live
+pub row_is_live : (now : ℕ) (key : List ℕ) (k : Kept) (row : ℕ) (x : Item) → IsRow key k row x → live now x.expiry ≡ true → has_live now key k ≡ true
+row_is_live now key k row x at is = subst (λ (found : Option Item). (elim found [ None ↦ false | Some y ↦ is_live now y ]) ≡ true) (sym at.found) is
+
+-- a call has begun, and has ended at once
+pub began_at_once : (c : CacheConfig) (k : Kept) (turn : Turn) (now : ℕ) (call : Call) (k' : Kept) (reply : Reply)
+    → is_step (reply_of c (standing_by c (progress_of k (notices_in turn)) (turn_in turn)) (begins now call)) ≡ true
+    → carried_out c now (plan c now call (begun (state_of k))) (begun (state_of k)) ≡ ended (progress_of k' []) reply → Moves (cache_of c k turn) (begins now call) (Replied reply) (cache_of c k' turn)
+began_at_once c k Idle now call k' reply allowed run = began c k Idle now call k' Idle (Replied reply) allowed (settled_at_once c (carried_out c now (plan c now call (begun (state_of k))) (begun (state_of k))) k' reply run)
+began_at_once c k (Waiting s) now call k' reply allowed run = absurd cc
+began_at_once c k (Telling r) now call k' reply allowed run = absurd cc
 
 -- a suspended call goes on as its run does
 run_on : (c : CacheConfig) (p : Progress) (w : Wait) (a : Answer) (run : Run) → wait_run c p w ≡ run → ((q : Progress) (r : Reply) → run ≡ ended q r → ⊥) → run_of c p w a ≡ and_then (resume (wait_run c p w) a) told_first

@@ -1,7 +1,7 @@
 -- One event of the manager, by what it did to its cache.
-use Rattle.std.proofs.Common.{◌≡◌, ℕ, Bool, true, false, if◌then◌else◌, List, length, option_map, slice_set, OnErr, IfOk, Option, Some, None, Ok, Err, Result, refl, sym, ap, ◌∙◌}
+use Rattle.std.proofs.Common.{◌≡◌, ℕ, Bool, true, false, if◌then◌else◌, List, length, option_map, slice_set, OnOk, OnErr, IfOk, IfErr, Option, Some, None, Ok, Err, Result, refl, sym, ap, ◌∙◌}
 use Rattle.jc_engine.proofs.Names.{map-set, Cause, NoSuchCache, OutOfMemory, Outcome, there, at_place, Status, live_at, Said, says, reply_of, refuse_last, is_refused, for_memory, answer_of, answer_in, moved, put_moved, lives_by}
-use Rattle.jc_engine.proofs.Names.{Advance, Managed, Cache, status_of, lives_of, cache_in, is_step, Moves, outcome_of, ChangesOne, caches_in, Refused, Stepped, at_same}
+use Rattle.jc_engine.proofs.Names.{Advance, Managed, Cache, status_of, lives_of, cache_in, is_step, Moves, outcome_of, of_start, ChangesOne, caches_in, Refused, Stepped, at_same}
 use Rattle.jc_engine.proofs.Places.{same_set, place_of, Within, seen_is, live_is, Changes, seen_put}
 
 -- where memory suffices, a reply stays
@@ -45,6 +45,20 @@ pub record Did (k k' : Cache) (said : Said) (memory : Bool) (o : Outcome) : Type
 pub advanced : {T : Type 0} {k k' : Cache} {said : Said} (r : Result Advance T) → is_step (reply_of k.config (status_of k).standing said) ≡ true → IfOk r (λ advance. Moves k said advance k') → OnErr r (k' ≡ k) → Did k k' said (for_memory (outcome_of r)) (outcome_of r)
 advanced (Ok advance) allowed ok err = record { shows = ok.shows ∙ sym (plain _); moves = λ _. ok.moves; stays = λ e. absurd cc }
 advanced (Err back) allowed ok err = record { shows = memory_refused _ allowed; moves = λ e. absurd cc; stays = λ _. err }
+
+pub ok_then : {A E P : Type 0} (r : Result A E) → P → OnOk r P
+ok_then (Ok x) p = p
+ok_then (Err e) p = tt
+
+-- a call that begins, and may be refused
+pub started : {k k' : Cache} {said : Said} (r : Result Advance Cause) → IfOk r (λ advance. Moves k said advance k') → IfErr r (λ cause. Refused cause ≡ refuse_last (for_memory (Refused cause)) (reply_of k.config (status_of k).standing said)) → OnErr r (k' ≡ k)
+    → Did k k' said (for_memory (of_start r)) (of_start r)
+started (Ok advance) ok err same = record { shows = ok.shows ∙ sym (plain _); moves = λ _. ok.moves; stays = λ e. absurd cc }
+started (Err cause) ok err same = record { shows = err; moves = λ e. absurd cc; stays = λ _. same }
+
+-- a call is refused for want of memory, in the place of a step
+pub memory_alone : (reply : Outcome) → is_step reply ≡ true → Refused OutOfMemory ≡ refuse_last (for_memory (Refused OutOfMemory)) reply
+memory_alone reply is = memory_refused reply is
 
 -- the manager's fields after it
 module _ {G : Type 0} {w : Within G} {id : ℕ} {cache cache' : Managed G} {g : ℕ → Option (Managed G)} (c : Changes w id cache (Some cache') g) where

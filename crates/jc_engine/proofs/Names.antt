@@ -51,7 +51,7 @@ pub use Rattle.jc_engine.specs.declared.cache.Managed.{Managed}
 pub use Rattle.jc_engine.specs.declared.cache.Turn.TheVariants.{Idle, Telling, Waiting}
 pub use Rattle.jc_engine.specs.declared.open.OpenRefusal.{OpenRefusal}
 pub use Rattle.jc_engine.specs.declared.open.OpenRefusal.TheVariants.{IdsSpent, TooManyCaches, TotalCapacity}
-pub use Rattle.jc_engine.specs.Advances.{ChangesOne, ClosedAt, FitsAt, is_open_in, of_abandon, outcome_of}
+pub use Rattle.jc_engine.specs.Advances.{ChangesOne, ClosedAt, FitsAt, is_open_in, of_abandon, of_start, outcome_of}
 pub use Rattle.jc_engine.specs.Caches.{Cache, expiry_in, fresh_cache, fresh_from, holds_in, id_of, lives_of, names_of, status_of}
 pub use Rattle.jc_engine.specs.Fresh.{AreNames, MayCome, fresh_fields}
 pub use Rattle.jc_engine.specs.Managed.{Abandons, FitsTurn, IsManaged, LeavesNotices, Moves, NeverTells, Settled, WaitsThere, cache_in, is_step, is_telling, notices_in, step_of, tells, turn_in}

@@ -15,6 +15,11 @@ abbrev pub outcome_of : {T : Type 0} → Result Advance T → Outcome
 outcome_of (Ok advance) = outcome.Step (step_of advance)
 outcome_of (Err back) = outcome.Refused OutOfMemory
 
+-- of a call that begins, which may be refused otherwise
+abbrev pub of_start : Result Advance Cause → Outcome
+of_start (Ok advance) = outcome.Step (step_of advance)
+of_start (Err cause) = outcome.Refused cause
+
 abbrev pub of_abandon : Result (Option Noted) Cause → Outcome
 of_abandon (Ok None) = outcome.GivenUp []
 of_abandon (Ok (Some left)) = outcome.GivenUp left.told

@@ -1,26 +1,30 @@
 //! One cache under the manager: its configuration, its rows and counters, and its open call.
 ghost use Rattle.std.specs.Prelude.{◌≡◌, ℕ, ◌<◌, true, List, Some, None, IsOk, IfOk, IfErr, OnErr, MatchOption, is_some, length};
+ghost use Rattle.jc_model.specs.declared.call.Call.TheVariants.{Get};
 ghost use Rattle.jc_model.specs.declared.config.CacheConfig.{CacheConfig};
 ghost use Rattle.jc_model.specs.declared.event.Outcome.TheVariants.{Refused, Destroyed};
 ghost use Rattle.jc_model.specs.Run.{Run, fits, for_tell};
 ghost use Rattle.jc_model.specs.Whole.{is_free};
-ghost use Rattle.jc_model.specs.Runs.{begins, answers, reply_of, destroyed_by};
+ghost use Rattle.jc_model.specs.Runs.{begins, answers, reply_of, destroyed_by, refuse_last, for_memory};
 ghost use Rattle.jc_state.specs.Kept.{Kept};
 ghost use Rattle.jc_state.specs.Tied.{SameElsewhere};
 ghost use Rattle.jc_bulk.specs.Moved.{ComesTo};
+ghost use Rattle.jc_engine.specs.Advances.{of_start};
 ghost use Rattle.jc_engine.specs.Caches.{status_of};
 ghost use Rattle.jc_engine.specs.Sound.{IsAt};
 ghost use Rattle.jc_engine.specs.declared.cache.Turn.TheVariants.{Idle};
 ghost use Rattle.jc_engine.specs.Journals.{is_replied};
 ghost use Rattle.jc_engine.specs.Managed.{cache_in, turn_in, step_of, is_step, IsManaged, Moves, Settled, Abandons};
 
-use jc_bulk::call::{Moved, answer_call, start_call};
+use jc_bulk::call::{Moved, answer_call, start_call, start_key};
 use jc_bulk::waits::Suspended;
 use jc_model::OutOfMemory;
-use jc_model::call::{Answer, Call, Reply, Request};
+use jc_model::call::{Answer, Call, KeyCall, Op, Reply, Request};
 use jc_model::config::CacheConfig;
 use jc_model::event::{Cause, Step};
+use jc_model::key::Key;
 use jc_model::thrice::Thrice;
+use jc_ops::hit::hit;
 use jc_ring::ring::Ring;
 use jc_rows::rows::Rows;
 use jc_state::notices::Notices;
@@ -140,8 +144,40 @@ impl<G: Ring> Managed<G> {
         }
     }
 
-    /// Begins a call. Only memory can refuse it, before any change.
-    pub(crate) fn start<R: Rows>(
+    /// Begins a get. One that hits asks and tells no one, and ends here.
+    fn start_get<R: Rows>(
+        &mut self,
+        alloc: Global,
+        rows: &mut R,
+        now: u64,
+        key: &Key,
+    ) -> Result<Advance, OutOfMemory>
+        requires managed { IsManaged (R.contents rows.old) self.old.state.id self.old }
+        requires allowed { is_step (reply_of self.old.state.config (status_of (cache_in self.old)).standing (begins now (Get key.now))) ≡ true }
+        ensures config { self.new.state.config ≡ self.old.state.config }
+        ensures managed_after { IsManaged (R.contents rows.new) self.old.state.id self.new }
+        ensures elsewhere { SameElsewhere self.old.state.id (R.contents rows.old) (R.contents rows.new) }
+        ensures ok { IfOk result (λ advance. Moves (cache_in self.old) (begins now (Get key.now)) advance (cache_in self.new)) }
+        ensures same { OnErr result (self.new ≡ self.old) }
+        ensures table { OnErr result (R.contents rows.new ≡ R.contents rows.old) }
+    {
+        let row = self.state.find(rows, key);
+        if let Some(row) = row {
+            if self.state.is_live(row, now) {
+                let reply = hit(&mut self.state, rows, now, row)?;
+                return Ok(Advance::Replied(reply));
+            }
+        }
+        let step = KeyCall {
+            key: *key,
+            op: Op::Get,
+        };
+        let moved = start_key(alloc, &mut self.state, rows, now, row, step)?;
+        Ok(self.settle(moved))
+    }
+
+    /// Begins a call that may begin. Only memory can refuse it, before any change.
+    fn start_allowed<R: Rows>(
         &mut self,
         alloc: Global,
         rows: &mut R,
@@ -158,8 +194,38 @@ impl<G: Ring> Managed<G> {
         ensures same { OnErr result (self.new ≡ self.old) }
         ensures table { OnErr result (R.contents rows.new ≡ R.contents rows.old) }
     {
+        if let Call::Get(key) = call {
+            return self.start_get(alloc, rows, now, key);
+        }
         let moved = start_call(alloc, &mut self.state, rows, now, call)?;
         Ok(self.settle(moved))
+    }
+
+    /// Begins a call. Refused as `Busy`, `NoSuchProcessor`, `OutOfMemory`, in this order, before any change.
+    pub(crate) fn start<R: Rows>(
+        &mut self,
+        alloc: Global,
+        rows: &mut R,
+        now: u64,
+        call: &Call,
+    ) -> Result<Advance, Cause>
+        requires managed { IsManaged (R.contents rows.old) self.old.state.id self.old }
+        ensures config { self.new.state.config ≡ self.old.state.config }
+        ensures managed_after { IsManaged (R.contents rows.new) self.old.state.id self.new }
+        ensures elsewhere { SameElsewhere self.old.state.id (R.contents rows.old) (R.contents rows.new) }
+        ensures ok { IfOk result (λ advance. Moves (cache_in self.old) (begins now call.now) advance (cache_in self.new)) }
+        ensures err { IfErr result (λ cause. Refused cause ≡ refuse_last (for_memory (Refused cause)) (reply_of self.old.state.config (status_of (cache_in self.old)).standing (begins now call.now))) }
+        ensures free { is_free call.now ≡ true → of_start result ≡ reply_of self.old.state.config (status_of (cache_in self.old)).standing (begins now call.now) }
+        ensures same { OnErr result (self.new ≡ self.old) }
+        ensures table { OnErr result (R.contents rows.new ≡ R.contents rows.old) }
+    {
+        if let Some(cause) = self.begin_refusal(call) {
+            return Err(cause);
+        }
+        match self.start_allowed(alloc, rows, now, call) {
+            Ok(advance) => Ok(advance),
+            Err(_) => Err(Cause::OutOfMemory),
+        }
     }
 
     /// Goes on with the open call. Only memory can refuse it, before any change.

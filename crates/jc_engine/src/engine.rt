@@ -107,12 +107,9 @@ impl<R: Rows, G: Ring> Engine<R, G> {
         ensures back { IfErr result (λ e. e.1 ≡ call) }
         ensures refused { OnErr result (self.new ≡ self.old) }
     {
-        if let Some(cause) = self.begin_refusal(id, &call) {
-            return Err((cause, call));
-        }
         match self.start(id, now, &call) {
             Ok(advance) => Ok(advance.into_step()),
-            Err(_) => Err((Cause::OutOfMemory, call)),
+            Err(cause) => Err((cause, call)),
         }
     }
 

@@ -27,7 +27,7 @@ pub trait Journal: Drop {
     ghost use Rattle.jc_model.specs.Legal.{History, with_answer, with_outcome};
     ghost use Rattle.jc_engine.specs.Managed.{step_of};
     ghost use Rattle.jc_engine.specs.Results.{reply_in};
-    ghost use Rattle.jc_engine.specs.Recording.{CanTell, left_in, with_entries, with_life};
+    ghost use Rattle.jc_engine.specs.Recording.{blank, CanTell, left_in, with_entries, with_life};
     ghost use Rattle.jc_engine.specs.Journals.{IsKept, Keeps, KeepsOthers, kept_at};
 
     /// The lives and the calls that it tells of.
@@ -36,8 +36,11 @@ pub trait Journal: Drop {
     /// By cache, where the entry of its open call stands there.
     ghost places: { Self → ℕ → Option ℕ };
 
+    /// What it hands back of a call that is about to begin: nothing, or all of it.
+    type Held: Drop;
+
     /// It tells of this history, over which the call with this entry is about to begin; what it has handed back of it.
-    ghost Enters: { History → Self → Option Entry → Entry → Type 0 };
+    ghost Enters: { History → Self → Self.Held → Entry → Type 0 };
 
     /// No lives and no calls.
     fn new(alloc: Global) -> Self
@@ -47,27 +50,33 @@ pub trait Journal: Drop {
     fn open_entry(&self, id: CacheId) -> Option<&Entry>
         ensures { option_map (λ e. e.now) result ≡ kept_at (history self.now) (places self.now id) };
 
-    /// Makes room for a call that is about to begin. A journal that keeps calls only while they wait hands the entry
-    /// back. Where memory is refused nothing has changed.
-    fn enter(&mut self, entry: Entry) -> Result<Option<Entry>, Entry>
-        ensures entered { IfOk result (λ held. Enters (history self.old) self.new held entry) }
-        ensures places { (id : ℕ) → places self.new id ≡ places self.old id }
-        ensures back { IfErr result (λ back. back ≡ entry) }
+    /// Makes room for a call that is about to begin. Where memory is refused it is handed back, and nothing has changed.
+    fn enter(
+        &mut self,
+        alloc: Global,
+        session: u32,
+        id: CacheId,
+        now: u64,
+        call: Call,
+    ) -> Result<Self::Held, Call>
+        ensures entered { IfOk result (λ held. Enters (history self.old) self.new held (blank session id now call)) }
+        ensures places { (other : ℕ) → places self.new other ≡ places self.old other }
+        ensures back { IfErr result (λ back. back ≡ call) }
         ensures refused { OnErr result (history self.new ≡ history self.old) };
 
     /// The call that is about to begin.
-    fn call<'a>(&'a self, held: &'a Option<Entry>) -> &'a Call
+    fn call<'a>(&'a self, held: &'a Self::Held) -> &'a Call
         requires { (h : History) × (e : Entry) × Enters h self.now held.now e }
         ensures { (h : History) (e : Entry) → Enters h self.now held.now e → result.now ≡ e.call };
 
     /// The call does not begin. It is handed back.
-    fn take_back(&mut self, held: Option<Entry>) -> Call
+    fn take_back(&mut self, held: Self::Held) -> Call
         requires { (h : History) × (e : Entry) × Enters h self.old held e }
         ensures back { (h : History) (e : Entry) → Enters h self.old held e → (result ≡ e.call) × (history self.new ≡ h) }
         ensures places { (id : ℕ) → places self.new id ≡ places self.old id };
 
     /// The call has begun, and come to this. The result is what the caller is shown, and a copy of the reply.
-    fn begin(&mut self, id: CacheId, held: Option<Entry>, advance: Advance) -> (Step, Option<Reply>)
+    fn begin(&mut self, id: CacheId, held: Self::Held, advance: Advance) -> (Step, Option<Reply>)
         requires { (h : History) × (e : Entry) × Enters h self.old held e × (e.id ≡ id) × (e.end ≡ Waiting) × CanTell advance e }
         ensures shown { result.0 ≡ step_of advance }
         ensures copy { result.1 ≡ reply_in result.0 }

@@ -9,11 +9,10 @@ ghost use Rattle.jc_model.specs.Whole.{is_free};
 ghost use Rattle.jc_model.specs.Places.{at_place};
 ghost use Rattle.jc_engine.specs.Caches.{lives_of};
 ghost use Rattle.jc_engine.specs.Managed.{is_step};
-ghost use Rattle.jc_engine.specs.Advances.{outcome_of, of_abandon, FitsAt, LeavesAt, ClosedAt, ChangesOne, is_open_in};
+ghost use Rattle.jc_engine.specs.Advances.{outcome_of, of_start, of_abandon, FitsAt, LeavesAt, ClosedAt, ChangesOne, is_open_in};
 
 use crate::cache::Advance;
 use crate::engine::Engine;
-use jc_model::OutOfMemory;
 use jc_model::call::{Answer, Call};
 use jc_model::event::{CacheId, Cause};
 use jc_ring::ring::Ring;
@@ -68,25 +67,29 @@ impl<R: Rows, G: Ring> Engine<R, G> {
         }
     }
 
-    /// Begins a call. Only memory can refuse it, before any change.
-    pub(crate) fn start(
-        &mut self,
-        id: CacheId,
-        now: u64,
-        call: &Call,
-    ) -> Result<Advance, OutOfMemory>
-        requires { is_step (answer_to (lives_of self.old) (Begin id now call.now) false) ≡ true }
-        ensures outcome { outcome_of result ≡ answer_to (lives_of self.old) (Begin id now call.now) (for_memory (outcome_of result)) }
-        ensures lives { lives_of self.new ≡ lives_after (lives_of self.old) (Begin id now call.now) (outcome_of result) }
-        ensures one { ChangesOne self.old id self.new }
+    /// Why a call does not begin for which memory was refused: what comes before that, or that.
+    pub(crate) fn begin_refusal_without_memory(&self, id: CacheId, call: &Call) -> Cause
+        ensures { (now : ℕ) → Refused result ≡ answer_to (lives_of self.now) (Begin id now call.now) (for_memory (Refused result)) }
+    {
+        match self.begin_refusal(id, call) {
+            Some(cause) => cause,
+            None => Cause::OutOfMemory,
+        }
+    }
+
+    /// Begins a call. Refused as the manager's `begin`, before any change.
+    pub(crate) fn start(&mut self, id: CacheId, now: u64, call: &Call) -> Result<Advance, Cause>
+        ensures outcome { of_start result ≡ answer_to (lives_of self.old) (Begin id now call.now) (for_memory (of_start result)) }
+        ensures lives { lives_of self.new ≡ lives_after (lives_of self.old) (Begin id now call.now) (of_start result) }
+        ensures one { OnOk result (ChangesOne self.old id self.new) }
         ensures fits { IfOk result (λ advance. FitsAt advance (at_place self.new id)) }
-        ensures free { is_free call.now ≡ true → IsOk result }
+        ensures free { is_free call.now ≡ true → of_start result ≡ answer_to (lives_of self.old) (Begin id now call.now) false }
         ensures refused { OnErr result (self.new ≡ self.old) }
     {
         let number = id.number();
         match self.caches.get_mut(&number) {
             Some(cache) => cache.start(self.alloc, &mut self.rows, now, call),
-            None => unreachable!(),
+            None => Err(Cause::NoSuchCache),
         }
     }
 

@@ -10,7 +10,7 @@ ghost use Rattle.jc_engine.specs.Caches.{AreSound, lives_of, names_of, id_of, ex
 ghost use Rattle.jc_engine.specs.Opening.{open_refusal, open_refusal_from};
 ghost use Rattle.jc_engine.specs.Results.{of_recorded_begin, of_recorded_resume, of_give_up, of_create, of_destroy, reply_in};
 ghost use Rattle.jc_engine.specs.Advances.{is_open_in};
-ghost use Rattle.jc_engine.specs.Recording.{IsEntryOf, blank};
+ghost use Rattle.jc_engine.specs.Recording.{IsEntryOf};
 ghost use Rattle.jc_model.specs.Limits.{most_ids};
 
 mod over;
@@ -23,7 +23,7 @@ use crate::open::{OpenRefusal, open_refusal_from};
 use jc_model::OutOfMemory;
 use jc_model::call::{Answer, Call, Notice, Reply};
 use jc_model::config::CacheConfig;
-use jc_model::event::{CacheId, Cause, CreateRefusal, End, Entry, Step};
+use jc_model::event::{CacheId, Cause, CreateRefusal, Entry, Step};
 use jc_model::key::Key;
 use jc_model::list::Sequence;
 use jc_model::transcript::Transcript;
@@ -49,21 +49,6 @@ impl<R: Rows, G: Ring, J: Journal> Model for Recorded<R, G, J> {
     ghost view = { λ r. record { caches = r.engine; transcript = J.history r.journal } };
 
     ghost invariant = { λ r. IsRecorded r.engine (J.history r.journal) (J.places r.journal) };
-}
-
-/// The entry of a call that is about to begin.
-fn blank(alloc: Global, session: u32, id: CacheId, now: u64, call: Call) -> Entry
-    ensures { result ≡ blank session id now call }
-{
-    Entry {
-        session,
-        id,
-        at: now,
-        call,
-        answers: Sequence::new(Vec::new(alloc)),
-        told: Sequence::new(Vec::new(alloc)),
-        end: End::Waiting,
-    }
 }
 
 /// The journal of a manager that has just been opened.
@@ -203,17 +188,13 @@ impl<R: Rows, G: Ring, J: Journal> Recorded<R, G, J> {
         ensures back { IfErr result (λ e. e.1 ≡ call) }
         ensures refused { OnErr result (self.new ≡ self.old) }
     {
-        if let Some(cause) = self.engine.begin_refusal(id, &call) {
-            return Err((cause, call));
-        }
-        let entry = blank(self.alloc, session, id, now, call);
-        let held = match self.journal.enter(entry) {
+        let held = match self.journal.enter(self.alloc, session, id, now, call) {
             Ok(held) => held,
-            Err(entry) => return Err((Cause::OutOfMemory, entry.call)),
+            Err(call) => return Err((self.engine.begin_refusal_without_memory(id, &call), call)),
         };
         match self.engine.start(id, now, self.journal.call(&held)) {
             Ok(advance) => Ok(self.journal.begin(id, held, advance)),
-            Err(_) => Err((Cause::OutOfMemory, self.journal.take_back(held))),
+            Err(cause) => Err((cause, self.journal.take_back(held))),
         }
     }
 

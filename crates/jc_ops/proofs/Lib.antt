@@ -1,5 +1,6 @@
 mod Names
 mod Lined
 pub mod Goes
+mod Hits
 mod Judged
 pub mod Told

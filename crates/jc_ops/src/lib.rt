@@ -1,5 +1,6 @@
 //! The operations of one cache.
 #![tactic(auto)]
 
+pub mod hit;
 pub mod step;
 pub mod supply;

@@ -4,7 +4,7 @@ ghost use Rattle.std.specs.HashMap.{get, spare};
 ghost use Rattle.jc_engine.specs.Recording.{with_entries};
 
 use super::Journal;
-use super::notes::{enter_answer, enter_life, kept_place, note, note_given_up, put_of};
+use super::notes::{blank, enter_answer, enter_life, kept_place, note, note_given_up, put_of};
 use crate::cache::Advance;
 use jc_model::OutOfMemory;
 use jc_model::call::{Answer, Call, Notice, Reply};
@@ -29,6 +29,8 @@ impl Journal for AllCalls {
 
     ghost places = { λ j. get nat_eq j.places };
 
+    type Held = ();
+
     ghost Enters = { λ h j held e. (j.transcript ≡ with_entries (h.entries ++ e ∷ []) h) × (1 ≤ spare j.places) };
 
     fn new(alloc: Global) -> AllCalls {
@@ -44,35 +46,38 @@ impl Journal for AllCalls {
         self.transcript.entries().get(*place)
     }
 
-    fn enter(&mut self, entry: Entry) -> Result<Option<Entry>, Entry> {
+    fn enter(
+        &mut self,
+        alloc: Global,
+        session: u32,
+        id: CacheId,
+        now: u64,
+        call: Call,
+    ) -> Result<(), Call> {
         if self.places.reserve(1).is_err() {
-            return Err(entry);
+            return Err(call);
         }
-        self.transcript.push(entry)?;
-        Ok(None)
+        match self.transcript.push(blank(alloc, session, id, now, call)) {
+            Ok(()) => Ok(()),
+            Err(entry) => Err(entry.call),
+        }
     }
 
-    fn call<'a>(&'a self, _held: &'a Option<Entry>) -> &'a Call {
+    fn call<'a>(&'a self, _held: &'a ()) -> &'a Call {
         match self.transcript.last() {
             Some(entry) => &entry.call,
             None => unreachable!(),
         }
     }
 
-    fn take_back(&mut self, _held: Option<Entry>) -> Call {
+    fn take_back(&mut self, _held: ()) -> Call {
         match self.transcript.pop() {
             Some(entry) => entry.call,
             None => unreachable!(),
         }
     }
 
-    fn begin(
-        &mut self,
-        id: CacheId,
-        held: Option<Entry>,
-        advance: Advance,
-    ) -> (Step, Option<Reply>) {
-        drop(held);
+    fn begin(&mut self, id: CacheId, _held: (), advance: Advance) -> (Step, Option<Reply>) {
         let place = self.transcript.entries().len() - 1;
         let replied = advance.is_replied();
         let shown = note(&mut self.transcript, place, advance);

@@ -7,11 +7,11 @@ ghost use Rattle.jc_model.specs.declared.event.Entry.{Entry};
 ghost use Rattle.jc_model.specs.Legal.{with_outcome, with_answer};
 ghost use Rattle.jc_engine.specs.Results.{reply_in};
 ghost use Rattle.jc_engine.specs.Managed.{step_of};
-ghost use Rattle.jc_engine.specs.Recording.{CanTell, left_in, with_entries, with_life};
+ghost use Rattle.jc_engine.specs.Recording.{blank, CanTell, left_in, with_entries, with_life};
 
 use crate::cache::Advance;
 use jc_model::OutOfMemory;
-use jc_model::call::{Answer, Notice, Reply, Request};
+use jc_model::call::{Answer, Call, Notice, Reply, Request};
 use jc_model::config::CacheConfig;
 use jc_model::event::{CacheId, End, Entry, Life, Step};
 use jc_model::list::Sequence;
@@ -20,6 +20,21 @@ use jc_model::transcript::Transcript;
 use jc_state::notices::Notices;
 use std::alloc::Global;
 use std::collections::HashMap;
+
+/// The entry of a call that is about to begin.
+pub(super) fn blank(alloc: Global, session: u32, id: CacheId, now: u64, call: Call) -> Entry
+    ensures { result ≡ blank session id now call }
+{
+    Entry {
+        session,
+        id,
+        at: now,
+        call,
+        answers: Sequence::new(Vec::new(alloc)),
+        told: Sequence::new(Vec::new(alloc)),
+        end: End::Waiting,
+    }
+}
 
 /// Adds a life to a transcript.
 pub(crate) fn enter_life(

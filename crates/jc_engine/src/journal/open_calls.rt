@@ -6,12 +6,12 @@ ghost use Rattle.jc_model.specs.declared.event.Outcome.TheVariants.{Step as Step
 ghost use Rattle.jc_model.specs.Legal.{with_outcome};
 ghost use Rattle.jc_engine.specs.Results.{reply_in};
 ghost use Rattle.jc_engine.specs.Managed.{step_of};
-ghost use Rattle.jc_engine.specs.Recording.{CanTell, with_entries};
+ghost use Rattle.jc_engine.specs.Recording.{blank, CanTell, with_entries};
 ghost use Rattle.jc_engine.specs.Journals.{IsKept, KeepsOthers, is_replied};
 ghost use Rattle.jc_engine.specs.Opens.{AreOpen, place_of};
 
 use super::Journal;
-use super::notes::put_of;
+use super::notes::{blank, put_of};
 use super::open_call::{OpenCall, add_answer, take_answer, write_given_up, write_outcome};
 use super::past::Past;
 use crate::cache::Advance;
@@ -23,6 +23,32 @@ use jc_model::list::Sequence;
 use jc_state::notices::Notices;
 use std::alloc::Global;
 use std::collections::HashMap;
+
+/// A call that is about to begin.
+#[derive(Drop)]
+pub struct Beginning {
+    alloc: Global,
+    session: u32,
+    id: CacheId,
+    now: u64,
+    call: Call,
+}
+
+impl Beginning {
+    /// Its entry.
+    fn into_entry(self) -> Entry
+        ensures { result ≡ blank self.session self.id self.now self.call }
+    {
+        let Beginning {
+            alloc,
+            session,
+            id,
+            now,
+            call,
+        } = self;
+        blank(alloc, session, id, now, call)
+    }
+}
 
 /// By cache its open call. Of all others memory has a number alone.
 #[derive(Drop)]
@@ -78,7 +104,9 @@ impl Journal for OpenCalls {
 
     ghost places = { λ j. (λ id. place_of (get nat_eq j.waiting id)) };
 
-    ghost Enters = { λ h j held e. (j.past.history ≡ h) × (held ≡ Some e) × (1 ≤ spare j.waiting) × (j.begun + 1 < 2 ^ 64) };
+    type Held = Beginning;
+
+    ghost Enters = { λ h j held e. (j.past.history ≡ h) × (e ≡ blank held.session held.id held.now held.call) × (1 ≤ spare j.waiting) × (j.begun + 1 < 2 ^ 64) };
 
     fn new(alloc: Global) -> OpenCalls {
         OpenCalls {
@@ -96,36 +124,36 @@ impl Journal for OpenCalls {
         }
     }
 
-    fn enter(&mut self, entry: Entry) -> Result<Option<Entry>, Entry> {
-        if self.begun == usize::MAX || self.waiting.reserve(1).is_err() {
-            return Err(entry);
-        }
-        Ok(Some(entry))
-    }
-
-    fn call<'a>(&'a self, held: &'a Option<Entry>) -> &'a Call {
-        match held {
-            Some(entry) => &entry.call,
-            None => unreachable!(),
-        }
-    }
-
-    fn take_back(&mut self, held: Option<Entry>) -> Call {
-        match held {
-            Some(entry) => entry.call,
-            None => unreachable!(),
-        }
-    }
-
-    fn begin(
+    fn enter(
         &mut self,
+        alloc: Global,
+        session: u32,
         id: CacheId,
-        held: Option<Entry>,
-        advance: Advance,
-    ) -> (Step, Option<Reply>) {
-        let Some(mut entry) = held else {
-            unreachable!()
-        };
+        now: u64,
+        call: Call,
+    ) -> Result<Beginning, Call> {
+        if self.begun == usize::MAX || self.waiting.reserve(1).is_err() {
+            return Err(call);
+        }
+        Ok(Beginning {
+            alloc,
+            session,
+            id,
+            now,
+            call,
+        })
+    }
+
+    fn call<'a>(&'a self, held: &'a Beginning) -> &'a Call {
+        &held.call
+    }
+
+    fn take_back(&mut self, held: Beginning) -> Call {
+        held.call
+    }
+
+    fn begin(&mut self, id: CacheId, held: Beginning, advance: Advance) -> (Step, Option<Reply>) {
+        let mut entry = held.into_entry();
         let waits = !advance.is_replied();
         let shown = write_outcome(&mut entry, advance);
         self.past.push(&entry);

@@ -1,8 +1,7 @@
-use Rattle.std.proofs.Common.{◌≡◌, ◌∙◌, ap, sym, subst, not, false, refl, nat_eq, Some}
+use Rattle.std.proofs.Common.{◌≡◌, ◌∙◌, ap, sym, subst, nat_eq}
 use Rattle.jc_engine.proofs.Names.{get, Entry, with_outcome, step_of, Stepped, CanTell}
 use Rattle.jc_model.specs.declared.event.End.TheVariants.{Waiting}
-use Rattle.jc_engine.specs.Journals.{is_replied}
-use Rattle.jc_engine.proofs.Opens.{added_open, begun_open, some_same, waits_on}
+use Rattle.jc_engine.proofs.Opens.{added_open, begun_open, waits_on}
 use Rattle.jc_engine.proofs.journal.open_calls.OpenCallsJournal.begin.Goals as goal
 
 pub invariant_of-self-else-waits : goal.invariant_of-self-else-waits
@@ -10,10 +9,10 @@ invariant_of-self-else-waits c = record { are_open = added_open c.args.self.now.
 
 pub invariant_of-self : goal.invariant_of-self
 invariant_of-self c =
-    let same : c.in-Some.entry ≡ c.requires.1 = some_same (sym c.in-Some.is ∙ c.requires.2.1) in
-    let waits : c.in-Some.entry.end ≡ Waiting = ap (λ (e : Entry). e.end) same ∙ c.requires.4 in
-    let can : CanTell c.args.advance c.in-Some.entry = subst (CanTell c.args.advance) (sym same) c.requires.5 in
-    let written : c.write_outcome-shown.new.entry ≡ with_outcome (Stepped (step_of c.args.advance)) c.in-Some.entry = c.write_outcome-shown.ensures.written waits can in
+    let same : c.into_entry-entry.result ≡ c.requires.1 = c.into_entry-entry.ensures ∙ sym c.requires.2.1 in
+    let waits : c.into_entry-entry.result.end ≡ Waiting = ap (λ (e : Entry). e.end) same ∙ c.requires.4 in
+    let can : CanTell c.args.advance c.into_entry-entry.result = subst (CanTell c.args.advance) (sym same) c.requires.5 in
+    let written : c.write_outcome-shown.new.entry ≡ with_outcome (Stepped (step_of c.args.advance)) c.into_entry-entry.result = c.write_outcome-shown.ensures.written waits can in
     record {
       are_open = begun_open c.args.self.now.past.history c.args.self.now.begun (get nat_eq c.args.self.now.waiting) c.args.self.now.are_open c.push.new.self.history c.write_outcome-shown.new.entry c.push.ensures
           c.args.id (get nat_eq c.put_of.new.map) c.put_of.ensures

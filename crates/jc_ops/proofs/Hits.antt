@@ -1,0 +1,15 @@
+-- A get that finds a live row.
+use Rattle.jc_ops.proofs.Names.{◌≡◌, ℕ, arith, true, List, refl, common_steps, Some, CacheConfig, Item, Progress, Kept, find_row, progress_of, ended, step}
+use Rattle.jc_model.specs.declared.call.Notice.{Notice}
+use Rattle.jc_model.specs.declared.call.Op.TheVariants.{Get}
+use Rattle.jc_model.specs.declared.call.Reply.TheVariants.{Found}
+use Rattle.jc_model.specs.State.{one_more}
+use Rattle.jc_model.specs.Changes.{access, hit}
+use Rattle.jc_model.specs.Whole.{holds}
+
+-- it is counted, uses the row, and shows its value
+pub hits : (c : CacheConfig) (now : ℕ) (key : List ℕ) (x : Item) (p : Progress) → find_row key p ≡ Some x → holds c now key p.state ≡ true → step c now (record { key = key; op = Get }) p ≡ ended (access c now x (hit p)) (Found (Some x.value))
+hits c now key x p there live = grind (arith, common_steps)
+
+pub hit_counted : (k k' : Kept) (told : List Notice) → k' ≡ record k { counts = record k.counts { hits = one_more k.counts.hits } } → progress_of k' told ≡ hit (progress_of k told)
+hit_counted k k' told counted = rw counted refl

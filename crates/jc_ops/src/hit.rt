@@ -1,0 +1,40 @@
+//! A get that finds a live row.
+//!
+//! It is a line of the case table like any other. But most calls are gets that hit, and this one asks no one and tells
+//! no one: so it is carried out here without the means of those that do.
+ghost use Rattle.std.specs.Prelude.{◌≡◌, ℕ, List, true, Some, IfOk, OnErr};
+ghost use Rattle.jc_model.specs.declared.call.Notice.{Notice};
+ghost use Rattle.jc_model.specs.declared.call.Op.TheVariants.{Get};
+ghost use Rattle.jc_model.specs.Run.{ended};
+ghost use Rattle.jc_model.specs.Step.{step as step_of};
+ghost use Rattle.jc_state.specs.Shelf.{has_row};
+ghost use Rattle.jc_state.specs.Kept.{progress_of, has_live, IsTied, IsUnmoved, Keeps, FoundRow};
+
+use crate::step::reply::found;
+use jc_model::OutOfMemory;
+use jc_model::call::Reply;
+use jc_model::thrice::Thrice;
+use jc_ring::ring::Ring;
+use jc_rows::rows::Rows;
+use jc_state::state::CacheState;
+
+/// Gets the value of a live row by its key: a hit is counted, and the row is used. Refused where no copies of the value
+/// can be had; then nothing has changed.
+pub fn hit<R: Rows, G: Ring>(
+    state: &mut CacheState<G>,
+    rows: &mut R,
+    now: u64,
+    row: u32,
+) -> Result<Thrice<Reply>, OutOfMemory>
+    requires tied { IsTied (R.contents rows.old) state.old }
+    requires there { has_row row state.old.cells ≡ true }
+    ensures keeps { Keeps 0 (R.contents rows.old) (R.spare rows.old) state.old (R.contents rows.new) (R.spare rows.new) state.new }
+    ensures ok { IfOk result (λ reply. (key : List ℕ) (told : List Notice) → FoundRow key state.old (Some row) → has_live now key state.old ≡ true →
+        step_of state.old.config now (record { key = key; op = Get }) (progress_of state.old told) ≡ ended (progress_of state.new told) reply) }
+    ensures same { OnErr result (IsUnmoved (R.contents rows.old) state.old (R.contents rows.new) state.new) }
+{
+    let value = Thrice::of(state.value(row).first())?;
+    state.hit();
+    state.access(rows, now, row);
+    Ok(found(Some(value)))
+}
