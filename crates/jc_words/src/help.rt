@@ -1,7 +1,7 @@
 //! The texts of help.
 
-/// What `--version` prints after the program's name.
-pub const VERSION: &str = "0.1.0";
+/// What `--version` prints after the program's name: its version, and the kit by which this text was proved.
+pub const VERSION: &str = "0.1.0 (rattle-kit-13f, logic dac8208d650f15bf)";
 
 /// What the program does, in a line.
 pub const ABOUT: &str = "Runs a script of cache calls and prints what each cache answered";
