@@ -2,6 +2,7 @@
 #![tactic(auto)]
 
 mod auditing;
+mod brief_lock;
 mod by_hand;
 mod carry;
 mod directory;
@@ -13,7 +14,6 @@ mod locked;
 mod manager;
 mod name;
 mod pending;
-mod service;
 mod session;
 mod shared;
 mod tables;
@@ -30,7 +30,6 @@ pub use keeping::{Keeping, OwnCalls, OwnList, OwnPast};
 pub use manager::Manager;
 pub use name::Name;
 pub use pending::{PendingCall, Progress};
-pub use service::Service;
 pub use session::Session;
 pub use shared::Shared;
 pub use tables::{Table, table};

@@ -11,6 +11,7 @@ ghost use Rattle.jc_shared.specs.Living.{HasOpenCall, IsIdle, IsNamed, Refuses};
 ghost use Rattle.jc_shared.specs.Sessions.{BeginsWith, SeesSome, log_of};
 ghost use Rattle.jc_shared.specs.Stated.{stated_by, AreOf, processor_counts, wanted_counts};
 
+use crate::brief_lock::BriefLock;
 use crate::directory::{Directory, HooksLock};
 use crate::fault::{CallFault, CloseFault, SessionRefusal, Unfound};
 use crate::hooks::{LockedHooks, OpeningLock, SharedHooks};
@@ -41,7 +42,7 @@ pub struct Manager<N: Name, L: Loader, W: Writer, P: Processor, K: Hearer, J: Ke
     pub(crate) locks: Vec<OpeningLock<W, K>>,
     /// Of those that sessions have created.
     pub(crate) directory: Mutex<Directory<L, W, P, K>>,
-    pub(crate) locked: Mutex<Locked<N, J>>,
+    pub(crate) locked: BriefLock<Locked<N, J>>,
     ghost stated_are: { map (stated_by L.load_of P.verdict_of) shared.items ≡ N.stated },
     ghost counted: { processor_counts shared.items ≡ wanted_counts N.configs },
 }
@@ -176,7 +177,7 @@ impl<N: Name, L: Loader, W: Writer, P: Processor, K: Hearer> Manager<N, L, W, P,
                     shared,
                     locks,
                     directory,
-                    locked: Mutex::new(locked),
+                    locked: BriefLock::new(locked),
                 },
             )),
         }

@@ -8,6 +8,7 @@ ghost use Rattle.jc_hooks.specs.Suits.{AllSuit};
 ghost use Rattle.jc_shared.specs.Opening.{CanOpen, IsRefusal};
 ghost use Rattle.jc_shared.specs.Stated.{stated_by, shared_of};
 
+use crate::brief_lock::BriefLock;
 use crate::directory::Directory;
 use crate::fault::SharedRefusal;
 use crate::hooks::{AllHooks, apart};
@@ -150,7 +151,7 @@ impl<L: Loader, W: Writer, P: Processor, K: Hearer, J: Keeping> Shared<L, W, P, 
             shared,
             locks,
             directory: Mutex::new(Directory::new(alloc)),
-            locked: Mutex::new(Locked::new(recorded.over(table.named::<N>()))),
+            locked: BriefLock::new(Locked::new(recorded.over(table.named::<N>()))),
         }
     }
 }
