@@ -19,6 +19,7 @@ use crate::parse::read_object;
 use jc_config::Settings;
 use jc_model::event::CacheId;
 use jc_model::limits::TEXT_BYTES;
+use memchr::memchr;
 use std::alloc::Global;
 
 /// The line of a session that names a live cache.
@@ -81,12 +82,10 @@ fn first_piece(bytes: &[u8]) -> (&[u8], Option<&[u8]>)
     ensures cut { slice_split is_feed bytes.now ≡ result.0.now ∷ pieces_after result.1 }
     ensures shorter { IfSome result.1 (λ rest. length rest.now < length bytes.now) }
 {
-    for (i, b) in bytes.iter().enumerate() {
-        if *b == b'\n' {
-            return (&bytes[..i], Some(&bytes[i + 1..]));
-        }
+    match memchr(b'\n', bytes) {
+        Some(i) => (&bytes[..i], Some(&bytes[i + 1..])),
+        None => (bytes, None),
     }
-    (bytes, None)
 }
 
 /// The lines of a script, or its first fault: one JSON object a line.
