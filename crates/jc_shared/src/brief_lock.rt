@@ -3,16 +3,16 @@ use std::hint::spin_loop;
 use std::sync::{Mutex, MutexGuard, Wait};
 
 /// How often a thread that finds the lock held tries again before it lets itself be put to sleep.
-const TRIES: u32 = 12;
+const TRIES: u32 = 10;
 
 /// The shortest and the longest pause between two tries, in steps of `spin_loop`, each as a power of two.
-const SHORTEST_PAUSE: u32 = 7;
+const SHORTEST_PAUSE: u32 = 10;
 
-const LONGEST_PAUSE: u32 = 9;
+const LONGEST_PAUSE: u32 = 11;
 
 /// A `Mutex` for what is held for less than a microsecond. To be put to sleep and woken takes many times as long, for the
-/// thread that waits and for the one that wakes it: so a thread tries for a while first. Its pauses are longer than the
-/// lock is held, since what the lock guards moves from processor to processor at each change of hands.
+/// thread that waits and for the one that wakes it: so a thread tries for a while first. Its pauses are much longer than
+/// the lock is held, since what the lock guards moves from processor to processor at each change of hands.
 #[derive(Drop)]
 pub(crate) struct BriefLock<T> {
     mutex: Mutex<T>,

@@ -81,6 +81,7 @@ impl<'a, N: Name, L: Loader, W: Writer, P: Processor, K: Hearer> Logged
 }
 
 /// The entry of a call that is to begin, with a copy of the call, and room for it among a session's own.
+#[inline]
 pub(crate) fn draft_of<O: OwnCalls>(
     alloc: Global,
     own: &mut O,
