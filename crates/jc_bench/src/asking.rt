@@ -101,9 +101,17 @@ fn following(number: u64) -> u64 {
         .wrapping_add(1_442_695_040_888_963_407)
 }
 
+/// The caches that a thread asks, by number.
+#[derive(Clone, Copy)]
+pub struct Span {
+    pub first: u32,
+    pub count: u32,
+}
+
 /// The cache that a number picks, by its uppermost bits.
-fn cache_picked(caches: u32, number: u64) -> CacheId {
-    CacheId::new(((number >> 48) % caches.max(1) as u64) as u32)
+fn cache_picked(caches: Span, number: u64) -> CacheId {
+    let place = ((number >> 48) % caches.count.max(1) as u64) as u32;
+    CacheId::new(caches.first.wrapping_add(place))
 }
 
 /// The key that a number picks, by its upper bits.
@@ -121,7 +129,7 @@ pub fn ask_often<N: Name, J: Keeping, R: Wait>(
     alloc: Global,
     seat: &mut Seat<'_, N, J>,
     kind: Kind,
-    (caches, keys): (u32, &[Key]),
+    (caches, keys): (Span, &[Key]),
     calls: u32,
     first: u64,
     counts: &mut Counts,

@@ -4,7 +4,7 @@ ghost use Rattle.jc_hooks.specs.Program.{echoed};
 ghost use Rattle.jc_hooks.specs.Processors.{verdict_by};
 ghost use Rattle.jc_shared.specs.Stated.{stated_by};
 
-use crate::asking::{Counts, WRITTEN, ask_often, write_meanwhile};
+use crate::asking::{Counts, Span, WRITTEN, ask_often, write_meanwhile};
 use crate::caches::{Caches, Unnamed, fill, numbered, opened};
 use crate::fault::Fault;
 use crate::timing::Moment;
@@ -23,6 +23,7 @@ use std::time::{Clock, CpuClock};
 struct Job<'a, N: Name, J: Keeping> {
     manager: &'a Caches<N, J>,
     kind: Kind,
+    caches: Span,
     keys: &'a [Key],
     size: Size,
     /// The number that its picks follow.
@@ -51,7 +52,7 @@ fn ask_in_session<N: Name, J: Keeping, R: Wait>(
     let Ok(mut seat) = job.manager.session(rt) else {
         return false;
     };
-    let keys = (job.size.caches, job.keys);
+    let keys = (job.caches, job.keys);
     ask_often(rt, alloc, &mut seat, job.kind, keys, calls, first, counts);
     true
 }
@@ -123,6 +124,21 @@ fn keys_of(alloc: Global, kind: Kind, size: Size) -> Result<Keys, Fault> {
     })
 }
 
+/// The caches of the thread with this number: all, or one of its own as far as there are enough.
+fn caches_of(size: Size, number: u32) -> Span {
+    if size.apart {
+        Span {
+            first: number % size.caches.max(1),
+            count: 1,
+        }
+    } else {
+        Span {
+            first: 0,
+            count: size.caches,
+        }
+    }
+}
+
 /// A job for each thread.
 fn jobs<'a, N: Name, J: Keeping>(
     alloc: Global,
@@ -137,6 +153,7 @@ fn jobs<'a, N: Name, J: Keeping>(
         jobs.push(Job {
             manager,
             kind: if asks { kind } else { Kind::Write },
+            caches: caches_of(size, number),
             keys: if asks {
                 keys.asked.as_slice()
             } else {

@@ -63,6 +63,8 @@ pub struct Size {
     pub calls: u32,
     /// How many sessions each thread has for it, one after the other.
     pub sessions: u32,
+    /// Whether each thread asks one cache, and no other thread that one where there are enough.
+    pub apart: bool,
     /// Whether some rows are in the table's stash.
     pub stashed: bool,
 }
@@ -137,6 +139,7 @@ fn command<'a>(alloc: Global) -> Result<Command<'a>, AllocError> {
             (1, 1_000_000),
             "1",
         ))?
+        .arg(flag(alloc, "apart", "Each thread asks a cache of its own"))?
         .arg(flag(alloc, "open", "The manager keeps the open calls alone"))?
         .arg(flag(alloc, "stashed", "Some rows are in the table's stash"))?
         .arg(flag(alloc, "counts", "Print no times"))
@@ -150,6 +153,7 @@ fn size_of(matches: &ArgMatches<'_>) -> Option<Size> {
         writers: matches.get_one::<u32>("writers")?,
         calls: matches.get_one::<u32>("calls")?,
         sessions: matches.get_one::<u32>("sessions")?,
+        apart: matches.get_flag("apart"),
         stashed: matches.get_flag("stashed"),
     })
 }
