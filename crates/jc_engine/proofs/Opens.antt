@@ -1,6 +1,7 @@
 -- The entries of open calls, as a history grows.
 use Rattle.std.proofs.Common.{◌≡◌, ◌≢◌, ◌⊎◌, ◌+◌, ◌-◌, ℕ, zero, suc, false, List, [], ◌∷◌, ◌++◌, length, Option, Some, None, inl, inr, refl, sym, ap, subst, ◌∙◌, arith, slice_get, slice_set, length-set}
 use Rattle.jc_engine.proofs.Names.{cases_eq, length_push, Entry, History, Advance, Replied, Asked, Told, step_of, Stepped, with_entries, at_same}
+use Rattle.jc_model.specs.declared.call.Reply.{Reply}
 use Rattle.jc_model.specs.declared.event.End.TheVariants.{Waiting}
 use Rattle.jc_model.specs.Legal.{end_by}
 use Rattle.jc_engine.specs.Journals.{is_replied, IsKept}
@@ -8,6 +9,12 @@ use Rattle.jc_engine.specs.declared.journal.open_call.OpenCall.{OpenCall}
 use Rattle.jc_engine.specs.Opens.{AreOpen, StandsOpen, place_of}
 use Rattle.jc_engine.proofs.Numbered.{Puts, put_here, put_other}
 use Rattle.jc_engine.proofs.Entries.{StayElsewhere, added_elsewhere, set_elsewhere, get_last}
+
+-- a call that has no reply goes on
+pub goes_on : (advance : Advance) → ((reply : Reply) → advance ≡ Replied reply → ⊥) → is_replied advance ≡ false
+goes_on (Replied reply) not = absurd (not reply refl)
+goes_on (Asked request) not = refl
+goes_on (Told notices) not = refl
 
 -- a call that goes on waits
 pub waits_on : (advance : Advance) → is_replied advance ≡ false → end_by (Stepped (step_of advance)) ≡ Waiting

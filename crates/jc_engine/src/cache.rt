@@ -151,29 +151,34 @@ impl<G: Ring> Managed<G> {
         rows: &mut R,
         now: u64,
         key: &Key,
-    ) -> Result<Advance, OutOfMemory>
+    ) -> Result<Advance, Cause>
         requires managed { IsManaged (R.contents rows.old) self.old.state.id self.old }
         requires allowed { is_step (reply_of self.old.state.config (status_of (cache_in self.old)).standing (begins now (Get key.now))) ≡ true }
         ensures config { self.new.state.config ≡ self.old.state.config }
         ensures managed_after { IsManaged (R.contents rows.new) self.old.state.id self.new }
         ensures elsewhere { SameElsewhere self.old.state.id (R.contents rows.old) (R.contents rows.new) }
         ensures ok { IfOk result (λ advance. Moves (cache_in self.old) (begins now (Get key.now)) advance (cache_in self.new)) }
+        ensures err { IfErr result (λ cause. cause ≡ Cause.OutOfMemory) }
         ensures same { OnErr result (self.new ≡ self.old) }
         ensures table { OnErr result (R.contents rows.new ≡ R.contents rows.old) }
     {
         let row = self.state.find(rows, key);
         if let Some(row) = row {
             if self.state.is_live(row, now) {
-                let reply = hit(&mut self.state, rows, now, row)?;
-                return Ok(Advance::Replied(reply));
+                return match hit(&mut self.state, rows, now, row) {
+                    Ok(reply) => Ok(Advance::Replied(reply)),
+                    Err(_) => Err(Cause::OutOfMemory),
+                };
             }
         }
         let step = KeyCall {
             key: *key,
             op: Op::Get,
         };
-        let moved = start_key(alloc, &mut self.state, rows, now, row, step)?;
-        Ok(self.settle(moved))
+        match start_key(alloc, &mut self.state, rows, now, row, step) {
+            Ok(moved) => Ok(self.settle(moved)),
+            Err(_) => Err(Cause::OutOfMemory),
+        }
     }
 
     /// Begins a call that may begin. Only memory can refuse it, before any change.
@@ -183,13 +188,14 @@ impl<G: Ring> Managed<G> {
         rows: &mut R,
         now: u64,
         call: &Call,
-    ) -> Result<Advance, OutOfMemory>
+    ) -> Result<Advance, Cause>
         requires managed { IsManaged (R.contents rows.old) self.old.state.id self.old }
         requires allowed { is_step (reply_of self.old.state.config (status_of (cache_in self.old)).standing (begins now call.now)) ≡ true }
         ensures config { self.new.state.config ≡ self.old.state.config }
         ensures managed_after { IsManaged (R.contents rows.new) self.old.state.id self.new }
         ensures elsewhere { SameElsewhere self.old.state.id (R.contents rows.old) (R.contents rows.new) }
         ensures ok { IfOk result (λ advance. Moves (cache_in self.old) (begins now call.now) advance (cache_in self.new)) }
+        ensures err { IfErr result (λ cause. cause ≡ Cause.OutOfMemory) }
         ensures free { is_free call.now ≡ true → IsOk result }
         ensures same { OnErr result (self.new ≡ self.old) }
         ensures table { OnErr result (R.contents rows.new ≡ R.contents rows.old) }
@@ -197,8 +203,10 @@ impl<G: Ring> Managed<G> {
         if let Call::Get(key) = call {
             return self.start_get(alloc, rows, now, key);
         }
-        let moved = start_call(alloc, &mut self.state, rows, now, call)?;
-        Ok(self.settle(moved))
+        match start_call(alloc, &mut self.state, rows, now, call) {
+            Ok(moved) => Ok(self.settle(moved)),
+            Err(_) => Err(Cause::OutOfMemory),
+        }
     }
 
     /// Begins a call. Refused as `Busy`, `NoSuchProcessor`, `OutOfMemory`, in this order, before any change.
@@ -222,10 +230,7 @@ impl<G: Ring> Managed<G> {
         if let Some(cause) = self.begin_refusal(call) {
             return Err(cause);
         }
-        match self.start_allowed(alloc, rows, now, call) {
-            Ok(advance) => Ok(advance),
-            Err(_) => Err(Cause::OutOfMemory),
-        }
+        self.start_allowed(alloc, rows, now, call)
     }
 
     /// Goes on with the open call. Only memory can refuse it, before any change.

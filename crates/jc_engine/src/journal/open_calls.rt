@@ -30,23 +30,23 @@ pub struct Beginning {
     alloc: Global,
     session: u32,
     id: CacheId,
-    now: u64,
+    at: u64,
     call: Call,
 }
 
 impl Beginning {
     /// Its entry.
     fn into_entry(self) -> Entry
-        ensures { result ≡ blank self.session self.id self.now self.call }
+        ensures { result ≡ blank self.session self.id self.at self.call }
     {
         let Beginning {
             alloc,
             session,
             id,
-            now,
+            at,
             call,
         } = self;
-        blank(alloc, session, id, now, call)
+        blank(alloc, session, id, at, call)
     }
 }
 
@@ -106,7 +106,7 @@ impl Journal for OpenCalls {
 
     type Held = Beginning;
 
-    ghost Enters = { λ h j held e. (j.past.history ≡ h) × (e ≡ blank held.session held.id held.now held.call) × (1 ≤ spare j.waiting) × (j.begun + 1 < 2 ^ 64) };
+    ghost Enters = { λ h j held e. (j.past.history ≡ h) × (e ≡ blank held.session held.id held.at held.call) × (1 ≤ spare j.waiting) × (j.begun + 1 < 2 ^ 64) };
 
     fn new(alloc: Global) -> OpenCalls {
         OpenCalls {
@@ -139,7 +139,7 @@ impl Journal for OpenCalls {
             alloc,
             session,
             id,
-            now,
+            at: now,
             call,
         })
     }
@@ -153,16 +153,24 @@ impl Journal for OpenCalls {
     }
 
     fn begin(&mut self, id: CacheId, held: Beginning, advance: Advance) -> (Step, Option<Reply>) {
-        let mut entry = held.into_entry();
-        let waits = !advance.is_replied();
-        let shown = write_outcome(&mut entry, advance);
-        self.past.push(&entry);
-        let place = self.begun;
-        self.begun += 1;
-        if waits {
-            put_of(&mut self.waiting, id, OpenCall { place, entry });
+        match advance {
+            Advance::Replied(reply) => {
+                self.past.push_replied(&held, reply.first());
+                self.begun += 1;
+                let (reply, copy, kept) = reply.into_three();
+                drop((held, kept));
+                (Step::Done(reply), Some(copy))
+            }
+            goes_on => {
+                let mut entry = held.into_entry();
+                let shown = write_outcome(&mut entry, goes_on);
+                self.past.push(&entry);
+                let place = self.begun;
+                self.begun += 1;
+                put_of(&mut self.waiting, id, OpenCall { place, entry });
+                shown
+            }
         }
-        shown
     }
 
     fn answer(&mut self, id: CacheId, answer: &Answer) -> Result<(), OutOfMemory> {

@@ -1,10 +1,12 @@
 //! A history that exists in proofs alone: it is made of its changes, and none of them is in memory.
 ghost use Rattle.std.specs.Prelude.{◌≡◌, ◌-◌, ◌∷◌, ◌++◌, [], length, take, slice_set};
 ghost use Rattle.jc_engine.specs.Recording.{with_life};
-ghost use Rattle.jc_engine.specs.Changed.{changed};
+ghost use Rattle.jc_engine.specs.Changed.{changed, replied_at_once};
 ghost use Rattle.jc_engine.specs.Past.{nothing};
 
 use crate::journal::change::Change;
+use crate::journal::open_calls::Beginning;
+use jc_model::call::Reply;
 use jc_model::config::CacheConfig;
 use jc_model::event::{CacheId, Entry};
 use std::marker::Model;
@@ -61,6 +63,13 @@ impl Past {
         ensures { self.new.history ≡ record self.old.history { entries = self.old.history.entries ++ entry.now ∷ [] } }
     {
         self.change(Change::Entered(Snapshot::of(entry)));
+    }
+
+    /// A call more, the last, which had this reply at once.
+    pub(crate) fn push_replied(&mut self, begun: &Beginning, reply: &Reply)
+        ensures { self.new.history ≡ record self.old.history { entries = self.old.history.entries ++ replied_at_once begun.now reply.now ∷ [] } }
+    {
+        self.change(Change::Replied(Snapshot::of(begun), Snapshot::of(reply)));
     }
 
     /// The call at a place has this entry now.
