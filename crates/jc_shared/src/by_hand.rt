@@ -14,7 +14,7 @@ use crate::carry::{note_answer, take_back, tells_again};
 use crate::fault::{AnswerFault, CallFault};
 use crate::name::Name;
 use crate::pending::{PendingCall, Progress};
-use crate::session::{Session, draft_of};
+use crate::session::{Session, copy_for, draft_of};
 use crate::turned::Turned;
 use jc_engine::journal::open_calls::OpenCalls;
 use jc_hooks::{Hearer, Loader, Processor, Writer};
@@ -101,10 +101,11 @@ impl<'a, N: Name, L: Loader, W: Writer, P: Processor, K: Hearer> Session<
         ensures front { IsPrefix self.old.pass.images self.new.pass.images }
     {
         let manager = self.manager;
-        let drafted = draft_of(manager.alloc, &mut self.own, self.number, id, now, &call);
-        let Ok(mut draft) = drafted else {
+        let copied = copy_for(&mut self.own, &call);
+        let Ok(copy) = copied else {
             return Err((CallFault::OutOfMemory, call));
         };
+        let mut draft = draft_of(manager.alloc, self.number, id, now, copy);
         let begun = manager
             .locked
             .lock(rt)

@@ -151,25 +151,25 @@ impl<N: Name, L: Loader, W: Writer, P: Processor, K: Hearer, J: Keeping> Manager
         }
     }
 
-    /// Carries the draft's call on to its end.
+    /// Carries the draft's call, which waits for the answer to this request, on to its end.
     pub(crate) fn carry_on<R: Wait>(
         &self,
         rt: &R,
         asked: &SharedHooks<L, P>,
         hooks: &mut LockedHooks<W, K>,
         draft: &mut Entry,
-        begun: Turned,
+        request: Request,
         pass: &mut TablePass<N>,
     ) -> Result<Reply, CallFault>
         requires shared { AreOf L.load_of P.verdict_of N.stated draft.old.id asked.now }
-        requires begun { Stays N.configs N.stated begun draft.old pass.old }
+        requires asked { Stays N.configs N.stated (Asked request) draft.old pass.old }
         ensures same { IsSameCall draft.old draft.new }
         ensures ends { MatchResult result (λ reply. Stays N.configs N.stated (Replied reply) draft.new pass.new) (λ fault. EndsFaulty N.configs N.stated fault draft.new pass.new) }
         ensures front { IsPrefix pass.old.images pass.new.images }
         ensures told { TellsOn K.state_after hooks.old hooks.new draft.old.told draft.new.told }
         ensures wrote { MatchResult result (λ _. WritesOn W.may hooks.old hooks.new draft.old.answers draft.new.answers) (λ _. StatesOn W.may hooks.old draft.old.answers draft.new.answers) }
     {
-        let mut turned = begun;
+        let mut turned = Turned::Asked(request);
         for _ in rt.forever() {
             match turned {
                 Turned::Replied(reply) => return Ok(reply),

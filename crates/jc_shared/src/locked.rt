@@ -108,7 +108,6 @@ fn is_of_call(entry: &Entry, draft: &Entry, answers: &[Answer]) -> bool
         && are_same(entry.told.items(), draft.told.items())
 }
 
-#[inline]
 fn end_with(draft: &mut Entry, end: End)
     ensures { draft.new ≡ record draft.old { end = end } }
 {
@@ -126,7 +125,6 @@ fn keep_left(draft: &mut Entry, left: Sequence<Notice>)
 }
 
 /// What a step comes to. At a reply the entry ends with the second copy.
-#[inline]
 fn turned(step: Step, copy: Option<Reply>, draft: &mut Entry) -> Turned
     requires { copy ≡ reply_in step }
     ensures { Turns draft.old step result draft.new }

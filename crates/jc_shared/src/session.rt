@@ -24,6 +24,7 @@ use crate::keeping::{Keeping, OwnCalls};
 use crate::manager::Manager;
 use crate::name::Name;
 use crate::tables::TablePass;
+use crate::turned::Turned;
 use jc_engine::journal::all_calls::AllCalls;
 use jc_hooks::{CacheHooks, Hearer, Loader, Processor, Writer, suits};
 use jc_index::lookup::Lookup;
@@ -80,23 +81,21 @@ impl<'a, N: Name, L: Loader, W: Writer, P: Processor, K: Hearer> Logged
     }
 }
 
-/// The entry of a call that is to begin, with a copy of the call, and room for it among a session's own.
-#[inline]
-pub(crate) fn draft_of<O: OwnCalls>(
-    alloc: Global,
-    own: &mut O,
-    session: u32,
-    id: CacheId,
-    now: u64,
-    call: &Call,
-) -> Result<Entry, OutOfMemory>
-    ensures drafted { IfOk result (λ e. e ≡ blank session id now call.now) }
+/// Room for an entry more among a session's own, and a copy of its call.
+pub(crate) fn copy_for<O: OwnCalls>(own: &mut O, call: &Call) -> Result<Call, OutOfMemory>
+    ensures copy { IfOk result (λ copy. copy ≡ call.now) }
     ensures room { OnOk result (O.HasRoom own.new) }
     ensures same { O.calls own.new ≡ O.calls own.old }
 {
     own.make_room()?;
-    let call = call.share()?;
-    Ok(Entry {
+    call.share()
+}
+
+/// The entry of a call that is to begin.
+pub(crate) fn draft_of(alloc: Global, session: u32, id: CacheId, now: u64, call: Call) -> Entry
+    ensures { result ≡ blank session id now call }
+{
+    Entry {
         session,
         id,
         at: now,
@@ -104,7 +103,7 @@ pub(crate) fn draft_of<O: OwnCalls>(
         answers: Sequence::new(Vec::new(alloc)),
         told: Sequence::new(Vec::new(alloc)),
         end: End::Waiting,
-    })
+    }
 }
 
 impl<'a, N: Name, L: Loader, W: Writer, P: Processor, K: Hearer, J: Keeping> Session<
@@ -231,23 +230,28 @@ impl<'a, N: Name, L: Loader, W: Writer, P: Processor, K: Hearer, J: Keeping> Ses
             drop(call);
             return Err(manager.lacking(rt, id, fault));
         }
-        let drafted = draft_of(manager.alloc, &mut self.own, self.number, id, now, &call);
-        let Ok(mut draft) = drafted else {
+        let copied = copy_for(&mut self.own, &call);
+        let Ok(copy) = copied else {
             drop(call);
             return Err(CallFault::OutOfMemory);
         };
+        let mut draft = draft_of(manager.alloc, self.number, id, now, copy);
         let begun = manager
             .locked
             .lock(rt)
             .begin(&mut draft, call, &mut self.pass);
-        let turned = match begun {
-            Ok(turned) => turned,
+        let request = match begun {
+            Ok(Turned::Asked(request)) => request,
+            Ok(Turned::Replied(reply)) => {
+                self.own.push(draft);
+                return Ok(reply);
+            }
             Err(fault) => {
                 drop(draft);
                 return Err(fault);
             }
         };
-        let replied = manager.carry_on(rt, asked, locked, &mut draft, turned, &mut self.pass);
+        let replied = manager.carry_on(rt, asked, locked, &mut draft, request, &mut self.pass);
         self.own.push(draft);
         replied
     }

@@ -2,6 +2,7 @@ use Rattle.std.proofs.Common.{◌≡◌, ◌++◌, ◌∷◌, [], ◌∙◌, ap,
 use Rattle.jc_model.specs.declared.event.Entry.{Entry}
 use Rattle.jc_stripes.proofs.Lists.{prefix_trans}
 use Rattle.jc_model.specs.Runs.{has_processor}
+use Rattle.jc_engine.specs.Recording.{blank}
 use Rattle.jc_shared.specs.Calls.{IsSameCall}
 use Rattle.jc_shared.specs.Sessions.{Sitting}
 use Rattle.jc_shared.proofs.Carrying.{begun_same, same_call, added_ok, added_err, begin_fails, not_accepted, told_or_gone, unaccepted_fails}
@@ -10,29 +11,27 @@ use Rattle.jc_shared.proofs.session.Session.make.Goals as goal
 pub returns-clause-ok : goal.returns-clause-ok
 returns-clause-ok g c =
     let e = c.carry_on-replied.new.draft in
-    let same : IsSameCall c.in-Ok.draft e = same_call c.in-Ok.draft c.begin-begun.new.draft e (begun_same g.N.Name.configs c.in-Ok.draft c.begin-begun.new.draft c.begin-begun.new.pass c.in-Ok-begun.turned c.in-Ok-begun.ensures.ok) c.carry_on-replied.ensures.same in
-    let added : g.J.Own.OwnCalls.calls c.push.new.self ≡ g.J.Own.OwnCalls.calls c.self.inside.own ++ e ∷ [] = c.push.ensures ∙ ap (λ (es : List Entry). es ++ e ∷ []) c.draft_of-drafted.ensures.same in
+    let draft = c.draft_of-draft.result in
+    let is : draft ≡ blank c.self.inside.number c.args.id c.args.now c.args.call = c.draft_of-draft.ensures ∙ ap (blank c.self.inside.number c.args.id c.args.now) c.in-Ok.ensures.copy in
+    let same : IsSameCall draft e = same_call draft c.begin-begun.new.draft e (begun_same g.N.Name.configs draft c.begin-begun.new.draft c.begin-begun.new.pass c.in-Ok-Asked.field-0 c.in-Ok-Asked.ensures.ok) c.carry_on-replied.ensures.same in
+    let added : g.J.Own.OwnCalls.calls c.push-2.new.self ≡ g.J.Own.OwnCalls.calls c.self.inside.own ++ e ∷ [] = c.push-2.ensures ∙ ap (λ (es : List Entry). es ++ e ∷ []) c.copy_for-copied.ensures.same in
     rw (← c.self.view_is)
-    (added_ok g.N.Name.configs g.N.Name.stated (record { number = c.self.inside.number; calls = g.J.Own.OwnCalls.calls c.self.inside.own; pass = c.self.inside.pass }) (record { number = c.self.inside.number; calls = g.J.Own.OwnCalls.calls c.push.new.self; pass = c.carry_on-replied.new.pass }) c.args.id c.args.now c.args.call
-    c.in-Ok.draft e c.in-Ok.ensures.drafted same added c.carry_on-replied.result c.carry_on-replied.ensures.ends)
+    (added_ok g.N.Name.configs g.N.Name.stated (record { number = c.self.inside.number; calls = g.J.Own.OwnCalls.calls c.self.inside.own; pass = c.self.inside.pass }) (record { number = c.self.inside.number; calls = g.J.Own.OwnCalls.calls c.push-2.new.self; pass = c.carry_on-replied.new.pass }) c.args.id c.args.now c.args.call
+    draft e is same added c.carry_on-replied.result c.carry_on-replied.ensures.ends)
 
 pub returns-clause-err : goal.returns-clause-err
 returns-clause-err g c =
     let e = c.carry_on-replied.new.draft in
-    let same : IsSameCall c.in-Ok.draft e = same_call c.in-Ok.draft c.begin-begun.new.draft e (begun_same g.N.Name.configs c.in-Ok.draft c.begin-begun.new.draft c.begin-begun.new.pass c.in-Ok-begun.turned c.in-Ok-begun.ensures.ok) c.carry_on-replied.ensures.same in
-    let added : g.J.Own.OwnCalls.calls c.push.new.self ≡ g.J.Own.OwnCalls.calls c.self.inside.own ++ e ∷ [] = c.push.ensures ∙ ap (λ (es : List Entry). es ++ e ∷ []) c.draft_of-drafted.ensures.same in
+    let draft = c.draft_of-draft.result in
+    let is : draft ≡ blank c.self.inside.number c.args.id c.args.now c.args.call = c.draft_of-draft.ensures ∙ ap (blank c.self.inside.number c.args.id c.args.now) c.in-Ok.ensures.copy in
+    let same : IsSameCall draft e = same_call draft c.begin-begun.new.draft e (begun_same g.N.Name.configs draft c.begin-begun.new.draft c.begin-begun.new.pass c.in-Ok-Asked.field-0 c.in-Ok-Asked.ensures.ok) c.carry_on-replied.ensures.same in
+    let added : g.J.Own.OwnCalls.calls c.push-2.new.self ≡ g.J.Own.OwnCalls.calls c.self.inside.own ++ e ∷ [] = c.push-2.ensures ∙ ap (λ (es : List Entry). es ++ e ∷ []) c.copy_for-copied.ensures.same in
     rw (← c.self.view_is)
-    (added_err g.N.Name.configs g.N.Name.stated (record { number = c.self.inside.number; calls = g.J.Own.OwnCalls.calls c.self.inside.own; pass = c.self.inside.pass }) (record { number = c.self.inside.number; calls = g.J.Own.OwnCalls.calls c.push.new.self; pass = c.carry_on-replied.new.pass }) c.args.id c.args.now c.args.call
-    c.in-Ok.draft e c.in-Ok.ensures.drafted same added c.carry_on-replied.result c.carry_on-replied.ensures.ends)
+    (added_err g.N.Name.configs g.N.Name.stated (record { number = c.self.inside.number; calls = g.J.Own.OwnCalls.calls c.self.inside.own; pass = c.self.inside.pass }) (record { number = c.self.inside.number; calls = g.J.Own.OwnCalls.calls c.push-2.new.self; pass = c.carry_on-replied.new.pass }) c.args.id c.args.now c.args.call
+    draft e is same added c.carry_on-replied.result c.carry_on-replied.ensures.ends)
 
 pub returns-clause-front : goal.returns-clause-front
 returns-clause-front g c = rw (← c.self.view_is) (prefix_trans _ _ _ c.begin-begun.ensures.front c.carry_on-replied.ensures.front)
-
-pub returns-in-Err-begun-clause-err : goal.returns-in-Err-begun-clause-err
-returns-in-Err-begun-clause-err g c =
-    rw (← c.self.view_is)
-    (begin_fails g.N.Name.configs g.N.Name.stated (record { number = c.self.inside.number; calls = g.J.Own.OwnCalls.calls c.self.inside.own; pass = c.self.inside.pass }) (record { number = c.self.inside.number; calls = g.J.Own.OwnCalls.calls c.draft_of-drafted.new.own; pass = c.begin-begun.new.pass }) c.args.id c.args.now c.args.call
-    c.in-Ok.draft c.in-Err-begun.fault c.in-Ok.ensures.drafted (λ i. record { number = c.self.inside.number; calls = c.draft_of-drafted.ensures.same i; pass = c.in-Err-begun.ensures.same.2 i }) c.in-Err-begun.ensures.err)
 
 pub returns-in-Err-clause-err : goal.returns-in-Err-clause-err
 returns-in-Err-clause-err g c =
