@@ -20,8 +20,6 @@ pub use sessions::seated;
 pub use trouble::{Trouble, done, is, key, no_hooks, plain_cache, value_of};
 
 #[cfg(test)]
-mod again;
-#[cfg(test)]
 mod closing;
 #[cfg(test)]
 mod coming;

@@ -1,6 +1,5 @@
-//! Memory that the table is refused: a row that finds no slot is then in the stash, and the next put doubles the
-//! buckets. As the trials stand it is a mirror that refuses; `refusals/test` refuses each allocation in turn, and
-//! `rows_are_put_again` has to end well too.
+//! Memory that the table is refused by its mirror: a row that finds no slot is then in the stash, and the next put
+//! doubles the buckets.
 
 use crate::placers::ConstantPlacer;
 use crate::refusing::RefusingMirror;
@@ -28,27 +27,22 @@ fn place_of(row: u32) -> Result<(CacheId, Key), Trouble> {
     Ok((CacheId::new(row % 2), key(name)?))
 }
 
-/// A table of 16 buckets where all keys share two, asked for again where it is refused. So often it does not double.
+/// A table of 16 buckets where all keys share two. So often it does not double.
 fn crowded(
     alloc: Global,
     refusals: u32,
 ) -> Result<Cuckoo<ConstantPlacer, RefusingMirror>, TableRefusal> {
-    match Cuckoo::new(alloc, ConstantPlacer, RefusingMirror { refusals }, 16) {
-        Err(_) => Cuckoo::new(alloc, ConstantPlacer, RefusingMirror { refusals }, 16),
-        made => made,
-    }
+    Cuckoo::new(alloc, ConstantPlacer, RefusingMirror { refusals }, 16)
 }
 
-/// Puts a row where there is none yet. Room is asked for again where it is refused.
+/// Puts a row where there is none yet.
 fn put_new<R: Rows>(rows: &mut R, row: u32) -> Result<(), Trouble> {
     let (id, key) = place_of(row)?;
     if rows.find(id, &key).is_none() {
         let Some(all) = rows.len().checked_add(1) else {
             return Err(Trouble::Unexpected);
         };
-        if rows.make_room(all).is_err() {
-            rows.make_room(all)?;
-        }
+        rows.make_room(all)?;
         rows.put(id, key, row, Expiry::Never);
     }
     Ok(())
@@ -77,19 +71,16 @@ fn shape_of(count: u32, doubled: bool) -> Shape {
 }
 
 /// Puts all rows, of which so many find no memory to double. The result is the first row after which others are held or
-/// the shape is another, if there is one; the doubling may come one put late where that is allowed.
+/// the shape is another, if there is one.
 fn first_other<M: Mirror>(
     table: &mut Cuckoo<ConstantPlacer, M>,
     refusals: u32,
-    may_be_late: bool,
 ) -> Result<Option<u32>, Trouble> {
     let doubling = DOUBLING.saturating_add(refusals);
     for row in 0..ROWS {
         let count = row.saturating_add(1);
         put_new(table, row)?;
-        let shape = table.shape();
-        let late = may_be_late && count == doubling && shape == shape_of(count, false);
-        let as_told = late || shape == shape_of(count, count >= doubling);
+        let as_told = table.shape() == shape_of(count, count >= doubling);
         if !as_told || !holds_first(table, count)? || table.make_room(usize::MAX).is_ok() {
             return Ok(Some(row));
         }
@@ -101,14 +92,7 @@ fn first_other<M: Mirror>(
 fn a_refused_doubling_comes_with_the_next_put(rt: HostRuntime) -> Result<(), Trouble> {
     for refusals in [0u32, 1, 2, 40] {
         let mut table = crowded(rt.alloc(), refusals)?;
-        assert_eq!(rt; first_other(&mut table, refusals, false)?, None);
+        assert_eq!(rt; first_other(&mut table, refusals)?, None);
     }
-    Ok(())
-}
-
-#[test]
-fn rows_are_put_again(rt: HostRuntime) -> Result<(), Trouble> {
-    let mut table = crowded(rt.alloc(), 0)?;
-    assert_eq!(rt; first_other(&mut table, 0, true)?, None);
     Ok(())
 }
