@@ -40,10 +40,12 @@ fn text_of(alloc: Global, memory: &mut Memory, row: Which) -> Result<String, Tro
     }
 }
 
-/// Prints what a row comes to. It is begun again where there is no memory for what stands around its calls.
+/// Prints what a row comes to. It is begun again where there may have been no memory for what stands around its calls.
 fn tell(rt: &HostRuntime, memory: &mut Memory, name: &str, row: Which) -> io::Result<()> {
     let text = match text_of(rt.alloc(), memory, row) {
-        Err(Trouble::Memory) => text_of(rt.alloc(), memory, row),
+        Err(Trouble::Memory | Trouble::Unread | Trouble::NotOpened) => {
+            text_of(rt.alloc(), memory, row)
+        }
         text => text,
     };
     memory.give_back();
