@@ -1,7 +1,7 @@
 //! One line of the list of examples.
 
 use crate::events::play_events;
-use crate::run::{run_each_configuration, run_each_script, run_files, run_words};
+use crate::run::{run_each_configuration, run_each_script, run_files, run_typed, run_words};
 use std::fs::Files;
 use std::io;
 use std::sync::Wait;
@@ -12,17 +12,30 @@ enum Example<'a> {
     /// The configuration and the script of its name.
     Files,
     /// Each line of a file as a script of its own.
-    EachScript { scripts: &'a str, config: &'a str },
+    EachScript {
+        scripts: &'a str,
+        config: &'a str,
+    },
     /// An empty script on each line of a file as a configuration of its own.
-    EachConfiguration { configs: &'a str },
+    EachConfiguration {
+        configs: &'a str,
+    },
     /// Calls whose requests the file answers.
-    Events { events: &'a str, config: &'a str },
+    Events {
+        events: &'a str,
+        config: &'a str,
+    },
+    /// A script that is typed at a terminal, and the words of the command line.
+    Typed {
+        script: &'a str,
+        words: &'a [&'a str],
+    },
     /// The words of a command line; behind `<` the file that is standard input.
     Words,
 }
 
 /// The example that is asked for by the words after its name.
-fn example_of<'a>(words: &[&'a str]) -> Example<'a> {
+fn example_of<'a>(words: &'a [&'a str]) -> Example<'a> {
     match words {
         [] => Example::Files,
         [first, _, _, scripts, _, config] if *first == "each" => {
@@ -30,6 +43,7 @@ fn example_of<'a>(words: &[&'a str]) -> Example<'a> {
         }
         [first, _, _, configs] if *first == "each" => Example::EachConfiguration { configs },
         [first, _, events, _, config] if *first == "events" => Example::Events { events, config },
+        [first, script, words @ ..] if *first == "typed" => Example::Typed { script, words },
         _ => Example::Words,
     }
 }
@@ -59,6 +73,7 @@ pub fn play_case<R: Files + Print + Threads + Wait + Sync + AllocGlobal>(
         Example::EachScript { scripts, config } => run_each_script(rt, scripts, config),
         Example::EachConfiguration { configs } => run_each_configuration(rt, configs),
         Example::Events { events, config } => play_events(rt, config, events),
+        Example::Typed { script, words } => run_typed(rt, script, words),
         Example::Words => run_words(rt, words),
     }
 }

@@ -4,8 +4,8 @@
 //! `NAME.jsonl`. A name may be followed by what is run in place of that: the words of a command line, of which there may
 //! be none, and behind `<` the file that is standard input; `each script of FILE on CONFIG`, which runs each line of a
 //! file as a script of its own; `each configuration of FILE`, which runs an empty script on each line of a file; `events
-//! of FILE on CONFIG`, for calls whose requests the file answers. Empty lines and those that begin with `#` are passed
-//! over.
+//! of FILE on CONFIG`, for calls whose requests the file answers; `typed FILE`, which runs the file as a script that a
+//! person types at a terminal, and may have words behind it. Empty lines and those that begin with `#` are passed over.
 #![tactic(auto)]
 
 mod answers;

@@ -3,7 +3,7 @@
 use crate::over::{a_list_for_all_keys, one_bucket_for_all_keys};
 use jc_explain::Kept;
 use jc_program::{KeepingDisk, run_program};
-use jc_runner::{Disk, OpenFault, Opened, RunFault, Standard, program};
+use jc_runner::{Disk, OpenFault, Opened, RunFault, Standard, greet, program};
 use std::alloc::Global;
 use std::fs::Files;
 use std::sync::Wait;
@@ -80,24 +80,35 @@ fn printed<D: Disk, R: Threads + Wait + Sync + AllocGlobal>(
     })
 }
 
-/// Runs the program on these words and the machine's files.
-fn printed_from_files<R: Files + Threads + Wait + Sync + AllocGlobal>(
+/// Runs the program on these words and the machine's files, where standard input is a terminal or not.
+fn printed_at<R: Files + Threads + Wait + Sync + AllocGlobal>(
     rt: &R,
     words: &[&str],
     input: &[u8],
+    at_terminal: bool,
 ) -> io::Result<Written> {
     let alloc = rt.alloc();
-    let given = owned(alloc, words)?;
+    let given = Ok(owned(alloc, words)?);
     let mut disk = KeepingDisk::new(alloc, rt, true);
     let mut opened = Opened::none();
     let input = Kept::new(alloc, input, true);
     let mut standard = Standard::new(input, Vec::new(alloc), Vec::new(alloc));
-    let ended = run_program(rt, alloc, Ok(given), &mut disk, &mut opened, &mut standard);
+    greet(&given, at_terminal, &mut standard.errors);
+    let ended = run_program(rt, alloc, given, &mut disk, &mut opened, &mut standard);
     Ok(Written {
         output: standard.output.into_inner(),
         errors: standard.errors.into_inner(),
         status: ended.status,
     })
+}
+
+/// The same where standard input is a file or a pipe.
+fn printed_from_files<R: Files + Threads + Wait + Sync + AllocGlobal>(
+    rt: &R,
+    words: &[&str],
+    input: &[u8],
+) -> io::Result<Written> {
+    printed_at(rt, words, input, false)
 }
 
 /// Prints what a run wrote, and its status where that is not 0.
@@ -129,6 +140,16 @@ pub fn run_words<R: Files + Print + Threads + Wait + Sync + AllocGlobal>(
         words => (words, Vec::new(rt.alloc())),
     };
     show(rt, &printed_from_files(rt, words, input.as_slice())?)
+}
+
+/// Runs the program as a person who types the script in that file, with or without words.
+pub fn run_typed<R: Files + Print + Threads + Wait + Sync + AllocGlobal>(
+    rt: &R,
+    script: &str,
+    words: &[&str],
+) -> io::Result<()> {
+    let input = fs::read(rt, script)?;
+    show(rt, &printed_at(rt, words, input.as_slice(), true)?)
 }
 
 /// Runs a configuration and a script, with these words.

@@ -1,5 +1,5 @@
 -- A run on worker threads: its callbacks, and what its manager has refused.
-use Rattle.std.proofs.Common.{◌≡◌, ℕ, zero, suc, ◌+◌, ◌<◌, ◌≤◌, Bool, List, [], ◌∷◌, ◌++◌, length, map, get_or, take, sym, ap, ap₂, subst, ◌∙◌, arith, Option, Some, Result, Err}
+use Rattle.std.proofs.Common.{◌≡◌, ℕ, zero, suc, ◌+◌, ◌<◌, ◌≤◌, Bool, List, [], ◌∷◌, ◌++◌, length, map, get_or, take, sym, ap, ap₂, subst, ◌∙◌, arith, Option, Some, None, Result, Err, true, refl}
 use Rattle.std.specs.Prelude.{is_some}
 use Rattle.std.specs.Result.{result_err}
 use Rattle.std.proofs.lemmas.List.{take_all, take_more, map_push}
@@ -17,7 +17,6 @@ use Rattle.jc_script.specs.declared.line.LineCall.{LineCall}
 use Rattle.jc_script.specs.declared.managed.Managed.{Managed}
 use Rattle.jc_script.specs.Calls.{calls_in}
 use Rattle.jc_script.specs.Managing.{lives_of, managed_of}
-use Rattle.jc_script.specs.Report.{text}
 use Rattle.jc_shared.specs.declared.hooks.SharedHooks.{SharedHooks}
 use Rattle.jc_shared.specs.Stated.{Stated, stated_by, shared_of}
 use Rattle.jc_threads.specs.Lines.{AreMade}
@@ -31,7 +30,9 @@ use Rattle.jc_hooks.specs.Suits.{AllSuit}
 use Rattle.jc_shared.specs.Opening.{CanOpen, IsRefusal}
 use Rattle.jc_runner.specs.Hooks.{AreSuited, CannotOpen}
 use Rattle.jc_runner.proofs.Suiting.{suited, each_suits}
+use Rattle.jc_runner.specs.Forms.{report_in}
 use Rattle.jc_runner.specs.Together.{stated_of, Gathers, GathersSo}
+use Rattle.jc_runner.specs.declared.form.Form.{Form}
 use Rattle.jc_runner.specs.declared.fault.RunFault.{RunFault}
 
 -- Why a shared manager does not open.
@@ -59,6 +60,14 @@ module _ {L W P K : Type 0} (wants : P → Bool) where
   pub opens_in_memory : (caches caches' : List CacheConfig) (hooks : List (CacheHooks L W P K)) (f : SharedRefusal) → caches' ≡ caches → f ≡ OutOfMemory → IsRefusal wants caches' hooks f → CannotOpen wants caches hooks → ⊥
   opens_in_memory caches caches' hooks f same is refused = opened_takes caches caches' hooks same (subst (IsRefusal wants caches' hooks) is refused)
 
+  -- where nothing forbids to open, the caches are not refused
+  pub never_refused : (caches : List CacheConfig) (hooks : List (CacheHooks L W P K)) → (CannotOpen wants caches hooks → ⊥) → open_refusal caches ≡ None
+  never_refused caches hooks can = by (open_refusal caches) (λ refused. can (inr refused))
+    where
+      by : (o : Option OpenRefusal) → (is_some o ≡ true → ⊥) → o ≡ None
+      by None never = refl
+      by (Some r) never = absurd (never refl)
+
 -- What was refused, line by line.
 
 abbrev pub refusals : List Managed → List (Option CreateRefusal)
@@ -85,17 +94,17 @@ all_refused managed all i le same so_far = ap refusals (sym (take_all i managed 
 
 -- The report of what was made.
 
-module _ (stated : List Stated) (caches : List CacheConfig) (all : List Line) where
+module _ (form : Form) (stated : List Stated) (caches : List CacheConfig) (all : List Line) where
   pub gathers : (t : History) (managed : List Managed) (refused : List (Option CreateRefusal)) (bytes : List ℕ) → IsLegal t → t.lives ≡ lives_of caches all → AreMade stated (calls_in all) t.entries
-      → managed ≡ managed_of caches all → refusals managed ≡ refused → AreManaged caches all refused → bytes ≡ text t managed → Gathers stated caches all bytes
+      → managed ≡ managed_of caches all → refusals managed ≡ refused → AreManaged caches all refused → bytes ≡ report_in form (length caches) t managed → Gathers form stated caches all bytes
   gathers t managed refused bytes legal lives made is_of same answered told = record {
     transcript = t;
     is_made = record { legal = legal; lives = lives; made = made };
     managed = subst (λ (ms : List Managed). AreManaged caches all (refusals ms)) is_of (subst (AreManaged caches all) (sym same) answered);
-    told = told ∙ ap (text t) is_of;
+    told = told ∙ ap (report_in form (length caches) t) is_of;
   }
 
-  pub gathers_so : {IsSo : List ℕ → Type 0} (bytes : List ℕ) → Gathers stated caches all bytes → IsSo bytes → GathersSo stated caches all IsSo
+  pub gathers_so : {IsSo : List ℕ → Type 0} (bytes : List ℕ) → Gathers form stated caches all bytes → IsSo bytes → GathersSo form stated caches all IsSo
   gathers_so bytes g so = record { text = bytes; gathers = g; so = so }
 
 -- the answers that were stated, and the transcript that was compared

@@ -18,5 +18,6 @@ pub mod Gathering
 pub mod Sessions
 pub mod Apart
 pub mod Kept
+pub mod Openable
 pub mod Named
 pub mod Traces

@@ -5,6 +5,7 @@ use Rattle.std.specs.Io.KnownBytes.{Keeps}
 use Rattle.jc_config.specs.declared.kinds.Configuration.{Configuration}
 use Rattle.jc_model.specs.declared.config.CacheConfig.{CacheConfig}
 use Rattle.jc_words.specs.Program.{is_input}
+use Rattle.jc_words.specs.declared.run.Format.{Format}
 use Rattle.jc_runner.specs.Program.{ConfigFrom, ScriptFrom, LinesFrom}
 use Rattle.jc_runner.specs.declared.fault.ProgramFault.{ProgramFault}
 use Rattle.jc_runner.specs.declared.fault.RunFault.{RunFault}
@@ -30,11 +31,11 @@ module _ {F I : Type 0} (of_file : F → Option (List ℕ)) (of_input : I → Op
       → ConfigFrom of_file of_input (holds path') path' asked asked' input input' (is_input path') opened result
   config_at holds path path' result e h = subst (λ (p : List ℕ). ConfigFrom of_file of_input (holds p) p asked asked' input input' (is_input p) opened result) e h
 
-  pub script_held : {O : Type 0} (contents : O → Option (List ℕ)) (serial strict : Bool) (c : Configuration) (writer writer' : WatchedWriter O) (held held' : Option (Option (List ℕ))) (path : List ℕ) (result : Result (Unit {0}) RunFault) → held ≡ held'
-      → ScriptFrom of_file of_input held path asked asked' input input' contents serial strict c writer writer' (is_input path) opened result
-      → ScriptFrom of_file of_input held' path asked asked' input input' contents serial strict c writer writer' (is_input path) opened result
-  script_held contents serial strict c writer writer' held held' path result e h =
-      subst (λ (x : Option (Option (List ℕ))). ScriptFrom of_file of_input x path asked asked' input input' contents serial strict c writer writer' (is_input path) opened result) e h
+  pub script_held : {O : Type 0} (contents : O → Option (List ℕ)) (serial strict : Bool) (format : Format) (c : Configuration) (writer writer' : WatchedWriter O) (held held' : Option (Option (List ℕ))) (path : List ℕ) (result : Result (Unit {0}) RunFault) → held ≡ held'
+      → ScriptFrom of_file of_input held path asked asked' input input' contents serial strict format c writer writer' (is_input path) opened result
+      → ScriptFrom of_file of_input held' path asked asked' input input' contents serial strict format c writer writer' (is_input path) opened result
+  script_held contents serial strict format c writer writer' held held' path result e h =
+      subst (λ (x : Option (Option (List ℕ))). ScriptFrom of_file of_input x path asked asked' input input' contents serial strict format c writer writer' (is_input path) opened result) e h
 
   pub lines_at : (holds holds' : List ℕ → Option (Option (List ℕ))) (strict : Bool) (caches : List CacheConfig) (path path' : List ℕ) (result : Result (Unit {0}) RunFault) → path ≡ path' → holds path' ≡ holds' path'
       → LinesFrom of_file of_input (holds path) path asked asked' input input' strict caches (is_input path) opened result

@@ -15,6 +15,8 @@ use Rattle.jc_hooks.specs.Program.{echoed, AllChecked}
 use Rattle.jc_script.specs.declared.line.Line.{Line}
 use Rattle.jc_script.specs.Script.{lines}
 use Rattle.jc_script.specs.declared.fault.ScriptFault.{ScriptFault}
+use Rattle.jc_words.specs.declared.run.Format.{Format}
+use Rattle.jc_runner.specs.Forms.{form_of}
 use Rattle.jc_runner.specs.Hooks.{CannotOpen}
 use Rattle.jc_runner.specs.Meters.{next}
 use Rattle.jc_runner.specs.Naming.{ProgramHooks, AllNamed, heard_by}
@@ -26,6 +28,7 @@ use Rattle.jc_runner.specs.Strictness.{HasNone, HasOne}
 use Rattle.jc_runner.specs.Together.{stated_of, GathersSo}
 use Rattle.jc_runner.specs.declared.fault.RunFault.{RunFault}
 use Rattle.jc_runner.specs.declared.fault.RunFault.TheVariants as run
+use Rattle.jc_runner.specs.declared.form.Form.{Form}
 use Rattle.jc_runner.specs.declared.watched.Watched.{Watched}
 use Rattle.jc_runner.specs.declared.watched.WatchedWriter.{WatchedWriter}
 use Rattle.jc_runner.proofs.Opening.{all_named_suit}
@@ -43,11 +46,11 @@ opens_so : (c : Configuration) (hooks : List ProgramHooks) → AllNamed c.settin
 opens_so c hooks named opens (inl differ) = differ (suited wants_of c.settings hooks (all_named_suit c.settings c.hooks hooks opens.kinds named))
 opens_so c hooks named opens (inr refused) = not_refused c.settings (open_refusal c.settings) opens.refuses_nothing refused
 
-module _ (c : Configuration) (hooks hooks' : List ProgramHooks) (named : AllNamed c.settings c.hooks hooks) where
+module _ (format : Format) (c : Configuration) (hooks hooks' : List ProgramHooks) (named : AllNamed c.settings c.hooks hooks) where
   abbrev ReportsHere : List ℕ → (List ℕ → Type 0) → Type 0
-  ReportsHere script IsSo = ReportsOf (λ l. echoed) (λ w given. AllChecked given) verdict_by heard_by c.settings script hooks hooks' IsSo
+  ReportsHere script IsSo = ReportsOf (λ l. echoed) (λ w given. AllChecked given) verdict_by heard_by format c.settings script hooks hooks' IsSo
 
-  reported : (left : Option (List ℕ)) (IsSo : List ℕ → Type 0) → IfSome left (λ script. ReportsHere script IsSo) → IfSome left (λ script. Reported c script IsSo)
+  reported : (left : Option (List ℕ)) (IsSo : List ℕ → Type 0) → IfSome left (λ script. ReportsHere script IsSo) → IfSome left (λ script. Reported format c script IsSo)
   reported None IsSo r = tt
   reported (Some script) IsSo r = record { hooks = hooks; hooks' = hooks'; named = named; reports = r }
 
@@ -66,7 +69,7 @@ module _ (c : Configuration) (hooks hooks' : List ProgramHooks) (named : AllName
         → (result ≡ Err run.Write → writer'.failures ≡ next writer.failures)
         → (result ≡ Err run.Read → reader'.failures ≡ next reader.failures)
         → IfErr result (λ e. e ≢ run.Write → Keeps (contents writer.inner) (contents writer'.inner))
-        → RunEnds remaining contents true strict c reader reader' writer writer' result
+        → RunEnds remaining contents true strict format c reader reader' writer writer' result
     run_ends (Ok done) ok end flushed script entry known long opening closed front write read nothing = (reported (remaining reader.inner) (Appends (contents writer.inner) (contents writer'.inner)) ok, known tt, end, flushed.1, flushed.0)
     run_ends (Err run.Read) ok end flushed script entry known long opening closed front write read nothing = (read refl, nothing (λ e. cc))
     run_ends (Err run.TooLong) ok end flushed script entry known long opening closed front write read nothing = (long refl, nothing (λ e. cc))
@@ -78,9 +81,9 @@ module _ (c : Configuration) (hooks hooks' : List ProgramHooks) (named : AllName
     run_ends (Err run.Memory) ok end flushed script entry known long opening closed front write read nothing = nothing (λ e. cc)
 
 -- A script that is refused for its members.
-module _ {I O : Type 0} (remaining : I → Option (List ℕ)) (contents : O → Option (List ℕ)) (serial strict : Bool) (c : Configuration) (reader reader' : Watched I) (writer writer' : WatchedWriter O) where
+module _ {I O : Type 0} (remaining : I → Option (List ℕ)) (contents : O → Option (List ℕ)) (serial strict : Bool) (format : Format) (c : Configuration) (reader reader' : Watched I) (writer writer' : WatchedWriter O) where
   pub stray_ends : (e : RunFault) → IsOfStrictness e → ((n : ℕ) → e ≡ run.Entry n → HasOne strict c.settings (remaining reader.inner) n) → Keeps (contents writer.inner) (contents writer'.inner)
-      → RunEnds remaining contents serial strict c reader reader' writer writer' (Err e)
+      → RunEnds remaining contents serial strict format c reader reader' writer writer' (Err e)
   stray_ends run.Read of one keeps = absurd of
   stray_ends run.TooLong of one keeps = absurd of
   stray_ends (run.Script f) of one keeps = absurd of
@@ -92,15 +95,19 @@ module _ {I O : Type 0} (remaining : I → Option (List ℕ)) (contents : O → 
 
 -- The same on worker threads.
 
-module _ (c : Configuration) (hooks : List ProgramHooks) (named : AllNamed c.settings c.hooks hooks) (all : List Line) where
+module _ (format : Format) (form : Form) (c : Configuration) (hooks : List ProgramHooks) (named : AllNamed c.settings c.hooks hooks) (all : List Line) where
+  -- a script that says these lines, of which this is the form
+  abbrev Says : List ℕ → Type 0
+  Says script = (lines c.settings script ≡ Ok all) × (form ≡ form_of format script all)
+
   abbrev GathersHere : (List ℕ → Type 0) → Type 0
-  GathersHere IsSo = GathersSo (stated_of (λ l. echoed) verdict_by hooks) c.settings all IsSo
+  GathersHere IsSo = GathersSo form (stated_of (λ l. echoed) verdict_by hooks) c.settings all IsSo
 
-  gathered : (left : Option (List ℕ)) (IsSo : List ℕ → Type 0) → IfSome left (λ script. lines c.settings script ≡ Ok all) → GathersHere IsSo → IfSome left (λ script. Gathered c script IsSo)
+  gathered : (left : Option (List ℕ)) (IsSo : List ℕ → Type 0) → IfSome left Says → GathersHere IsSo → IfSome left (λ script. Gathered format c script IsSo)
   gathered None IsSo read g = tt
-  gathered (Some script) IsSo read g = record { hooks = hooks; named = named; all = all; read = read; gathers = g }
+  gathered (Some script) IsSo read g = record { hooks = hooks; named = named; all = all; read = read.0; gathers = subst (λ (f : Form). GathersSo f (stated_of (λ l. echoed) verdict_by hooks) c.settings all IsSo) read.1 g }
 
-  module _ {I O : Type 0} (remaining : I → Option (List ℕ)) (contents : O → Option (List ℕ)) (strict : Bool) (reader reader' : Watched I) (writer writer' : WatchedWriter O) (opens : Opens c) (read : IfSome (remaining reader.inner) (λ script. lines c.settings script ≡ Ok all))
+  module _ {I O : Type 0} (remaining : I → Option (List ℕ)) (contents : O → Option (List ℕ)) (strict : Bool) (reader reader' : Watched I) (writer writer' : WatchedWriter O) (opens : Opens c) (read : IfSome (remaining reader.inner) Says)
       (known : HasNone strict (remaining reader.inner)) where
     pub threads_end : (result : Result (Unit {0}) RunFault)
         → IsAtEnd (remaining reader'.inner)
@@ -111,7 +118,7 @@ module _ (c : Configuration) (hooks : List ProgramHooks) (named : AllNamed c.set
         → (result ≡ Err run.Write → writer'.failures ≡ next writer.failures)
         → IfErr result (λ e. e ≢ run.Write → Keeps (contents writer.inner) (contents writer'.inner))
         → IfErr result (λ e. e ≢ run.Write → IsOfThreads e)
-        → RunEnds remaining contents false strict c reader reader' writer writer' result
+        → RunEnds remaining contents false strict format c reader reader' writer writer' result
     threads_end (Ok done) end ok flushed opening front write nothing others = (gathered (remaining reader.inner) (Appends (contents writer.inner) (contents writer'.inner)) read ok, known, end, flushed.1, flushed.0)
     threads_end (Err run.Read) end ok flushed opening front write nothing others = absurd (others (λ e. cc))
     threads_end (Err run.TooLong) end ok flushed opening front write nothing others = absurd (others (λ e. cc))

@@ -24,8 +24,13 @@ use Rattle.jc_script.specs.Managing.{lives_of, managed_of, begun_from, managed_f
 use Rattle.jc_script.specs.Named.{AllName}
 use Rattle.jc_script.specs.Script.{lines}
 use Rattle.jc_strict.specs.Stray.{stray_line}
-use Rattle.jc_script.specs.Report.{header, entry_text, lives_text, managed_text, text}
+use Rattle.jc_script.specs.Report.{header, entry_text, lives_text, managed_text}
+use Rattle.jc_json.specs.Report.{json}
+use Rattle.jc_words.specs.declared.run.Format.{Format}
 use Rattle.jc_runner.specs.Alone.{line_of, alone_from}
+use Rattle.jc_runner.specs.Forms.{form_of, report_in, IsToldIn}
+use Rattle.jc_runner.specs.declared.form.Form.{Form}
+use Rattle.jc_runner.specs.declared.form.Form.TheVariants as form
 use Rattle.jc_runner.specs.Halfway.{lives_now, as_read, NoneOpen, IsAtRest, Goes, Halfway}
 use Rattle.jc_runner.specs.Reports.{Reports, ReportsOf}
 use Rattle.jc_runner.specs.Streams.{IsAll}
@@ -76,17 +81,33 @@ pub each_text : (lives : List Life) (entries : List Entry) → lives_text lives 
 each_text [] entries = refl
 each_text (life ∷ lives) entries = ap (λ (rest : List ℕ). header life.config.name ++ flat_map entry_text (entries_of life.id entries) ++ rest) (each_text lives entries)
 
+-- in any form, by the entries that were recorded
+told_in : (form : Form) (caches : List CacheConfig) (all : List Line) (h : History) (managed : List Managed) (bytes : List ℕ) → h.lives ≡ lives_of caches all → managed ≡ managed_of caches all → bytes ≡ report_in form (length caches) h managed
+    → IsToldIn form (λ id. entries_of id h.entries) caches all bytes
+told_in form.Text caches all h managed bytes lives answers is =
+    is ∙ ap (λ (xs : List ℕ). xs ++ managed_text managed) (each_text h.lives h.entries) ∙ ap (λ (ls : List Life). alone_from (λ id. entries_of id h.entries) ls ++ managed_text managed) lives
+    ∙ ap (λ (ms : List Managed). alone_from (λ id. entries_of id h.entries) (lives_of caches all) ++ managed_text ms) answers
+told_in (form.Json outline) caches all h managed bytes lives answers is = record {
+  transcript = h;
+  has = record { lives = lives; each = λ id. refl };
+  told = is ∙ ap (λ (ms : List Managed). json (length caches) outline h ms) answers;
+}
+
 module _ {L W P K : Type 0} (load_of : L → List ℕ → Loaded) (may : W → List (Request × Answer) → Type 0) (verdict_of : P → Option (List ℕ) → List ℕ → Result Verdict ProcessorFault) (state_after : K → List Notice → List ℕ) where
-  pub last_moment : (caches : List CacheConfig) (handed : List (CacheHooks L W P K)) (all : List Line) (r : Recording) (hooks : List (CacheHooks L W P K)) (managed : List Managed) → Halfway load_of may verdict_of state_after caches handed all [] r hooks managed
-      → IsLegal r.transcript → Reports load_of may verdict_of state_after caches all handed hooks (text r.transcript managed)
-  last_moment caches handed all r hooks managed half legal =
+  pub lives_recorded : (caches : List CacheConfig) (handed : List (CacheHooks L W P K)) (all : List Line) (r : Recording) (hooks : List (CacheHooks L W P K)) (managed : List Managed) → Halfway load_of may verdict_of state_after caches handed all [] r hooks managed
+      → r.transcript.lives ≡ lives_of caches all
+  lives_recorded caches handed all r hooks managed half = sym (append-nil r.transcript.lives) ∙ half.lives
+
+  pub last_moment : (form : Form) (bytes : List ℕ) (caches : List CacheConfig) (handed : List (CacheHooks L W P K)) (all : List Line) (r : Recording) (hooks : List (CacheHooks L W P K)) (managed : List Managed)
+      → Halfway load_of may verdict_of state_after caches handed all [] r hooks managed → IsLegal r.transcript → bytes ≡ report_in form (length caches) r.transcript managed
+      → Reports load_of may verdict_of state_after form caches all handed hooks bytes
+  last_moment form bytes caches handed all r hooks managed half legal is =
       let entries : List Entry = r.transcript.entries in
-      let lives : r.transcript.lives ≡ lives_of caches all = sym (append-nil r.transcript.lives) ∙ half.lives in
+      let lives : r.transcript.lives ≡ lives_of caches all = lives_recorded caches handed all r hooks managed half in
       let answers : managed ≡ managed_of caches all = sym (append-nil managed) ∙ half.answers in
       record {
         entries = λ id. entries_of id entries;
-        told = ap (λ (bytes : List ℕ). bytes ++ managed_text managed) (each_text r.transcript.lives entries) ∙ ap (λ (ls : List Life). alone_from (λ id. entries_of id entries) ls ++ managed_text managed) lives
-            ∙ ap (λ (ms : List Managed). alone_from (λ id. entries_of id entries) (lives_of caches all) ++ managed_text ms) answers;
+        told = told_in form caches all r.transcript managed bytes lives answers is;
         each = λ id c at.
             let at' : config_of id r.transcript.lives ≡ Some c = ap (config_of id) lives ∙ at in
             let g : Goes load_of may verdict_of state_after c id all [] (slice_get handed id) (slice_get hooks id) entries = half.each id c at' in
@@ -126,10 +147,8 @@ good_of_all caches all left left' bytes bytes' read same says = go left (lines_o
     go (Some input) is = rw is refl
 
 module _ {L W P K : Type 0} (load_of : L → List ℕ → Loaded) (may : W → List (Request × Answer) → Type 0) (verdict_of : P → Option (List ℕ) → List ℕ → Result Verdict ProcessorFault) (state_after : K → List Notice → List ℕ) where
-  pub reports_of_all : (caches : List CacheConfig) (all : List Line) (old new : List (CacheHooks L W P K)) (left left' : Option (List ℕ)) (bytes bytes' text : List ℕ) (IsSo : List ℕ → Type 0) → IsAll left left' bytes → bytes' ≡ bytes → lines caches bytes' ≡ Ok all
-      → Reports load_of may verdict_of state_after caches all old new text → IsSo text → IfSome left (λ input. ReportsOf load_of may verdict_of state_after caches input old new IsSo)
-  reports_of_all caches all old new left left' bytes bytes' text IsSo read same says reports so = go left (lines_of_all caches all left left' bytes bytes' read same says)
-    where
-      go : (left : Option (List ℕ)) → IfSome left (λ input. lines caches input ≡ Ok all) → IfSome left (λ input. ReportsOf load_of may verdict_of state_after caches input old new IsSo)
-      go None is = tt
-      go (Some input) is = record { all = all; read = is; text = text; reports = reports; so = so }
+  pub reports_of_all : (format : Format) (form : Form) (caches : List CacheConfig) (all : List Line) (old new : List (CacheHooks L W P K)) (left left' : Option (List ℕ)) (bytes bytes' text : List ℕ) (IsSo : List ℕ → Type 0) → IsAll left left' bytes → bytes' ≡ bytes → lines caches bytes' ≡ Ok all
+      → form ≡ form_of format bytes' all → Reports load_of may verdict_of state_after form caches all old new text → IsSo text → IfSome left (λ input. ReportsOf load_of may verdict_of state_after format caches input old new IsSo)
+  reports_of_all format form caches all old new left left' bytes bytes' text IsSo read same says formed reports so =
+      of_all (λ script. ReportsOf load_of may verdict_of state_after format caches script old new IsSo) left left' bytes bytes' read same
+      (record { all = all; read = says; text = text; reports = subst (λ (f : Form). Reports load_of may verdict_of state_after f caches all old new text) formed reports; so = so })

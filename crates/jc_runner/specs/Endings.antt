@@ -1,13 +1,13 @@
 -- How the program ends: the status, and what standard error says.
 use Rattle.std.specs.Bool.{OnTrue}
-use Rattle.std.specs.Prelude.{Bool, true, false, not, ◌&&◌, if◌then◌else◌, ◌≡◌, ◌≢◌, ◌⊎◌, ℕ, Option, List, Result, Ok, Err, codes}
+use Rattle.std.specs.Prelude.{Bool, true, false, not, ◌&&◌, if◌then◌else◌, ◌≡◌, ◌≢◌, ◌⊎◌, ℕ, Option, List, ◌++◌, Result, Ok, Err, codes, string_bytes}
 use Rattle.std.specs.Io.KnownBytes.{Appends}
 use Rattle.clap.specs.Words.{kind_of}
 use Rattle.clap.specs.declared.error.kind.ErrorKind.TheVariants as kinds
 use Rattle.jc_runner.specs.Faults.{fault_line, explained_line, is_of_report}
 use Rattle.jc_runner.specs.Meters.{next_if}
 use Rattle.jc_runner.specs.declared.ending.Ending.{Ending}
-use Rattle.jc_runner.specs.declared.ending.Ending.TheVariants.{Done, Faulty, Explained, Refused, NotText}
+use Rattle.jc_runner.specs.declared.ending.Ending.TheVariants.{Done, Faulty, Explained, Refused, Mistaken, NotText}
 use Rattle.jc_runner.specs.declared.fault.ProgramFault.{ProgramFault}
 use Rattle.jc_runner.specs.declared.fault.ProgramFault.TheVariants.{Run}
 use Rattle.jc_runner.specs.declared.fault.RunFault.TheVariants.{Memory}
@@ -42,15 +42,22 @@ HasStatus (Explained fault) told unheard status = status ≡ unwritten (is_unhea
 HasStatus (Refused e) told unheard status =
     ((kind_of e ≡ kinds.DisplayHelp) ⊎ (kind_of e ≡ kinds.DisplayVersion) → status ≡ (if told then 0 else unwritten unheard))
     × (kind_of e ≢ kinds.DisplayHelp → kind_of e ≢ kinds.DisplayVersion → status ≡ 2)
+HasStatus (Mistaken text) told unheard status = status ≡ 2
 HasStatus NotText told unheard status = status ≡ 2
 
--- What standard error says, or that its writer failed; what a refusal says is `clap`'s.
+-- What standard error says, or that its writer failed; what a refusal says is `clap`'s, where it is not told under the
+-- program's name.
 module _ {E : Type 0} (said : E → Option (List ℕ)) where
   abbrev pub TellsLine : List ℕ → Bool → WatchedWriter E → WatchedWriter E → Type 0
   TellsLine line told old new = OnTrue told (Appends (said old.inner) (said new.inner) line) × (new.failures ≡ next_if (not told) old.failures)
 
   abbrev pub SaysNothing : Bool → WatchedWriter E → WatchedWriter E → Type 0
   SaysNothing told old new = (told ≡ true) × (new ≡ old)
+
+  -- where a script is awaited from a person, that it is
+  abbrev pub Greets : Bool → Bool → WatchedWriter E → WatchedWriter E → Type 0
+  Greets true told old new = TellsLine (codes "jcache: reads a script from this terminal until its end (Ctrl-D); --help tells more\n") told old new
+  Greets false told old new = SaysNothing told old new
 
   -- a fault, which is not told where nobody reads the report any more
   abbrev pub SaysFault : Bool → List ℕ → Bool → WatchedWriter E → WatchedWriter E → Type 0
@@ -64,6 +71,7 @@ module _ {E : Type 0} (said : E → Option (List ℕ)) where
   SaysSo lines (Explained fault) told unheard old new = SaysFault (is_unheard fault unheard) (explained_line fault lines) told old new
   SaysSo lines (Refused e) told unheard old new =
       ((kind_of e ≡ kinds.DisplayHelp) ⊎ (kind_of e ≡ kinds.DisplayVersion) → new ≡ old) × (kind_of e ≢ kinds.DisplayHelp → kind_of e ≢ kinds.DisplayVersion → new.failures ≡ next_if (not told) old.failures)
+  SaysSo lines (Mistaken text) told unheard old new = TellsLine (codes "jcache: " ++ string_bytes text) told old new
   SaysSo lines NotText told unheard old new = TellsLine (codes "error: a word is not UTF-8\n") told old new
 
 -- it was written and flushed, or its writer failed

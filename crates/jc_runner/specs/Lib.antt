@@ -5,6 +5,7 @@ pub mod Faults
 pub mod Demonstration
 pub mod Alone
 pub mod Answering
+pub mod Forms
 pub mod Halfway
 pub mod Hooks
 pub mod Reports

@@ -4,7 +4,7 @@ use Rattle.std.specs.Io.KnownBytes.{Appends, Keeps, IsAtEnd}
 use Rattle.std.specs.declared.alloc.Global.{Global}
 use Rattle.clap.specs.Words.{Text, kind_of}
 use Rattle.clap.specs.declared.error.Error.{Error}
-use Rattle.clap.specs.declared.error.kind.ErrorKind.TheVariants.{OutOfMemory}
+use Rattle.clap.specs.declared.error.kind.ErrorKind.TheVariants.{DisplayHelp, DisplayVersion, OutOfMemory}
 use Rattle.jc_config.specs.Config.{configuration_of}
 use Rattle.jc_config.specs.declared.kinds.Configuration.{Configuration}
 use Rattle.jc_config.specs.declared.kinds.HookKinds.{HookKinds}
@@ -15,14 +15,17 @@ use Rattle.jc_model.specs.declared.config.CacheConfig.{CacheConfig}
 use Rattle.jc_replay.specs.Table.{replay_table}
 use Rattle.jc_script.specs.declared.line.Line.{Line}
 use Rattle.jc_script.specs.Script.{lines}
-use Rattle.jc_words.specs.Program.{AsksFor, MayRefuse, is_input}
+use Rattle.jc_words.specs.Program.{AsksFor, MayRefuse, asks_to_explain, is_input}
 use Rattle.jc_words.specs.declared.asked.Asked.TheVariants as asks
 use Rattle.jc_words.specs.declared.asked.Check.{Check}
 use Rattle.jc_words.specs.declared.asked.Replay.{Replay}
+use Rattle.jc_words.specs.declared.run.Format.{Format}
+use Rattle.jc_words.specs.declared.run.Format.TheVariants as format
 use Rattle.jc_words.specs.declared.run.Run.{Run}
 use Rattle.jc_runner.specs.Demonstration.{demonstration_caches}
 use Rattle.jc_runner.specs.Disks.{IsFound, MayBeMissing, Asks}
 use Rattle.jc_runner.specs.Endings.{ending_of, no_memory, HasStatus, SaysSo, Leaves}
+use Rattle.jc_runner.specs.Forms.{form_of}
 use Rattle.jc_runner.specs.Meters.{next, most_reads, AddsAtMost}
 use Rattle.jc_runner.specs.Naming.{ProgramHooks, AllNamed, heard_by}
 use Rattle.jc_runner.specs.Reports.{ReportsOf}
@@ -31,7 +34,7 @@ use Rattle.jc_runner.specs.Strictness.{HasNone, HasOne}
 use Rattle.jc_runner.specs.Together.{stated_of, GathersSo}
 use Rattle.jc_runner.specs.declared.ending.Ended.{Ended}
 use Rattle.jc_runner.specs.declared.ending.Ending.{Ending}
-use Rattle.jc_runner.specs.declared.ending.Ending.TheVariants.{Refused, NotText}
+use Rattle.jc_runner.specs.declared.ending.Ending.TheVariants.{Refused, Mistaken, NotText}
 use Rattle.jc_runner.specs.declared.ending.WordsFault.{WordsFault}
 use Rattle.jc_runner.specs.declared.ending.WordsFault.TheVariants as fault
 use Rattle.jc_runner.specs.declared.fault.ProgramFault.{ProgramFault}
@@ -44,24 +47,24 @@ use Rattle.jc_runner.specs.declared.watched.Watched.{Watched}
 use Rattle.jc_runner.specs.declared.watched.WatchedWriter.{WatchedWriter}
 
 -- the report of a script, with fresh callbacks of the kinds that the configuration names, of which this is true
-pub record Reported (c : Configuration) (script : List ℕ) (IsSo : List ℕ → Type 0) : Type 0 where
+pub record Reported (format : Format) (c : Configuration) (script : List ℕ) (IsSo : List ℕ → Type 0) : Type 0 where
   pub hooks : List ProgramHooks
   pub hooks' : List ProgramHooks
   pub named : AllNamed c.settings c.hooks hooks
-  pub reports : ReportsOf (λ l. echoed) (λ w given. AllChecked given) verdict_by heard_by c.settings script hooks hooks' IsSo
+  pub reports : ReportsOf (λ l. echoed) (λ w given. AllChecked given) verdict_by heard_by format c.settings script hooks hooks' IsSo
 
 -- the same of a run on worker threads
-pub record Gathered (c : Configuration) (script : List ℕ) (IsSo : List ℕ → Type 0) : Type 0 where
+pub record Gathered (format : Format) (c : Configuration) (script : List ℕ) (IsSo : List ℕ → Type 0) : Type 0 where
   pub hooks : List ProgramHooks
   pub named : AllNamed c.settings c.hooks hooks
   pub all : List Line
   pub read : lines c.settings script ≡ Ok all
-  pub gathers : GathersSo (stated_of (λ l. echoed) verdict_by hooks) c.settings all IsSo
+  pub gathers : GathersSo (form_of format script all) (stated_of (λ l. echoed) verdict_by hooks) c.settings all IsSo
 
 -- by one thread, or by workers
-abbrev pub Tells : Bool → Configuration → List ℕ → (List ℕ → Type 0) → Type 0
-Tells true c script IsSo = Reported c script IsSo
-Tells false c script IsSo = Gathered c script IsSo
+abbrev pub Tells : Bool → Format → Configuration → List ℕ → (List ℕ → Type 0) → Type 0
+Tells true format c script IsSo = Reported format c script IsSo
+Tells false format c script IsSo = Gathered format c script IsSo
 
 abbrev pub failed_once : {F : Type 0} → Watched F → Watched F → Type 0
 failed_once old new = new.failures ≡ next old.failures
@@ -74,11 +77,11 @@ unread file = record { inner = file; reads = 0; failures = 0 }
 abbrev pub HasNotFailed : {T E F : Type 0} → E → Result T E → Watched F → Watched F → Type 0
 HasNotFailed fault result old new = result ≢ Err fault → new.failures ≡ old.failures
 
--- A script that is read and run, by one thread or by workers, strictly or not: how that ends.
-module _ {I O : Type 0} (remaining : I → Option (List ℕ)) (contents : O → Option (List ℕ)) (serial strict : Bool) (c : Configuration) (reader reader' : Watched I) (writer writer' : WatchedWriter O) where
+-- A script that is read and run, by one thread or by workers, strictly or not, and reported in a form: how that ends.
+module _ {I O : Type 0} (remaining : I → Option (List ℕ)) (contents : O → Option (List ℕ)) (serial strict : Bool) (format : Format) (c : Configuration) (reader reader' : Watched I) (writer writer' : WatchedWriter O) where
   abbrev pub RunEnds : Result (Unit {0}) RunFault → Type 0
   RunEnds (Ok done) =
-      IfSome (remaining reader.inner) (λ script. Tells serial c script (Appends (contents writer.inner) (contents writer'.inner)))
+      IfSome (remaining reader.inner) (λ script. Tells serial format c script (Appends (contents writer.inner) (contents writer'.inner)))
       × HasNone strict (remaining reader.inner) × IsAtEnd (remaining reader'.inner) × (writer'.failures ≡ writer.failures) × (writer'.flushed ≡ true)
   RunEnds (Err run.Read) = failed_once reader reader' × Keeps (contents writer.inner) (contents writer'.inner)
   RunEnds (Err run.TooLong) = IfSome (remaining reader.inner) (λ script. text_bytes < length script) × Keeps (contents writer.inner) (contents writer'.inner)
@@ -87,7 +90,7 @@ module _ {I O : Type 0} (remaining : I → Option (List ℕ)) (contents : O → 
   RunEnds (Err run.Open) = ⊥
   RunEnds (Err run.Close) = (serial ≡ false) × Keeps (contents writer.inner) (contents writer'.inner)
   RunEnds (Err run.Write) =
-      IfSome (remaining reader.inner) (λ script. Tells serial c script (WritesFront (contents writer.inner) (contents writer'.inner)))
+      IfSome (remaining reader.inner) (λ script. Tells serial format c script (WritesFront (contents writer.inner) (contents writer'.inner)))
       × HasNone strict (remaining reader.inner) × (writer'.failures ≡ next writer.failures)
   RunEnds (Err run.Memory) = Keeps (contents writer.inner) (contents writer'.inner)
 
@@ -120,12 +123,12 @@ module _ {F : Type 0} (remaining : F → Option (List ℕ)) (held : Option (Opti
       (file : F) × IsFound held (remaining file) × AddsAtMost most_reads 0 reader.reads × HasNotFailed program.ConfigRead result (unread file) reader × ConfigRead remaining (unread file) reader result
 
   -- the same of the script
-  module _ {O : Type 0} (contents : O → Option (List ℕ)) (serial strict : Bool) (c : Configuration) (writer writer' : WatchedWriter O) where
+  module _ {O : Type 0} (contents : O → Option (List ℕ)) (serial strict : Bool) (format : Format) (c : Configuration) (writer writer' : WatchedWriter O) where
     abbrev pub ScriptEnds : Option (Watched F) → Result (Unit {0}) RunFault → Type 0
     ScriptEnds None result = (((result ≡ Err run.Read) × MayBeMissing held) ⊎ (result ≡ Err run.Memory)) × Keeps (contents writer.inner) (contents writer'.inner)
     ScriptEnds (Some reader) result =
         (file : F) × IsFound held (remaining file) × AddsAtMost most_reads 0 reader.reads × HasNotFailed run.Read result (unread file) reader
-        × RunEnds remaining contents serial strict c (unread file) reader writer writer' result
+        × RunEnds remaining contents serial strict format c (unread file) reader writer writer' result
 
   -- of a script that is not run
   abbrev pub ScriptRead : Bool → List CacheConfig → Option (Watched F) → Result (Unit {0}) RunFault → Type 0
@@ -141,12 +144,12 @@ module _ {F I : Type 0} (of_file : F → Option (List ℕ)) (of_input : I → Op
       (opened ≡ None) × (asked' ≡ asked) × AddsAtMost most_reads input.reads input'.reads × HasNotFailed program.ConfigRead result input input' × ConfigRead of_input input input' result
   ConfigFrom false opened result = (input' ≡ input) × Asks asked asked' path × ConfigEnds of_file held opened result
 
-  module _ {O : Type 0} (contents : O → Option (List ℕ)) (serial strict : Bool) (c : Configuration) (writer writer' : WatchedWriter O) where
+  module _ {O : Type 0} (contents : O → Option (List ℕ)) (serial strict : Bool) (format : Format) (c : Configuration) (writer writer' : WatchedWriter O) where
     abbrev pub ScriptFrom : Bool → Option (Watched F) → Result (Unit {0}) RunFault → Type 0
     ScriptFrom true opened result =
         (opened ≡ None) × (asked' ≡ asked) × AddsAtMost most_reads input.reads input'.reads × HasNotFailed run.Read result input input'
-        × RunEnds of_input contents serial strict c input input' writer writer' result
-    ScriptFrom false opened result = (input' ≡ input) × Asks asked asked' path × ScriptEnds of_file held contents serial strict c writer writer' opened result
+        × RunEnds of_input contents serial strict format c input input' writer writer' result
+    ScriptFrom false opened result = (input' ≡ input) × Asks asked asked' path × ScriptEnds of_file held contents serial strict format c writer writer' opened result
 
   abbrev pub LinesFrom : Bool → List CacheConfig → Bool → Option (Watched F) → Result (Unit {0}) RunFault → Type 0
   LinesFrom strict caches true opened result =
@@ -170,7 +173,7 @@ module _ {F I O : Type 0} (of_file : F → Option (List ℕ)) (of_input : I → 
   GoesOn before between (Err fault) result = (result ≡ Err fault) × (script ≡ None) × (asked' ≡ before) × (input' ≡ between) × Keeps (contents writer.inner) (contents writer'.inner)
   GoesOn before between (Ok c) result =
       (ran : Result (Unit {0}) RunFault) × (result ≡ as_program ran)
-      × ScriptFrom of_file of_input (holds (string_bytes run.script)) (string_bytes run.script) before asked' between input' contents run.serial run.strict c writer writer' (is_input (string_bytes run.script)) script ran
+      × ScriptFrom of_file of_input (holds (string_bytes run.script)) (string_bytes run.script) before asked' between input' contents run.serial run.strict run.format c writer writer' (is_input (string_bytes run.script)) script ran
 
   pub record FilesEnd (result : Result (Unit {0}) ProgramFault) : Type 0 where
     pub before : Option (List (List ℕ))
@@ -249,6 +252,18 @@ no_kinds = record { loader = None; writer = None; processors = [] }
 abbrev pub demonstration : Configuration
 demonstration = record { settings = demonstration_caches; hooks = no_kinds ∷ no_kinds ∷ [] }
 
+-- a mistake is told under the program's name
+pub record IsMistaken (words : List Text) (e : Error) (ending : Ending) : Type 0 where
+  pub text : String Global
+  pub is : ending ≡ Mistaken text
+  pub asked : asks_to_explain words ≡ true
+  pub no_help : kind_of e ≢ DisplayHelp
+  pub no_version : kind_of e ≢ DisplayVersion
+
+-- words that are refused, where they ask for explanations under the program's name
+abbrev pub RefusesSo : List Text → Error → Ending → Type 0
+RefusesSo words e ending = (ending ≡ Refused e) ⊎ IsMistaken words e ending
+
 module _ {F I O : Type 0} (of_file : F → Option (List ℕ)) (of_input : I → Option (List ℕ)) (contents : O → Option (List ℕ)) (holds : List ℕ → Option (Option (List ℕ))) (asked asked' : Option (List (List ℕ)))
     (opened opened' : Opened F) (input input' : Watched I) (writer writer' : WatchedWriter O) where
   -- no file is asked for
@@ -262,11 +277,11 @@ module _ {F I O : Type 0} (of_file : F → Option (List ℕ)) (of_input : I → 
   -- What words ask for, and how that ends. Where they are mistaken, or memory is wanting, nothing is run.
   module _ (words : List Text) (ending : Ending) where
     pub data WordsEnd : Type 0 where
-      plays : words ≡ [] → (ran : Result (Unit {0}) RunFault) → RunEnds of_input contents true false demonstration input input' writer writer' ran → AddsAtMost most_reads input.reads input'.reads → HasNotFailed run.Read ran input input' → OpensNone → ending ≡ ending_of false (as_program ran) → WordsEnd
+      plays : words ≡ [] → (ran : Result (Unit {0}) RunFault) → RunEnds of_input contents true false format.Text demonstration input input' writer writer' ran → AddsAtMost most_reads input.reads input'.reads → HasNotFailed run.Read ran input input' → OpensNone → ending ≡ ending_of false (as_program ran) → WordsEnd
       runs : (run : Run) → AsksFor words (asks.Run run) → (ran : Result (Unit {0}) ProgramFault) → FilesEnd of_file of_input contents holds asked asked' run opened'.config opened'.script input input' writer writer' ran → ending ≡ ending_of run.explain ran → WordsEnd
       checks : (check : Check) → AsksFor words (asks.Check check) → (ran : Result (Unit {0}) ProgramFault) → CheckEnds of_file of_input holds asked asked' check opened'.config opened'.script input input' ran → writer' ≡ writer → ending ≡ ending_of check.explain ran → WordsEnd
       replays : (replay : Replay) → AsksFor words (asks.Replay replay) → (ran : Result (Unit {0}) ProgramFault) → ReplayEnds of_file of_input contents holds asked asked' replay opened'.config opened'.script input input' writer writer' ran → ending ≡ ending_of false ran → WordsEnd
-      refuses : (e : Error) → words ≢ [] → MayRefuse words e → kind_of e ≢ OutOfMemory → ending ≡ Refused e → RunsNone → WordsEnd
+      refuses : (e : Error) → words ≢ [] → MayRefuse words e → kind_of e ≢ OutOfMemory → RefusesSo words e ending → RunsNone → WordsEnd
       lacks_memory : ending ≡ no_memory → RunsNone → WordsEnd
 
   abbrev pub Obeys : Result (List Text) WordsFault → Ending → Type 0

@@ -14,9 +14,12 @@ use Rattle.jc_hooks.specs.declared.loader.Loaded.{Loaded}
 use Rattle.jc_script.specs.declared.line.Line.{Line}
 use Rattle.jc_script.specs.Managing.{lives_of}
 use Rattle.jc_script.specs.Script.{lines}
-use Rattle.jc_runner.specs.Alone.{calls_on, IsAlone, exchanges, alone}
+use Rattle.jc_runner.specs.Alone.{calls_on, IsAlone, exchanges}
 use Rattle.jc_runner.specs.Answering.{HeardAt}
 use Rattle.jc_script.specs.declared.line.LineCall.{LineCall}
+use Rattle.jc_words.specs.declared.run.Format.{Format}
+use Rattle.jc_runner.specs.Forms.{form_of, IsToldIn}
+use Rattle.jc_runner.specs.declared.form.Form.{Form}
 
 module _ {L W P K : Type 0} (load_of : L → List ℕ → Loaded) (may : W → List (Request × Answer) → Type 0) (verdict_of : P → Option (List ℕ) → List ℕ → Result Verdict ProcessorFault) (state_after : K → List Notice → List ℕ) where
   -- the entries of a life alone, its callbacks having answered their requests, and what they state afterwards
@@ -24,16 +27,17 @@ module _ {L W P K : Type 0} (load_of : L → List ℕ → Loaded) (may : W → L
     pub alone : IsAlone c own entries
     pub heard : HeardAt load_of may verdict_of state_after old new (exchanges c fresh entries)
 
-  -- a text that is the report of each life alone, under the answers of its callbacks, and of the manager's lines
-  pub record Reports (caches : List CacheConfig) (all : List Line) (old new : List (CacheHooks L W P K)) (text : List ℕ) : Type 0 where
+  -- a text that is the report of each life alone, in a form, under the answers of its callbacks, and of the manager's
+  -- lines
+  pub record Reports (form : Form) (caches : List CacheConfig) (all : List Line) (old new : List (CacheHooks L W P K)) (text : List ℕ) : Type 0 where
     pub entries : ℕ → List Entry
-    pub told : text ≡ alone entries caches all
+    pub told : IsToldIn form entries caches all text
     pub each : (id : ℕ) (c : CacheConfig) → config_of id (lives_of caches all) ≡ Some c → AnswersBy c (calls_on id all) (entries id) (slice_get old id) (slice_get new id)
 
   -- the report of the lines of these bytes, of which this is true
-  pub record ReportsOf (caches : List CacheConfig) (bytes : List ℕ) (old new : List (CacheHooks L W P K)) (IsSo : List ℕ → Type 0) : Type 0 where
+  pub record ReportsOf (format : Format) (caches : List CacheConfig) (bytes : List ℕ) (old new : List (CacheHooks L W P K)) (IsSo : List ℕ → Type 0) : Type 0 where
     pub all : List Line
     pub read : lines caches bytes ≡ Ok all
     pub text : List ℕ
-    pub reports : Reports caches all old new text
+    pub reports : Reports (form_of format bytes all) caches all old new text
     pub so : IsSo text

@@ -1,5 +1,5 @@
 -- What a run on worker threads has done.
-use Rattle.std.specs.Prelude.{◌≡◌, ℕ, List, map, Option, Result}
+use Rattle.std.specs.Prelude.{◌≡◌, ℕ, List, length, map, Option, Result}
 use Rattle.jc_hooks.specs.declared.cache_hooks.CacheHooks.{CacheHooks}
 use Rattle.jc_hooks.specs.declared.loader.Loaded.{Loaded}
 use Rattle.jc_model.specs.declared.call.ProcessorFault.{ProcessorFault}
@@ -9,10 +9,11 @@ use Rattle.jc_model.specs.Legal.{History, IsLegal}
 use Rattle.jc_script.specs.declared.line.Line.{Line}
 use Rattle.jc_script.specs.Calls.{calls_in}
 use Rattle.jc_script.specs.Managing.{lives_of, managed_of}
-use Rattle.jc_script.specs.Report as report
 use Rattle.jc_shared.specs.Stated.{Stated, stated_by, shared_of}
 use Rattle.jc_threads.specs.Lines.{AreMade}
 use Rattle.jc_threads.specs.Managing.{AreManaged}
+use Rattle.jc_runner.specs.Forms.{report_in}
+use Rattle.jc_runner.specs.declared.form.Form.{Form}
 
 -- what the loaders and processors state that were handed in
 abbrev pub stated_of : {L W P K : Type 0} → (L → List ℕ → Loaded) → (P → Option (List ℕ) → List ℕ → Result Verdict ProcessorFault) → List (CacheHooks L W P K) → List Stated
@@ -26,13 +27,14 @@ module _ (stated : List Stated) (caches : List CacheConfig) (all : List Line) wh
     pub lives : transcript.lives ≡ lives_of caches all
     pub made : AreMade stated (calls_in all) transcript.entries
 
+module _ (form : Form) (stated : List Stated) (caches : List CacheConfig) (all : List Line) where
   -- A text that is the report of such a transcript, and of the manager's lines as they come to, one after the other.
   -- Each that creates a cache has created it, or was refused so.
   pub record Gathers (text : List ℕ) : Type 0 where
     pub transcript : History
-    pub is_made : IsMade transcript
+    pub is_made : IsMade stated caches all transcript
     pub managed : AreManaged caches all (map (λ m. m.refusal) (managed_of caches all))
-    pub told : text ≡ report.text transcript (managed_of caches all)
+    pub told : text ≡ report_in form (length caches) transcript (managed_of caches all)
 
   -- such a text, of which this is true
   pub record GathersSo (IsSo : List ℕ → Type 0) : Type 0 where

@@ -14,6 +14,8 @@ pub enum Ending {
     Explained(ProgramFault),
     /// Help was asked for, or the words are mistaken.
     Refused(Error),
+    /// The words are mistaken and ask for explanations: this text is told, with the program's name before it.
+    Mistaken(String),
     /// One of the words is no text.
     NotText,
 }

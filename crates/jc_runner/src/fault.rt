@@ -193,14 +193,14 @@ pub fn write_fault<W: Write>(fault: &ProgramFault, writer: &mut WatchedWriter<W>
     result.is_ok()
 }
 
-fn write_name<W: Write>(writer: &mut WatchedWriter<W>) -> bool
+pub(crate) fn write_name<W: Write>(writer: &mut WatchedWriter<W>) -> bool
     ensures told { OnTrue result (Appends (W.contents writer.old.inner) (W.contents writer.new.inner) (codes "jcache: ")) }
     ensures failures { writer.new.failures ≡ next_if (not result) writer.old.failures }
 {
     write!(writer, "jcache: ").is_ok()
 }
 
-fn write_lines<W: Write>(lines: &str, writer: &mut WatchedWriter<W>) -> bool
+pub(crate) fn write_lines<W: Write>(lines: &str, writer: &mut WatchedWriter<W>) -> bool
     ensures told { OnTrue result (Appends (W.contents writer.old.inner) (W.contents writer.new.inner) lines.now) }
     ensures failures { writer.new.failures ≡ next_if (not result) writer.old.failures }
 {

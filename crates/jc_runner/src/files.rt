@@ -10,15 +10,16 @@ ghost use Rattle.jc_runner.specs.declared.fault.RunFault.TheVariants.{Read, Memo
 use crate::configuring::read_configuration;
 use crate::disk::{Disk, OpenFault};
 use crate::fault::{ProgramFault, RunFault};
+use crate::form::form_of;
 use crate::naming::all_hooks;
 use crate::reading::read_bytes;
 use crate::run::{lines_of, serial_as, strictly};
 use crate::streams::Opened;
-use crate::together::{Crew, Setup, threaded};
+use crate::together::{Crew, Setup, threaded_as};
 use crate::watched::{Watched, WatchedWriter};
 use jc_config::Configuration;
 use jc_threads::OpenGate;
-use jc_words::{Run, is_input};
+use jc_words::{Format, Run, is_input};
 use std::alloc::Global;
 use std::io::{Read, Write};
 use std::sync::Wait;
@@ -87,11 +88,12 @@ pub fn play<I: Read, O: Write>(
     configuration: Configuration,
     seed: u64,
     strict: bool,
+    format: Format,
     reader: &mut Watched<I>,
     writer: &mut WatchedWriter<O>,
 ) -> Result<(), RunFault>
     requires { Opens configuration }
-    ensures ends { RunEnds I.remaining O.contents true strict configuration reader.old reader.new writer.old writer.new result }
+    ensures ends { RunEnds I.remaining O.contents true strict format configuration reader.old reader.new writer.old writer.new result }
     ensures unfailed { result ≢ Err Read → reader.new.failures ≡ reader.old.failures }
     ensures reads { AddsAtMost most_reads reader.old.reads reader.new.reads }
 {
@@ -103,6 +105,7 @@ pub fn play<I: Read, O: Write>(
         hooks.as_mut_slice(),
         seed,
         strict,
+        format,
         reader,
         writer,
     )
@@ -119,7 +122,7 @@ fn play_together<I: Read, O: Write, R: Threads + Wait + Sync>(
 ) -> Result<(), RunFault>
     requires opens { Opens configuration }
     requires workers { 0 < run.now.workers }
-    ensures ends { RunEnds I.remaining O.contents false run.now.strict configuration reader.old reader.new writer.old writer.new result }
+    ensures ends { RunEnds I.remaining O.contents false run.now.strict run.now.format configuration reader.old reader.new writer.old writer.new result }
     ensures unfailed { result ≢ Err Read → reader.new.failures ≡ reader.old.failures }
     ensures reads { AddsAtMost most_reads reader.old.reads reader.new.reads }
 {
@@ -127,6 +130,7 @@ fn play_together<I: Read, O: Write, R: Threads + Wait + Sync>(
     let bytes = read_bytes(alloc, reader)?;
     let lines = lines_of(alloc, bytes.as_slice(), &settings)?;
     strictly(alloc, bytes.as_slice(), run.strict)?;
+    let form = form_of(alloc, run.format, bytes.as_slice(), lines.as_slice())?;
     let hooks = all_hooks(alloc, settings.caches(), hooks.items())?;
     let setup = Setup {
         settings,
@@ -137,7 +141,7 @@ fn play_together<I: Read, O: Write, R: Threads + Wait + Sync>(
         workers: run.workers as usize,
         gate: &OpenGate,
     };
-    threaded(rt, alloc, setup, &crew, lines, writer)
+    threaded_as(rt, alloc, setup, &crew, lines, &form, writer)
 }
 
 /// Runs a script as the words ask for it: in its lines' order, or on workers.
@@ -151,12 +155,21 @@ fn play_so<I: Read, O: Write, R: Threads + Wait + Sync>(
 ) -> Result<(), RunFault>
     requires opens { Opens configuration }
     requires workers { 0 < run.now.workers }
-    ensures ends { RunEnds I.remaining O.contents run.now.serial run.now.strict configuration reader.old reader.new writer.old writer.new result }
+    ensures ends { RunEnds I.remaining O.contents run.now.serial run.now.strict run.now.format configuration reader.old reader.new writer.old writer.new result }
     ensures unfailed { result ≢ Err Read → reader.new.failures ≡ reader.old.failures }
     ensures reads { AddsAtMost most_reads reader.old.reads reader.new.reads }
 {
     if run.serial {
-        return play(alloc, configuration, run.seed, run.strict, reader, writer);
+        let (seed, strict) = (run.seed, run.strict);
+        return play(
+            alloc,
+            configuration,
+            seed,
+            strict,
+            run.format,
+            reader,
+            writer,
+        );
     }
     play_together(rt, alloc, configuration, run, reader, writer)
 }
@@ -187,7 +200,7 @@ fn scripted<D: Disk, O: Write, R: Threads + Wait + Sync>(
 ) -> Result<(), RunFault>
     requires opens { Opens configuration }
     requires workers { 0 < run.now.workers }
-    ensures ends { ScriptEnds D.File.remaining (D.holds disk.old (string_bytes run.now.script)) O.contents run.now.serial run.now.strict configuration writer.old writer.new script.new result }
+    ensures ends { ScriptEnds D.File.remaining (D.holds disk.old (string_bytes run.now.script)) O.contents run.now.serial run.now.strict run.now.format configuration writer.old writer.new script.new result }
     ensures asked { Asks (D.asked disk.old) (D.asked disk.new) (string_bytes run.now.script) }
     ensures same { (other : List ℕ) → D.holds disk.new other ≡ D.holds disk.old other }
 {
@@ -211,7 +224,7 @@ fn scripted_from<D: Disk, I: Read, O: Write, R: Threads + Wait + Sync>(
 ) -> Result<(), RunFault>
     requires opens { Opens configuration }
     requires workers { 0 < run.now.workers }
-    ensures ends { ScriptFrom D.File.remaining I.remaining (D.holds disk.old (string_bytes run.now.script)) (string_bytes run.now.script) (D.asked disk.old) (D.asked disk.new) input.old input.new O.contents run.now.serial run.now.strict configuration writer.old writer.new (is_input (string_bytes run.now.script)) script.new result }
+    ensures ends { ScriptFrom D.File.remaining I.remaining (D.holds disk.old (string_bytes run.now.script)) (string_bytes run.now.script) (D.asked disk.old) (D.asked disk.new) input.old input.new O.contents run.now.serial run.now.strict run.now.format configuration writer.old writer.new (is_input (string_bytes run.now.script)) script.new result }
     ensures same { (other : List ℕ) → D.holds disk.new other ≡ D.holds disk.old other }
 {
     if is_input(run.script.as_str()) {

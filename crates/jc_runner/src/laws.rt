@@ -11,6 +11,7 @@ ghost use Rattle.jc_shared.specs.Stated.{Stated};
 ghost use Rattle.jc_runner.specs.Apart.{AreApart, TellsAlone, AnswerAlike};
 ghost use Rattle.jc_runner.specs.Reports.{Reports};
 ghost use Rattle.jc_runner.specs.Together.{IsMade};
+ghost use Rattle.jc_runner.specs.declared.form.Form.TheVariants as form;
 
 use jc_hooks::{Hearer, Loader, Processor, Writer};
 
@@ -21,10 +22,10 @@ pub fn apart_is_alone()
         → TellsAlone caches all (λ id. entries_of id transcript.entries) (report.text transcript (managed_of caches all)) }
 {}
 
-/// A run in the lines' order tells each life alone.
+/// A run in the lines' order tells each life alone, as text.
 pub fn serial_is_alone<L: Loader, W: Writer, P: Processor, K: Hearer>()
     ensures { (caches : List CacheConfig) (all : List Line) (old new : List (Callbacks L W P K)) (text : List ℕ)
-        → (told : Reports L.load_of W.may P.verdict_of K.state_after caches all old new text)
+        → (told : Reports L.load_of W.may P.verdict_of K.state_after form.Text caches all old new text)
         → TellsAlone caches all told.entries text }
 {}
 

@@ -2,8 +2,9 @@
 ghost use Rattle.std.specs.Prelude.{◌≡◌, ◌≢◌, ◌↔◌, ℕ, List, [], true, false, IsTrue, IfOk, IfErr, Ok, Err, map, string_bytes};
 ghost use Rattle.clap.specs.Words.{kind_of};
 ghost use Rattle.jc_runner.specs.Meters.{most_reads, AddsAtMost};
-ghost use Rattle.jc_runner.specs.Program.{RunEnds, WordsEnd, Obeys, Ends, no_kinds, demonstration as demonstration_read};
+ghost use Rattle.jc_runner.specs.Program.{RunEnds, WordsEnd, Obeys, Ends, RefusesSo, no_kinds, demonstration as demonstration_read};
 ghost use Rattle.jc_runner.specs.declared.fault.RunFault.TheVariants.{Read};
+ghost use Rattle.jc_words.specs.declared.run.Format.TheVariants as formats;
 
 use crate::checking::check_files;
 use crate::disk::Disk;
@@ -20,7 +21,7 @@ use clap::error::ErrorKind;
 use jc_config::{Configuration, HookKinds};
 use jc_model::OutOfMemory;
 use jc_model::list::Sequence;
-use jc_words::{Asked, read_words};
+use jc_words::{Asked, Format, asks_to_explain, mistake_text, read_words};
 use std::alloc::Global;
 use std::io::{Read, Write};
 use std::sync::Wait;
@@ -56,12 +57,12 @@ fn demonstrate<I: Read, O: Write>(
     input: &mut Watched<I>,
     output: &mut WatchedWriter<O>,
 ) -> Result<(), RunFault>
-    ensures ends { RunEnds I.remaining O.contents true false demonstration_read input.old input.new output.old output.new result }
+    ensures ends { RunEnds I.remaining O.contents true false formats.Text demonstration_read input.old input.new output.old output.new result }
     ensures unfailed { result ≢ Err Read → input.new.failures ≡ input.old.failures }
     ensures reads { AddsAtMost most_reads input.old.reads input.new.reads }
 {
     let configuration = demonstrated(alloc)?;
-    play(alloc, configuration, 0, false, input, output)
+    play(alloc, configuration, 0, false, Format::Text, input, output)
 }
 
 /// The words as texts.
@@ -79,6 +80,20 @@ fn lacks_memory(error: &Error) -> bool
     ensures { IsTrue result ↔ (kind_of error.now ≡ ErrorKind.OutOfMemory) }
 {
     matches!(error.kind(), ErrorKind::OutOfMemory)
+}
+
+/// How words are refused: under the program's name where they ask for explanations and memory suffices. Help and the
+/// version are no mistakes.
+fn refusal(alloc: Global, words: &[&str], error: Error) -> Ending
+    ensures { RefusesSo (map (λ word. word.now) words.now) error result }
+{
+    if !error.use_stderr() || !asks_to_explain(words) {
+        return Ending::Refused(error);
+    }
+    match mistake_text(alloc, &error) {
+        Ok(text) => Ending::Mistaken(text),
+        Err(_) => Ending::Refused(error),
+    }
 }
 
 /// Does what the words after the program's name ask for.
@@ -118,7 +133,7 @@ fn obey<D: Disk, I: Read, O: Write, R: Threads + Wait + Sync>(
             if lacks_memory(&error) {
                 return Ending::Faulty(ProgramFault::Run(RunFault::Memory));
             }
-            Ending::Refused(error)
+            refusal(alloc, texts.as_slice(), error)
         }
     }
 }

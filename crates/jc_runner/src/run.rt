@@ -17,8 +17,11 @@ ghost use Rattle.jc_runner.specs.Streams.{WritesFront, IsOfRunning, IsOfScript, 
 ghost use Rattle.jc_runner.specs.Strictness.{HasNone, HasOne};
 ghost use Rattle.jc_strict.specs.Stray.{stray_line};
 ghost use Rattle.jc_runner.specs.declared.fault.RunFault.TheVariants as faults;
+ghost use Rattle.jc_runner.specs.declared.form.Form.TheVariants as forms;
+ghost use Rattle.jc_words.specs.declared.run.Format.TheVariants as formats;
 
 use crate::fault::RunFault;
+use crate::form::{Form, form_of, report_in};
 use crate::hooks::all_suit;
 use crate::reading::read_bytes;
 use crate::running::run_all;
@@ -30,9 +33,10 @@ use jc_engine::recorded::Recorded;
 use jc_hooks::{CacheHooks, Hearer, Loader, Processor, Writer};
 use jc_ring::link_ring::LinkRing;
 use jc_rows::rows::Rows;
-use jc_script::{Line, ScriptFault, read_script, report};
+use jc_script::{Line, ScriptFault, read_script};
 use jc_shared::table;
 use jc_strict::stray_line;
+use jc_words::Format;
 use std::alloc::Global;
 use std::io::{Read, Write};
 
@@ -62,6 +66,7 @@ fn opened<T: Rows>(
     requires empty { T.contents rows ≡ finite.empty }
     ensures fresh { IfOk result (λ r. lives_now r ≡ opened_from 0 settings) }
     ensures unrecorded { IfOk result (λ r. r.transcript ≡ at_first 0 settings) }
+    ensures takes { OnOk result (open_refusal settings ≡ None) }
     ensures faults { IfErr result IsOfRunning }
     ensures refused { result ≡ Err faults.Open → IsSome (open_refusal settings) }
     ensures memory { result ≡ Err faults.Memory → IsSome (open_refusal settings) → open_refusal settings ≡ Some OpenRefusal.OutOfMemory }
@@ -73,8 +78,42 @@ fn opened<T: Rows>(
     }
 }
 
-/// Runs the lines on caches of these settings, which share this empty table. The result is the report. A cache that a
-/// line creates has no callbacks.
+/// The same as `report_on`, with the report in this form. The seed picks places in tables, and changes nothing of it.
+fn report_as<T: Rows, L: Loader, W: Writer, P: Processor, K: Hearer>(
+    alloc: Global,
+    rows: T,
+    settings: Settings,
+    hooks: &mut [CacheHooks<L, W, P, K>],
+    lines: Vec<Line>,
+    form: &Form,
+    seed: u64,
+) -> Result<String, RunFault>
+    requires empty { T.contents rows ≡ finite.empty }
+    requires named { AllName (opened_from 0 settings) lines.items }
+    requires suit { AreSuited P.wants settings hooks.old }
+    ensures kept { AreKept hooks.old hooks.new }
+    ensures untouched { result ≡ Err faults.Open → hooks.new ≡ hooks.old }
+    ensures text { IfOk result (λ s. Reports L.load_of W.may P.verdict_of K.state_after form.now settings lines.items hooks.old hooks.new (string_bytes s)) }
+    ensures faults { IfErr result IsOfRunning }
+    ensures refused { result ≡ Err faults.Open → IsSome (open_refusal settings) }
+{
+    let caches = settings.caches().len();
+    let mut recorded = opened(alloc, rows, settings)?;
+    let managed = run_all(alloc, &mut recorded, hooks, lines)?;
+    let transcript = recorded.transcript();
+    let text = report_in(
+        alloc,
+        form,
+        caches as u32,
+        transcript,
+        managed.as_slice(),
+        seed,
+    )?;
+    Ok(text)
+}
+
+/// Runs the lines on caches of these settings, which share this empty table. The result is the report as text. A cache
+/// that a line creates has no callbacks.
 ///
 /// `Memory`, also where a callback finds none; `Open` where the manager does not open.
 pub fn report_on<T: Rows, L: Loader, W: Writer, P: Processor, K: Hearer>(
@@ -89,14 +128,11 @@ pub fn report_on<T: Rows, L: Loader, W: Writer, P: Processor, K: Hearer>(
     requires suit { AreSuited P.wants settings hooks.old }
     ensures kept { AreKept hooks.old hooks.new }
     ensures untouched { result ≡ Err faults.Open → hooks.new ≡ hooks.old }
-    ensures text { IfOk result (λ s. Reports L.load_of W.may P.verdict_of K.state_after settings lines.items hooks.old hooks.new (string_bytes s)) }
+    ensures text { IfOk result (λ s. Reports L.load_of W.may P.verdict_of K.state_after forms.Text settings lines.items hooks.old hooks.new (string_bytes s)) }
     ensures faults { IfErr result IsOfRunning }
     ensures refused { result ≡ Err faults.Open → IsSome (open_refusal settings) }
 {
-    let mut recorded = opened(alloc, rows, settings)?;
-    let managed = run_all(alloc, &mut recorded, hooks, lines)?;
-    let text = report(alloc, recorded.transcript(), managed.as_slice())?;
-    Ok(text)
+    report_as(alloc, rows, settings, hooks, lines, &Form::Text, 0)
 }
 
 /// Refuses a script with a member that its op does not need, where that is asked for.
@@ -114,18 +150,19 @@ pub(crate) fn strictly(alloc: Global, bytes: &[u8], strict: bool) -> Result<(), 
     }
 }
 
-/// The same as `serial`. Where `strict` says so, `Entry` with the first line that has a member its op does not need; that
-/// is told of a script without other faults.
+/// The same as `serial`, with the report in this form. Where `strict` says so, `Entry` with the first line that has a
+/// member its op does not need; that is told of a script without other faults.
 pub(crate) fn serial_as<L: Loader, W: Writer, P: Processor, K: Hearer, R: Read, O: Write>(
     alloc: Global,
     settings: Settings,
     hooks: &mut [CacheHooks<L, W, P, K>],
     seed: u64,
     strict: bool,
+    format: Format,
     reader: &mut Watched<R>,
     writer: &mut WatchedWriter<O>,
 ) -> Result<(), RunFault>
-    ensures ok { OnOk result (IfSome (R.remaining reader.old.inner) (λ input. ReportsOf L.load_of W.may P.verdict_of K.state_after settings input hooks.old hooks.new (λ text. Appends (O.contents writer.old.inner) (O.contents writer.new.inner) text))) }
+    ensures ok { OnOk result (IfSome (R.remaining reader.old.inner) (λ input. ReportsOf L.load_of W.may P.verdict_of K.state_after format settings input hooks.old hooks.new (λ text. Appends (O.contents writer.old.inner) (O.contents writer.new.inner) text))) }
     ensures end { OnOk result (IsAtEnd (R.remaining reader.new.inner)) }
     ensures script { (f : TextFault) → result ≡ Err (faults.Script f) → IfSome (R.remaining reader.old.inner) (λ input. lines settings input ≡ Err f) }
     ensures entry { (n : ℕ) → result ≡ Err (faults.Entry n) → HasOne strict settings (R.remaining reader.old.inner) n }
@@ -138,7 +175,7 @@ pub(crate) fn serial_as<L: Loader, W: Writer, P: Processor, K: Hearer, R: Read, 
     ensures suit { HasRun result → AreSuited P.wants settings hooks.old }
     ensures flushed { OnOk result ((writer.new.flushed ≡ true) × (writer.new.failures ≡ writer.old.failures)) }
     ensures closed { result ≢ Err faults.Close }
-    ensures front { result ≡ Err faults.Write → IfSome (R.remaining reader.old.inner) (λ input. ReportsOf L.load_of W.may P.verdict_of K.state_after settings input hooks.old hooks.new (λ text. WritesFront (O.contents writer.old.inner) (O.contents writer.new.inner) text)) }
+    ensures front { result ≡ Err faults.Write → IfSome (R.remaining reader.old.inner) (λ input. ReportsOf L.load_of W.may P.verdict_of K.state_after format settings input hooks.old hooks.new (λ text. WritesFront (O.contents writer.old.inner) (O.contents writer.new.inner) text)) }
     ensures nothing { IfErr result (λ e. e ≢ faults.Write → Keeps (O.contents writer.old.inner) (O.contents writer.new.inner)) }
     ensures read_failed { result ≡ Err faults.Read → reader.new.failures ≡ next reader.old.failures }
     ensures unfailed { result ≢ Err faults.Read → reader.new.failures ≡ reader.old.failures }
@@ -151,8 +188,9 @@ pub(crate) fn serial_as<L: Loader, W: Writer, P: Processor, K: Hearer, R: Read, 
     if !all_suit(&settings, hooks) {
         return Err(RunFault::Open);
     }
+    let form = form_of(alloc, format, bytes.as_slice(), lines.as_slice())?;
     let rows = table(alloc, seed)?;
-    let text = report_on(alloc, rows, settings, hooks, lines)?;
+    let text = report_as(alloc, rows, settings, hooks, lines, &form, seed)?;
     write_text(writer, text.as_bytes())
 }
 
@@ -170,7 +208,7 @@ pub fn serial<L: Loader, W: Writer, P: Processor, K: Hearer, R: Read, O: Write>(
     reader: &mut Watched<R>,
     writer: &mut WatchedWriter<O>,
 ) -> Result<(), RunFault>
-    ensures ok { OnOk result (IfSome (R.remaining reader.old.inner) (λ input. ReportsOf L.load_of W.may P.verdict_of K.state_after settings input hooks.old hooks.new (λ text. Appends (O.contents writer.old.inner) (O.contents writer.new.inner) text))) }
+    ensures ok { OnOk result (IfSome (R.remaining reader.old.inner) (λ input. ReportsOf L.load_of W.may P.verdict_of K.state_after formats.Text settings input hooks.old hooks.new (λ text. Appends (O.contents writer.old.inner) (O.contents writer.new.inner) text))) }
     ensures end { OnOk result (IsAtEnd (R.remaining reader.new.inner)) }
     ensures script { (f : TextFault) → result ≡ Err (faults.Script f) → IfSome (R.remaining reader.old.inner) (λ input. lines settings input ≡ Err f) }
     ensures lax { (n : ℕ) → result ≢ Err (faults.Entry n) }
@@ -182,12 +220,13 @@ pub fn serial<L: Loader, W: Writer, P: Processor, K: Hearer, R: Read, O: Write>(
     ensures suit { HasRun result → AreSuited P.wants settings hooks.old }
     ensures flushed { OnOk result ((writer.new.flushed ≡ true) × (writer.new.failures ≡ writer.old.failures)) }
     ensures closed { result ≢ Err faults.Close }
-    ensures front { result ≡ Err faults.Write → IfSome (R.remaining reader.old.inner) (λ input. ReportsOf L.load_of W.may P.verdict_of K.state_after settings input hooks.old hooks.new (λ text. WritesFront (O.contents writer.old.inner) (O.contents writer.new.inner) text)) }
+    ensures front { result ≡ Err faults.Write → IfSome (R.remaining reader.old.inner) (λ input. ReportsOf L.load_of W.may P.verdict_of K.state_after formats.Text settings input hooks.old hooks.new (λ text. WritesFront (O.contents writer.old.inner) (O.contents writer.new.inner) text)) }
     ensures nothing { IfErr result (λ e. e ≢ faults.Write → Keeps (O.contents writer.old.inner) (O.contents writer.new.inner)) }
     ensures read_failed { result ≡ Err faults.Read → reader.new.failures ≡ next reader.old.failures }
     ensures unfailed { result ≢ Err faults.Read → reader.new.failures ≡ reader.old.failures }
     ensures write_failed { result ≡ Err faults.Write → writer.new.failures ≡ next writer.old.failures }
     ensures reads { AddsAtMost most_reads reader.old.reads reader.new.reads }
 {
-    serial_as(alloc, settings, hooks, seed, false, reader, writer)
+    let format = Format::Text;
+    serial_as(alloc, settings, hooks, seed, false, format, reader, writer)
 }

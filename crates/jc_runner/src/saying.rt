@@ -1,16 +1,47 @@
-//! What the program says in the end.
-ghost use Rattle.std.specs.Prelude.{◌≡◌, is_err, OnOk, [], codes, option_map};
+//! What the program says before it reads a script that is typed, and in the end.
+ghost use Rattle.std.specs.Prelude.{◌≡◌, ◌++◌, ◌&&◌, ◌==◌, length, true, is_err, OnOk, IfOk, IfErr, [], codes, option_map};
 ghost use Rattle.std.specs.Io.KnownBytes.{Appends};
-ghost use Rattle.jc_runner.specs.Endings.{HasStatus, SaysSo, SaysFault, IsPrinted, Leaves, ending_of, is_unheard, unwritten};
+ghost use Rattle.jc_runner.specs.Endings.{Greets, HasStatus, SaysNothing, SaysSo, SaysFault, TellsLine, IsPrinted, Leaves, ending_of, is_unheard, unwritten};
 ghost use Rattle.jc_runner.specs.Faults.{told_lines};
 ghost use Rattle.jc_runner.specs.Meters.{next_if};
 
-use crate::ending::{Ended, Ending};
-use crate::fault::{ProgramFault, is_of_report, write_told};
+use crate::ending::{Ended, Ending, WordsFault};
+use crate::fault::{ProgramFault, is_of_report, write_lines, write_name, write_told};
 use crate::watched::WatchedWriter;
 use clap::Error;
 use std::io;
 use std::io::Write;
+
+fn write_greeting<E: Write>(errors: &mut WatchedWriter<E>) -> bool
+    ensures { Greets E.contents true result errors.old errors.new }
+{
+    writeln!(
+        errors,
+        "jcache: reads a script from this terminal until its end (Ctrl-D); --help tells more"
+    )
+    .is_ok()
+}
+
+/// Tells a person who gave no words at a terminal that the script is awaited there: nothing else would be seen until it
+/// has ended. Whether all was written that is to be said.
+pub fn greet<E: Write>(
+    words: &Result<Vec<String>, WordsFault>,
+    at_terminal: bool,
+    errors: &mut WatchedWriter<E>,
+) -> bool
+    ensures greets { IfOk words.now (λ v. Greets E.contents (at_terminal && (length v.items == 0)) result errors.old errors.new) }
+    ensures mistaken { IfErr words.now (λ fault. SaysNothing E.contents result errors.old errors.new) }
+{
+    match words {
+        Ok(words) => {
+            if at_terminal && words.as_slice().is_empty() {
+                return write_greeting(errors);
+            }
+            true
+        }
+        Err(_) => true,
+    }
+}
 
 /// How a run ended: `Done`, or with its fault, which may have to be explained.
 pub fn ending_of(explain: bool, ran: Result<(), ProgramFault>) -> Ending
@@ -65,6 +96,16 @@ fn refuse<O: Write, E: Write>(
     }
 }
 
+/// Tells a mistake in the words under the program's name; false where the writer failed.
+fn write_mistake<E: Write>(text: &str, errors: &mut WatchedWriter<E>) -> bool
+    ensures { TellsLine E.contents (codes "jcache: " ++ text.now) result errors.old errors.new }
+{
+    if !write_name(errors) {
+        return false;
+    }
+    write_lines(text, errors)
+}
+
 /// Tells a fault, but for a report that nobody reads any more; the lines are those of its explanation.
 fn say_fault<E: Write>(
     fault: &ProgramFault,
@@ -106,6 +147,10 @@ pub fn say<O: Write, E: Write>(
         Ending::Faulty(fault) => say_fault(fault, None, output.unheard(), errors),
         Ending::Explained(fault) => say_fault(fault, Some(lines), output.unheard(), errors),
         Ending::Refused(error) => refuse(error, output, errors),
+        Ending::Mistaken(text) => Ended {
+            status: 2,
+            told: write_mistake(text.as_str(), errors),
+        },
         Ending::NotText => Ended {
             status: 2,
             told: write_no_text(errors).is_ok(),

@@ -13,15 +13,17 @@ ghost use Rattle.jc_runner.specs.Meters.{next};
 ghost use Rattle.jc_runner.specs.Streams.{WritesFront, IsOfThreads, HasRun};
 ghost use Rattle.jc_runner.specs.Together.{stated_of, Gathers, GathersSo};
 ghost use Rattle.jc_runner.specs.declared.fault.RunFault.TheVariants as faults;
+ghost use Rattle.jc_runner.specs.declared.form.Form.TheVariants as forms;
 
 use crate::fault::RunFault;
+use crate::form::{Form, report_in};
 use crate::watched::WatchedWriter;
 use crate::writing::write_text;
 use jc_config::Settings;
 use jc_hooks::{CacheHooks, Hearer, Loader, Processor, Writer};
 use jc_model::event::CreateRefusal;
 use jc_model::transcript::Transcript;
-use jc_script::{Followed, Line, Managed, follow, report, same_lives};
+use jc_script::{Followed, Line, Managed, follow, same_lives};
 use jc_shared::{Name, Shared, SharedRefusal};
 use jc_threads::{Gate, Transcription, transcribed};
 use std::alloc::Global;
@@ -159,32 +161,70 @@ fn compared(followed: &Followed, made: Transcription) -> Result<Transcript, RunF
     Ok(transcript)
 }
 
-/// The report of a run on threads.
+/// The report of a run on threads, in this form.
 fn gathered<L: Loader, W: Writer, P: Processor, K: Hearer, G: Gate, R: Threads + Wait + Sync>(
     rt: &R,
     alloc: Global,
     setup: Setup<L, W, P, K>,
     crew: &Crew<'_, G>,
     lines: Vec<Line>,
+    form: &Form,
 ) -> Result<String, RunFault>
     requires workers { 0 < crew.now.workers }
     requires named { AllName (opened_from 0 setup.settings) lines.items }
-    ensures text { IfOk result (λ s. Gathers (stated_of L.load_of P.verdict_of setup.hooks.items) setup.settings lines.items (string_bytes s)) }
+    ensures text { IfOk result (λ s. Gathers form.now (stated_of L.load_of P.verdict_of setup.hooks.items) setup.settings lines.items (string_bytes s)) }
     ensures suit { OnOk result (AreSuited P.wants setup.settings setup.hooks.items) }
     ensures refused { result ≡ Err faults.Open → CannotOpen P.wants setup.settings setup.hooks.items }
     ensures closed { result ≡ Err faults.Close → CannotOpen P.wants setup.settings setup.hooks.items → ⊥ }
     ensures faults { IfErr result IsOfThreads }
 {
     let followed = follow(alloc, &setup.settings, lines.as_slice())?;
+    let caches = setup.settings.caches().len();
+    let seed = setup.seed;
     let shared = unnamed(alloc, setup)?;
     let made = made(rt, alloc, shared, crew, lines)?;
     let transcript = compared(&followed, made)?;
-    let text = report(alloc, &transcript, followed.managed.as_slice())?;
+    let managed = followed.managed.as_slice();
+    let text = report_in(alloc, form, caches as u32, &transcript, managed, seed)?;
     Ok(text)
 }
 
+/// The same as `threaded`, with the report in this form.
+pub(crate) fn threaded_as<
+    L: Loader,
+    W: Writer,
+    P: Processor,
+    K: Hearer,
+    G: Gate,
+    R: Threads + Wait + Sync,
+    O: Write,
+>(
+    rt: &R,
+    alloc: Global,
+    setup: Setup<L, W, P, K>,
+    crew: &Crew<'_, G>,
+    lines: Vec<Line>,
+    form: &Form,
+    writer: &mut WatchedWriter<O>,
+) -> Result<(), RunFault>
+    requires workers { 0 < crew.now.workers }
+    requires named { AllName (opened_from 0 setup.settings) lines.items }
+    ensures ok { OnOk result (GathersSo form.now (stated_of L.load_of P.verdict_of setup.hooks.items) setup.settings lines.items (λ text. Appends (O.contents writer.old.inner) (O.contents writer.new.inner) text)) }
+    ensures flushed { OnOk result ((writer.new.flushed ≡ true) × (writer.new.failures ≡ writer.old.failures)) }
+    ensures suit { HasRun result → AreSuited P.wants setup.settings setup.hooks.items }
+    ensures refused { result ≡ Err faults.Open → CannotOpen P.wants setup.settings setup.hooks.items }
+    ensures closed { result ≡ Err faults.Close → CannotOpen P.wants setup.settings setup.hooks.items → ⊥ }
+    ensures front { result ≡ Err faults.Write → GathersSo form.now (stated_of L.load_of P.verdict_of setup.hooks.items) setup.settings lines.items (λ text. WritesFront (O.contents writer.old.inner) (O.contents writer.new.inner) text) }
+    ensures write_failed { result ≡ Err faults.Write → writer.new.failures ≡ next writer.old.failures }
+    ensures nothing { IfErr result (λ e. e ≢ faults.Write → Keeps (O.contents writer.old.inner) (O.contents writer.new.inner)) }
+    ensures others { IfErr result (λ e. e ≢ faults.Write → IsOfThreads e) }
+{
+    let text = gathered(rt, alloc, setup, crew, lines, form)?;
+    write_text(writer, text.as_bytes())
+}
+
 /// Runs lines as `read_script` gives them for these settings on worker threads, session s on worker s mod workers, and
-/// writes the report. Each worker makes its lines in their order; a cache that a line creates has no callbacks.
+/// writes the report as text. Each worker makes its lines in their order; a cache that a line creates has no callbacks.
 ///
 /// `Open` where the callbacks are not those that the settings name, or the manager does not open; `Memory`, also where
 /// a callback finds none; `Close` where the sessions and the transcript differ, or the manager has created and refused
@@ -208,16 +248,15 @@ pub fn threaded<
 ) -> Result<(), RunFault>
     requires workers { 0 < crew.now.workers }
     requires named { AllName (opened_from 0 setup.settings) lines.items }
-    ensures ok { OnOk result (GathersSo (stated_of L.load_of P.verdict_of setup.hooks.items) setup.settings lines.items (λ text. Appends (O.contents writer.old.inner) (O.contents writer.new.inner) text)) }
+    ensures ok { OnOk result (GathersSo forms.Text (stated_of L.load_of P.verdict_of setup.hooks.items) setup.settings lines.items (λ text. Appends (O.contents writer.old.inner) (O.contents writer.new.inner) text)) }
     ensures flushed { OnOk result ((writer.new.flushed ≡ true) × (writer.new.failures ≡ writer.old.failures)) }
     ensures suit { HasRun result → AreSuited P.wants setup.settings setup.hooks.items }
     ensures refused { result ≡ Err faults.Open → CannotOpen P.wants setup.settings setup.hooks.items }
     ensures closed { result ≡ Err faults.Close → CannotOpen P.wants setup.settings setup.hooks.items → ⊥ }
-    ensures front { result ≡ Err faults.Write → GathersSo (stated_of L.load_of P.verdict_of setup.hooks.items) setup.settings lines.items (λ text. WritesFront (O.contents writer.old.inner) (O.contents writer.new.inner) text) }
+    ensures front { result ≡ Err faults.Write → GathersSo forms.Text (stated_of L.load_of P.verdict_of setup.hooks.items) setup.settings lines.items (λ text. WritesFront (O.contents writer.old.inner) (O.contents writer.new.inner) text) }
     ensures write_failed { result ≡ Err faults.Write → writer.new.failures ≡ next writer.old.failures }
     ensures nothing { IfErr result (λ e. e ≢ faults.Write → Keeps (O.contents writer.old.inner) (O.contents writer.new.inner)) }
     ensures others { IfErr result (λ e. e ≢ faults.Write → IsOfThreads e) }
 {
-    let text = gathered(rt, alloc, setup, crew, lines)?;
-    write_text(writer, text.as_bytes())
+    threaded_as(rt, alloc, setup, crew, lines, &Form::Text, writer)
 }

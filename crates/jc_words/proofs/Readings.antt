@@ -1,6 +1,7 @@
 -- What the getters of matches read, in the words of their rows.
 use Rattle.std.proofs.Common.{◌≡◌, ◌≢◌, ◌<◌, ◌^◌, ℕ, Bool, true, false, List, Option, Some, None, Result, Ok, Err, option_map, refl, sym, ap, ap₂, subst, inl, IfSome, ◌∙◌, codes}
 use Rattle.std.specs.Bool.{MatchBool}
+use Rattle.std.specs.Prelude.{MatchOption}
 use Rattle.std.specs.Str.Parse.{ParsesUnsigned}
 use Rattle.std.specs.Prelude.{find, option_and_then}
 use Rattle.std.specs.Str.{bytes_eq}
@@ -15,10 +16,11 @@ use Rattle.clap.specs.declared.parser.matches.Found.{Found}
 use Rattle.clap.specs.declared.parser.matches.MatchedArg.{MatchedArg}
 use Rattle.clap.specs.declared.parser.matches.ValueSource.{ValueSource}
 use Rattle.clap.specs.declared.error.Error.{Error}
-use Rattle.jc_words.specs.Program.{IsNumber, truth, source_of, is_of_words, is_in_words, may_be_input, clash_of, AsksBy, AsksForNone, KeepsLimits, MayRefuse, program}
+use Rattle.jc_words.specs.Program.{IsNumber, truth, source_of, is_of_words, is_in_words, may_be_input, clash_of, AsksBy, AsksForNone, KeepsLimits, MayRefuse, format_text, program}
 use Rattle.clap.proofs.OnLiterals.{clap_on_literals}
 use Rattle.clap.proofs.WalkLemmas.{find_row, first_value-rows}
 use Rattle.jc_words.specs.declared.asked.Asked.{Asked}
+use Rattle.jc_words.specs.declared.run.Format.{Format}
 use Rattle.jc_words.specs.declared.clash.Clash.{Clash}
 use Rattle.std.specs.Borrow.{Bor}
 
@@ -89,6 +91,11 @@ pub refused : (app : App) (words : List Text) (e : Error) → app ≡ program �
 refused app words e is fails =
     let Q : App → Type 0 = λ a. HasKind (fault_of a words) e in
     inl (subst Q is (fails (ap is_simple_and_free is ∙ is_free_program)))
+
+-- the form that a text names, by its row
+pub format_read : (o : Option Format) (first : Option Text) (t : Text) → first ≡ Some t → MatchOption o ((form : Format) → t ≢ format_text form) (λ form. t ≡ format_text form) → MatchOption o ((form : Format) → first ≢ Some (format_text form)) (λ form. first ≡ Some (format_text form))
+format_read None first t is never = λ form named. never form (same_text t (format_text form) (sym is ∙ named))
+format_read (Some form) first t is same = is ∙ ap (λ (text : Text). Some text) same
 
 -- What is not read was not asked for.
 

@@ -1,6 +1,6 @@
 -- The program's command, and what words ask of it as `clap` reads them.
 use Rattle.std.specs.Prelude.{◌≡◌, ◌≢◌, ◌≤◌, ◌<◌, ◌^◌, ◌⊎◌, ◌&&◌, ◌==◌, ℕ, pos, Bool, true, false, if◌then◌else◌, List, [], ◌∷◌, find, Option, Some, None, option_map, option_and_then, codes, string_bytes, ⊤}
-use Rattle.std.specs.List.{All, slice_split}
+use Rattle.std.specs.List.{All, list_any, slice_split}
 use Rattle.std.specs.Str.{bytes_eq}
 use Rattle.std.specs.Str.Parse.{IsNumeral, without_leading_plus, digits_value}
 use Rattle.clap.specs.Kinds.{HasKind}
@@ -17,6 +17,8 @@ use Rattle.jc_words.specs.declared.asked.Check.{Check}
 use Rattle.jc_words.specs.declared.asked.Replay.{Replay}
 use Rattle.jc_words.specs.declared.clash.Clash.{Clash}
 use Rattle.jc_words.specs.declared.clash.Clash.TheVariants as clash
+use Rattle.jc_words.specs.declared.run.Format.{Format}
+use Rattle.jc_words.specs.declared.run.Format.TheVariants as form
 use Rattle.jc_words.specs.declared.run.Run.{Run}
 use Rattle.jc_words.specs.declared.run.Options.{Options}
 
@@ -32,6 +34,9 @@ workers_rule = record (new_rule (codes "workers")) { long = Some (codes "workers
 abbrev pub seed_rule : Rule
 seed_rule = record (new_rule (codes "seed")) { long = Some (codes "seed"); action = Some Set; value_names = 1; parser = Some (parsers.Signed (pos 0) (pos 9223372036854775807)); defaults = codes "0" ∷ [] }
 
+abbrev pub format_rule : Rule
+format_rule = record (new_rule (codes "format")) { long = Some (codes "format"); action = Some Set; value_names = 1; defaults = codes "text" ∷ [] }
+
 -- an option without a value
 abbrev pub flag_rule : Text → Rule
 flag_rule id = record (new_rule id) { long = Some id; action = Some SetTrue }
@@ -41,7 +46,7 @@ abbrev pub files_app : Text → Bool → App
 files_app name has_script = with_rule (with_rule (new_app name) (path_rule (codes "CONFIG") true)) (path_rule (codes "SCRIPT") has_script)
 
 abbrev pub run_app : App
-run_app = with_rule (with_rule (with_rule (with_rule (with_rule (files_app (codes "run") true) workers_rule) seed_rule) (flag_rule (codes "serial"))) (flag_rule (codes "strict"))) (flag_rule (codes "explain"))
+run_app = with_rule (with_rule (with_rule (with_rule (with_rule (with_rule (files_app (codes "run") true) workers_rule) seed_rule) (flag_rule (codes "serial"))) format_rule) (flag_rule (codes "strict"))) (flag_rule (codes "explain"))
 
 abbrev pub check_app : App
 check_app = with_rule (with_rule (files_app (codes "check") false) (flag_rule (codes "strict"))) (flag_rule (codes "explain"))
@@ -52,9 +57,10 @@ capacity_rule = record (new_rule (codes "capacity")) { long = Some (codes "capac
 abbrev pub replay_app : App
 replay_app = with_rule (with_rule (new_app (codes "replay")) (path_rule (codes "TRACE") true)) capacity_rule
 
--- the words begin after the program's name, one of them has to be a subcommand, and there is a version to print
+-- the words begin after the program's name, one of them has to be a subcommand, and there is a version to print, behind a
+-- subcommand too
 abbrev pub bare_app : App
-bare_app = record (new_app (codes "jcache")) { top = record (new_app (codes "jcache")).top { has_version = true; no_binary_name = true; subcommand_required = true } }
+bare_app = record (new_app (codes "jcache")) { top = record (new_app (codes "jcache")).top { propagate_version = true; has_version = true; no_binary_name = true; subcommand_required = true } }
 
 abbrev pub program : App
 program = with_subcommand (with_subcommand (with_subcommand bare_app run_app.top) check_app.top) replay_app.top
@@ -70,16 +76,21 @@ abbrev pub truth : Bool → Text
 truth true = codes "true"
 truth false = codes "false"
 
+abbrev pub format_text : Format → Text
+format_text form.Text = codes "text"
+format_text form.Json = codes "json"
+
 -- the options in rows of matches
 pub record AsksOptions (rows : List Row) (options : Options) : Type 0 where
   pub workers : IsNumber (one_of (codes "workers") rows) options.workers
   pub seed : IsNumber (one_of (codes "seed") rows) options.seed
   pub serial : one_of (codes "serial") rows ≡ Some (truth options.serial)
+  pub format : first_of (codes "format") rows ≡ Some (format_text options.format)
   pub strict : one_of (codes "strict") rows ≡ Some (truth options.strict)
   pub explain : one_of (codes "explain") rows ≡ Some (truth options.explain)
 
 abbrev pub options_of : Run → Options
-options_of run = record { workers = run.workers; seed = run.seed; serial = run.serial; strict = run.strict; explain = run.explain }
+options_of run = record { workers = run.workers; seed = run.seed; serial = run.serial; format = run.format; strict = run.strict; explain = run.explain }
 
 -- where the value of an id came from, and whether that is the words
 abbrev pub source_of : Text → List Row → Option ValueSource
@@ -182,6 +193,10 @@ AsksForNone p = (a : Asked) → AsksBy p a → KeepsLimits a → ⊥
 
 abbrev pub AskForNone : List Text → Type 0
 AskForNone words = (a : Asked) → AsksFor words a → KeepsLimits a → ⊥
+
+-- whether words ask for explanations, also where they are mistaken
+abbrev pub asks_to_explain : List Text → Bool
+asks_to_explain words = list_any (λ word. bytes_eq word (codes "--explain")) words
 
 -- A kind of fault that `clap` has for the words, or want of memory; or that some of them can't stand together; or that
 -- they ask for nothing.

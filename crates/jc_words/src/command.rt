@@ -3,7 +3,7 @@
 ghost use Rattle.std.specs.Prelude.{◌≡◌, IfOk, true, false};
 ghost use Rattle.clap.specs.Words.{app_of, new_app, rule_of};
 ghost use Rattle.clap.specs.declared.builder.Command.TheViews.{out-Command};
-ghost use Rattle.jc_words.specs.Program.{path_rule, workers_rule, seed_rule, flag_rule, capacity_rule, run_app, check_app, replay_app, bare_app, program as program_app};
+ghost use Rattle.jc_words.specs.Program.{path_rule, workers_rule, seed_rule, format_rule, flag_rule, capacity_rule, run_app, check_app, replay_app, bare_app, program as program_app};
 
 use crate::help;
 use clap::{Arg, ArgAction, Command, value_parser};
@@ -50,6 +50,18 @@ fn seed<'a>(alloc: Global) -> Arg<'a>
         .default_value("0")
 }
 
+fn format<'a>(alloc: Global) -> Arg<'a>
+    ensures rule { rule_of result ≡ format_rule }
+    ensures global { result.global ≡ false }
+{
+    Arg::new(alloc, "format")
+        .long("format")
+        .value_name("FORM")
+        .help(help::FORMAT)
+        .action(ArgAction::Set)
+        .default_value("text")
+}
+
 /// An option without a value.
 fn flag<'a>(alloc: Global, id: &'a str, help: &'a str) -> Arg<'a>
     ensures rule { rule_of result ≡ flag_rule id.entry.now }
@@ -82,6 +94,7 @@ fn run<'a>(alloc: Global) -> Result<Command<'a>, AllocError>
         .arg(workers(alloc))?
         .arg(seed(alloc))?
         .arg(flag(alloc, "serial", help::SERIAL))?
+        .arg(format(alloc))?
         .arg(flag(alloc, "strict", help::STRICT))?
         .arg(flag(alloc, "explain", help::EXPLAIN))
 }
@@ -124,6 +137,7 @@ fn bare<'a>(alloc: Global) -> Result<Command<'a>, AllocError>
 {
     described(alloc, "jcache", help::ABOUT)
         .version(help::VERSION)
+        .propagate_version(true)
         .override_usage(help::USAGE)
         .no_binary_name(true)
         .subcommand_required(true)

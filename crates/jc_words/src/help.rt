@@ -1,7 +1,7 @@
 //! The texts of help.
 
-/// What `--version` prints after the program's name: its version, and the kit by which this text was proved.
-pub const VERSION: &str = "0.1.0 (rattle-kit-13f, logic dac8208d650f15bf)";
+/// What `--version` prints after the program's name: its version, and the logic by which this text was proved.
+pub const VERSION: &str = "0.1.0 (Rattle logic dac8208d650f15bf)";
 
 /// What the program does, in a line.
 pub const ABOUT: &str = "Runs a script of cache calls and prints what each cache answered";
@@ -45,6 +45,10 @@ pub const SEED: &str =
 pub const SERIAL: &str =
     "No workers: one thread makes all calls, in the script's order; not beside --workers";
 
+/// The option `--format`, in a line.
+pub const FORMAT: &str =
+    "The report's form: text, or json, an object a line for each line of SCRIPT and each cache";
+
 /// The option `--strict`, in a line.
 pub const STRICT: &str =
     "Refuses members of a line that its op does not need, and a configuration without caches";
@@ -56,6 +60,9 @@ pub const EXPLAIN: &str =
 /// What words are told whose capacities are no list.
 pub const NO_LIST: &str =
     "invalid value for '--capacity <LIST>': not numbers in 1..=65536 with commas between";
+
+/// What words are told that name no form of a report.
+pub const NO_FORMAT: &str = "invalid value for '--format <FORM>': not text or json";
 
 /// What stands below the arguments in short help.
 pub const BRIEF: &str = "--help shows an example of each file, all ops, and the statuses.";

@@ -5,11 +5,14 @@ mod asked;
 mod capacities;
 mod clash;
 mod command;
+mod format;
 mod help;
 mod reading;
+mod refusal;
 mod run;
 
 pub use asked::{Asked, Check, Replay};
 pub use clash::{Clash, is_input};
 pub use reading::read_words;
-pub use run::Run;
+pub use refusal::{asks_to_explain, mistake_text};
+pub use run::{Format, Run};

@@ -9,6 +9,7 @@ use crate::asked::{Asked, Check, Replay};
 use crate::capacities::read_capacities;
 use crate::clash::clash_of;
 use crate::command::program;
+use crate::format::format_in;
 use crate::help;
 use crate::run::{Options, Run};
 use clap::error::ErrorKind;
@@ -27,6 +28,7 @@ fn options(matches: &ArgMatches<'_>) -> Option<Options>
     let workers = matches.get_one::<u8>("workers")?;
     let seed = matches.get_one::<u64>("seed")?;
     let serial = matches.get_one::<bool>("serial")?;
+    let format = format_in(matches)?;
     let strict = matches.get_one::<bool>("strict")?;
     let explain = matches.get_one::<bool>("explain")?;
     if workers < 1 || workers > 8 || seed > MAX_SEED {
@@ -36,6 +38,7 @@ fn options(matches: &ArgMatches<'_>) -> Option<Options>
         workers,
         seed,
         serial,
+        format,
         strict,
         explain,
     })
@@ -63,6 +66,7 @@ fn run_asked(alloc: Global, matches: &ArgMatches<'_>) -> Result<Option<Run>, All
         workers: options.workers,
         seed: options.seed,
         serial: options.serial,
+        format: options.format,
         strict: options.strict,
         explain: options.explain,
     }))
@@ -148,13 +152,21 @@ fn asked(alloc: Global, name: &str, matches: &ArgMatches<'_>) -> Result<Option<A
     Ok(None)
 }
 
+/// What words are told that ask for nothing.
+fn unasked(matches: &ArgMatches<'_>) -> &'static str {
+    match matches.subcommand() {
+        Some(("run", _)) => help::NO_FORMAT,
+        _ => help::NO_LIST,
+    }
+}
+
 /// What the words after the program's name ask for: nothing where there are none, else a run, a check or a replay.
 ///
 /// The error's text is for the user; it is the help where that was asked for.
 ///
 /// Words that ask for a check, for a replay, or for a run within the limits, are refused for a fault of `clap`'s or for
 /// want of memory alone. `--serial` beside `--workers` asks for nothing, nor does standard input for both files, nor
-/// capacities that are no list.
+/// a form that no report has, nor capacities that are no list.
 ///
 /// What the clauses do not say: that words which `clap` takes ask for a run or a check, since its contract does not give
 /// the rows of a subcommand for every such words; that want of memory comes only where memory was refused; which of
@@ -179,5 +191,5 @@ pub fn read_words<'a>(alloc: Global, words: &'a [&'a str]) -> Result<Option<Aske
             return Ok(Some(asked));
         }
     }
-    Err(command.error(ErrorKind::InvalidSubcommand, help::NO_LIST)?)
+    Err(command.error(ErrorKind::InvalidSubcommand, unasked(&matches))?)
 }

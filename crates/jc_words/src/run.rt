@@ -1,7 +1,14 @@
 //! A run that words ask for.
 
-/// One run of the program: two paths, the number of workers, the table's seed, whether one thread makes all calls,
-/// whether members that an op does not need are refused, and whether a fault is explained.
+/// In which form a run's report is told: as text for people, or as an object of JSON a line for programs.
+#[derive(Clone, Copy, Debug, PartialEq, Eq)]
+pub enum Format {
+    Text,
+    Json,
+}
+
+/// One run of the program: two paths, the number of workers, the table's seed, whether one thread makes all calls, the
+/// report's form, whether members that an op does not need are refused, and whether a fault is explained.
 #[derive(Drop)]
 pub struct Run {
     pub config: String,
@@ -9,6 +16,7 @@ pub struct Run {
     pub workers: u8,
     pub seed: u64,
     pub serial: bool,
+    pub format: Format,
     pub strict: bool,
     pub explain: bool,
 }
@@ -19,6 +27,7 @@ pub struct Options {
     pub workers: u8,
     pub seed: u64,
     pub serial: bool,
+    pub format: Format,
     pub strict: bool,
     pub explain: bool,
 }

@@ -5,7 +5,8 @@
 
 use jc_explain::Kept;
 use jc_program::{KeepingDisk, asks_to_explain, run_program};
-use jc_runner::{Opened, Standard, words_of};
+use jc_runner::{Opened, Standard, greet, words_of};
+use std::io::IsTerminal;
 use std::process::ExitCode;
 
 fn main(rt: HostRuntime) -> ExitCode {
@@ -16,6 +17,7 @@ fn main(rt: HostRuntime) -> ExitCode {
     let mut opened = Opened::none();
     let input = Kept::new(alloc, rt.stdin(), keeps);
     let mut standard = Standard::new(input, rt.stdout(), rt.stderr());
+    greet(&words, rt.stdin().is_terminal(), &mut standard.errors);
     let ended = run_program(&rt, alloc, words, &mut disk, &mut opened, &mut standard);
     ExitCode::from(ended.status)
 }

@@ -34,7 +34,7 @@ returns-in-Ok-clause-ends g c = record {
   goes_on = rw (← c.in_ok-configuration.ensures.same) (
     Ok tt,
     refl,
-    script_held g.D.File.Read.remaining g.I.Read.remaining (g.D.Disk.asked c.configured_from.new.disk) (g.D.Disk.asked c.scripted_from.new.disk) c.configured_from.new.input c.scripted_from.new.input c.scripted_from.new.script g.O.Write.contents c.args.run.now.serial c.args.run.now.strict c.in_ok-configuration.configuration c.args.writer.now c.scripted_from.new.writer _ _ (string_bytes c.args.run.now.script) (Ok tt)
+    script_held g.D.File.Read.remaining g.I.Read.remaining (g.D.Disk.asked c.configured_from.new.disk) (g.D.Disk.asked c.scripted_from.new.disk) c.configured_from.new.input c.scripted_from.new.input c.scripted_from.new.script g.O.Write.contents c.args.run.now.serial c.args.run.now.strict c.args.run.now.format c.in_ok-configuration.configuration c.args.writer.now c.scripted_from.new.writer _ _ (string_bytes c.args.run.now.script) (Ok tt)
         (c.configured_from.ensures.same (string_bytes c.args.run.now.script)) c.in-Ok.ensures.ends,
   );
 }
@@ -48,7 +48,7 @@ returns-in-Err-clause-ends g c = record {
   goes_on = rw (← c.in_ok-configuration.ensures.same) (
     Err c.in-Err.fault,
     refl,
-    script_held g.D.File.Read.remaining g.I.Read.remaining (g.D.Disk.asked c.configured_from.new.disk) (g.D.Disk.asked c.scripted_from.new.disk) c.configured_from.new.input c.scripted_from.new.input c.scripted_from.new.script g.O.Write.contents c.args.run.now.serial c.args.run.now.strict c.in_ok-configuration.configuration c.args.writer.now c.scripted_from.new.writer _ _ (string_bytes c.args.run.now.script) (Err c.in-Err.fault)
+    script_held g.D.File.Read.remaining g.I.Read.remaining (g.D.Disk.asked c.configured_from.new.disk) (g.D.Disk.asked c.scripted_from.new.disk) c.configured_from.new.input c.scripted_from.new.input c.scripted_from.new.script g.O.Write.contents c.args.run.now.serial c.args.run.now.strict c.args.run.now.format c.in_ok-configuration.configuration c.args.writer.now c.scripted_from.new.writer _ _ (string_bytes c.args.run.now.script) (Err c.in-Err.fault)
         (c.configured_from.ensures.same (string_bytes c.args.run.now.script)) c.in-Err.ensures.ends,
   );
 }

@@ -4,7 +4,7 @@ use Rattle.jc_runner.proofs.Pushed.{of_some, none_of, not_both}
 use Rattle.jc_words.specs.Program.{AsksFor, MayRefuse}
 use Rattle.jc_words.specs.declared.asked.Asked.{Asked}
 use Rattle.jc_runner.specs.Endings.{ending_of}
-use Rattle.jc_runner.specs.Program.{as_program, plays, runs, checks, replays, refuses}
+use Rattle.jc_runner.specs.Program.{RefusesSo, as_program, plays, runs, checks, replays, refuses}
 use Rattle.jc_runner.specs.declared.fault.RunFault.{RunFault}
 use Rattle.jc_runner.proofs.obeying.obey.Goals as goal
 
@@ -45,4 +45,4 @@ returns-in-Ok-None-clause-ends g c =
 pub returns-clause-ends : goal.returns-clause-ends
 returns-clause-ends g c =
     let same = ap shown c.as_slice.ensures.value ∙ c.in-Ok.ensures in
-    refuses c.in-Err.error (λ none. not_both _ _ (c.in-Err.ensures.wordless (none_of _ _ (same ∙ none)))) (subst (λ (ws : List (List ℕ)). MayRefuse ws c.in-Err.error) same c.in-Err.ensures.refused) (λ e. absurd (false≢true (sym c.if-lacks_memory.false ∙ c.lacks_memory.ensures.1 e))) refl ((refl, refl), refl, refl)
+    refuses c.in-Err.error (λ none. not_both _ _ (c.in-Err.ensures.wordless (none_of _ _ (same ∙ none)))) (subst (λ (ws : List (List ℕ)). MayRefuse ws c.in-Err.error) same c.in-Err.ensures.refused) (λ e. absurd (false≢true (sym c.if-lacks_memory.false ∙ c.lacks_memory.ensures.1 e))) (subst (λ (ws : List (List ℕ)). RefusesSo ws c.in-Err.error c.refusal.result) (ap shown c.as_slice-in-Err.ensures.value ∙ c.in-Ok.ensures) c.refusal.ensures) ((refl, refl), refl, refl)

@@ -12,6 +12,7 @@ returns-clause-asks c =
       workers = rw (← one_text-rows found (codes "workers")) (number_read (λ bs r. ParsesUnsigned 8 10 bs r × ExplainsUnsignedError 10 bs r × HasUnsignedDigitsIfOk bs r) 8 (one_text found (codes "workers")) c.in_ok-workers.workers (λ t r g. g.0) c.in_ok-workers.ensures.none c.in_ok-workers.ensures.value);
       seed = rw (← one_text-rows found (codes "seed")) (number_read (λ bs r. ParsesUnsigned 64 10 bs r × ExplainsUnsignedError 10 bs r × HasUnsignedDigitsIfOk bs r) 64 (one_text found (codes "seed")) c.in_ok-seed.seed (λ t r g. g.0) c.in_ok-seed.ensures.none c.in_ok-seed.ensures.value);
       serial = sym (one_text-rows found (codes "serial")) ∙ truth_read (one_text found (codes "serial")) c.in_ok-serial.serial c.in_ok-serial.ensures.none c.in_ok-serial.ensures.value;
+      format = c.in_ok-format.ensures;
       strict = sym (one_text-rows found (codes "strict")) ∙ truth_read (one_text found (codes "strict")) c.in_ok-strict.strict c.in_ok-strict.ensures.none c.in_ok-strict.ensures.value;
       explain = sym (one_text-rows found (codes "explain")) ∙ truth_read (one_text found (codes "explain")) c.in_ok-explain.explain c.in_ok-explain.ensures.none c.in_ok-explain.ensures.value;
     }
@@ -30,6 +31,9 @@ pub returns-in_err-serial-clause-none : goal.returns-in_err-serial-clause-none
 returns-in_err-serial-clause-none c e o asks within =
     let found = found_of c.args.matches.now in
     no_truth (one_text found (codes "serial")) o.serial c.in_err-serial.ensures.value (one_text-rows found (codes "serial") ∙ asks.serial)
+
+pub returns-in_err-format-clause-none : goal.returns-in_err-format-clause-none
+returns-in_err-format-clause-none c e o asks within = c.in_err-format.ensures o.format asks.format
 
 pub returns-in_err-strict-clause-none : goal.returns-in_err-strict-clause-none
 returns-in_err-strict-clause-none c e o asks within =

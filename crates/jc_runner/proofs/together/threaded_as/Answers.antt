@@ -7,7 +7,7 @@ use Rattle.jc_runner.specs.Together.{stated_of}
 use Rattle.jc_runner.specs.declared.fault.RunFault.TheVariants.{Write}
 use Rattle.jc_runner.proofs.Gathering.{gathers_so, passed_fault}
 use Rattle.jc_runner.proofs.Pushed.{if_err_weaker}
-use Rattle.jc_runner.proofs.together.threaded.Goals as goal
+use Rattle.jc_runner.proofs.together.threaded_as.Goals as goal
 
 pub returns-in_err-text-clause-refused : goal.returns-in_err-text-clause-refused
 returns-in_err-text-clause-refused g c = λ is.
@@ -22,7 +22,7 @@ returns-in_err-text-clause-closed g c = λ is.
 pub returns-clause-ok : goal.returns-clause-ok
 returns-clause-ok g c =
     on_ok_weaker c.write_text.result
-    (λ written. gathers_so (stated_of g.L.Loader.load_of g.P.Processor.verdict_of c.args.setup.hooks.items) c.args.setup.settings c.args.lines.items (string_bytes c.in_ok-text.text) c.in_ok-text.ensures.text
+    (λ written. gathers_so c.args.form.now (stated_of g.L.Loader.load_of g.P.Processor.verdict_of c.args.setup.hooks.items) c.args.setup.settings c.args.lines.items (string_bytes c.in_ok-text.text) c.in_ok-text.ensures.text
     (subst (λ (bytes : List ℕ). Appends (g.O.Write.contents c.args.writer.now.inner) (g.O.Write.contents c.write_text.new.writer.inner) bytes) c.as_bytes.ensures.value written))
     c.write_text.ensures.all
 
@@ -31,7 +31,7 @@ returns-clause-flushed g c = on_ok_both c.write_text.result c.write_text.ensures
 
 pub returns-clause-front : goal.returns-clause-front
 returns-clause-front g c = λ failed.
-    gathers_so (stated_of g.L.Loader.load_of g.P.Processor.verdict_of c.args.setup.hooks.items) c.args.setup.settings c.args.lines.items (string_bytes c.in_ok-text.text) c.in_ok-text.ensures.text
+    gathers_so c.args.form.now (stated_of g.L.Loader.load_of g.P.Processor.verdict_of c.args.setup.hooks.items) c.args.setup.settings c.args.lines.items (string_bytes c.in_ok-text.text) c.in_ok-text.ensures.text
     (subst (λ (bytes : List ℕ). WritesFront (g.O.Write.contents c.args.writer.now.inner) (g.O.Write.contents c.write_text.new.writer.inner) bytes) c.as_bytes.ensures.value (c.write_text.ensures.front failed))
 
 pub returns-clause-nothing : goal.returns-clause-nothing

@@ -1,0 +1,5 @@
+pub mod Again
+pub mod Taken
+pub mod Lives
+pub mod SoFar
+pub mod Shown

@@ -1,0 +1,19 @@
+//! The report of a run as JSON, for programs: an object a line for each line of the script, and one for each life.
+#![tactic(auto)]
+
+mod arguments;
+mod callers;
+mod counters;
+mod groups;
+mod line_numbers;
+mod lines;
+mod managing;
+mod op_name;
+mod queue;
+mod replies;
+mod report_json;
+mod totals;
+mod values;
+
+pub use line_numbers::{Asked, NumberedLine, outline};
+pub use report_json::report;

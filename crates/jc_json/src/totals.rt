@@ -1,0 +1,126 @@
+//! The objects of lives.
+ghost use Rattle.std.specs.Prelude.{◌≡◌, ◌++◌, ◌∷◌, [], ◌/◌, ◌*◌, ◌+◌, ◌<◌, None, map, option_copied, OnOk, string_bytes};
+ghost use Rattle.jc_engine.specs.Opening.{open_refusal};
+ghost use Rattle.jc_model.specs.Legal.{IsLegalFrom};
+ghost use Rattle.jc_model.specs.Runs.{fresh};
+ghost use Rattle.jc_script.specs.Report.{group};
+ghost use Rattle.jc_json.specs.Totals.{four_digits, fraction_json, ratio_json, life_json, lives_json, counts_after, AreMade};
+
+use crate::counters::counts_after;
+use crate::groups::grouped;
+use crate::replies::push_other_counters;
+use crate::values::{push_first, push_next, push_number, push_number_member, push_text};
+use jc_model::call::Counts;
+use jc_model::event::{Entry, Life};
+use std::alloc::{AllocError, Global};
+
+fn push_digits(alloc: Global, text: &mut String, number: u64) -> Result<(), AllocError>
+    ensures { OnOk result (string_bytes text.new ≡ string_bytes text.old ++ four_digits number) }
+{
+    push_number(alloc, text, number / 1_000 % 10)?;
+    push_number(alloc, text, number / 100 % 10)?;
+    push_number(alloc, text, number / 10 % 10)?;
+    push_number(alloc, text, number % 10)
+}
+
+/// Adds so many ten-thousandths.
+fn push_fraction(alloc: Global, text: &mut String, number: u64) -> Result<(), AllocError>
+    ensures { OnOk result (string_bytes text.new ≡ string_bytes text.old ++ fraction_json number) }
+{
+    push_number(alloc, text, number / 10_000)?;
+    text.push_str(".")?;
+    push_digits(alloc, text, number)
+}
+
+/// Ten-thousandths that the hits are of what was looked up, rounded down.
+fn ten_thousandths(hits: u64, misses: u64) -> u64
+    requires { 0 < hits + misses }
+    ensures { result ≡ hits * 10000 / (hits + misses) }
+{
+    let lookups = u128::from(hits) + u128::from(misses);
+    (u128::from(hits) * 10_000 / lookups) as u64
+}
+
+/// Adds the hits in what was looked up.
+#[tactic(auto, unfolding(crate::specs::Totals::ratio_json))]
+fn push_ratio(alloc: Global, text: &mut String, hits: u64, misses: u64) -> Result<(), AllocError>
+    ensures { OnOk result (string_bytes text.new ≡ string_bytes text.old ++ ratio_json hits misses) }
+{
+    if hits == 0 && misses == 0 {
+        return text.push_str("null");
+    }
+    push_fraction(alloc, text, ten_thousandths(hits, misses))
+}
+
+/// Adds the object of a life with these counters.
+#[tactic(auto, unfolding(crate::specs::Totals::life_json))]
+fn push_life(
+    alloc: Global,
+    text: &mut String,
+    life: &Life,
+    counts: &Counts,
+) -> Result<(), AllocError>
+    ensures { OnOk result (string_bytes text.new ≡ string_bytes text.old ++ life_json life.now counts.now) }
+{
+    push_first(text, "cache")?;
+    push_text(alloc, text, life.config.name.text())?;
+    push_number_member(alloc, text, "id", u64::from(life.id.number()))?;
+    push_number_member(alloc, text, "hits", counts.hits)?;
+    push_other_counters(alloc, text, counts)?;
+    push_next(text, "hit_ratio")?;
+    push_ratio(alloc, text, counts.hits, counts.misses)?;
+    text.push_str("}\n")
+}
+
+/// Adds the object of a life with these calls.
+fn push_total(
+    alloc: Global,
+    seed: u64,
+    text: &mut String,
+    life: &Life,
+    entries: &[&Entry],
+) -> Result<(), AllocError>
+    requires opens { open_refusal (life.now.config ∷ []) ≡ None }
+    requires legal { IsLegalFrom life.now.config fresh (map (λ e. e.now) entries.now) }
+    ensures { OnOk result (string_bytes text.new ≡ string_bytes text.old ++ life_json life.now (counts_after life.now.config (map (λ e. e.now) entries.now))) }
+{
+    let counts = counts_after(alloc, seed, &life.config, entries)?;
+    push_life(alloc, text, life, &counts)
+}
+
+/// The same, where the calls are grouped; a life that is in no group has none.
+fn push_grouped(
+    alloc: Global,
+    seed: u64,
+    text: &mut String,
+    life: &Life,
+    entries: Option<&Vec<&Entry>>,
+) -> Result<(), AllocError>
+    requires opens { open_refusal (life.now.config ∷ []) ≡ None }
+    requires legal { IsLegalFrom life.now.config fresh (group (option_copied entries)) }
+    ensures { OnOk result (string_bytes text.new ≡ string_bytes text.old ++ life_json life.now (counts_after life.now.config (group (option_copied entries.entry)))) }
+{
+    match entries {
+        Some(group) => push_total(alloc, seed, text, life, group.as_slice()),
+        None => push_total(alloc, seed, text, life, &[]),
+    }
+}
+
+/// Adds the objects of all lives, in order of id. The seed picks places in tables, and changes nothing of the text.
+pub fn push_lives(
+    alloc: Global,
+    seed: u64,
+    text: &mut String,
+    lives: &[Life],
+    entries: &[Entry],
+) -> Result<(), AllocError>
+    requires { AreMade lives.now entries.now }
+    ensures { OnOk result (string_bytes text.new ≡ string_bytes text.old ++ lives_json lives.now entries.now) }
+{
+    let groups = grouped(alloc, entries)?;
+    for life in lives {
+        let id = life.id.number() as usize;
+        push_grouped(alloc, seed, text, life, groups.get(&id))?;
+    }
+    Ok(())
+}
