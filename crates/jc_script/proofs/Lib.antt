@@ -1,4 +1,7 @@
 pub mod Cuts
+pub mod Trees
+pub mod Numerals
+pub mod Texts
 pub mod Lines
 pub mod Shown
 pub mod Existing

@@ -3,6 +3,7 @@ pub mod Live
 pub mod Calls
 pub mod Managing
 pub mod Member
+pub mod Tree
 pub mod Creating
 pub mod Operation
 pub mod Line

@@ -1,6 +1,6 @@
 -- The caches that are live while a script's lines are read or run: creating and destroying follow the manager's rules,
 -- memory sufficing.
-use Rattle.std.specs.Prelude.{◌≡◌, ℕ, ◌≤◌, false, List, [], ◌∷◌, length, map, ⊤}
+use Rattle.std.specs.Prelude.{◌≡◌, ℕ, ◌≤◌, Bool, true, false, List, [], ◌∷◌, length, map, ⊤}
 use Rattle.std.specs.Prelude.{Option, Some, None}
 use Rattle.std.specs.Option.{option_map}
 use Rattle.jc_model.specs.declared.config.CacheConfig.{CacheConfig}
@@ -10,6 +10,12 @@ use Rattle.jc_model.specs.Runs.{Status, Lives, live_at, opened, creates, destroy
 use Rattle.jc_roster.specs.Members.{Member, members_of}
 use Rattle.jc_script.specs.declared.line.Line.{Line}
 use Rattle.jc_script.specs.declared.line.Line.TheVariants.{Call, Create, Destroy}
+
+-- the line creates or destroys a cache
+abbrev pub manages : Line → Bool
+manages (Call l) = false
+manages (Create session c) = true
+manages (Destroy session id) = true
 
 -- the caches after a line
 abbrev pub after_line : Lives → Line → Lives

@@ -1,27 +1,27 @@
 //! The members of a line that creates a cache, by the rules of a configuration's.
 ghost use Rattle.std.specs.Prelude.{◌≡◌};
 ghost use Rattle.serde_json.specs.Find.{get};
-ghost use Rattle.serde_json.specs.View.{view};
 ghost use Rattle.jc_config.specs.declared.members.ExpiryKind.TheVariants.{Eternal};
 ghost use Rattle.jc_script.specs.declared.fault.Member.TheVariants as members;
 ghost use Rattle.jc_script.specs.Faults.{Gives};
 ghost use Rattle.jc_script.specs.Member.{needed, whole, member_name};
 ghost use Rattle.jc_script.specs.Creating.{asks_to_create, cache_name, capacity, expiry, found_or, missing, policy_of, creating};
+ghost use Rattle.jc_script.specs.Tree.{data_in};
 
 use crate::fault::{Member, ScriptFault};
 use crate::line::Line;
 use crate::member::Reader;
+use crate::tree::{text_in, whole_in};
 use jc_config::{ExpiryKind, capacity_in, name_in, plain_cache};
 use jc_model::config::Policy;
 use jc_model::key::Key;
-use serde_json::Value;
 
-impl<'o> Reader<'o> {
+impl<'o, 'a> Reader<'o, 'a> {
     /// Whether the line creates a cache.
     pub fn asks_to_create(&self) -> bool
-        ensures { result ≡ asks_to_create (view self.now.object.now) }
+        ensures { result ≡ asks_to_create (data_in self.now.object.now) }
     {
-        match self.object.get(Member::Op.name()).and_then(Value::as_str) {
+        match self.member(Member::Op).and_then(text_in) {
             Some(op) => op == "create",
             None => false,
         }
@@ -29,10 +29,10 @@ impl<'o> Reader<'o> {
 
     /// The name of a cache to be created.
     fn cache_name(&self) -> Result<Key, ScriptFault>
-        ensures { Gives (λ x. x) result (needed cache_name self.now.line members.Cache (view self.now.object.now)) }
+        ensures { Gives (λ x. x) result (needed cache_name self.now.line members.Cache (data_in self.now.object.now)) }
     {
         let member = Member::Cache;
-        match self.object.get(member.name()).and_then(Value::as_str) {
+        match self.member(member).and_then(text_in) {
             None => Err(self.bad(member)),
             Some(text) => match name_in(text) {
                 Some(name) => Ok(name),
@@ -43,10 +43,10 @@ impl<'o> Reader<'o> {
 
     /// How many rows it may have.
     fn capacity(&self) -> Result<u32, ScriptFault>
-        ensures { Gives (λ x. x) result (needed capacity self.now.line members.Capacity (view self.now.object.now)) }
+        ensures { Gives (λ x. x) result (needed capacity self.now.line members.Capacity (data_in self.now.object.now)) }
     {
         let member = Member::Capacity;
-        match self.object.get(member.name()).and_then(Value::as_u64) {
+        match self.member(member).and_then(whole_in) {
             None => Err(self.bad(member)),
             Some(number) => match capacity_in(number) {
                 Some(rows) => Ok(rows),
@@ -56,12 +56,12 @@ impl<'o> Reader<'o> {
     }
 
     fn expiry(&self) -> Result<ExpiryKind, ScriptFault>
-        ensures { Gives (λ x. x) result (found_or Eternal expiry self.now.line members.Expiry (get (member_name members.Expiry) (view self.now.object.now))) }
+        ensures { Gives (λ x. x) result (found_or Eternal expiry self.now.line members.Expiry (get (member_name members.Expiry) (data_in self.now.object.now))) }
     {
         let member = Member::Expiry;
-        match self.object.get(member.name()) {
+        match self.member(member) {
             None => Ok(ExpiryKind::Eternal),
-            Some(value) => match value.as_str().and_then(ExpiryKind::of) {
+            Some(value) => match text_in(value).and_then(ExpiryKind::of) {
                 Some(kind) => Ok(kind),
                 None => Err(self.bad(member)),
             },
@@ -69,20 +69,20 @@ impl<'o> Reader<'o> {
     }
 
     fn duration(&self) -> Result<u64, ScriptFault>
-        ensures { Gives (λ x. x) result (needed whole self.now.line members.Duration (view self.now.object.now)) }
+        ensures { Gives (λ x. x) result (needed whole self.now.line members.Duration (data_in self.now.object.now)) }
     {
         let member = Member::Duration;
-        match self.object.get(member.name()).and_then(Value::as_u64) {
+        match self.member(member).and_then(whole_in) {
             Some(duration) => Ok(duration),
             None => Err(self.bad(member)),
         }
     }
 
     fn no_duration(&self) -> Result<(), ScriptFault>
-        ensures { Gives (λ x. x) result (missing self.now.line members.Duration (view self.now.object.now)) }
+        ensures { Gives (λ x. x) result (missing self.now.line members.Duration (data_in self.now.object.now)) }
     {
         let member = Member::Duration;
-        match self.object.get(member.name()) {
+        match self.member(member) {
             None => Ok(()),
             Some(_) => Err(self.bad(member)),
         }
@@ -91,7 +91,7 @@ impl<'o> Reader<'o> {
     /// The members `expiry` and `duration`.
     #[tactic(auto, unfolding(crate::specs::Creating::policy_of))]
     fn policy(&self) -> Result<Policy, ScriptFault>
-        ensures { Gives (λ x. x) result (policy_of self.now.line (view self.now.object.now)) }
+        ensures { Gives (λ x. x) result (policy_of self.now.line (data_in self.now.object.now)) }
     {
         let kind = self.expiry()?;
         if kind == ExpiryKind::Eternal {
@@ -105,8 +105,8 @@ impl<'o> Reader<'o> {
 
 /// The line of a session that creates a cache.
 #[tactic(auto, unfolding(crate::specs::Creating::creating))]
-pub fn read_create(reader: &Reader<'_>, session: u32) -> Result<Line, ScriptFault>
-    ensures { Gives (λ x. x) result (creating session reader.now.line (view reader.now.object.now)) }
+pub fn read_create(reader: &Reader<'_, '_>, session: u32) -> Result<Line, ScriptFault>
+    ensures { Gives (λ x. x) result (creating session reader.now.line (data_in reader.now.object.now)) }
 {
     let name = reader.cache_name()?;
     // Each line has a moment; a creation has no other use of it.

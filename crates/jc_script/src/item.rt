@@ -1,74 +1,63 @@
 //! What a JSON value is read as: a key, a value, a pair of both, and lists of keys and of pairs.
-ghost use Rattle.std.specs.Prelude.{◌≡◌, ◌≤◌, length, IfOk, option_map};
+ghost use Rattle.std.specs.Prelude.{◌≡◌, IfOk, option_map};
 ghost use Rattle.serde_json.specs.Data.{no_items, item};
-ghost use Rattle.serde_json.specs.View.{view, items_view};
-ghost use Rattle.jc_model.specs.Limits.{value_bytes};
 ghost use Rattle.jc_script.specs.Member.{key, pair_of, each, distinct_keys, distinct_pairs};
+ghost use Rattle.jc_script.specs.Tree.{data_in, items_in};
 
+use crate::tree::{array_in, text_in};
 use jc_model::key::Key;
 use jc_model::keys::{Keys, Pairs};
-use jc_model::limits::VALUE_BYTES;
 use jc_model::value;
 use jc_model::value::ValueFault;
-use serde_json::Value;
+use json::Value;
 use std::alloc::{AllocError, Global};
 
 /// What a JSON value may stand for.
 pub trait Item: Sized + Drop {
     ghost use Rattle.std.specs.Prelude.{◌≡◌, Option, IfOk};
     ghost use Rattle.serde_json.specs.Data.{Data};
-    ghost use Rattle.serde_json.specs.View.{view};
+    ghost use Rattle.jc_script.specs.Tree.{data_in};
 
     ghost reading: { Data → Option Self };
 
     /// What the JSON value stands for; `None` where it stands for no such item.
-    fn from_json(alloc: Global, item: &Value) -> Result<Option<Self>, AllocError>
-        ensures { IfOk result (λ o. o ≡ reading (view item.now)) };
+    fn from_json(alloc: Global, item: &Value<'_>) -> Result<Option<Self>, AllocError>
+        ensures { IfOk result (λ o. o ≡ reading (data_in item.now)) };
 }
 
 /// The key that a value is, if it is one.
-pub fn key_in(item: &Value) -> Option<Key>
-    ensures { result ≡ key (view item.now) }
+pub fn key_in(item: &Value<'_>) -> Option<Key>
+    ensures { result ≡ key (data_in item.now) }
 {
-    match item.as_str() {
+    match text_in(item) {
         None => None,
         Some(text) => Key::from_text(text).ok(),
     }
 }
 
-fn made(alloc: Global, text: &str) -> Result<Option<value::Value>, AllocError>
-    requires { length text.now ≤ value_bytes }
-    ensures { IfOk result (λ o. o ≡ Some text.now) }
-{
-    let bytes = Vec::from_slice(alloc, text.as_bytes())?;
-    match value::Value::new(alloc, bytes) {
-        Ok(value) => Ok(Some(value)),
-        Err(ValueFault::OutOfMemory) => Err(AllocError),
-        Err(ValueFault::TooLong) => unreachable!(),
-    }
-}
-
 impl Item for Key {
-    ghost use Rattle.jc_model.specs.Limits.{value_bytes};
     ghost use Rattle.jc_script.specs.Member.{key};
 
     ghost reading = { key };
 
-    fn from_json(_alloc: Global, item: &Value) -> Result<Option<Key>, AllocError> {
+    fn from_json(_alloc: Global, item: &Value<'_>) -> Result<Option<Key>, AllocError> {
         Ok(key_in(item))
     }
 }
 
 impl Item for value::Value {
-    ghost use Rattle.jc_model.specs.Limits.{value_bytes};
     ghost use Rattle.jc_script.specs.Member.{value};
 
     ghost reading = { value };
 
-    fn from_json(alloc: Global, item: &Value) -> Result<Option<value::Value>, AllocError> {
-        match item.as_str() {
-            Some(text) if text.len() <= VALUE_BYTES => made(alloc, text),
-            _ => Ok(None),
+    fn from_json(alloc: Global, item: &Value<'_>) -> Result<Option<value::Value>, AllocError> {
+        let Some(text) = text_in(item) else {
+            return Ok(None);
+        };
+        match value::Value::from_text(alloc, text) {
+            Ok(value) => Ok(Some(value)),
+            Err(ValueFault::TooLong) => Ok(None),
+            Err(ValueFault::OutOfMemory) => Err(AllocError),
         }
     }
 }
@@ -76,10 +65,10 @@ impl Item for value::Value {
 /// A key and its value.
 fn pair(
     alloc: Global,
-    first: &Value,
-    second: &Value,
+    first: &Value<'_>,
+    second: &Value<'_>,
 ) -> Result<Option<(Key, value::Value)>, AllocError>
-    ensures { IfOk result (λ o. o ≡ pair_of (item (view first.now) (item (view second.now) no_items))) }
+    ensures { IfOk result (λ o. o ≡ pair_of (item (data_in first.now) (item (data_in second.now) no_items))) }
 {
     match key_in(first) {
         None => Ok(None),
@@ -87,8 +76,8 @@ fn pair(
     }
 }
 
-fn pair_of(alloc: Global, items: &[Value]) -> Result<Option<(Key, value::Value)>, AllocError>
-    ensures { IfOk result (λ o. o ≡ pair_of (items_view items.now)) }
+fn pair_of(alloc: Global, items: &[Value<'_>]) -> Result<Option<(Key, value::Value)>, AllocError>
+    ensures { IfOk result (λ o. o ≡ pair_of (items_in items.now)) }
 {
     if items.len() != 2 {
         return Ok(None);
@@ -97,22 +86,24 @@ fn pair_of(alloc: Global, items: &[Value]) -> Result<Option<(Key, value::Value)>
 }
 
 impl Item for (Key, value::Value) {
-    ghost use Rattle.jc_model.specs.Limits.{value_bytes};
     ghost use Rattle.jc_script.specs.Member.{pair};
 
     ghost reading = { pair };
 
-    fn from_json(alloc: Global, item: &Value) -> Result<Option<(Key, value::Value)>, AllocError> {
-        match item.as_array() {
+    fn from_json(
+        alloc: Global,
+        item: &Value<'_>,
+    ) -> Result<Option<(Key, value::Value)>, AllocError> {
+        match array_in(item) {
             None => Ok(None),
-            Some(items) => pair_of(alloc, items.as_slice()),
+            Some(items) => pair_of(alloc, items),
         }
     }
 }
 
 /// All items, if each of them can be read.
-fn read_each<T: Item>(alloc: Global, items: &[Value]) -> Result<Option<Vec<T>>, AllocError>
-    ensures { IfOk result (λ o. option_map (λ v. v.items) o ≡ each T.reading (items_view items.now)) }
+fn read_each<T: Item>(alloc: Global, items: &[Value<'_>]) -> Result<Option<Vec<T>>, AllocError>
+    ensures { IfOk result (λ o. option_map (λ v. v.items) o ≡ each T.reading (items_in items.now)) }
 {
     let mut list = Vec::new(alloc);
     for item in items {
@@ -131,15 +122,14 @@ fn distinct_keys(keys: Vec<Key>) -> Option<Keys>
 }
 
 impl Item for Keys {
-    ghost use Rattle.jc_model.specs.Limits.{value_bytes};
     ghost use Rattle.jc_script.specs.Member.{keys};
 
     ghost reading = { keys };
 
-    fn from_json(alloc: Global, item: &Value) -> Result<Option<Keys>, AllocError> {
-        match item.as_array() {
+    fn from_json(alloc: Global, item: &Value<'_>) -> Result<Option<Keys>, AllocError> {
+        match array_in(item) {
             None => Ok(None),
-            Some(items) => Ok(read_each(alloc, items.as_slice())?.and_then(distinct_keys)),
+            Some(items) => Ok(read_each(alloc, items)?.and_then(distinct_keys)),
         }
     }
 }
@@ -151,15 +141,14 @@ fn distinct_pairs(pairs: Vec<(Key, value::Value)>) -> Option<Pairs>
 }
 
 impl Item for Pairs {
-    ghost use Rattle.jc_model.specs.Limits.{value_bytes};
     ghost use Rattle.jc_script.specs.Member.{pairs};
 
     ghost reading = { pairs };
 
-    fn from_json(alloc: Global, item: &Value) -> Result<Option<Pairs>, AllocError> {
-        match item.as_array() {
+    fn from_json(alloc: Global, item: &Value<'_>) -> Result<Option<Pairs>, AllocError> {
+        match array_in(item) {
             None => Ok(None),
-            Some(items) => Ok(read_each(alloc, items.as_slice())?.and_then(distinct_pairs)),
+            Some(items) => Ok(read_each(alloc, items)?.and_then(distinct_pairs)),
         }
     }
 }

@@ -11,12 +11,15 @@ mod live;
 mod managed;
 mod managed_text;
 mod member;
+mod number;
+mod object;
 mod operation;
 mod parse;
 mod quote;
 mod reply;
 mod report_text;
 mod script;
+mod tree;
 
 pub use fault::{Member, ScriptFault};
 pub use following::{Followed, follow, same_lives};

@@ -1,4 +1,6 @@
 //! One line of a script, and the call that it makes.
+ghost use Rattle.std.specs.Prelude.{◌≡◌};
+ghost use Rattle.jc_script.specs.Live.{manages};
 
 use jc_model::call::Call;
 use jc_model::config::CacheConfig;
@@ -11,6 +13,15 @@ pub enum Line {
     /// The cache gets the next id, unless it is refused.
     Create { session: u32, config: CacheConfig },
     Destroy { session: u32, id: CacheId },
+}
+
+impl Line {
+    /// Whether it creates or destroys a cache.
+    pub(crate) fn manages(&self) -> bool
+        ensures { result ≡ manages self.now }
+    {
+        !matches!(self, Line::Call(_))
+    }
 }
 
 /// A call that a session makes on a cache at a moment in milliseconds.

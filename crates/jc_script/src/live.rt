@@ -1,6 +1,5 @@
 //! The caches that are live at a line.
 ghost use Rattle.std.specs.Prelude.{◌≡◌, ◌≤◌, false, length, None, IfOk, option_map, slice_set};
-ghost use Rattle.serde_json.specs.View.{view};
 ghost use Rattle.jc_model.specs.Places.{at_place};
 ghost use Rattle.jc_model.specs.Limits.{most_processors};
 ghost use Rattle.jc_model.specs.Runs.{opened_from, creates, destroys, answer_in, lives_by, live_at, create_refusal};
@@ -8,6 +7,7 @@ ghost use Rattle.jc_script.specs.declared.fault.Member.TheVariants as members;
 ghost use Rattle.jc_script.specs.Faults.{Gives};
 ghost use Rattle.jc_script.specs.Live.{after_line, id_of, processors_at, lives_in};
 ghost use Rattle.jc_script.specs.Member.{needed, cache};
+ghost use Rattle.jc_script.specs.Tree.{data_in};
 
 use crate::fault::{Member, ScriptFault};
 use crate::item::key_in;
@@ -163,11 +163,11 @@ impl Live {
 }
 
 /// The id of the live cache that a line names.
-pub fn read_cache(live: &Live, reader: &Reader<'_>) -> Result<u32, ScriptFault>
-    ensures { Gives (λ x. x) result (needed (cache (lives_in live.now)) reader.now.line members.Cache (view reader.now.object.now)) }
+pub fn read_cache(live: &Live, reader: &Reader<'_, '_>) -> Result<u32, ScriptFault>
+    ensures { Gives (λ x. x) result (needed (cache (lives_in live.now)) reader.now.line members.Cache (data_in reader.now.object.now)) }
 {
     let member = Member::Cache;
-    match reader.object.get(member.name()).and_then(key_in) {
+    match reader.member(member).and_then(key_in) {
         None => Err(reader.bad(member)),
         Some(name) => match live.find(&name) {
             Some(id) => Ok(id),

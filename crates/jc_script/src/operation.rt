@@ -1,9 +1,9 @@
 //! The ops of a script, each in two tables: the name of a call, and the call of a name.
 ghost use Rattle.std.specs.Prelude.{◌≡◌, ◌≤◌, codes};
-ghost use Rattle.serde_json.specs.View.{view};
 ghost use Rattle.jc_model.specs.Limits.{most_processors};
 ghost use Rattle.jc_script.specs.Faults.{Gives};
 ghost use Rattle.jc_script.specs.Operation.{name_of, chosen, on_many, call_of};
+ghost use Rattle.jc_script.specs.Tree.{data_in};
 
 use crate::fault::{Member, ScriptFault};
 use crate::member::Reader;
@@ -41,9 +41,13 @@ pub fn name_of(call: &Call) -> &'static str
 
 /// The call of that name, made of the line's members, on a cache with so many processors.
 #[tactic(auto, unfolding(crate::specs::Operation::chosen, crate::specs::Operation::call_of))]
-pub fn read_call(reader: &Reader<'_>, processors: usize, name: &str) -> Result<Call, ScriptFault>
+pub fn read_call(
+    reader: &Reader<'_, '_>,
+    processors: usize,
+    name: &str,
+) -> Result<Call, ScriptFault>
     requires { processors ≤ most_processors }
-    ensures { Gives (λ x. x) result (call_of name.now processors reader.now.line (view reader.now.object.now)) }
+    ensures { Gives (λ x. x) result (call_of name.now processors reader.now.line (data_in reader.now.object.now)) }
 {
     Ok(match name {
         "get" => Call::Get(reader.key()?),
@@ -76,12 +80,12 @@ pub fn read_call(reader: &Reader<'_>, processors: usize, name: &str) -> Result<C
 /// The same, of the calls on many keys or on none.
 #[tactic(auto, unfolding(crate::specs::Operation::chosen, crate::specs::Operation::call_of))]
 fn read_call_on_many(
-    reader: &Reader<'_>,
+    reader: &Reader<'_, '_>,
     processors: usize,
     name: &str,
 ) -> Result<Call, ScriptFault>
     requires { processors ≤ most_processors }
-    ensures { Gives (λ x. x) result (chosen on_many name.now processors reader.now.line (view reader.now.object.now)) }
+    ensures { Gives (λ x. x) result (chosen on_many name.now processors reader.now.line (data_in reader.now.object.now)) }
 {
     Ok(match name {
         "get_all" => Call::GetAll(reader.keys()?),

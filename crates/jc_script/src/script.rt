@@ -1,31 +1,32 @@
 //! A whole script.
 ghost use Rattle.std.specs.Prelude.{◌≡◌, ◌<◌, ◌∷◌, length, IfSome, IfOk};
 ghost use Rattle.std.specs.List.{slice_split, list_all};
-ghost use Rattle.serde_json.specs.View.{view};
 ghost use Rattle.jc_model.specs.Runs.{opened_from};
 ghost use Rattle.jc_script.specs.Faults.{Gives};
 ghost use Rattle.jc_script.specs.Line.{line_of, on_cache};
 ghost use Rattle.jc_script.specs.Live.{lives_in};
 ghost use Rattle.jc_script.specs.Named.{AllName};
 ghost use Rattle.jc_script.specs.Script.{is_feed, is_blank, pieces_after, piece_of, lines};
+ghost use Rattle.jc_script.specs.Tree.{data_in};
 
 use crate::creating::read_create;
 use crate::fault::ScriptFault;
 use crate::line::{Line, LineCall};
 use crate::live::{Live, read_cache};
 use crate::member::Reader;
+use crate::object::read_object;
 use crate::operation::read_call;
-use crate::parse::read_object;
 use jc_config::Settings;
 use jc_model::event::CacheId;
 use jc_model::limits::TEXT_BYTES;
+use json::Scratch;
 use memchr::memchr;
 use std::alloc::Global;
 
 /// The line of a session that names a live cache.
 #[tactic(auto, unfolding(crate::specs::Line::on_cache, crate::specs::Line::calling))]
-fn read_on_cache(live: &Live, reader: &Reader<'_>, session: u32) -> Result<Line, ScriptFault>
-    ensures { Gives (λ x. x) result (on_cache (lives_in live.now) session reader.now.line (view reader.now.object.now)) }
+fn read_on_cache(live: &Live, reader: &Reader<'_, '_>, session: u32) -> Result<Line, ScriptFault>
+    ensures { Gives (λ x. x) result (on_cache (lives_in live.now) session reader.now.line (data_in reader.now.object.now)) }
 {
     let number = read_cache(live, reader)?;
     let id = CacheId::new(number);
@@ -44,8 +45,8 @@ fn read_on_cache(live: &Live, reader: &Reader<'_>, session: u32) -> Result<Line,
 }
 
 #[tactic(auto, unfolding(crate::specs::Line::line_of))]
-fn read_line(live: &Live, reader: &Reader<'_>) -> Result<Line, ScriptFault>
-    ensures { Gives (λ x. x) result (line_of (lives_in live.now) reader.now.line (view reader.now.object.now)) }
+fn read_line(live: &Live, reader: &Reader<'_, '_>) -> Result<Line, ScriptFault>
+    ensures { Gives (λ x. x) result (line_of (lives_in live.now) reader.now.line (data_in reader.now.object.now)) }
 {
     let session = reader.session()?;
     if reader.asks_to_create() {
@@ -55,10 +56,16 @@ fn read_line(live: &Live, reader: &Reader<'_>) -> Result<Line, ScriptFault>
 }
 
 #[tactic(auto, unfolding(crate::specs::Script::piece_of))]
-fn read_piece(alloc: Global, live: &Live, piece: &[u8], line: usize) -> Result<Line, ScriptFault>
+fn read_piece(
+    alloc: Global,
+    live: &Live,
+    piece: &[u8],
+    line: usize,
+    scratch: &mut Scratch,
+) -> Result<Line, ScriptFault>
     ensures { Gives (λ x. x) result (piece_of (lives_in live.now) line piece.now) }
 {
-    let object = read_object(alloc, piece, line)?;
+    let object = read_object(alloc, piece, line, scratch)?;
     read_line(
         live,
         &Reader {
@@ -102,6 +109,7 @@ pub fn read_script(
         return Err(ScriptFault::TooLong);
     }
     let mut live = Live::new(alloc, settings)?;
+    let mut scratch = Scratch::new(alloc);
     let mut lines = Vec::new(alloc);
     let mut number = 0;
     let mut left = Some(bytes);
@@ -110,8 +118,10 @@ pub fn read_script(
         number += 1;
         left = after;
         if !is_blank(piece) {
-            let line = read_piece(alloc, &live, piece, number)?;
-            live = live.after(&line)?;
+            let line = read_piece(alloc, &live, piece, number, &mut scratch)?;
+            if line.manages() {
+                live = live.after(&line)?;
+            }
             lines.push(line)?;
         }
     }
