@@ -1,8 +1,11 @@
 //! A call whose answer is made where the call is, and not by what is lent to it.
 
-use crate::database::Users;
 use crate::fault::Fault;
+use crate::queries::{Client, Query};
 use crate::store::{Seat, Store, call, user_cache};
+use crossbeam_channel::Sender;
+use jc_hooks::Loaded;
+use jc_model::OutOfMemory;
 use jc_model::call::{Answer, Call, Reply};
 use jc_model::key::Key;
 use jc_model::value::Value;
@@ -10,7 +13,8 @@ use jc_script::reply_text;
 use jc_shared::{CallFault, Name, PendingCall, Progress};
 use std::alloc::Global;
 use std::io::Print;
-use std::sync::{Mutex, Wait};
+use std::sync::Wait;
+use std::thread::{Threads, join};
 
 /// Begins to get a user whom the cache does not have. The call waits for its answer, and no lock is held meanwhile.
 fn begin<N: Name, R: Wait>(
@@ -43,12 +47,13 @@ fn resume<N: Name, R: Wait>(
 fn meets_busy<N: Name, R: Wait>(
     rt: &R,
     alloc: Global,
-    users: &Mutex<Users>,
     store: &Store<N>,
+    queries: &Sender<Query>,
     name: Key,
 ) -> bool {
+    let mut client = Client { rt, alloc, queries };
     match store.session(rt) {
-        Ok(mut seat) => match call(rt, alloc, users, &mut seat, 2, Call::Get(name)) {
+        Ok(mut seat) => match call(&mut seat, &mut client, 2, Call::Get(name)) {
             Err(Fault::Call(CallFault::Busy)) => true,
             _ => false,
         },
@@ -56,20 +61,46 @@ fn meets_busy<N: Name, R: Wait>(
     }
 }
 
-/// Gets eve, whom the database does not know, and answers by a note of its own. A call that has begun comes to its end:
-/// it is given up where the answer brings no reply.
-pub fn get_by_hand<N: Name, R: Wait + Print>(
+/// The database's answer for a user, and whether a session of another thread finds the cache busy meanwhile.
+fn load_meanwhile<N: Name + Send + Sync, R: Threads + Wait + Sync>(
     rt: &R,
     alloc: Global,
-    users: &Mutex<Users>,
     store: &Store<N>,
+    queries: &Sender<Query>,
+    name: Key,
+) -> (Result<Loaded, OutOfMemory>, bool) {
+    let client = Client { rt, alloc, queries };
+    let (busy, loaded) = join(
+        rt,
+        || meets_busy(rt, alloc, store, queries, name),
+        || client.load(&name),
+    );
+    (loaded, busy)
+}
+
+/// The same answer, with a note of one's own for a user whom the database does not know.
+fn with_note(loaded: Result<Loaded, OutOfMemory>, note: Value) -> Answer {
+    match loaded {
+        Ok(Loaded::Found(Some(found))) => Answer::Loaded(Some(found)),
+        Ok(Loaded::Found(None)) => Answer::Loaded(Some(note)),
+        Ok(Loaded::Failed) | Err(_) => Answer::LoadFailed,
+    }
+}
+
+/// Gets eve, whom the database does not know. A call that has begun comes to its end: it is given up where the answer
+/// brings no reply.
+pub fn get_by_hand<N: Name + Send + Sync, R: Threads + Wait + Print + Sync>(
+    rt: &R,
+    alloc: Global,
+    store: &Store<N>,
+    queries: &Sender<Query>,
 ) -> Result<(), Fault> {
     let eve = Key::from_text("eve")?;
     let note = Value::from_text(alloc, "is not in the database")?;
     let mut seat = store.session(rt)?;
     let pending = begin(rt, &mut seat, eve)?;
-    let busy = meets_busy(rt, alloc, users, store, eve);
-    let reply = match resume(rt, &mut seat, pending, Answer::Loaded(Some(note))) {
+    let (loaded, busy) = load_meanwhile(rt, alloc, store, queries, eve);
+    let reply = match resume(rt, &mut seat, pending, with_note(loaded, note)) {
         Ok(reply) => reply,
         Err(pending) => {
             seat.give_up(rt, pending)?;

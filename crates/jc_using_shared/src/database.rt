@@ -1,17 +1,18 @@
 //! The database behind the cache: a file with a table of users and a note on each.
 
 use crate::fault::Fault;
-use jc_hooks::{Responder, write_answer};
-use jc_model::OutOfMemory;
-use jc_model::call::{Answer, ProcessorFault, Request};
+use crate::queries::Query;
+use crossbeam_channel::Receiver;
+use jc_hooks::Loaded;
 use jc_model::key::Key;
 use jc_model::value::Value;
 use sqlite::{Connection, Error, File, FileStore, params};
 use std::alloc::Global;
 use std::rt::HostRuntime;
-use std::sync::{Mutex, Wait};
+use std::sync::Wait;
 
-/// A connection to the file. It is closed where it is done with, and never dropped.
+/// A connection to the file, which stays with the thread that opened it. It is closed where it is done with, and never
+/// dropped.
 pub type Users = Connection<FileStore<File>>;
 
 /// The table, with its first user. It takes no empty note.
@@ -44,6 +45,18 @@ fn note_of(users: &mut Users, name: &Key) -> Result<Option<Vec<u8>>, Error> {
     }
 }
 
+/// The same as a loader's answer.
+fn load(alloc: Global, users: &mut Users, name: &Key) -> Loaded {
+    match note_of(users, name) {
+        Ok(None) => Loaded::Found(None),
+        Ok(Some(note)) => match Value::new(alloc, note) {
+            Ok(note) => Loaded::Found(Some(note)),
+            Err(_) => Loaded::Failed,
+        },
+        Err(_) => Loaded::Failed,
+    }
+}
+
 /// Whether a user's note was written.
 fn write(users: &mut Users, name: &Key, note: &Value) -> bool {
     let sql = "INSERT OR REPLACE INTO user VALUES (?1, ?2)";
@@ -58,30 +71,22 @@ fn delete(users: &mut Users, name: &Key) -> bool {
     users.execute(sql, params![name.text()]).is_ok()
 }
 
-/// What a call on the cache of users is answered by: the database, which all calls share.
-#[derive(Drop)]
-pub struct Backing<'a, R> {
-    pub rt: &'a R,
-    pub alloc: Global,
-    pub users: &'a Mutex<Users>,
+/// Answers a query. Whoever asked may have gone: then nobody gets the answer.
+fn answer<R: Wait>(rt: &R, alloc: Global, users: &mut Users, query: Query) {
+    match query {
+        Query::Load(name, back) => drop(back.send(rt, load(alloc, users, &name))),
+        Query::Write(name, note, back) => drop(back.send(rt, write(users, &name, &note))),
+        Query::Delete(name, back) => drop(back.send(rt, delete(users, &name))),
+    }
 }
 
-impl<R: Wait> Responder for Backing<'_, R> {
-    fn respond(&mut self, request: &Request) -> Result<Answer, OutOfMemory> {
-        let mut users = self.users.lock(self.rt);
-        match request {
-            Request::Load(name) => match note_of(&mut users, name) {
-                Ok(Some(note)) => match Value::new(self.alloc, note) {
-                    Ok(note) => Ok(Answer::Loaded(Some(note))),
-                    Err(_) => Ok(Answer::LoadFailed),
-                },
-                Ok(None) => Ok(Answer::Loaded(None)),
-                Err(_) => Ok(Answer::LoadFailed),
-            },
-            Request::Write(name, note) => Ok(write_answer(write(&mut users, name, note))),
-            Request::Delete(name) => Ok(write_answer(delete(&mut users, name))),
-            Request::Process { .. } => Ok(Answer::Processed(Err(ProcessorFault {}))),
-            Request::Tell(_) => Ok(Answer::Told),
-        }
+/// Answers all queries, until nobody is left who may ask. The result is how many there were.
+pub fn serve<R: Wait>(rt: &R, alloc: Global, users: &mut Users, queries: &Receiver<Query>) -> u32 {
+    let mut count: u32 = 0;
+    for _ in rt.forever() {
+        let Ok(query) = queries.recv(rt) else { break };
+        answer(rt, alloc, users, query);
+        count = count.saturating_add(1);
     }
+    count
 }

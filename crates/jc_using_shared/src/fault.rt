@@ -18,6 +18,8 @@ pub enum Fault {
     Call(CallFault),
     /// A call by hand came to something else than was expected.
     Unexpected,
+    /// No thread could be started.
+    NoThread,
     Print(io::Error),
     OutOfMemory,
 }

@@ -4,33 +4,67 @@ ghost use Rattle.jc_hooks.specs.declared.loader.Loaded.TheVariants.{Failed};
 ghost use Rattle.jc_shared.specs.Stated.{stated_by};
 
 use crate::by_hand::get_by_hand;
-use crate::database::Users;
+use crate::database::{Users, serve};
 use crate::fault::Fault;
+use crate::queries::Query;
 use crate::store::{self, Store, Unnamed};
 use crate::visits::{refuse, visit_all};
+use crossbeam_channel::{Sender, unbounded};
 use jc_shared::Name;
 use std::alloc::Global;
 use std::io::Print;
 use std::marker::Brand;
-use std::sync::{Mutex, Wait};
+use std::sync::Wait;
+use std::thread::{self, JoinHandle, Scope, Threads};
 
-/// What the service does with its store.
-fn use_store<N: Name, R: Wait + Print>(
+/// What is done with the store, by threads that ask the database. When it ends nobody is left who may ask.
+fn work<N: Name + Send + Sync, R: Threads + Wait + Print + Sync>(
     rt: &R,
     alloc: Global,
-    users: &Mutex<Users>,
     store: &Store<N>,
+    queries: Sender<Query>,
 ) -> Result<(), Fault> {
-    visit_all(rt, alloc, users, store)?;
-    refuse(rt, alloc, users, store)?;
-    get_by_hand(rt, alloc, users, store)
+    visit_all(rt, alloc, store, &queries)?;
+    refuse(rt, alloc, store, &queries)?;
+    get_by_hand(rt, alloc, store, &queries)
+}
+
+/// Starts the work on a thread of its own.
+fn start<'s, E: 's, N: Name + Send + Sync + 's, R: Threads + Wait + Print + Sync + 's>(
+    scope: &Scope<'s, E>,
+    rt: &'s R,
+    alloc: Global,
+    store: &'s Store<N>,
+    queries: Sender<Query>,
+) -> Result<JoinHandle<Result<(), Fault>>, Fault> {
+    match scope.spawn(move || work(rt, alloc, store, queries)) {
+        Ok(worker) => Ok(worker),
+        Err(_) => Err(Fault::NoThread),
+    }
+}
+
+/// Answers on this thread, which has the database, while another does the work. The result is how many queries there
+/// were.
+fn work_and_serve<N: Name + Send + Sync, R: Threads + Wait + Print + Sync>(
+    rt: &R,
+    alloc: Global,
+    users: &mut Users,
+    store: &Store<N>,
+) -> Result<u32, Fault> {
+    let (queries, asked) = unbounded(alloc)?;
+    thread::scope(thread::scope_env(), rt, |scope| -> Result<u32, Fault> {
+        let worker = start(scope, rt, alloc, store, queries)?;
+        let count = serve(rt, alloc, users, &asked);
+        worker.join(rt)?;
+        Ok(count)
+    })
 }
 
 /// Gives the store its name, uses it, and ends it.
-fn serve<N: Name, R: Wait + Print>(
+fn run_named<N: Name + Send + Sync, R: Threads + Wait + Print + Sync>(
     rt: &R,
     alloc: Global,
-    users: &Mutex<Users>,
+    users: &mut Users,
     unnamed: Unnamed,
 ) -> Result<(), Fault>
     requires configs { unnamed.configs ≡ N.configs }
@@ -38,15 +72,18 @@ fn serve<N: Name, R: Wait + Print>(
     requires index { unnamed.index ≡ N.index }
 {
     let store = unnamed.named::<N>();
-    let used = use_store(rt, alloc, users, &store);
+    let served = work_and_serve(rt, alloc, users, &store);
     let ended = store.end().is_ok();
-    used?;
-    println!(rt; "ended: {ended}")?;
+    println!(rt; "queries of the database: {}, ended: {ended}", served?)?;
     Ok(())
 }
 
-/// Opens the store in front of the database, and serves under a name that this call picks.
-pub fn run<R: Wait + Print>(rt: &R, alloc: Global, users: &Mutex<Users>) -> Result<(), Fault> {
+/// Opens the store in front of the database, and runs under a name that this call picks.
+pub fn run<R: Threads + Wait + Print + Sync>(
+    rt: &R,
+    alloc: Global,
+    users: &mut Users,
+) -> Result<(), Fault> {
     let unnamed = store::open(alloc)?;
-    serve::<Brand, R>(rt, alloc, users, unnamed)
+    run_named::<Brand, R>(rt, alloc, users, unnamed)
 }

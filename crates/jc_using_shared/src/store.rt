@@ -1,7 +1,7 @@
 //! The cache in front of the database.
 
-use crate::database::{Backing, Users};
 use crate::fault::Fault;
+use crate::queries::Client;
 use jc_hooks::{Unasked, hooks_by_hand};
 use jc_model::call::{Call, Reply};
 use jc_model::config::CacheConfig;
@@ -9,7 +9,7 @@ use jc_model::event::CacheId;
 use jc_model::key::Key;
 use jc_shared::{Manager, Name, OpenCalls, Session, Shared};
 use std::alloc::Global;
-use std::sync::{Mutex, Wait};
+use std::sync::Wait;
 
 /// The manager before it has a name.
 pub type Unnamed = Shared<Unasked, Unasked, Unasked, Unasked, OpenCalls>;
@@ -39,13 +39,11 @@ pub fn open(alloc: Global) -> Result<Unnamed, Fault> {
 
 /// One call on the users at a moment in milliseconds, which the database answers.
 pub fn call<N: Name, R: Wait>(
-    rt: &R,
-    alloc: Global,
-    users: &Mutex<Users>,
     seat: &mut Seat<'_, N>,
+    client: &mut Client<'_, R>,
     now: u64,
     call: Call,
 ) -> Result<Reply, Fault> {
-    let mut backing = Backing { rt, alloc, users };
-    Ok(seat.call_by(rt, user_cache(), now, call, &mut backing)?)
+    let rt = client.rt;
+    Ok(seat.call_by(rt, user_cache(), now, call, client)?)
 }

@@ -1,8 +1,9 @@
-//! Visits of the store, and a write that the database refuses.
+//! Visits of the store, from several threads at once, and a write that the database refuses.
 
-use crate::database::Users;
 use crate::fault::Fault;
+use crate::queries::{Client, Query};
 use crate::store::{Store, call, user_cache};
+use crossbeam_channel::Sender;
 use jc_index::lookup::Lookup;
 use jc_model::call::{Call, Reply};
 use jc_model::key::Key;
@@ -11,38 +12,45 @@ use jc_script::reply_text;
 use jc_shared::Name;
 use std::alloc::Global;
 use std::io::Print;
-use std::sync::{Mutex, Wait};
+use std::sync::Wait;
+use std::thread::{Threads, map_indices};
 
-/// What one visit does, in a session of its own: it puts a note on a user of its own, which is written through to the
+/// What one thread does, in a session of its own: it puts a note on a user of its own, which is written through to the
 /// database, and gets ann, whom the cache reads through from there.
 fn visit<N: Name, R: Wait>(
     rt: &R,
     alloc: Global,
-    users: &Mutex<Users>,
     store: &Store<N>,
-    number: u32,
+    queries: &Sender<Query>,
+    number: usize,
 ) -> Result<Reply, Fault> {
     let mut seat = store.session(rt)?;
+    let mut client = Client { rt, alloc, queries };
     let name = format!(in alloc; "user-{number}")?;
     let put = Call::Put(
         Key::from_text(name.as_str())?,
         Value::from_text(alloc, "was here")?,
     );
-    call(rt, alloc, users, &mut seat, 0, put)?;
+    call(&mut seat, &mut client, 0, put)?;
     let get = Call::Get(Key::from_text("ann")?);
-    call(rt, alloc, users, &mut seat, 0, get)
+    call(&mut seat, &mut client, 0, get)
 }
 
-/// Four visits. What each of them got is printed.
-pub fn visit_all<N: Name, R: Wait + Print>(
+/// Four threads visit the store at once. What each of them got is printed.
+pub fn visit_all<N: Name + Send + Sync, R: Threads + Wait + Print + Sync>(
     rt: &R,
     alloc: Global,
-    users: &Mutex<Users>,
     store: &Store<N>,
+    queries: &Sender<Query>,
 ) -> Result<(), Fault> {
-    for number in 0..4 {
-        let reply = visit(rt, alloc, users, store, number)?;
-        println!(rt; "ann: {}", reply_text(alloc, &reply)?)?;
+    let visits = map_indices(
+        rt,
+        alloc,
+        4,
+        &|number| visit(rt, alloc, store, queries, number),
+    )?;
+    for reply in visits {
+        println!(rt; "ann: {}", reply_text(alloc, &reply?)?)?;
     }
     Ok(())
 }
@@ -51,14 +59,15 @@ pub fn visit_all<N: Name, R: Wait + Print>(
 pub fn refuse<N: Name, R: Wait + Print>(
     rt: &R,
     alloc: Global,
-    users: &Mutex<Users>,
     store: &Store<N>,
+    queries: &Sender<Query>,
 ) -> Result<(), Fault> {
     let mut seat = store.session(rt)?;
+    let mut client = Client { rt, alloc, queries };
     let bob = Key::from_text("bob")?;
     let put = Call::Put(bob, Value::from_text(alloc, "")?);
-    let put = call(rt, alloc, users, &mut seat, 1, put)?;
-    let contains = call(rt, alloc, users, &mut seat, 1, Call::Contains(bob))?;
+    let put = call(&mut seat, &mut client, 1, put)?;
+    let contains = call(&mut seat, &mut client, 1, Call::Contains(bob))?;
     println!(rt;
         "bob, without a note: {}, then {}",
         reply_text(alloc, &put)?,
