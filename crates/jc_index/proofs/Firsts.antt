@@ -1,6 +1,9 @@
 -- The first of several answers, where one looks no further than to that.
-use Rattle.std.proofs.Common.{◌≡◌, ℕ, Bool, true, false, Option, None, Some, is_some, refl, ap}
-use Rattle.jc_index.specs.Found.{answer, or_else}
+use Rattle.std.proofs.Common.{◌≡◌, ℕ, zero, suc, ◌+◌, ◌-◌, ◌*◌, ◌<◌, ◌≤◌, Bool, true, false, List, drop, Option, None, Some, is_some, refl, ap, subst, ◌∙◌, arith}
+use Rattle.jc_index.specs.Layout.{bucket_slots}
+use Rattle.jc_index.specs.Spelling.{slot_at}
+use Rattle.jc_index.specs.Found.{answer, first_seen, or_else, seen}
+use Rattle.jc_index.specs.Passes.{IsSpeltAt, IsSpeltIn, bucket_at}
 
 -- an answer is told
 pub taken : (x s y : Option Bool) → is_some x ≡ true → x ≡ s → x ≡ or_else s y
@@ -12,9 +15,35 @@ pub passed : (x s y : Option Bool) → is_some x ≡ false → x ≡ s → y ≡
 passed None s y none is = ap (λ z. or_else z y) is
 passed (Some b) s y none is = absurd cc
 
-pub or_none : (x : Option Bool) → x ≡ or_else x None
-or_none None = refl
-or_none (Some b) = refl
+-- the slots of a bucket from one of them on
+from_nth : (id : ℕ) (key : List ℕ) (now : ℕ) (words : List ℕ) (b n : ℕ) → n < bucket_slots
+    → first_seen id key now (drop n (bucket_at words b)) ≡ or_else (seen id key now (slot_at words (bucket_slots * b + n))) (first_seen id key now (drop (n + 1) (bucket_at words b)))
+from_nth id key now words b zero few =
+    let e : bucket_slots * b ≡ bucket_slots * b + 0 = omega arith in ap (λ (k : ℕ). or_else (seen id key now (slot_at words k)) (first_seen id key now (drop 1 (bucket_at words b)))) e
+from_nth id key now words b (suc zero) few = refl
+from_nth id key now words b (suc (suc zero)) few = refl
+from_nth id key now words b (suc (suc (suc zero))) few = refl
+from_nth id key now words b (suc (suc (suc (suc n)))) few = absurd (omega arith)
+
+pub from_slot : (id : ℕ) (key : List ℕ) (now : ℕ) (words : List ℕ) (b slot : ℕ) → bucket_slots * b ≤ slot → slot < bucket_slots * b + bucket_slots
+    → first_seen id key now (drop (slot - bucket_slots * b) (bucket_at words b)) ≡ or_else (seen id key now (slot_at words slot)) (first_seen id key now (drop (slot + 1 - bucket_slots * b) (bucket_at words b)))
+from_slot id key now words b slot start few =
+    let n = slot - bucket_slots * b in
+    let is : bucket_slots * b + n ≡ slot = omega (arith, start) in
+    let next : n + 1 ≡ slot + 1 - bucket_slots * b = omega (arith, start) in
+    from_nth id key now words b n (omega (arith, start, few)) ∙ (λ i. or_else (seen id key now (slot_at words (is i))) (first_seen id key now (drop (next i) (bucket_at words b))))
+
+-- each slot of a bucket is spelt
+spelt_nth : (words : List ℕ) (b n : ℕ) → n < bucket_slots → IsSpeltIn words b → IsSpeltAt words (bucket_slots * b + n)
+spelt_nth words b zero few at = let e : bucket_slots * b ≡ bucket_slots * b + 0 = omega arith in subst (IsSpeltAt words) e at.0
+spelt_nth words b (suc zero) few at = at.1
+spelt_nth words b (suc (suc zero)) few at = at.2
+spelt_nth words b (suc (suc (suc zero))) few at = at.3
+spelt_nth words b (suc (suc (suc (suc n)))) few at = absurd (omega arith)
+
+pub spelt_slot : (words : List ℕ) (b slot : ℕ) → bucket_slots * b ≤ slot → slot < bucket_slots * b + bucket_slots → IsSpeltIn words b → IsSpeltAt words slot
+spelt_slot words b slot start few at =
+    let n = slot - bucket_slots * b in let is : bucket_slots * b + n ≡ slot = omega (arith, start) in subst (IsSpeltAt words) is (spelt_nth words b n (omega (arith, start, few)) at)
 
 -- an answer is told whatever lies in the stash
 pub answered : (x s : Option Bool) (count : ℕ) → is_some x ≡ true → x ≡ s → x ≡ answer s count

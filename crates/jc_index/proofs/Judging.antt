@@ -102,18 +102,18 @@ module _ (me : Sought) (words : List ℕ) (slot : ℕ) (at : IsSpeltAt words slo
   moment_is : get_or (words_of_slot (slot_at words slot)) moment_place 0 ≡ get_or words (slot_place slot + moment_place) 0
   moment_is = ap (λ (l : List ℕ). get_or l moment_place 0) at ∙ nth_word words (slot_place slot) slot_words moment_place (omega arith)
 
-  pub absent : IsHeadAt me.id me.words words slot None → None ≡ seen me.id me.key me.moment (slot_at words slot)
-  absent (inl other) = other_cache (slot_at words slot) me.id me.key me.moment coded (λ e. other (ap (λ (n : ℕ). n % 2 ^ 33) (sym head_is) ∙ e))
-  absent (inr other) = other_key (slot_at words slot) me.id me.key me.moment (λ e. other (sym key_is ∙ (e ∙ sym me.same)))
+  pub absent : IsHeadAt me.id me.words words slot None → None ≡ seen me.id (key_of me.words) me.moment (slot_at words slot)
+  absent (inl other) = other_cache (slot_at words slot) me.id (key_of me.words) me.moment coded (λ e. other (ap (λ (n : ℕ). n % 2 ^ 33) (sym head_is) ∙ e))
+  absent (inr other) = other_key (slot_at words slot) me.id (key_of me.words) me.moment (λ e. other (sym key_is ∙ (e ∙ sym me.spelt)))
 
-  present : (head : ℕ) (b : Bool) → IsHeadAt me.id me.words words slot (Some head) → ((h : Shown) → slot_at words slot ≡ Some h → b ≡ live me.moment h.1) → Some b ≡ seen me.id me.key me.moment (slot_at words slot)
+  present : (head : ℕ) (b : Bool) → IsHeadAt me.id me.words words slot (Some head) → ((h : Shown) → slot_at words slot ≡ Some h → b ≡ live me.moment h.1) → Some b ≡ seen me.id (key_of me.words) me.moment (slot_at words slot)
   present head b here is =
-      same_one (slot_at words slot) me.id me.key me.moment b coded (ap (λ (n : ℕ). n % 2 ^ 33) (head_is ∙ sym here.0) ∙ here.1) (key_is ∙ (here.2 ∙ me.same)) (ap key_of (sym me.same) ∙ me.exact) is
+      same_one (slot_at words slot) me.id (key_of me.words) me.moment b coded (ap (λ (n : ℕ). n % 2 ^ 33) (head_is ∙ sym here.0) ∙ here.1) (key_is ∙ (here.2 ∙ me.spelt)) (ap key_of (sym me.spelt)) is
 
-  pub forever : (head : ℕ) → 2 ^ 33 ≤ head → IsHeadAt me.id me.words words slot (Some head) → Some true ≡ seen me.id me.key me.moment (slot_at words slot)
+  pub forever : (head : ℕ) → 2 ^ 33 ≤ head → IsHeadAt me.id me.words words slot (Some head) → Some true ≡ seen me.id (key_of me.words) me.moment (slot_at words slot)
   forever head high here = present head true here (λ h is. never_live (slot_at words slot) h me.moment coded (subst (λ (n : ℕ). 2 ^ 33 ≤ n) (here.0 ∙ sym head_is) high) is)
 
-  pub until : (head moment : ℕ) → head < 2 ^ 33 → moment ≡ get_or words (slot_place slot + moment_place) 0 → IsHeadAt me.id me.words words slot (Some head) → Some (nat_lt me.moment moment) ≡ seen me.id me.key me.moment (slot_at words slot)
+  pub until : (head moment : ℕ) → head < 2 ^ 33 → moment ≡ get_or words (slot_place slot + moment_place) 0 → IsHeadAt me.id me.words words slot (Some head) → Some (nat_lt me.moment moment) ≡ seen me.id (key_of me.words) me.moment (slot_at words slot)
   until head moment low tells here =
       present head (nat_lt me.moment moment) here
       (λ h is. ap (nat_lt me.moment) (tells ∙ sym moment_is) ∙ moment_live (slot_at words slot) h me.moment (subst (λ (n : ℕ). n < 2 ^ 33) (here.0 ∙ sym head_is) low) is)

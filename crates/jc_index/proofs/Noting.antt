@@ -1,8 +1,9 @@
 -- Notes after one another.
-use Rattle.std.proofs.Common.{◌≡◌, ℕ, zero, suc, ◌+◌, ◌/◌, ◌<◌, false, List, [], ◌∷◌, ◌++◌, length, take, get_or, refl, ap, sym, subst, ◌∙◌, arith, add-one}
+use Rattle.std.proofs.Common.{◌≡◌, ℕ, zero, suc, ◌+◌, ◌/◌, ◌<◌, Bool, false, List, [], ◌∷◌, ◌++◌, length, take, get_or, refl, ap, sym, subst, ◌∙◌, arith, add-one}
 use Rattle.atomic_table.specs.declared.shared.Seat.{Seat}
 use Rattle.jc_stripes.specs.declared.board.View.{View}
-use Rattle.jc_stripes.specs.Stripes.{Among, ReadsIn, glance, glance_of}
+use Rattle.jc_stripes.specs.declared.board.Role.{Role}
+use Rattle.jc_stripes.specs.Stripes.{Among, IsReader, ReadsIn, glance, glance_of}
 use Rattle.jc_stripes.specs.Layout.{common}
 use Rattle.jc_index.specs.Layout.{bucket_slots, bucket_words, slot_place, slot_words, stripe_of}
 use Rattle.jc_index.specs.Spelling.{group_of, words_at}
@@ -43,6 +44,14 @@ nth_word words p (suc n) (suc k) few =
     nth_word words (suc p) n k (omega arith) ∙ ap (λ (q : ℕ). get_or words q 0) e
 
 module _ {L : Type 0} where
+  -- nothing was read yet
+  pub unnoted : {P : List ℕ → Type 0} (js : List ℕ) (s : Seat (Unit {0}) (View L)) → IsReader s.me.0 → (glance_of s.me.0).settled ≡ false → ((words : List ℕ) → P words) → IsNoted js s s P
+  unnoted js s reads young all = let g = glance_of s.me.0 in record {
+    table = refl;
+    view = ap (λ (r : Role). record s.me.0 { role = r }) (reads ∙ ap (λ (b : Bool). glance g.begun g.checked g.notes b) young);
+    tells = λ words fits. (fits, all words);
+  }
+
   pub note_is : (js : List ℕ) (s t : Seat (Unit {0}) (View L)) (place n : ℕ) → Among (group_of place) js → t.table_id ≡ s.table_id
       → t.me.0 ≡ record s.me.0 { role = glance (glance_of s.me.0).begun (glance_of s.me.0).checked ((place, n) ∷ (glance_of s.me.0).notes) false } → IsNoted js s t (λ words. n ≡ get_or words place 0)
   note_is js s t place n own table view = record {

@@ -3,7 +3,7 @@ ghost use Rattle.std.specs.Prelude.{◌≡◌, ◌+◌, ◌*◌, ◌/◌, ◌<�
 ghost use Rattle.jc_stripes.specs.Stripes.{Among, glance_of};
 ghost use Rattle.jc_stripes.specs.Layout.{common};
 ghost use Rattle.jc_index.specs.Layout.{bucket_slots, header_words, slot_words, stripe_of, table_words};
-ghost use Rattle.jc_index.specs.Spelling.{slot_at};
+ghost use Rattle.jc_index.specs.Spelling.{key_of, slot_at};
 ghost use Rattle.jc_index.specs.Found.{answer, first_seen, or_else, seen};
 ghost use Rattle.jc_index.specs.Passes.{IsHeadAt, IsNoted, IsSpeltAt, IsSpeltIn, bucket_at};
 
@@ -46,7 +46,7 @@ fn look_slot<P: Placer>(
     requires young { (glance_of reader.old.seat.me.0).settled ≡ false }
     ensures same { reader.new.seat.table_id ≡ reader.old.seat.table_id }
     ensures young { (glance_of reader.new.seat.me.0).settled ≡ false }
-    ensures noted { (js : List ℕ) → Among (stripe_of (slot / bucket_slots)) js → IsNoted js reader.old.seat reader.new.seat (λ words. IsSpeltAt words slot → result ≡ seen sought.now.id sought.now.key sought.now.moment (slot_at words slot)) }
+    ensures noted { (js : List ℕ) → Among (stripe_of (slot / bucket_slots)) js → IsNoted js reader.old.seat reader.new.seat (λ words. IsSpeltAt words slot → result ≡ seen sought.now.id (key_of sought.now.words) sought.now.moment (slot_at words slot)) }
 {
     let Some(head) = head_at(reader, slot, sought) else {
         return None;
@@ -68,22 +68,16 @@ fn look_bucket<P: Placer>(
     requires young { (glance_of reader.old.seat.me.0).settled ≡ false }
     ensures same { reader.new.seat.table_id ≡ reader.old.seat.table_id }
     ensures young { (glance_of reader.new.seat.me.0).settled ≡ false }
-    ensures noted { (js : List ℕ) → Among (stripe_of bucket) js → IsNoted js reader.old.seat reader.new.seat (λ words. IsSpeltIn words bucket → result ≡ first_seen sought.now.id sought.now.key sought.now.moment (bucket_at words bucket)) }
+    ensures noted { (js : List ℕ) → Among (stripe_of bucket) js → IsNoted js reader.old.seat reader.new.seat (λ words. IsSpeltIn words bucket → result ≡ first_seen sought.now.id (key_of sought.now.words) sought.now.moment (bucket_at words bucket)) }
 {
     let first = BUCKET_SLOTS * bucket;
-    let one = look_slot(reader, first, sought);
-    if one.is_some() {
-        return one;
+    for slot in first..first + BUCKET_SLOTS {
+        let live = look_slot(reader, slot, sought);
+        if live.is_some() {
+            return live;
+        }
     }
-    let two = look_slot(reader, first + 1, sought);
-    if two.is_some() {
-        return two;
-    }
-    let three = look_slot(reader, first + 2, sought);
-    if three.is_some() {
-        return three;
-    }
-    look_slot(reader, first + 3, sought)
+    None
 }
 
 /// Reads the slots of two buckets up to the one that holds the key, and where none does the stash's count.
@@ -98,7 +92,7 @@ pub(crate) fn look<P: Placer>(
     requires young { (glance_of reader.old.seat.me.0).settled ≡ false }
     ensures same { reader.new.seat.table_id ≡ reader.old.seat.table_id }
     ensures young { (glance_of reader.new.seat.me.0).settled ≡ false }
-    ensures noted { (js : List ℕ) → Among (stripe_of one) js → Among (stripe_of two) js → Among common js → IsNoted js reader.old.seat reader.new.seat (λ words. IsSpeltIn words one → IsSpeltIn words two → result ≡ answer (or_else (first_seen sought.now.id sought.now.key sought.now.moment (bucket_at words one)) (first_seen sought.now.id sought.now.key sought.now.moment (bucket_at words two))) (slice_index words 0)) }
+    ensures noted { (js : List ℕ) → Among (stripe_of one) js → Among (stripe_of two) js → Among common js → IsNoted js reader.old.seat reader.new.seat (λ words. IsSpeltIn words one → IsSpeltIn words two → result ≡ answer (or_else (first_seen sought.now.id (key_of sought.now.words) sought.now.moment (bucket_at words one)) (first_seen sought.now.id (key_of sought.now.words) sought.now.moment (bucket_at words two))) (slice_index words 0)) }
 {
     let first = look_bucket(reader, one, sought);
     if first.is_some() {

@@ -4,7 +4,7 @@ ghost use Rattle.jc_place.specs.Place.{IsTableSize};
 ghost use Rattle.jc_stripes.specs.Stripes.{Stayed, glance_of};
 ghost use Rattle.jc_rows.specs.Images.{last_image};
 ghost use Rattle.jc_index.specs.Layout.{table_words};
-ghost use Rattle.jc_index.specs.Spelling.{buckets_of};
+ghost use Rattle.jc_index.specs.Spelling.{buckets_of, key_of};
 ghost use Rattle.jc_index.specs.Found.{found};
 ghost use Rattle.jc_index.specs.declared.lookup.Lookup.TheVariants.{Sure, Unsure};
 ghost use Rattle.jc_index.specs.Versions.{versions_of};
@@ -14,6 +14,7 @@ use crate::look::look;
 use crate::placed::{Placed, buckets_of};
 use crate::sought::Sought;
 use crate::versions::STASH;
+use jc_model::key::Key;
 use jc_place::place::Placer;
 use jc_stripes::board::STRIPE_COUNT;
 use jc_stripes::reader::Reader;
@@ -26,6 +27,8 @@ pub enum Lookup {
 }
 
 /// What the words tell, read between the readings of these versions, and whether the versions were at rest and stayed.
+/// Where it is called it is known how many they are, so there its loops over them are unrolled.
+#[inline(always)]
 fn probe<P: Placer>(
     reader: &mut Reader<Placed<P>>,
     stripes: &[usize],
@@ -34,11 +37,11 @@ fn probe<P: Placer>(
     two: usize,
     sought: &Sought,
 ) -> (bool, Option<bool>)
-    requires law { (l : Placed P) × (reader.old.seat.me.0.law ≡ Some l) × (table_words l.buckets ≡ reader.old.seat.table_id.words) × (buckets_of (P.placing l.placer) l.buckets (sought.now.id, sought.now.key) ≡ (one, two)) × (one < l.buckets) × (two < l.buckets) }
+    requires law { (l : Placed P) × (reader.old.seat.me.0.law ≡ Some l) × (table_words l.buckets ≡ reader.old.seat.table_id.words) × (buckets_of (P.placing l.placer) l.buckets (sought.now.id, key_of sought.now.words) ≡ (one, two)) × (one < l.buckets) × (two < l.buckets) }
     requires stripes { stripes.now ≡ versions_of one two true }
     requires alike { length versions.old ≡ length stripes.now }
     requires rests { (glance_of reader.old.seat.me.0).settled ≡ true }
-    ensures sure { result.0 ≡ true → found (last_image (images_of reader.new)) sought.now.id sought.now.key sought.now.moment ≡ result.1 }
+    ensures sure { result.0 ≡ true → found (last_image (images_of reader.new)) sought.now.id (key_of sought.now.words) sought.now.moment ≡ result.1 }
     ensures stays { result.0 ≡ true → Stayed (begun_of reader.new) (checked_of reader.new) }
     ensures unsure { result.0 ≡ false → Moved reader.new }
     ensures reads { IsLookup (one, two) reader.old reader.new }
@@ -68,18 +71,20 @@ pub(crate) fn look_up<P: Placer>(
     reader: &mut Reader<Placed<P>>,
     placer: &P,
     buckets: u32,
+    key: &Key,
     sought: &Sought,
 ) -> Lookup
+    requires same { key_of sought.now.words ≡ key.now }
     requires law { reader.old.seat.me.0.law ≡ Some record { placer = placer.now; buckets = buckets } }
     requires wide { table_words buckets ≡ reader.old.seat.table_id.words }
     requires size { IsTableSize buckets }
     requires rests { (glance_of reader.old.seat.me.0).settled ≡ true }
-    ensures sure { (b : Bool) → result ≡ Sure b → found (last_image (images_of reader.new)) sought.now.id sought.now.key sought.now.moment ≡ Some b }
+    ensures sure { (b : Bool) → result ≡ Sure b → found (last_image (images_of reader.new)) sought.now.id (key_of sought.now.words) sought.now.moment ≡ Some b }
     ensures stays { (b : Bool) → result ≡ Sure b → Stayed (begun_of reader.new) (checked_of reader.new) }
-    ensures unsure { result ≡ Unsure → Moved reader.new ⊎ (found (last_image (images_of reader.new)) sought.now.id sought.now.key sought.now.moment ≡ None) }
-    ensures reads { IsLookup (buckets_of (P.placing placer.now) buckets (sought.now.id, sought.now.key)) reader.old reader.new }
+    ensures unsure { result ≡ Unsure → Moved reader.new ⊎ (found (last_image (images_of reader.new)) sought.now.id (key_of sought.now.words) sought.now.moment ≡ None) }
+    ensures reads { IsLookup (buckets_of (P.placing placer.now) buckets (sought.now.id, key_of sought.now.words)) reader.old reader.new }
 {
-    let (one, two) = buckets_of(placer, buckets, sought.id, &sought.key);
+    let (one, two) = buckets_of(placer, buckets, sought.id, key);
     let (first, second) = (one % STRIPE_COUNT, two % STRIPE_COUNT);
     if first == second {
         let (same, answer) = probe(reader, &[first, STASH], &mut [0; 2], one, two, sought);

@@ -57,7 +57,13 @@ impl<N: Naming, P: Placer + Drop> Pass<N, P> {
             return Lookup::Unsure;
         }
         let sought = Sought::new(id, key, now);
-        look_up(&mut self.member.reader, &self.placer, self.buckets, &sought)
+        look_up(
+            &mut self.member.reader,
+            &self.placer,
+            self.buckets,
+            key,
+            &sought,
+        )
     }
 
     /// Sees all images of its words, and counts its lookups anew. Where it is refused, every lookup is unsure until it is

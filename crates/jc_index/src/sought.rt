@@ -9,24 +9,25 @@ use jc_model::event::CacheId;
 use jc_model::key::Key;
 use jc_model::limits::KEY_WORDS;
 
-/// A key of a cache, with its words, at a moment.
+/// A key of a cache, by its words, at a moment.
 #[derive(Drop)]
 pub(crate) struct Sought {
     pub(crate) id: CacheId,
-    pub(crate) key: Key,
+    /// The cache's number plus 1, as a slot has it.
+    pub(crate) number: u64,
     pub(crate) words: [u64; KEY_WORDS],
     pub(crate) moment: u64,
-    pub(crate) ghost same: { words ≡ words_of key },
-    pub(crate) ghost exact: { key_of words ≡ key },
+    pub(crate) ghost numbered: { number ≡ id + 1 },
+    pub(crate) ghost spelt: { words ≡ words_of (key_of words) },
 }
 
 impl Sought {
     pub(crate) fn new(id: CacheId, key: &Key, moment: u64) -> Sought
-        ensures { (result.id ≡ id) × (result.key ≡ key.now) × (result.moment ≡ moment) }
+        ensures { (result.id ≡ id) × (key_of result.words ≡ key.now) × (result.moment ≡ moment) }
     {
         Sought {
             id,
-            key: *key,
+            number: u64::from(id.number()) + 1,
             words: words_of_key(key),
             moment,
         }
@@ -37,7 +38,7 @@ impl Sought {
         ensures same { result ≡ true → head % 2 ^ 33 ≡ self.now.id + 1 }
         ensures other { result ≡ false → head % 2 ^ 33 ≢ self.now.id + 1 }
     {
-        head % NEVER == u64::from(self.id.number()) + 1
+        head % NEVER == self.number
     }
 }
 

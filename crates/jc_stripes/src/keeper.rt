@@ -4,6 +4,7 @@ ghost use mathlib.Core.List.{IsPrefix};
 
 use crate::roll::{Add, Hear, Recall, Roll, RollSeat, Share};
 use std::alloc::{AllocError, Global};
+use std::mem::replace;
 
 /// The one that adds.
 #[derive(Drop)]
@@ -60,5 +61,18 @@ impl<T: Drop> Keeper<T> {
         let roll = &self.roll;
         roll.shared.join_seat::<Hear>(&mut self.seat, seat);
         roll.shared.load::<Recall>(&mut self.seat, 0);
+    }
+
+    /// The follower knows all of the list from now on. What it knew is a beginning of it.
+    pub fn renew(&mut self, follower: &mut Follower<T>)
+        requires { follower.old.seat.table_id ≡ self.old.seat.table_id }
+        ensures name { self.new.seat.table_id ≡ self.old.seat.table_id }
+        ensures same { self.new.seat.me.0.items ≡ self.old.seat.me.0.items }
+        ensures table { follower.new.seat.table_id ≡ follower.old.seat.table_id }
+        ensures follower { follower.new.seat.me.0.items ≡ self.old.seat.me.0.items }
+        ensures seen { IsPrefix follower.old.seat.me.0.items self.old.seat.me.0.items }
+    {
+        let old = replace(follower, self.follower());
+        self.hear(old);
     }
 }

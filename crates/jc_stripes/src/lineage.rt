@@ -117,16 +117,32 @@ impl<L: Law + Drop> Lineage<L> {
         ensures refused { IfErr result (λ _. (member.new.reader.seat.me.0 ≡ member.old.reader.seat.me.0) × (member.new.reader.seat.table_id ≡ member.old.reader.seat.table_id)) }
     {
         let newest = self.retired.len();
-        let reader = self.writer.reader()?;
-        let follower = replace(&mut member.follower, self.keeper.follower());
-        self.keeper.hear(follower);
-        let old = replace(&mut member.reader, reader);
         if member.generation < newest {
-            hear_at(&mut self.retired, member.generation, old);
-        } else {
-            self.writer.hear(old);
+            return self.bring(member);
         }
-        member.generation = newest;
+        self.keeper.renew(&mut member.follower);
+        self.writer.renew(&mut member.reader);
+        Ok(())
+    }
+
+    /// A reader at an outgrown table goes on at the newest, with the writer's front. Where it is refused, it stays.
+    fn bring(&mut self, member: &mut Member<L>) -> Result<(), AllocError>
+        requires name { member.old.follower.seat.table_id ≡ self.old.keeper.seat.table_id }
+        requires outgrown { member.old.generation < length self.old.retired.items }
+        ensures name { self.new.keeper.seat.table_id ≡ self.old.keeper.seat.table_id }
+        ensures table { self.new.writer.seat.table_id ≡ self.old.writer.seat.table_id }
+        ensures view { self.new.writer.seat.me.0 ≡ self.old.writer.seat.me.0 }
+        ensures follower { member.new.follower.seat.table_id ≡ member.old.follower.seat.table_id }
+        ensures seen { IfOk result (λ _. IsPrefix member.old.reader.seat.me.0.front self.old.writer.seat.me.0.front) }
+        ensures met { IfOk result (λ _. member.new.reader.seat.me.0 ≡ shared self.old.writer.seat.me.0) }
+        ensures moved { IfOk result (λ _. member.new.reader.seat.table_id ≡ self.old.writer.seat.table_id) }
+        ensures refused { IfErr result (λ _. member.new.reader ≡ member.old.reader) }
+    {
+        let reader = self.writer.reader()?;
+        self.keeper.renew(&mut member.follower);
+        let old = replace(&mut member.reader, reader);
+        hear_at(&mut self.retired, member.generation, old);
+        member.generation = self.retired.len();
         Ok(())
     }
 }

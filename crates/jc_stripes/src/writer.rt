@@ -9,6 +9,7 @@ use crate::board::{Board, COMMON, Hear, Law, Origin, Recall, Share, StripesSeat,
 use crate::reader::Reader;
 use crate::stroke::{fill, open_all, open_one, seal, shut_all, versions_at};
 use std::alloc::{AllocError, Global};
+use std::mem::replace;
 use std::snapshot::Snapshot;
 use std::sync::Arc;
 
@@ -114,13 +115,19 @@ impl<L: Law> Writer<L> {
         Ok(Reader { board, seat })
     }
 
-    /// Takes in a reader: what it has seen is a beginning of the front.
-    pub fn hear(&mut self, reader: Reader<L>)
-        requires { reader.seat.table_id ≡ self.old.seat.table_id }
-        ensures same { (self.new.seat.table_id ≡ self.old.seat.table_id) × (self.new.seat.me.0 ≡ heard self.old.seat.me.0 reader.seat.me.0) }
-        ensures seen { IsPrefix reader.seat.me.0.front self.old.seat.me.0.front }
+    /// The reader has seen the front from now on. Its old seat is taken in: what that had seen is a beginning of the
+    /// front. Nothing is allocated, and no count of owners changes.
+    pub fn renew(&mut self, reader: &mut Reader<L>)
+        requires { reader.old.seat.table_id ≡ self.old.seat.table_id }
+        ensures same { self.new.seat.table_id ≡ self.old.seat.table_id }
+        ensures view { self.new.seat.me.0 ≡ heard self.old.seat.me.0 reader.old.seat.me.0 }
+        ensures table { reader.new.seat.table_id ≡ reader.old.seat.table_id }
+        ensures reader { reader.new.seat.me.0 ≡ shared self.old.seat.me.0 }
+        ensures seen { IsPrefix reader.old.seat.me.0.front self.old.seat.me.0.front }
     {
-        take_in(&self.board, &mut self.seat, reader);
+        let seat = self.board.shared.split_seat::<Share>(&mut self.seat);
+        let old = replace(&mut reader.seat, seat);
+        take_in(&self.board, &mut self.seat, old);
     }
 
     /// Opens the common version for good.
@@ -138,20 +145,15 @@ impl<L: Law> Writer<L> {
 }
 
 /// Joins a reader's seat to the writer's: what it has seen is a beginning of the writer's front.
-fn take_in<L: Law>(board: &Board<L>, seat: &mut StripesSeat<L>, reader: Reader<L>)
+fn take_in<L: Law>(board: &Board<L>, seat: &mut StripesSeat<L>, theirs: StripesSeat<L>)
     requires own { (seat.old.table_id ≡ board.now.shared.table_id) × (0 < seat.old.table_id.words) }
-    requires empty { seat.old.me.1 ≡ [] }
+    requires empty { (seat.old.me.1 ≡ []) × (theirs.me.1 ≡ []) }
     requires writes { IsWriter seat.old.me.0 }
-    requires theirs { reader.seat.table_id ≡ seat.old.table_id }
+    requires theirs { theirs.table_id ≡ seat.old.table_id }
     ensures same { seat.new.table_id ≡ seat.old.table_id }
-    ensures view { seat.new.me ≡ (heard seat.old.me.0 reader.seat.me.0, []) }
-    ensures seen { IsPrefix reader.seat.me.0.front seat.old.me.0.front }
+    ensures view { seat.new.me ≡ (heard seat.old.me.0 theirs.me.0, []) }
+    ensures seen { IsPrefix theirs.me.0.front seat.old.me.0.front }
 {
-    let Reader {
-        board: owner,
-        seat: theirs,
-    } = reader;
-    drop(owner);
     board.shared.join_seat::<Hear>(seat, theirs);
     board.shared.load::<Recall>(seat, 0);
 }
@@ -175,6 +177,8 @@ impl<L: Law> Retired<L> {
         ensures same { (self.new.seat.table_id ≡ self.old.seat.table_id) × (self.new.seat.me.0.front ≡ self.old.seat.me.0.front) }
         ensures seen { IsPrefix reader.seat.me.0.front self.old.seat.me.0.front }
     {
-        take_in(&self.board, &mut self.seat, reader);
+        let Reader { board, seat } = reader;
+        drop(board);
+        take_in(&self.board, &mut self.seat, seat);
     }
 }

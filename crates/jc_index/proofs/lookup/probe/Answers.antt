@@ -4,7 +4,7 @@ use Rattle.jc_index.specs.Versions.{onto, versions_of}
 use Rattle.std.specs.List.{All}
 use mathlib.Core.List.{IsPrefix}
 use Rattle.jc_stripes.specs.Stripes.{Stayed, Front, SomeOdd, last_of, stacked, glance_of, stripes_in}
-use Rattle.jc_index.specs.Spelling.{image_in}
+use Rattle.jc_index.specs.Spelling.{image_in, key_of}
 use Rattle.jc_rows.specs.Images.{Image}
 use Rattle.jc_index.specs.Found.{found}
 use Rattle.jc_index.proofs.Found.{decides, spelt_in}
@@ -50,8 +50,8 @@ returns-clause-sure g c e =
     let long = lawful.spelt.wide in
     let at = spelt_in (last_of front) c.args.one lawful.spelt.coded (omega (arith, long, c.requires.law.4)) in
     let at' = spelt_in (last_of front) c.args.two lawful.spelt.coded (omega (arith, long, c.requires.law.5)) in
-    ap (λ (image : Image). found image c.args.sought.now.id c.args.sought.now.key c.args.sought.now.moment) (last_images front)
-    ∙ (decides (g.P.Placer.placing l.placer) l.buckets (last_of front) lawful c.args.sought.now.id c.args.sought.now.key c.args.sought.now.moment c.args.one c.args.two c.requires.law.3 c.requires.law.4 c.requires.law.5 ∙ sym (k.1 at at'))
+    ap (λ (image : Image). found image c.args.sought.now.id (key_of c.args.sought.now.words) c.args.sought.now.moment) (last_images front)
+    ∙ (decides (g.P.Placer.placing l.placer) l.buckets (last_of front) lawful c.args.sought.now.id (key_of c.args.sought.now.words) c.args.sought.now.moment c.args.one c.args.two c.requires.law.3 c.requires.law.4 c.requires.law.5 ∙ sym (k.1 at at'))
 
 pub returns-clause-stays : goal.returns-clause-stays
 returns-clause-stays g c e =
