@@ -1,7 +1,6 @@
 -- The entries of open calls, and of which history they are.
 use Rattle.std.specs.Prelude.{◌≡◌, ℕ, length, Option, Some, None, slice_get}
 use Rattle.jc_model.specs.declared.event.End.TheVariants.{Waiting}
-use Rattle.jc_model.specs.declared.event.Entry.{Entry}
 use Rattle.jc_model.specs.Legal.{History}
 use Rattle.jc_engine.specs.declared.journal.open_call.OpenCall.{OpenCall}
 

@@ -1,6 +1,6 @@
 //! What a recorded manager keeps of its calls.
 pub mod all_calls;
-mod change;
+pub mod change;
 mod notes;
 mod open_call;
 pub mod open_calls;

@@ -1,5 +1,5 @@
 -- A call from its begin to its entry in the session's list.
-use Rattle.std.proofs.Common.{◌≡◌, ◌⊎◌, ℕ, Bool, List, [], ◌∷◌, ◌++◌, true, false, Option, Result, Ok, Err, inl, inr, refl, sym, ◌∙◌, ap, subst}
+use Rattle.std.proofs.Common.{◌≡◌, ◌⊎◌, ℕ, Bool, List, [], ◌∷◌, ◌++◌, true, false, Option, Some, Result, Ok, Err, inl, inr, refl, sym, ◌∙◌, ap, subst}
 use Rattle.std.specs.Prelude.{slice_get, is_err, OnErr, MatchResult, IfOk, IfErr}
 use Rattle.std.proofs.lemmas.List.Elements.{All-nil, All-push}
 use Rattle.jc_model.specs.declared.call.Answer.{Answer}
@@ -14,7 +14,10 @@ use Rattle.jc_model.specs.declared.event.End.TheVariants as ends
 use Rattle.jc_model.specs.declared.event.Cause.TheVariants as causes
 use Rattle.jc_model.specs.declared.event.Entry.{Entry}
 use Rattle.jc_model.specs.declared.event.Event.TheVariants as event
+use Rattle.jc_engine.specs.Changed.{begun_entry, replied_at_once}
 use Rattle.jc_engine.specs.Recording.{blank}
+use Rattle.jc_engine.specs.Results.{reply_in}
+use Rattle.jc_engine.specs.declared.journal.change.Begun.{Begun}
 use Rattle.jc_shared.specs.declared.fault.CallFault.{CallFault}
 use Rattle.jc_shared.specs.declared.fault.CallFault.TheVariants as faults
 use Rattle.jc_shared.specs.declared.turned.Turned.{Turned}
@@ -24,7 +27,8 @@ use Rattle.jc_hooks.specs.Asking.{states_after}
 use Rattle.jc_shared.specs.declared.hooks.LockedHooks.{LockedHooks}
 use Rattle.jc_shared.specs.Serving.{told_behind, TellsOnce, Tells, TellsOn, Serves}
 use Rattle.jc_shared.specs.Stated.{Stated, AreStated, IsStatedBy}
-use Rattle.jc_shared.specs.Finding.{accepted}
+use Rattle.jc_shared.specs.Finding.{accepted, ended_by}
+use Rattle.jc_shared.specs.Tenures.{step_of}
 use Rattle.jc_shared.specs.Sessions.{Sitting, Sight}
 use Rattle.jc_shared.specs.Living.{Refuses}
 use Rattle.jc_shared.specs.Calls.{Stands, called, IsSameCall, HasEnded, Stays, EndsFaulty, GoesOn, Adds, AddsWaiting, Fails, MayLack, IsBeginFault}
@@ -146,6 +150,31 @@ module _ (configs : List CacheConfig) (stated : List Stated) (old new : Sitting)
   pub added_err : (r : Result Reply CallFault) → MatchResult r (λ reply. Stays configs stated (Replied reply) e new.pass) (λ fault. EndsFaulty configs stated fault e new.pass) → IfErr r (λ fault. Fails configs stated old new id at call fault)
   added_err (Ok reply) h = tt
   added_err (Err fault) h = fails fault h
+
+-- A call that is entered when it has begun.
+
+pub begun_is : (begun : Begun) (session id at : ℕ) (call : Call) → (begun.session ≡ session) × (begun.id ≡ id) × (begun.at ≡ at) → begun.call.value ≡ call → begun_entry begun ≡ blank session id at call
+begun_is begun session id at call numbers same =
+    ap (λ (n : ℕ). blank n begun.id begun.at begun.call.value) numbers.0 ∙ ap (λ (n : ℕ). blank session n begun.at begun.call.value) numbers.1
+    ∙ ap (λ (n : ℕ). blank session id n begun.call.value) numbers.2 ∙ ap (blank session id at) same
+
+-- it had its reply at once
+pub replied_adds : (configs : List CacheConfig) (stated : List Stated) (old new : Sitting) (id at : ℕ) (call : Call) (begun : Begun) (turned : Turned) (second : Option Reply) (reply copy : Reply) → turned ≡ Replied reply → second ≡ Some copy → second ≡ reply_in (step_of turned)
+    → GoesOn configs (blank old.number id at call) turned (ended_by second (blank old.number id at call)) new.pass → begun_entry begun ≡ blank old.number id at call → new.calls ≡ old.calls ++ replied_at_once begun copy ∷ [] → Adds configs stated old new id at call (ends.Replied reply)
+replied_adds configs stated old new id at call begun turned second reply copy turns is copied goes begins added =
+    let both : Some copy ≡ Some reply = sym is ∙ copied ∙ ap (λ (t : Turned). reply_in (step_of t)) turns in
+    let same : copy ≡ reply = cc in
+    let draft : Entry = blank old.number id at call in
+    let e : Entry = record draft { end = ends.Replied copy } in
+    let ends_so : GoesOn configs draft turned e new.pass = subst (λ (r : Option Reply). GoesOn configs draft turned (ended_by r draft) new.pass) is goes in
+    let here : GoesOn configs draft (Replied reply) e new.pass = subst (λ (t : Turned). GoesOn configs draft t e new.pass) turns ends_so in
+    let one_more : new.calls ≡ old.calls ++ e ∷ [] = added ∙ ap (λ (x : Entry). old.calls ++ record x { end = ends.Replied copy } ∷ []) begins in
+    adds configs stated old new id at call draft e refl refl one_more (ends.Replied reply)
+    (record { ended = ap ends.Replied same; stands = here.1; answered = no_answers (slice_get stated e.id) e.call e.answers refl })
+
+-- it waits
+pub waiting_adds : (old new : Sitting) (id at : ℕ) (call : Call) (begun : Begun) → begun_entry begun ≡ blank old.number id at call → new.calls ≡ old.calls ++ begun_entry begun ∷ [] → AddsWaiting old new id at call
+waiting_adds old new id at call begun begins added = record { answers = []; told = []; added = added ∙ ap (λ (x : Entry). old.calls ++ x ∷ []) begins }
 
 -- it did not begin
 pub begin_fails : (configs : List CacheConfig) (stated : List Stated) (old new : Sitting) (id at : ℕ) (call : Call) (draft : Entry) (fault : CallFault) → draft ≡ blank old.number id at call → new ≡ old → IsBeginFault configs draft.id draft.at call fault → Fails configs stated old new id at call fault

@@ -1,11 +1,11 @@
 -- An event on a cache that is not there.
-use Rattle.std.proofs.Common.{◌≡◌, ℕ, Bool, false, List, Option, Some, None, refl, ◌∙◌, ap, is_some, option_map}
+use Rattle.std.proofs.Common.{◌≡◌, ℕ, false, List, Option, Some, None, refl, ◌∙◌, ap, is_some, option_map}
 use Rattle.jc_model.specs.declared.call.Call.{Call}
 use Rattle.jc_model.specs.declared.config.CacheConfig.{CacheConfig}
 use Rattle.jc_model.specs.declared.event.Cause.TheVariants.{NoSuchCache}
 use Rattle.jc_model.specs.declared.event.Event.TheVariants as event
 use Rattle.jc_model.specs.Places.{at_place}
-use Rattle.jc_model.specs.Runs.{Status, live_at}
+use Rattle.jc_model.specs.Runs.{live_at}
 use Rattle.jc_model.specs.Legal.{History, Tells}
 use Rattle.jc_engine.specs.Caches.{Cache, lives_of, status_of}
 use Rattle.jc_engine.proofs.Names.{at_place_map}

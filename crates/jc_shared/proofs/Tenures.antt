@@ -40,7 +40,8 @@ use Rattle.jc_shared.specs.declared.turned.Turned.{Turned}
 use Rattle.jc_shared.specs.declared.turned.Turned.TheVariants.{Asked, Replied}
 use Rattle.jc_shared.specs.Sessions.{Sight, BeginsWith, Sees}
 use Rattle.jc_shared.specs.Calls.{Stands, GoesOn, MayLack, IsBeginFault, called}
-use Rattle.jc_shared.specs.Finding.{fault_of, answer_fault_of, IsOfCall, IsOpen, Turns, IsReplied}
+use Rattle.jc_engine.specs.Results.{reply_in}
+use Rattle.jc_shared.specs.Finding.{fault_of, answer_fault_of, ended_by, turned_of, IsOfCall, IsOpen, Turns, IsReplied}
 use Rattle.jc_shared.specs.Living.{Refuses}
 use Rattle.jc_shared.specs.Pending.{IsRefusedAnswer}
 use Rattle.jc_shared.specs.Tenures.{IsTenure, IsRefusedFor, Stops, step_of}
@@ -118,6 +119,23 @@ resumed_asks lives transcript tells id place there a step m is = at (live_at liv
         let run : Run = answered (run_of k.config s (played e)) e.answers in
         goes_on k.config run (at_each-answered (λ q p. AsksOf e.call q) (λ p r. Unit {0}) (run_of k.config s (played e)) e.answers (whole_asks k.config e.at e.call s))
         (not_refused step m (reply_of k.config k.standing (given_answer a)) is ∙ ap (λ (t : Standing). reply_of k.config t (given_answer a)) (open_stands lives transcript tells id place there k here))
+
+-- the entry and what is told are the step's
+pub turns_into : (e : Entry) (step : Step) (copy : Option Reply) (turned : Turned) → copy ≡ reply_in step → turned ≡ turned_of step → Turns e step turned (ended_by copy e)
+turns_into e step copy turned copied told = subst (λ (t : Turned). Turns e step t (ended_by copy e)) (sym told) (subst (λ (c : Option Reply). Turns e step (turned_of step) (ended_by c e)) (sym copied) (go step))
+  where
+    go : (step : Step) → Turns e step (turned_of step) (ended_by (reply_in step) e)
+    go (Need q) = (refl, refl)
+    go (Done r) = (refl, refl)
+
+-- so do those of a draft that ends by the reply
+pub turns_as : (draft draft' : Entry) (step : Step) (copy : Option Reply) (turned : Turned) → copy ≡ reply_in step → turned ≡ turned_of step → draft' ≡ ended_by copy draft → Turns draft step turned draft'
+turns_as draft draft' step copy turned copied told ends = subst (λ (e : Entry). Turns draft step turned e) (sym ends) (turns_into draft step copy turned copied told)
+
+-- a draft that is the entry of a call that begins, and ends as it
+pub drafted : (configs : List CacheConfig) (draft draft' entry : Entry) (turned : Turned) (copy : Option Reply) (pass : Sight) → draft ≡ entry → draft' ≡ ended_by copy draft → GoesOn configs entry turned (ended_by copy entry) pass → GoesOn configs draft turned draft' pass
+drafted configs draft draft' entry turned copy pass is ends goes =
+    subst (λ (e : Entry). GoesOn configs draft turned e pass) (sym ends) (subst (λ (e : Entry). GoesOn configs e turned (ended_by copy e) pass) (sym is) goes)
 
 -- the step that a tenure tells is the engine's
 turns_step : (draft draft' : Entry) (step : Step) (turned : Turned) → Turns draft step turned draft' → step ≡ step_of turned

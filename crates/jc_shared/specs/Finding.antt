@@ -1,6 +1,7 @@
 -- Where an open call stands in the transcript, and what it is told.
 use Rattle.std.specs.Prelude.{◌≡◌, ℕ, Bool, true, false, List, Option, Some, None, Result, Ok, Err, ⊤}
 use Rattle.jc_model.specs.declared.call.Answer.{Answer}
+use Rattle.jc_model.specs.declared.call.Reply.{Reply}
 use Rattle.jc_model.specs.declared.event.Cause.{Cause}
 use Rattle.jc_model.specs.declared.event.Cause.TheVariants as causes
 use Rattle.jc_shared.specs.declared.fault.CallFault.{CallFault}
@@ -72,6 +73,15 @@ pub record IsOpenFor (lives : Lives) (transcript : History) (draft : Entry) (ans
 pub record IsOpen (lives : Lives) (transcript : History) (draft : Entry) (answers : List Answer) : Type 0 where
   pub place : ℕ
   pub here : IsOpenFor lives transcript draft answers place
+
+abbrev pub turned_of : Step → Turned
+turned_of (Need request) = Asked request
+turned_of (Done reply) = Replied reply
+
+-- an entry with its call's reply, if it has one
+abbrev pub ended_by : Option Reply → Entry → Entry
+ended_by None e = e
+ended_by (Some reply) e = record e { end = end.Replied reply }
 
 -- what a step comes to
 abbrev pub Turns : Entry → Step → Turned → Entry → Type 0

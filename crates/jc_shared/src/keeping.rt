@@ -1,18 +1,30 @@
 //! What a manager keeps of its calls, and each of its sessions of its own.
 ghost use Rattle.jc_shared.specs.Admitting.{after_of_64, after_round};
 
+use crate::session::draft_of;
 use jc_engine::journal::Journal;
 use jc_engine::journal::all_calls::AllCalls;
+use jc_engine::journal::change::Begun;
 use jc_engine::journal::open_calls::OpenCalls;
 use jc_engine::journal::past::Past;
 use jc_model::OutOfMemory;
-use jc_model::event::Entry;
+use jc_model::call::{Call, Reply};
+use jc_model::event::{End, Entry};
+use jc_model::share::Share;
 use std::alloc::Global;
 
 /// A session's own calls, in their order.
 pub trait OwnCalls: Drop {
     ghost use Rattle.std.specs.Prelude.{◌≡◌, ◌∷◌, ◌++◌, List, [], OnOk, IfOk};
+    ghost use Rattle.jc_model.specs.declared.call.Call.{Call as Called};
     ghost use Rattle.jc_model.specs.declared.event.Entry.{Entry};
+    ghost use Rattle.jc_engine.specs.Changed.{begun_entry, replied_at_once};
+
+    /// What is kept of a call that is about to begin, in case it has its reply at once.
+    type Kept: Drop;
+
+    /// This is kept of a call.
+    ghost IsOf: { Self.Kept → Called → Type 0 };
 
     /// Their entries, whether they are in memory or not.
     ghost calls: { Self → List Entry };
@@ -29,10 +41,28 @@ pub trait OwnCalls: Drop {
         ensures same { calls self.new ≡ calls self.old }
         ensures room { OnOk result (HasRoom self.new) };
 
+    /// Makes room for one more, and keeps of its call what an entry needs.
+    fn keep(&mut self, call: &Call) -> Result<Self::Kept, OutOfMemory>
+        ensures same { calls self.new ≡ calls self.old }
+        ensures room { OnOk result (HasRoom self.new) }
+        ensures kept { IfOk result (λ kept. IsOf kept call.now) };
+
     /// One more, the last.
     fn push(&mut self, entry: Entry)
         requires { HasRoom self.old }
         ensures { calls self.new ≡ calls self.old ++ entry ∷ [] };
+
+    /// One more, the last, which had this reply at once.
+    fn push_replied(&mut self, alloc: Global, begun: Begun, kept: Self::Kept, reply: Reply)
+        requires room { HasRoom self.old }
+        requires kept { IsOf kept begun.call.value }
+        ensures { calls self.new ≡ calls self.old ++ replied_at_once begun reply ∷ [] };
+
+    /// One more, the last, which waits.
+    fn push_waiting(&mut self, alloc: Global, begun: Begun, kept: Self::Kept)
+        requires room { HasRoom self.old }
+        requires kept { IsOf kept begun.call.value }
+        ensures { calls self.new ≡ calls self.old ++ begun_entry begun ∷ [] };
 }
 
 /// Entries in memory, with which a manager closes.
@@ -45,8 +75,12 @@ pub struct OwnList {
 const FIRST_CALLS: usize = 16;
 
 impl OwnCalls for OwnList {
-    ghost use Rattle.std.specs.Prelude.{◌<◌};
+    ghost use Rattle.std.specs.Prelude.{◌≡◌, ◌<◌};
     ghost use Rattle.std.specs.Vec.{vec_len, vec_capacity};
+
+    type Kept = Call;
+
+    ghost IsOf = { λ kept call. kept ≡ call };
 
     ghost calls = { λ own. own.entries.items };
 
@@ -61,7 +95,23 @@ impl OwnCalls for OwnList {
         self.entries.reserve(1)
     }
 
+    fn keep(&mut self, call: &Call) -> Result<Call, OutOfMemory> {
+        self.entries.reserve(1)?;
+        call.share()
+    }
+
     fn push(&mut self, entry: Entry) {
+        self.entries.push_reserved(entry);
+    }
+
+    fn push_replied(&mut self, alloc: Global, begun: Begun, kept: Call, reply: Reply) {
+        let mut entry = draft_of(alloc, begun.session, begun.id, begun.at, kept);
+        entry.end = End::Replied(reply);
+        self.entries.push_reserved(entry);
+    }
+
+    fn push_waiting(&mut self, alloc: Global, begun: Begun, kept: Call) {
+        let entry = draft_of(alloc, begun.session, begun.id, begun.at, kept);
         self.entries.push_reserved(entry);
     }
 }
@@ -75,6 +125,10 @@ pub struct OwnPast {
 impl OwnCalls for OwnPast {
     ghost use Rattle.std.specs.Prelude.{⊤};
 
+    type Kept = ();
+
+    ghost IsOf = { λ kept call. ⊤ };
+
     ghost calls = { λ own. own.past.history.entries };
 
     ghost HasRoom = { λ own. ⊤ };
@@ -87,8 +141,20 @@ impl OwnCalls for OwnPast {
         Ok(())
     }
 
+    fn keep(&mut self, _call: &Call) -> Result<(), OutOfMemory> {
+        Ok(())
+    }
+
     fn push(&mut self, entry: Entry) {
         self.past.push(&entry);
+    }
+
+    fn push_replied(&mut self, _alloc: Global, begun: Begun, _kept: (), reply: Reply) {
+        self.past.push_replied(begun, &reply);
+    }
+
+    fn push_waiting(&mut self, _alloc: Global, begun: Begun, _kept: ()) {
+        self.past.push_waiting(begun);
     }
 }
 

@@ -1,6 +1,7 @@
 //! A manager that threads share, its sessions, and the comparison at its close.
 #![tactic(auto)]
 
+mod at_once;
 mod auditing;
 mod brief_lock;
 mod by_hand;

@@ -1,6 +1,6 @@
 //! What lies under the manager's lock: the recorded engine, and which sessions there are. Each tenure begins a call,
 //! brings it on or gives it up, or creates or destroys a cache, and no callback runs in it.
-ghost use Rattle.std.specs.Prelude.{◌≡◌, ◌≢◌, ◌⊎◌, ℕ, Bool, true, false, Ok, None, List, [], ◌∷◌, ◌++◌, IsTrue, IfOk, IfErr, IfSome, OnOk, OnErr, Err, Some, is_some, map, option_map, slice_get};
+ghost use Rattle.std.specs.Prelude.{◌≡◌, ◌⊎◌, ℕ, Bool, true, false, Ok, None, List, [], ◌∷◌, ◌++◌, IsTrue, IfOk, IfErr, IfSome, OnOk, OnErr, Err, Some, is_some};
 ghost use mathlib.Core.List.{IsPrefix};
 ghost use Rattle.jc_model.specs.declared.call.Answer.{Answer as Given};
 ghost use Rattle.jc_model.specs.declared.call.Call.{Call as Called};
@@ -8,7 +8,6 @@ ghost use Rattle.jc_model.specs.declared.event.Cause.TheVariants.{NoSuchCache};
 ghost use Rattle.jc_model.specs.declared.event.End.TheVariants.{Waiting, GivenUp, Replied as RepliedSo};
 ghost use Rattle.jc_model.specs.declared.event.Event.TheVariants.{Begin, Answer as Answered};
 ghost use Rattle.jc_model.specs.declared.event.Outcome.TheVariants.{Step as Stepped};
-ghost use Rattle.jc_model.specs.Legal.{IsLegal};
 ghost use Rattle.jc_model.specs.Places.{at_place};
 ghost use Rattle.jc_model.specs.Runs.{live_at};
 ghost use Rattle.jc_rows.specs.Images.{last_image};
@@ -16,24 +15,22 @@ ghost use Rattle.jc_index.specs.Found.{found};
 ghost use Rattle.jc_engine.specs.Recording.{blank};
 ghost use Rattle.jc_engine.specs.Caches.{lives_of};
 ghost use Rattle.jc_engine.specs.Results.{reply_in};
-ghost use Rattle.jc_shared.specs.Accounts.{Accounts, IsCloseFault, IsCloseRefusal};
 ghost use Rattle.jc_shared.specs.Admitting.{Admits};
 ghost use Rattle.jc_shared.specs.Calls.{Stands, GoesOn, IsBeginFault};
 ghost use Rattle.jc_shared.specs.Living.{IsHeld, IsIdle, HasOpenCall, Refuses, has_live_row};
 ghost use Rattle.jc_shared.specs.Pending.{IsRefusedAnswer};
 ghost use Rattle.jc_shared.specs.Sessions.{BeginsWith, Sees, SeesSome};
-ghost use Rattle.jc_shared.specs.Finding.{fault_of, answer_fault_of, IsOfCall, IsOpen, Turns, IsReplied};
+ghost use Rattle.jc_shared.specs.Finding.{fault_of, answer_fault_of, ended_by, turned_of, IsOfCall, IsOpen, IsReplied};
 ghost use Rattle.jc_shared.specs.Tenures.{IsTenure, IsRefusedCall, Stops, GivesUp, step_of};
 
+mod closing;
 mod living;
 
-use crate::auditing::{Logged, audit};
-use crate::fault::{AnswerFault, CallFault, CloseFault, SessionRefusal};
+use crate::fault::{AnswerFault, CallFault, SessionRefusal};
 use crate::keeping::Keeping;
 use crate::name::Name;
 use crate::tables::{ShownTable, TablePass};
 use crate::turned::Turned;
-use jc_engine::journal::all_calls::AllCalls;
 use jc_engine::recorded::Recorded;
 use jc_model::OutOfMemory;
 use jc_model::call::{Answer, Call, Notice, Reply};
@@ -41,7 +38,6 @@ use jc_model::event::{CacheId, Cause, End, Entry, Step};
 use jc_model::exact::Exact;
 use jc_model::key::Key;
 use jc_model::list::Sequence;
-use jc_model::transcript::Transcript;
 use jc_ring::link_ring::LinkRing;
 use std::marker::PhantomData;
 
@@ -124,19 +120,22 @@ fn keep_left(draft: &mut Entry, left: Sequence<Notice>)
     }
 }
 
-/// What a step comes to. At a reply the entry ends with the second copy.
-fn turned(step: Step, copy: Option<Reply>, draft: &mut Entry) -> Turned
-    requires { copy ≡ reply_in step }
-    ensures { Turns draft.old step result draft.new }
+/// An entry ends with its call's reply, if it has one.
+fn end_by(draft: &mut Entry, reply: Option<Reply>)
+    ensures { draft.new ≡ ended_by reply draft.old }
+{
+    if let Some(reply) = reply {
+        end_with(draft, End::Replied(reply));
+    }
+}
+
+/// What a step comes to.
+fn turned_of(step: Step) -> Turned
+    ensures { result ≡ turned_of step }
 {
     match step {
         Step::Need(request) => Turned::Asked(request),
-        Step::Done(reply) => {
-            if let Some(copy) = copy {
-                end_with(draft, End::Replied(copy));
-            }
-            Turned::Replied(reply)
-        }
+        Step::Done(reply) => Turned::Replied(reply),
     }
 }
 
@@ -197,7 +196,37 @@ impl<N: Name, J: Keeping> Locked<N, J> {
         }
     }
 
-    /// Begins the draft's call. At the reply the pass sees what it has changed.
+    /// Begins a session's call. At the reply, of which the second part is a copy, the pass sees what it has changed.
+    pub(crate) fn begin_call(
+        &mut self,
+        session: u32,
+        id: CacheId,
+        now: u64,
+        call: Call,
+        pass: &mut TablePass<N>,
+    ) -> Result<(Turned, Option<Reply>), CallFault>
+        ensures ok { IfOk result (λ it. GoesOn N.configs (blank session id now call) it.0 (ended_by it.1 (blank session id now call)) pass.new) }
+        ensures copy { IfOk result (λ it. it.1 ≡ reply_in (step_of it.0)) }
+        ensures unseen { IfOk result (λ it. IsReplied it.0 ⊎ (pass.new ≡ pass.old)) }
+        ensures tenure { IfOk result (λ it. IsTenure self.old.recorded self.new.recorded session (Begin id now call) (Stepped (step_of it.0))) }
+        ensures front { IsPrefix pass.old.images pass.new.images }
+        ensures err { IfErr result (λ fault. IsBeginFault N.configs id now call fault) }
+        ensures refused { IfErr result (λ fault. IsRefusedCall (lives_of self.old.recorded.caches) (Begin id now call) fault) }
+        ensures same { OnErr result ((self.new.recorded ≡ self.old.recorded) × (pass.new ≡ pass.old)) }
+        ensures kept { (self.new.given ≡ self.old.given) × (self.new.closed ≡ self.old.closed) }
+    {
+        match self.recorded.begin(session, id, now, call) {
+            Ok(pair) => {
+                let (step, copy) = pair;
+                let turned = turned_of(step);
+                self.show_reply(&turned, pass);
+                Ok((turned, copy))
+            }
+            Err((cause, _)) => Err(fault_of(cause)),
+        }
+    }
+
+    /// Begins the draft's call. At the reply the draft ends with it.
     pub(crate) fn begin(
         &mut self,
         draft: &mut Entry,
@@ -214,14 +243,13 @@ impl<N: Name, J: Keeping> Locked<N, J> {
         ensures same { OnErr result ((self.new.recorded ≡ self.old.recorded) × (draft.new ≡ draft.old) × (pass.new ≡ pass.old)) }
         ensures kept { (self.new.given ≡ self.old.given) × (self.new.closed ≡ self.old.closed) }
     {
-        match self.recorded.begin(draft.session, draft.id, draft.at, call) {
-            Ok(pair) => {
-                let (step, copy) = pair;
-                let turned = turned(step, copy, draft);
-                self.show_reply(&turned, pass);
+        let (session, id, now) = (draft.session, draft.id, draft.at);
+        match self.begin_call(session, id, now, call, pass) {
+            Ok((turned, copy)) => {
+                end_by(draft, copy);
                 Ok(turned)
             }
-            Err((cause, _)) => Err(fault_of(cause)),
+            Err(fault) => Err(fault),
         }
     }
 
@@ -253,7 +281,8 @@ impl<N: Name, J: Keeping> Locked<N, J> {
         match self.recorded.resume(draft.id, answer) {
             Ok(pair) => {
                 let (step, copy) = pair;
-                let turned = turned(step, copy, draft);
+                end_by(draft, copy);
+                let turned = turned_of(step);
                 self.show_reply(&turned, pass);
                 Ok(turned)
             }
@@ -350,32 +379,5 @@ impl<N: Name, J: Keeping> Locked<N, J> {
             Ok(pass) => Ok((number, pass)),
             Err(_) => Err(SessionRefusal::OutOfMemory),
         }
-    }
-}
-
-impl<N: Name> Locked<N, AllCalls> {
-    /// Closes the manager, where the logs account for the transcript, and hands the transcript out.
-    pub(crate) fn finish<S: Logged>(&mut self, logs: &[S]) -> Result<Transcript, CloseFault>
-        ensures legal { IfOk result (λ t. IsLegal t) }
-        ensures begins { IfOk result (λ t. BeginsWith N.configs t) }
-        ensures accounts { IfOk result (λ t. Accounts self.old.given (map S.log logs.now) t.entries) }
-        ensures whole { IfOk result (λ t. t ≡ self.old.recorded.transcript) }
-        ensures refused { IfErr result (λ f. IsCloseRefusal N.configs (map S.log logs.now) f) }
-        ensures fault { self.old.closed ≡ false → IfErr result (λ f. IsCloseFault self.old.given (map S.log logs.now) self.old.recorded.transcript.entries f) }
-        ensures closed { OnOk result ((self.old.closed ≡ false) × (self.new.closed ≡ true)) }
-        ensures kept { (self.new.recorded ≡ self.old.recorded) × (self.new.given ≡ self.old.given) }
-        ensures again { self.old.closed ≡ true → result ≡ Err CloseFault.Missing }
-        ensures same { OnErr result (self.new ≡ self.old) }
-    {
-        if self.closed {
-            return Err(CloseFault::Missing);
-        }
-        let transcript = self.recorded.transcript();
-        audit(transcript, logs, self.given)?;
-        let Ok(copy) = transcript.share() else {
-            return Err(CloseFault::OutOfMemory);
-        };
-        self.closed = true;
-        Ok(copy)
     }
 }

@@ -199,10 +199,7 @@ impl<'a, N: Name, L: Loader, W: Writer, P: Processor, K: Hearer, J: Keeping> Ses
                 let mut locked = lock.lock(rt);
                 self.make(rt, asked, &mut *locked, id, now, call)
             }
-            None => {
-                let mut none = LockedHooks::none(manager.alloc);
-                self.make(rt, asked, &mut none, id, now, call)
-            }
+            None => self.make_at_once(rt, asked, id, now, call),
         }
     }
 

@@ -11,6 +11,7 @@ ghost use Rattle.jc_engine.specs.Journals.{IsKept, KeepsOthers, is_replied};
 ghost use Rattle.jc_engine.specs.Opens.{AreOpen, place_of};
 
 use super::Journal;
+use super::change::Begun;
 use super::notes::{blank, put_of};
 use super::open_call::{OpenCall, add_answer, take_answer, write_given_up, write_outcome};
 use super::past::Past;
@@ -35,6 +36,13 @@ pub struct Beginning {
 }
 
 impl Beginning {
+    /// What a history tells of it.
+    fn begun(&self) -> Begun
+        ensures { blank result.session result.id result.at result.call.value ≡ blank self.now.session self.now.id self.now.at self.now.call }
+    {
+        Begun::of(self.session, self.id, self.at, &self.call)
+    }
+
     /// Its entry.
     fn into_entry(self) -> Entry
         ensures { result ≡ blank self.session self.id self.at self.call }
@@ -155,7 +163,7 @@ impl Journal for OpenCalls {
     fn begin(&mut self, id: CacheId, held: Beginning, advance: Advance) -> (Step, Option<Reply>) {
         match advance {
             Advance::Replied(reply) => {
-                self.past.push_replied(&held, reply.first());
+                self.past.push_replied(held.begun(), reply.first());
                 self.begun += 1;
                 let (reply, copy, kept) = reply.into_three();
                 drop((held, kept));

@@ -1,11 +1,10 @@
 //! A history that exists in proofs alone: it is made of its changes, and none of them is in memory.
 ghost use Rattle.std.specs.Prelude.{◌≡◌, ◌-◌, ◌∷◌, ◌++◌, [], length, take, slice_set};
 ghost use Rattle.jc_engine.specs.Recording.{with_life};
-ghost use Rattle.jc_engine.specs.Changed.{changed, replied_at_once};
+ghost use Rattle.jc_engine.specs.Changed.{begun_entry, changed, replied_at_once};
 ghost use Rattle.jc_engine.specs.Past.{nothing};
 
-use crate::journal::change::Change;
-use crate::journal::open_calls::Beginning;
+use crate::journal::change::{Begun, Change};
 use jc_model::call::Reply;
 use jc_model::config::CacheConfig;
 use jc_model::event::{CacheId, Entry};
@@ -65,11 +64,18 @@ impl Past {
         self.change(Change::Entered(Snapshot::of(entry)));
     }
 
-    /// A call more, the last, which had this reply at once.
-    pub(crate) fn push_replied(&mut self, begun: &Beginning, reply: &Reply)
-        ensures { self.new.history ≡ record self.old.history { entries = self.old.history.entries ++ replied_at_once begun.now reply.now ∷ [] } }
+    /// A call more, the last, which waits.
+    pub fn push_waiting(&mut self, begun: Begun)
+        ensures { self.new.history ≡ record self.old.history { entries = self.old.history.entries ++ begun_entry begun ∷ [] } }
     {
-        self.change(Change::Replied(Snapshot::of(begun), Snapshot::of(reply)));
+        self.change(Change::Waits(Snapshot::of(&begun)));
+    }
+
+    /// A call more, the last, which had this reply at once.
+    pub fn push_replied(&mut self, begun: Begun, reply: &Reply)
+        ensures { self.new.history ≡ record self.old.history { entries = self.old.history.entries ++ replied_at_once begun reply.now ∷ [] } }
+    {
+        self.change(Change::Replied(Snapshot::of(&begun), Snapshot::of(reply)));
     }
 
     /// The call at a place has this entry now.

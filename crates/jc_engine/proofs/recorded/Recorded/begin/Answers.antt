@@ -1,4 +1,4 @@
-use Rattle.std.proofs.Common.{◌≡◌, ◌++◌, ◌∷◌, [], ap, refl}
+use Rattle.std.proofs.Common.{◌≡◌, ◌++◌, ◌∷◌, [], refl}
 use Rattle.jc_engine.proofs.Names.{Entry, at_place, History, with_outcome, step_of, blank, with_entries, Stepped}
 use Rattle.jc_engine.specs.Recording.{CanTell}
 use Rattle.jc_engine.proofs.Recordings.{begun, can_tell_by, keeps_over}

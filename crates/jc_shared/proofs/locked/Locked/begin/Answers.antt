@@ -1,38 +1,8 @@
-use Rattle.jc_model.specs.declared.event.Event.TheVariants as event
-use Rattle.jc_engine.specs.Caches.{lives_of}
-use Rattle.jc_engine.specs.Results.{of_recorded_begin}
-use Rattle.jc_model.specs.Runs.{begins}
-use Rattle.jc_shared.proofs.Tenures.{still_begins, begun_asks, begun_live, begin_faults, begun_goes_on, is_tenure}
+use Rattle.jc_engine.specs.Recording.{blank}
+use Rattle.jc_shared.proofs.Tenures.{drafted}
 use Rattle.jc_shared.proofs.locked.Locked.begin.Goals as goal
-
-pub invariant_of-self : goal.invariant_of-self
-invariant_of-self g c =
-    let old = c.args.self.now.recorded in
-    let new = c.begin.new.self in
-    let draft = c.args.draft.now in
-    record { begins = still_begins g.N.Name.configs old.transcript new.transcript draft.session draft.id (begins draft.at c.args.call) (of_recorded_begin c.begin.result) c.args.self.now.begins c.begin.ensures.transcript }
 
 pub returns-in-Ok-clause-ok : goal.returns-in-Ok-clause-ok
 returns-in-Ok-clause-ok g c =
-    let old = c.args.self.now.recorded in
-    let new = c.begin.new.self in
     let draft = c.args.draft.now in
-    begun_goes_on g.N.Name.configs old.transcript new.transcript draft c.turned-turned.new.draft c.show_reply.new.pass c.args.call c.in-Ok.pair.0 c.turned-turned.result
-    c.requires c.turned-turned.ensures c.in-Ok.ensures.told.1.legal
-    (still_begins g.N.Name.configs old.transcript new.transcript draft.session draft.id (begins draft.at c.args.call) (of_recorded_begin c.begin.result) c.args.self.now.begins c.begin.ensures.transcript)
-    (lives_of new.caches) (begun_live (lives_of old.caches) (lives_of new.caches) draft.id draft.at c.args.call c.in-Ok.pair.0 _ c.in-Ok.ensures.outcome c.in-Ok.ensures.lives)
-    c.show_reply.ensures.sees c.in-Ok.ensures.transcript (begun_asks (lives_of old.caches) draft.id draft.at c.args.call c.in-Ok.pair.0 _ c.in-Ok.ensures.outcome)
-
-pub returns-in-Ok-clause-tenure : goal.returns-in-Ok-clause-tenure
-returns-in-Ok-clause-tenure g c =
-    let draft = c.args.draft.now in
-    is_tenure c.args.self.now.recorded c.begin.new.self c.show_reply.new.self.recorded draft.session (event.Begin draft.id draft.at c.args.call) c.in-Ok.pair.0 c.turned-turned.result draft c.turned-turned.new.draft
-    c.turned-turned.ensures c.show_reply.ensures.same.0 c.in-Ok.ensures.outcome c.in-Ok.ensures.transcript c.in-Ok.ensures.lives
-
-pub returns-clause-err : goal.returns-clause-err
-returns-clause-err g c =
-    let old = c.args.self.now.recorded in
-    rw c.fault_of.ensures (begin_faults (lives_of old.caches) g.N.Name.configs old.transcript c.args.self.now.begins c.in-Err.ensures.told.0 c.args.draft.now.id c.args.draft.now.at c.args.call c.in-Err.cause c.in-Err.ensures.outcome)
-
-pub returns-clause-refused : goal.returns-clause-refused
-returns-clause-refused g c = record { cause = c.in-Err.cause; told = c.fault_of.ensures; refusal = c.in-Err.ensures.outcome }
+    drafted g.N.Name.configs draft c.end_by.new.draft (blank draft.session draft.id draft.at c.args.call) c.in-Ok.turned c.in-Ok.copy c.begin_call.new.pass c.requires c.end_by.ensures c.in-Ok.ensures.ok

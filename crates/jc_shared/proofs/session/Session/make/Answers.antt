@@ -5,7 +5,7 @@ use Rattle.jc_model.specs.Runs.{has_processor}
 use Rattle.jc_engine.specs.Recording.{blank}
 use Rattle.jc_shared.specs.Calls.{IsSameCall}
 use Rattle.jc_shared.specs.Sessions.{Sitting}
-use Rattle.jc_shared.proofs.Carrying.{begun_same, same_call, added_ok, added_err, begin_fails, not_accepted, told_or_gone, unaccepted_fails}
+use Rattle.jc_shared.proofs.Carrying.{begun_same, same_call, added_ok, added_err, not_accepted, told_or_gone, unaccepted_fails}
 use Rattle.jc_shared.proofs.session.Session.make.Goals as goal
 
 pub returns-clause-ok : goal.returns-clause-ok

@@ -1,4 +1,4 @@
-use Rattle.std.proofs.Common.{◌≡◌, ◌∙◌, ap, sym, subst, rules, Some, refl, nat_eq}
+use Rattle.std.proofs.Common.{◌≡◌, ◌∙◌, ap, sym, rules, Some, nat_eq}
 use Rattle.jc_engine.proofs.Names.{get, Entry, with_answer}
 use Rattle.jc_engine.specs.declared.journal.open_call.OpenCall.{OpenCall}
 use Rattle.jc_engine.proofs.Numbered.{puts_for}

@@ -1,5 +1,5 @@
 use Rattle.std.proofs.Common.{◌≡◌, ◌∙◌, ap, sym, Some, nat_eq}
-use Rattle.jc_engine.proofs.Names.{get, Entry, Notice, with_outcome, left_in, GivenUp}
+use Rattle.jc_engine.proofs.Names.{get, Entry, with_outcome, left_in, GivenUp}
 use Rattle.jc_engine.proofs.Numbered.{puts_for}
 use Rattle.jc_engine.proofs.Opens.{kept_call, goes_open}
 use Rattle.jc_engine.proofs.journal.open_calls.OpenCallsJournal.give_up.Goals as goal

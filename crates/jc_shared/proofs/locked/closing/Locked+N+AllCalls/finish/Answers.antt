@@ -4,7 +4,7 @@ use Rattle.jc_model.specs.Legal.{History, IsLegal}
 use Rattle.jc_shared.specs.Accounts.{IsCloseRefusal}
 use Rattle.jc_shared.specs.Sessions.{BeginsWith}
 use Rattle.jc_shared.proofs.Comparing.{cannot_close, passed_on}
-use Rattle.jc_shared.proofs.locked.Locked+N+AllCalls.finish.Goals as goal
+use Rattle.jc_shared.proofs.locked.closing.Locked+N+AllCalls.finish.Goals as goal
 
 pub returns-in_err-audit-clause-refused : goal.returns-in_err-audit-clause-refused
 returns-in_err-audit-clause-refused g c =

@@ -1,0 +1,79 @@
+//! Calls on caches without callbacks. They have their reply at once, so no entry is made before it.
+ghost use Rattle.std.specs.Prelude.{◌≡◌, Some, IfOk, IfErr, length, slice_get};
+ghost use mathlib.Core.List.{IsPrefix};
+ghost use Rattle.jc_model.specs.declared.config.CacheConfig.{CacheConfig};
+ghost use Rattle.jc_model.specs.declared.event.End.TheVariants.{Replied};
+ghost use Rattle.jc_shared.specs.Calls.{Adds, Fails, Lacks, TellsLack};
+
+use crate::fault::CallFault;
+use crate::hooks::SharedHooks;
+use crate::keeping::{Keeping, OwnCalls};
+use crate::name::Name;
+use crate::session::Session;
+use crate::turned::Turned;
+use jc_engine::journal::change::Begun;
+use jc_hooks::{Hearer, Loader, Processor, Writer};
+use jc_model::call::{Call, Reply};
+use jc_model::event::CacheId;
+use std::sync::Wait;
+
+impl<'a, N: Name, L: Loader, W: Writer, P: Processor, K: Hearer, J: Keeping> Session<
+    'a,
+    N,
+    L,
+    W,
+    P,
+    K,
+    J,
+> {
+    /// Makes a call on a cache of the opening without callbacks, and so without processors, as `call`.
+    pub(crate) fn make_at_once<R: Wait>(
+        &mut self,
+        rt: &R,
+        asked: &SharedHooks<L, P>,
+        id: CacheId,
+        now: u64,
+        call: Call,
+    ) -> Result<Reply, CallFault>
+        requires counted { (c : CacheConfig) → slice_get N.configs id ≡ Some c → length c.processors ≡ length asked.now.processors.items }
+        ensures number { self.new.number ≡ self.old.number }
+        ensures ok { IfOk result (λ reply. Adds N.configs N.stated self.old self.new id now call (Replied reply)) }
+        ensures refused { Lacks N.configs id call → TellsLack result × (self.new ≡ self.old) }
+        ensures err { IfErr result (λ fault. Fails N.configs N.stated self.old self.new id now call fault) }
+        ensures front { IsPrefix self.old.pass.images self.new.pass.images }
+    {
+        let manager = self.manager;
+        let accepted = asked.accept(&call);
+        if let Err(fault) = accepted {
+            drop(call);
+            return Err(manager.lacking(rt, id, fault));
+        }
+        let kept = self.own.keep(&call);
+        let Ok(kept) = kept else {
+            drop(call);
+            return Err(CallFault::OutOfMemory);
+        };
+        let begun = Begun::of(self.number, id, now, &call);
+        let came = manager
+            .locked
+            .lock(rt)
+            .begin_call(self.number, id, now, call, &mut self.pass);
+        let (turned, copy) = match came {
+            Ok(pair) => pair,
+            Err(fault) => return Err(fault),
+        };
+        match turned {
+            Turned::Replied(reply) => match copy {
+                Some(copy) => {
+                    self.own.push_replied(manager.alloc, begun, kept, copy);
+                    Ok(reply)
+                }
+                None => unreachable!(),
+            },
+            Turned::Asked(_) => {
+                self.own.push_waiting(manager.alloc, begun, kept);
+                Err(CallFault::Overtaken)
+            }
+        }
+    }
+}
