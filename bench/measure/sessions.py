@@ -68,13 +68,19 @@ def our_words(jc_bench, case, tries):
     return [jc_bench, case.kind, *(word for name, size in sizes.items() for word in (f"--{name}", str(size)))]
 
 
+def our_other_ways(ours):
+    """The words for managers that keep their open calls alone: one, and two, each thread on a cache of its own."""
+    return {"open calls": [*ours, "--open"], "two managers": [*ours, "--caches", "4", "--apart", "--shards"]}
+
+
 def peer_words(words, case, tries):
     return [*words, case.kind, *(str(it) for it in (case.rows, case.threads, case.writers, tries))]
 
 
 def lines_of(bench, case):
     tries = case.tries(bench.short)
-    every = {OURS: our_words(bench.tools.jc_bench, case, tries)}
+    ours = our_words(bench.tools.jc_bench, case, tries)
+    every = {OURS: ours} | ({} if case.kind in LOOKUPS else our_other_ways(ours))
     every |= {name: peer_words(words, case, tries) for name, words in bench.tools.maps.items()}
     contenders = {name: lambda words=words: did(words) for name, words in every.items()}
     rounds = interleaved(str(case), contenders, bench.repetitions)

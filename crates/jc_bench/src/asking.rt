@@ -1,11 +1,11 @@
 //! What one thread does, and what comes of it.
-use crate::caches::{Seat, put};
+use crate::caches::put;
+use crate::seats::Seats;
 use crate::words::Kind;
 use jc_index::lookup::Lookup;
 use jc_model::call::Call;
-use jc_model::event::CacheId;
 use jc_model::key::Key;
-use jc_shared::{Keeping, Name};
+use jc_shards::Caches;
 use std::alloc::Global;
 use std::sync::Wait;
 use std::sync::atomic::{AtomicU32, Ordering};
@@ -78,12 +78,12 @@ fn looked_up(lookup: Lookup) -> Outcome {
     }
 }
 
-fn ask<N: Name, J: Keeping, R: Wait>(
+fn ask<C: Caches, R: Wait>(
     rt: &R,
     alloc: Global,
-    seat: &mut Seat<'_, N, J>,
+    seat: &mut C,
     kind: Kind,
-    cache: CacheId,
+    cache: C::Id,
     key: &Key,
 ) -> Outcome {
     match kind {
@@ -109,9 +109,9 @@ pub struct Span {
 }
 
 /// The cache that a number picks, by its uppermost bits.
-fn cache_picked(caches: Span, number: u64) -> CacheId {
+fn cache_picked(caches: Span, number: u64) -> u32 {
     let place = ((number >> 48) % caches.count.max(1) as u64) as u32;
-    CacheId::new(caches.first.wrapping_add(place))
+    caches.first.wrapping_add(place)
 }
 
 /// The key that a number picks, by its upper bits.
@@ -124,10 +124,10 @@ fn picked(keys: &[Key], number: u64) -> Option<&Key> {
 }
 
 /// Does it so often, each time for one of the keys of one of the caches, picked by numbers that follow `first`.
-pub fn ask_often<N: Name, J: Keeping, R: Wait>(
+pub fn ask_often<S: Seats, R: Wait>(
     rt: &R,
     alloc: Global,
-    seat: &mut Seat<'_, N, J>,
+    seat: &mut S::Seat,
     kind: Kind,
     (caches, keys): (Span, &[Key]),
     calls: u32,
@@ -138,22 +138,23 @@ pub fn ask_often<N: Name, J: Keeping, R: Wait>(
     for _ in 0..calls {
         number = following(number);
         if let Some(key) = picked(keys, number) {
-            counts.add(ask(rt, alloc, seat, kind, cache_picked(caches, number), key));
+            let cache = S::id(cache_picked(caches, number));
+            counts.add(ask(rt, alloc, seat, kind, cache, key));
         }
     }
 }
 
 /// Puts one of its keys and removes another, in turn, while any other thread is busy.
-pub fn write_meanwhile<N: Name, J: Keeping, R: Wait>(
+pub fn write_meanwhile<C: Caches, R: Wait>(
     rt: &R,
     alloc: Global,
-    seat: &mut Seat<'_, N, J>,
+    seat: &mut C,
+    cache: C::Id,
     keys: &[Key],
     busy: &AtomicU32,
     counts: &mut Counts,
 ) {
     let half = WRITTEN as u64 / 2;
-    let cache = CacheId::new(0);
     for round in 0..ROUNDS {
         if busy.load(Ordering::SeqCst) == 0 {
             return;

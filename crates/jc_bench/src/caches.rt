@@ -1,34 +1,27 @@
-//! The manager that is measured: caches of the program's kind without callbacks, filled.
+//! The managers that are measured: caches without callbacks, filled.
 use crate::fault::Fault;
+use crate::seats::Seats;
 use crate::words::Size;
 use jc_config::plain_cache;
-use jc_hooks::CacheHooks;
-use jc_hooks::program::{CheckWriter, EchoLoader, ProgramHooks, ProgramListener, ProgramProcessor};
+use jc_hooks::{Unasked, UnaskedHooks, hooks_by_hand};
 use jc_model::call::Call;
 use jc_model::config::Policy;
-use jc_model::event::CacheId;
 use jc_model::key::Key;
 use jc_model::value::Value;
-use jc_shared::{Keeping, Manager, Name, Session, Shared};
+use jc_shards::Caches;
+use jc_shared::{Keeping, OpenCalls, Shared};
 use std::alloc::Global;
 use std::sync::Wait;
 
 /// A manager before it has a name.
-pub type Unnamed<J> = Shared<EchoLoader, CheckWriter, ProgramProcessor, ProgramListener, J>;
+pub type Unnamed<J> = Shared<Unasked, Unasked, Unasked, Unasked, J>;
 
-/// The manager.
-pub type Caches<N, J> = Manager<N, EchoLoader, CheckWriter, ProgramProcessor, ProgramListener, J>;
-
-/// A session of it.
-pub type Seat<'a, N, J> = Session<
-    'a,
-    N,
-    EchoLoader,
-    CheckWriter,
-    ProgramProcessor,
-    ProgramListener,
-    J,
->;
+/// Two managers before they have names, each of which keeps its open calls alone.
+#[derive(Drop)]
+pub struct Unnamed2 {
+    pub first: Unnamed<OpenCalls>,
+    pub second: Unnamed<OpenCalls>,
+}
 
 /// The most rows that all caches may have together.
 const CAPACITY: u32 = 262_144;
@@ -46,17 +39,22 @@ static STASHED: [&str; 12] = [
 pub fn opened<J: Keeping>(alloc: Global, caches: u32) -> Result<Unnamed<J>, Fault> {
     let capacity = MOST_ROWS.min(CAPACITY / caches.max(1));
     let mut configs = Vec::new(alloc);
-    let mut hooks: Vec<ProgramHooks> = Vec::new(alloc);
+    let mut hooks: Vec<UnaskedHooks> = Vec::new(alloc);
     for name in numbered(alloc, "cache", caches)? {
-        configs.push(plain_cache(alloc, name, capacity, Policy::Eternal))?;
-        hooks.push(CacheHooks {
-            loader: None,
-            writer: None,
-            processors: Vec::new(alloc),
-            listeners: Vec::new(alloc),
-        })?;
+        let config = plain_cache(alloc, name, capacity, Policy::Eternal);
+        hooks.push(hooks_by_hand(alloc, &config)?)?;
+        configs.push(config)?;
     }
     Ok(Shared::open(alloc, configs, hooks, 0)?)
+}
+
+/// Two of them, between which so many caches are dealt out.
+pub fn opened_two(alloc: Global, caches: u32) -> Result<Unnamed2, Fault> {
+    let each = caches.div_ceil(2);
+    Ok(Unnamed2 {
+        first: opened(alloc, each)?,
+        second: opened(alloc, each)?,
+    })
 }
 
 /// The keys with this front and the numbers from 0 on.
@@ -70,11 +68,11 @@ pub fn numbered(alloc: Global, front: &str, count: u32) -> Result<Vec<Key>, Faul
 }
 
 /// Puts a value of one byte.
-pub fn put<N: Name, J: Keeping, R: Wait>(
+pub fn put<C: Caches, R: Wait>(
     rt: &R,
     alloc: Global,
-    seat: &mut Seat<'_, N, J>,
-    cache: CacheId,
+    seat: &mut C,
+    cache: C::Id,
     key: &Key,
 ) -> Result<(), Fault> {
     let value = Value::new(alloc, b"v".to_vec(alloc)?)?;
@@ -83,23 +81,22 @@ pub fn put<N: Name, J: Keeping, R: Wait>(
 }
 
 /// Puts the rows that a run begins with.
-pub fn fill<N: Name, J: Keeping, R: Wait>(
+pub fn fill<S: Seats, R: Wait>(
     rt: &R,
     alloc: Global,
-    manager: &Caches<N, J>,
+    seat: &mut S::Seat,
     size: Size,
 ) -> Result<(), Fault> {
-    let mut seat = manager.session(rt)?;
     if size.stashed {
         for text in &STASHED {
             let key = Key::from_text(text)?;
-            put(rt, alloc, &mut seat, CacheId::new(0), &key)?;
+            put(rt, alloc, seat, S::id(0), &key)?;
         }
     }
     let keys = numbered(alloc, "key", size.rows)?;
     for cache in 0..size.caches {
         for key in &keys {
-            put(rt, alloc, &mut seat, CacheId::new(cache), key)?;
+            put(rt, alloc, seat, S::id(cache), key)?;
         }
     }
     Ok(())

@@ -1,16 +1,16 @@
 //! The threads of a run, each with a session of its own.
-ghost use Rattle.std.specs.Prelude.{◌≡◌, map};
-ghost use Rattle.jc_hooks.specs.Program.{echoed};
-ghost use Rattle.jc_hooks.specs.Processors.{verdict_by};
+ghost use Rattle.std.specs.Prelude.{◌≡◌, Err, map};
+ghost use Rattle.jc_hooks.specs.declared.loader.Loaded.TheVariants.{Failed};
 ghost use Rattle.jc_shared.specs.Stated.{stated_by};
 
 use crate::asking::{Counts, Span, WRITTEN, ask_often, write_meanwhile};
-use crate::caches::{Caches, Unnamed, fill, numbered, opened};
+use crate::caches::{Unnamed, Unnamed2, fill, numbered, opened, opened_two};
 use crate::fault::Fault;
+use crate::seats::{Both, One, Seats};
 use crate::timing::Moment;
-use crate::words::{Kind, Size};
+use crate::words::{Kind, Managers, Size};
 use jc_model::key::Key;
-use jc_shared::{AllCalls, Keeping, Name, OpenCalls};
+use jc_shared::{AllCalls, Name, OpenCalls};
 use std::alloc::Global;
 use std::marker::Brand;
 use std::sync::Wait;
@@ -20,8 +20,8 @@ use std::time::{Clock, CpuClock};
 
 /// What one thread is given.
 #[derive(Drop)]
-struct Job<'a, N: Name, J: Keeping> {
-    manager: &'a Caches<N, J>,
+struct Job<'a, S: Seats> {
+    seats: &'a S,
     kind: Kind,
     caches: Span,
     keys: &'a [Key],
@@ -41,29 +41,24 @@ pub struct Done {
 }
 
 /// Asks so often in a session of its own. Where none is given any more, it says so.
-fn ask_in_session<N: Name, J: Keeping, R: Wait>(
+fn ask_in_session<S: Seats, R: Wait>(
     rt: &R,
     alloc: Global,
-    job: &Job<'_, N, J>,
+    job: &Job<'_, S>,
     calls: u32,
     first: u64,
     counts: &mut Counts,
 ) -> bool {
-    let Ok(mut seat) = job.manager.session(rt) else {
+    let Ok(mut seat) = job.seats.seat(rt) else {
         return false;
     };
-    let keys = (job.caches, job.keys);
-    ask_often(rt, alloc, &mut seat, job.kind, keys, calls, first, counts);
+    let asked = (job.caches, job.keys);
+    ask_often::<S, R>(rt, alloc, &mut seat, job.kind, asked, calls, first, counts);
     true
 }
 
 /// Asks in its sessions, one after the other.
-fn ask_in_turn<N: Name, J: Keeping, R: Wait>(
-    rt: &R,
-    alloc: Global,
-    job: &Job<'_, N, J>,
-    counts: &mut Counts,
-) {
+fn ask_in_turn<S: Seats, R: Wait>(rt: &R, alloc: Global, job: &Job<'_, S>, counts: &mut Counts) {
     let calls = job.size.calls / job.size.sessions.max(1);
     for turn in 0..job.size.sessions {
         let first = job.first.wrapping_add(turn as u64);
@@ -74,22 +69,18 @@ fn ask_in_turn<N: Name, J: Keeping, R: Wait>(
 }
 
 /// Writes in a session of its own, where it is given one.
-fn write_in_session<N: Name, J: Keeping, R: Wait>(
+fn write_in_session<S: Seats, R: Wait>(
     rt: &R,
     alloc: Global,
-    job: &Job<'_, N, J>,
+    job: &Job<'_, S>,
     counts: &mut Counts,
 ) {
-    if let Ok(mut seat) = job.manager.session(rt) {
-        write_meanwhile(rt, alloc, &mut seat, job.keys, job.busy, counts);
+    if let Ok(mut seat) = job.seats.seat(rt) {
+        write_meanwhile(rt, alloc, &mut seat, S::id(0), job.keys, job.busy, counts);
     }
 }
 
-fn work<N: Name, J: Keeping, R: Wait + Clock + CpuClock>(
-    rt: &R,
-    alloc: Global,
-    job: Job<'_, N, J>,
-) -> Done {
+fn work<S: Seats, R: Wait + Clock + CpuClock>(rt: &R, alloc: Global, job: Job<'_, S>) -> Done {
     let mut counts = Counts::none();
     let began = Moment::now(rt);
     match job.kind {
@@ -140,18 +131,18 @@ fn caches_of(size: Size, number: u32) -> Span {
 }
 
 /// A job for each thread.
-fn jobs<'a, N: Name, J: Keeping>(
+fn jobs<'a, S: Seats>(
     alloc: Global,
-    manager: &'a Caches<N, J>,
+    seats: &'a S,
     (kind, size): (Kind, Size),
     keys: &'a Keys,
     busy: &'a AtomicU32,
-) -> Result<Vec<Job<'a, N, J>>, Fault> {
+) -> Result<Vec<Job<'a, S>>, Fault> {
     let mut jobs = Vec::new(alloc);
     for number in 0..size.threads.wrapping_add(size.writers) {
         let asks = number < size.threads;
         jobs.push(Job {
-            manager,
+            seats,
             kind: if asks { kind } else { Kind::Write },
             caches: caches_of(size, number),
             keys: if asks {
@@ -167,18 +158,29 @@ fn jobs<'a, N: Name, J: Keeping>(
     Ok(jobs)
 }
 
-/// Fills a manager that keeps all calls, and does it on all threads.
-fn timed_all<N: Name + Send + Sync, R: Threads + Wait + Clock + CpuClock + Sync>(
+/// Fills the caches, in a session that ends with that.
+fn fill_caches<S: Seats, R: Wait>(
     rt: &R,
     alloc: Global,
-    manager: &Caches<N, AllCalls>,
+    seats: &S,
+    size: Size,
+) -> Result<(), Fault> {
+    let mut seat = seats.seat(rt)?;
+    fill::<S, R>(rt, alloc, &mut seat, size)
+}
+
+/// Fills the caches, and does it on all threads.
+fn time_threads<S: Seats + Send + Sync, R: Threads + Wait + Clock + CpuClock + Sync>(
+    rt: &R,
+    alloc: Global,
+    seats: &S,
     kind: Kind,
     size: Size,
 ) -> Result<Vec<Done>, Fault> {
-    fill(rt, alloc, manager, size)?;
+    fill_caches(rt, alloc, seats, size)?;
     let keys = keys_of(alloc, kind, size)?;
     let busy = AtomicU32::new(size.threads);
-    let jobs = jobs(alloc, manager, (kind, size), &keys, &busy)?;
+    let jobs = jobs(alloc, seats, (kind, size), &keys, &busy)?;
     Ok(map_vec(rt, jobs, &|job| work(rt, alloc, job))?)
 }
 
@@ -190,11 +192,11 @@ fn played_all<N: Name + Send + Sync, R: Threads + Wait + Clock + CpuClock + Sync
     size: Size,
 ) -> Result<Vec<Done>, Fault>
     requires configs { unnamed.configs ≡ N.configs }
-    requires stated { map (stated_by (λ _. echoed) verdict_by) unnamed.shared ≡ N.stated }
+    requires stated { map (stated_by (λ _ _. Failed) (λ _ _ _. Err (record {}))) unnamed.shared ≡ N.stated }
     requires index { unnamed.index ≡ N.index }
 {
     let manager = unnamed.named::<N>();
-    timed_all(rt, alloc, &manager, kind, size)
+    time_threads(rt, alloc, &One { manager: &manager }, kind, size)
 }
 
 /// The same, under a name that this call picks.
@@ -208,21 +210,6 @@ fn named_all<R: Threads + Wait + Clock + CpuClock + Sync>(
     played_all::<Brand, R>(rt, alloc, unnamed, kind, size)
 }
 
-/// Fills a manager that keeps the open calls alone, and does it on all threads.
-fn timed_open<N: Name + Send + Sync, R: Threads + Wait + Clock + CpuClock + Sync>(
-    rt: &R,
-    alloc: Global,
-    manager: &Caches<N, OpenCalls>,
-    kind: Kind,
-    size: Size,
-) -> Result<Vec<Done>, Fault> {
-    fill(rt, alloc, manager, size)?;
-    let keys = keys_of(alloc, kind, size)?;
-    let busy = AtomicU32::new(size.threads);
-    let jobs = jobs(alloc, manager, (kind, size), &keys, &busy)?;
-    Ok(map_vec(rt, jobs, &|job| work(rt, alloc, job))?)
-}
-
 fn played_open<N: Name + Send + Sync, R: Threads + Wait + Clock + CpuClock + Sync>(
     rt: &R,
     alloc: Global,
@@ -231,11 +218,11 @@ fn played_open<N: Name + Send + Sync, R: Threads + Wait + Clock + CpuClock + Syn
     size: Size,
 ) -> Result<Vec<Done>, Fault>
     requires configs { unnamed.configs ≡ N.configs }
-    requires stated { map (stated_by (λ _. echoed) verdict_by) unnamed.shared ≡ N.stated }
+    requires stated { map (stated_by (λ _ _. Failed) (λ _ _ _. Err (record {}))) unnamed.shared ≡ N.stated }
     requires index { unnamed.index ≡ N.index }
 {
     let manager = unnamed.named::<N>();
-    timed_open(rt, alloc, &manager, kind, size)
+    time_threads(rt, alloc, &One { manager: &manager }, kind, size)
 }
 
 /// The same, under a name that this call picks.
@@ -249,18 +236,62 @@ fn named_open<R: Threads + Wait + Clock + CpuClock + Sync>(
     played_open::<Brand, R>(rt, alloc, unnamed, kind, size)
 }
 
-/// Does one kind on a manager of its own, which keeps all calls, or the open ones alone. The result has what each thread
-/// did, the writers last.
+/// Over two managers as one.
+fn play_both<
+    A: Seats + Send + Sync,
+    B: Seats + Send + Sync,
+    R: Threads + Wait + Clock + CpuClock + Sync,
+>(
+    rt: &R,
+    alloc: Global,
+    (left, right): (&A, &B),
+    kind: Kind,
+    size: Size,
+) -> Result<Vec<Done>, Fault> {
+    time_threads(rt, alloc, &Both { left, right }, kind, size)
+}
+
+/// Over two that keep their open calls alone.
+fn played_two<
+    A: Name + Send + Sync,
+    B: Name + Send + Sync,
+    R: Threads + Wait + Clock + CpuClock + Sync,
+>(rt: &R, alloc: Global, unnamed: Unnamed2, kind: Kind, size: Size) -> Result<Vec<Done>, Fault>
+    requires first { (unnamed.first.configs ≡ A.configs)
+        × (map (stated_by (λ _ _. Failed) (λ _ _ _. Err (record {}))) unnamed.first.shared ≡ A.stated)
+        × (unnamed.first.index ≡ A.index) }
+    requires second { (unnamed.second.configs ≡ B.configs)
+        × (map (stated_by (λ _ _. Failed) (λ _ _ _. Err (record {}))) unnamed.second.shared ≡ B.stated)
+        × (unnamed.second.index ≡ B.index) }
+{
+    let Unnamed2 { first, second } = unnamed;
+    let (first, second) = (first.named::<A>(), second.named::<B>());
+    let two = (&One { manager: &first }, &One { manager: &second });
+    play_both(rt, alloc, two, kind, size)
+}
+
+/// The same, under names that this call picks.
+fn named_two<R: Threads + Wait + Clock + CpuClock + Sync>(
+    rt: &R,
+    alloc: Global,
+    unnamed: Unnamed2,
+    kind: Kind,
+    size: Size,
+) -> Result<Vec<Done>, Fault> {
+    played_two::<Brand, Brand, R>(rt, alloc, unnamed, kind, size)
+}
+
+/// Does one kind on managers of its own. The result has what each thread did, the writers last.
 pub fn play<R: Threads + Wait + Clock + CpuClock + Sync>(
     rt: &R,
     alloc: Global,
     kind: Kind,
     size: Size,
-    open: bool,
+    managers: Managers,
 ) -> Result<Vec<Done>, Fault> {
-    if open {
-        named_open(rt, alloc, opened(alloc, size.caches)?, kind, size)
-    } else {
-        named_all(rt, alloc, opened(alloc, size.caches)?, kind, size)
+    match managers {
+        Managers::AllCalls => named_all(rt, alloc, opened(alloc, size.caches)?, kind, size),
+        Managers::OpenCalls => named_open(rt, alloc, opened(alloc, size.caches)?, kind, size),
+        Managers::Shards => named_two(rt, alloc, opened_two(alloc, size.caches)?, kind, size),
     }
 }

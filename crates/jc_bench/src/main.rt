@@ -1,7 +1,7 @@
 //! Lookups and calls of a shared manager by many threads: how many, and how much time they took.
 //!
 //! `jc_bench KIND.. [--caches N] [--rows N] [--threads N] [--calls N] [--sessions N] [--writers N] [--apart] [--open]
-//! [--stashed] [--counts]` prints a line for each thread: what came of what it did, and in nanoseconds the time by the
+//! [--shards] [--stashed] [--counts]` prints a line for each thread: what came of what it did, and in nanoseconds the time by the
 //! clock and of the processor, but for `--counts`.
 #![tactic(auto)]
 
@@ -10,6 +10,7 @@ mod caches;
 mod fault;
 mod jobs;
 mod report;
+mod seats;
 mod timing;
 mod words;
 

@@ -37,7 +37,7 @@ pub fn run<R: Threads + Wait + Clock + CpuClock + Sync + Env + Print + AllocGlob
     let words: Vec<String> = env::args(rt)?.collect(alloc)?;
     let asked = read_words(alloc, words.as_slice())?;
     for kind in &asked.kinds {
-        for done in &play(rt, alloc, *kind, asked.size, asked.open)? {
+        for done in &play(rt, alloc, *kind, asked.size, asked.managers)? {
             print_counts(rt, done)?;
             if !asked.counts {
                 print_times(rt, done)?;

@@ -69,13 +69,23 @@ pub struct Size {
     pub stashed: bool,
 }
 
-/// What the words ask for: these kinds, one after the other, each on a manager of its own.
+/// Over which managers a run goes.
+#[derive(Clone, Copy)]
+pub enum Managers {
+    /// One that keeps all calls.
+    AllCalls,
+    /// One that keeps its open calls alone.
+    OpenCalls,
+    /// Two such.
+    Shards,
+}
+
+/// What the words ask for: these kinds, one after the other, each on managers of its own.
 #[derive(Drop)]
 pub struct Asked {
     pub kinds: Vec<Kind>,
     pub size: Size,
-    /// Whether the manager keeps the open calls alone.
-    pub open: bool,
+    pub managers: Managers,
     /// Whether lines are printed without times, and so are the same in each run that has no writers.
     pub counts: bool,
 }
@@ -141,6 +151,11 @@ fn command<'a>(alloc: Global) -> Result<Command<'a>, AllocError> {
         ))?
         .arg(flag(alloc, "apart", "Each thread asks a cache of its own"))?
         .arg(flag(alloc, "open", "The manager keeps the open calls alone"))?
+        .arg(flag(
+            alloc,
+            "shards",
+            "Two managers that keep the open calls alone",
+        ))?
         .arg(flag(alloc, "stashed", "Some rows are in the table's stash"))?
         .arg(flag(alloc, "counts", "Print no times"))
 }
@@ -168,6 +183,16 @@ fn kinds_of(alloc: Global, matches: &ArgMatches<'_>) -> Result<Vec<Kind>, AllocE
     Ok(kinds)
 }
 
+fn managers_of(matches: &ArgMatches<'_>) -> Managers {
+    if matches.get_flag("shards") {
+        Managers::Shards
+    } else if matches.get_flag("open") {
+        Managers::OpenCalls
+    } else {
+        Managers::AllCalls
+    }
+}
+
 /// Reads all words, the program's name among them.
 pub fn read_words(alloc: Global, words: &[String]) -> Result<Asked, Fault> {
     let mut command = command(alloc)?;
@@ -178,7 +203,7 @@ pub fn read_words(alloc: Global, words: &[String]) -> Result<Asked, Fault> {
     Ok(Asked {
         kinds: kinds_of(alloc, &matches)?,
         size,
-        open: matches.get_flag("open"),
+        managers: managers_of(&matches),
         counts: matches.get_flag("counts"),
     })
 }

@@ -48,6 +48,8 @@ mod seeking;
 #[cfg(test)]
 mod shapes;
 #[cfg(test)]
+mod shards;
+#[cfg(test)]
 mod tables;
 #[cfg(test)]
 mod vacated;

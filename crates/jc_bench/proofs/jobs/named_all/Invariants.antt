@@ -1,12 +1,12 @@
+use Rattle.std.specs.Prelude.{Err}
 use Rattle.std.proofs.Common.{map}
-use Rattle.jc_hooks.specs.Program.{echoed}
-use Rattle.jc_hooks.specs.Processors.{verdict_by}
+use Rattle.jc_hooks.specs.declared.loader.Loaded.TheVariants.{Failed}
 use Rattle.jc_shared.specs.Stated.{stated_by}
 use Rattle.jc_bench.proofs.jobs.named_all.Given as goal
 
 abbrev pub ghosts-played_all : goal.ghosts-played_all
 ghosts-played_all g a = record {
   configs = a.unnamed.configs;
-  stated = map (stated_by (λ _. echoed) verdict_by) a.unnamed.shared;
+  stated = map (stated_by (λ _ _. Failed) (λ _ _ _. Err (record {}))) a.unnamed.shared;
   index = a.unnamed.index;
 }
