@@ -57,3 +57,54 @@ fn the_programs_name_is_no_word(rt: HostRuntime) {
         }
     }
 }
+
+/// Command lines of which a word is no text, and what is told of them where they ask for it.
+static NO_TEXTS: [(&[&[u8]], Option<&str>); 4] = [
+    (&[b"jcache", b"\xff", b"--explain=1"], None),
+    (&[b"\xff", b"--explain"], None),
+    (
+        &[b"jcache", b"\xff", b"--explain"],
+        Some("a word is not UTF-8\n  word 1 is '\\xff'\n"),
+    ),
+    (
+        &[
+            b"\xff",
+            b"--explain",
+            b"run",
+            b"a\xed\xa0\x80 \xc3\xa9",
+            b"\xff",
+        ],
+        Some("a word is not UTF-8\n  word 3 is 'a\\xed\\xa0\\x80 é'\n"),
+    ),
+];
+
+#[test]
+fn a_word_that_is_no_text_is_told(rt: HostRuntime) {
+    for (words, wanted) in &NO_TEXTS {
+        match (words_of(&(CommandLine { words }, rt.alloc())), wanted) {
+            (Err(WordsFault::Explained(text)), Some(wanted)) => {
+                assert!(rt; text.as_str() == *wanted);
+            }
+            (given, wanted) => {
+                assert!(rt; wanted.is_none() && given == Err(WordsFault::NotText));
+            }
+        }
+    }
+}
+
+#[test]
+fn a_long_word_is_told_whole(rt: HostRuntime) {
+    let words: [&[u8]; 3] = [b"jcache", b"--explain", &[0xff; 1000]];
+    let given = words_of(&(CommandLine { words: &words }, rt.alloc()));
+    match given {
+        Err(WordsFault::Explained(text)) => {
+            assert!(rt;
+                text.as_str()
+                    .starts_with("a word is not UTF-8\n  word 2 is '\\xff\\xff")
+            );
+            assert!(rt; text.as_str().ends_with("\\xff'\n"));
+            assert_eq!(rt; text.len(), 35 + 4 * 1000);
+        }
+        _ => assert!(rt; false),
+    }
+}

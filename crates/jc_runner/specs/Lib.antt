@@ -6,6 +6,7 @@ pub mod Demonstration
 pub mod Alone
 pub mod Answering
 pub mod Forms
+pub mod Given
 pub mod Halfway
 pub mod Hooks
 pub mod Reports

@@ -15,6 +15,7 @@ use Rattle.jc_model.specs.declared.config.CacheConfig.{CacheConfig}
 use Rattle.jc_replay.specs.Table.{replay_table}
 use Rattle.jc_script.specs.declared.line.Line.{Line}
 use Rattle.jc_script.specs.Script.{lines}
+use Rattle.jc_words.specs.Number.{number_note, EndsWith}
 use Rattle.jc_words.specs.Program.{AsksFor, MayRefuse, asks_to_explain, is_input}
 use Rattle.jc_words.specs.declared.asked.Asked.TheVariants as asks
 use Rattle.jc_words.specs.declared.asked.Check.{Check}
@@ -252,10 +253,11 @@ no_kinds = record { loader = None; writer = None; processors = [] }
 abbrev pub demonstration : Configuration
 demonstration = record { settings = demonstration_caches; hooks = no_kinds ∷ no_kinds ∷ [] }
 
--- a mistake is told under the program's name
+-- a mistake is told under the program's name, and below it what is told of a number below 0
 pub record IsMistaken (words : List Text) (e : Error) (ending : Ending) : Type 0 where
   pub text : String Global
   pub is : ending ≡ Mistaken text
+  pub noted : EndsWith (number_note words) (string_bytes text)
   pub asked : asks_to_explain words ≡ true
   pub no_help : kind_of e ≢ DisplayHelp
   pub no_version : kind_of e ≢ DisplayVersion
@@ -287,6 +289,7 @@ module _ {F I O : Type 0} (of_file : F → Option (List ℕ)) (of_input : I → 
   abbrev pub Obeys : Result (List Text) WordsFault → Ending → Type 0
   Obeys (Ok words) ending = WordsEnd words ending
   Obeys (Err fault.NotText) ending = (ending ≡ NotText) × RunsNone
+  Obeys (Err (fault.Explained text)) ending = (ending ≡ Mistaken text) × RunsNone
   Obeys (Err fault.OutOfMemory) ending = (ending ≡ no_memory) × RunsNone
 
 module _ {F I O E : Type 0} (of_file : F → Option (List ℕ)) (of_input : I → Option (List ℕ)) (contents : O → Option (List ℕ)) (said : E → Option (List ℕ)) (holds : List ℕ → Option (Option (List ℕ))) (asked asked' : Option (List (List ℕ)))

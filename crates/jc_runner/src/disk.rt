@@ -1,12 +1,10 @@
-//! Files by their paths, and what the machine hands over.
+//! Files by their paths.
 ghost use Rattle.std.specs.Prelude.{◌≡◌, ◌≢◌, ◌↔◌, IsTrue};
 ghost use Rattle.std.specs.IoError.{error_kind};
 
-use crate::ending::WordsFault;
-use std::env::Env;
+use std::fs;
 use std::fs::Files;
 use std::io::{Error, ErrorKind, Read};
-use std::{env, fs};
 
 /// Why a file does not open.
 #[derive(Clone, Copy, Debug, PartialEq, Eq)]
@@ -38,22 +36,10 @@ pub trait Disk {
 }
 
 /// Whether a fault is that memory was refused.
-fn is_of_memory(error: &Error) -> bool
+pub(crate) fn is_of_memory(error: &Error) -> bool
     ensures { IsTrue result ↔ (error_kind error.now ≡ ErrorKind.OutOfMemory) }
 {
     matches!(error.kind(), ErrorKind::OutOfMemory)
-}
-
-/// The fault of words that the machine does not hand over.
-fn words_fault(error: &Error) -> WordsFault
-    ensures memory { error_kind error.now ≡ ErrorKind.OutOfMemory → result ≡ WordsFault.OutOfMemory }
-    ensures others { error_kind error.now ≢ ErrorKind.OutOfMemory → result ≡ WordsFault.NotText }
-{
-    if is_of_memory(error) {
-        WordsFault::OutOfMemory
-    } else {
-        WordsFault::NotText
-    }
 }
 
 /// The fault of a file that the machine does not open.
@@ -65,17 +51,6 @@ pub fn open_fault(error: &Error) -> OpenFault
         OpenFault::OutOfMemory
     } else {
         OpenFault::Unreadable
-    }
-}
-
-/// The words after the program's name. Nothing is known of what the machine hands over, so no clause says what they are.
-pub fn words_of<R: Env + AllocGlobal>(rt: &R) -> Result<Vec<String>, WordsFault> {
-    match env::args(rt) {
-        Ok(arguments) => match arguments.skip(1).collect(rt.alloc()) {
-            Ok(words) => Ok(words),
-            Err(_) => Err(WordsFault::OutOfMemory),
-        },
-        Err(fault) => Err(words_fault(&fault)),
     }
 }
 

@@ -28,8 +28,11 @@ pub struct Ended {
 }
 
 /// Why the words can't be had.
-#[derive(Clone, Copy, Debug, PartialEq, Eq)]
+#[derive(Debug, PartialEq, Eq, Drop)]
 pub enum WordsFault {
+    /// One of them is no text.
     NotText,
+    /// One of them is no text, and they ask for explanations: this text is told, with the program's name before it.
+    Explained(String),
     OutOfMemory,
 }

@@ -24,11 +24,12 @@ mod saying;
 mod streams;
 mod together;
 mod watched;
+mod words;
 mod writing;
 
 pub use checking::check_files;
 pub use configuring::read_configuration;
-pub use disk::{Disk, HostDisk, OpenFault, open_fault, words_of};
+pub use disk::{Disk, HostDisk, OpenFault, open_fault};
 pub use ending::{Ended, Ending, WordsFault};
 pub use fault::{ProgramFault, RunFault, write_fault};
 pub use files::run_files;
@@ -45,3 +46,4 @@ pub use saying::{greet, say};
 pub use streams::{Opened, Standard};
 pub use together::{Crew, Setup, threaded};
 pub use watched::{Watched, WatchedWriter};
+pub use words::words_of;

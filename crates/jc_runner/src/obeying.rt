@@ -82,15 +82,15 @@ fn lacks_memory(error: &Error) -> bool
     matches!(error.kind(), ErrorKind::OutOfMemory)
 }
 
-/// How words are refused: under the program's name where they ask for explanations and memory suffices. Help and the
-/// version are no mistakes.
+/// How words are refused: under the program's name where they ask for explanations and memory suffices, and then with
+/// the note on a number below 0. Help and the version are no mistakes.
 fn refusal(alloc: Global, words: &[&str], error: Error) -> Ending
     ensures { RefusesSo (map (λ word. word.now) words.now) error result }
 {
     if !error.use_stderr() || !asks_to_explain(words) {
         return Ending::Refused(error);
     }
-    match mistake_text(alloc, &error) {
+    match mistake_text(alloc, words, &error) {
         Ok(text) => Ending::Mistaken(text),
         Err(_) => Ending::Refused(error),
     }
@@ -155,6 +155,7 @@ pub fn heed<D: Disk, I: Read, O: Write, R: Threads + Wait + Sync>(
     match words {
         Ok(words) => obey(rt, alloc, words.as_slice(), disk, opened, input, output),
         Err(WordsFault::NotText) => Ending::NotText,
+        Err(WordsFault::Explained(text)) => Ending::Mistaken(text),
         Err(WordsFault::OutOfMemory) => Ending::Faulty(ProgramFault::Run(RunFault::Memory)),
     }
 }
