@@ -1,9 +1,13 @@
 //! One line of the list of examples.
 
 use crate::events::play_events;
-use crate::run::{run_each_configuration, run_each_script, run_files, run_typed, run_words};
+use crate::run::{
+    run_blanks, run_each_configuration, run_each_script, run_files, run_typed, run_unwritten,
+    run_words, run_words_of,
+};
 use std::fs::Files;
 use std::io;
+use std::io::ErrorKind;
 use std::sync::Wait;
 use std::thread::Threads;
 
@@ -30,6 +34,20 @@ enum Example<'a> {
         script: &'a str,
         words: &'a [&'a str],
     },
+    /// So many blanks on standard input, and the words of the command line.
+    Blanks {
+        count: &'a str,
+        words: &'a [&'a str],
+    },
+    /// Standard output that takes nothing, for this reason, and the words of the command line.
+    Unwritten {
+        kind: ErrorKind,
+        words: &'a [&'a str],
+    },
+    /// The words of a command line that are the lines of a file.
+    WordsOf {
+        file: &'a str,
+    },
     /// The words of a command line; behind `<` the file that is standard input.
     Words,
 }
@@ -44,6 +62,16 @@ fn example_of<'a>(words: &'a [&'a str]) -> Example<'a> {
         [first, _, _, configs] if *first == "each" => Example::EachConfiguration { configs },
         [first, _, events, _, config] if *first == "events" => Example::Events { events, config },
         [first, script, words @ ..] if *first == "typed" => Example::Typed { script, words },
+        [first, _, file] if *first == "words" => Example::WordsOf { file },
+        [first, count, words @ ..] if *first == "blanks" => Example::Blanks { count, words },
+        [first, words @ ..] if *first == "full" => Example::Unwritten {
+            kind: ErrorKind::StorageFull,
+            words,
+        },
+        [first, words @ ..] if *first == "closed" => Example::Unwritten {
+            kind: ErrorKind::BrokenPipe,
+            words,
+        },
         _ => Example::Words,
     }
 }
@@ -74,6 +102,9 @@ pub fn play_case<R: Files + Print + Threads + Wait + Sync + AllocGlobal>(
         Example::EachConfiguration { configs } => run_each_configuration(rt, configs),
         Example::Events { events, config } => play_events(rt, config, events),
         Example::Typed { script, words } => run_typed(rt, script, words),
+        Example::WordsOf { file } => run_words_of(rt, file),
+        Example::Blanks { count, words } => run_blanks(rt, count, words),
+        Example::Unwritten { kind, words } => run_unwritten(rt, kind, words),
         Example::Words => run_words(rt, words),
     }
 }

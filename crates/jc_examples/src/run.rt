@@ -1,11 +1,16 @@
 //! Runs of the program, over the words of an example.
 
+use crate::command_line::{CommandLine, words_in};
 use crate::over::{a_list_for_all_keys, one_bucket_for_all_keys};
+use crate::streams::{Blanks, Unwritten};
 use jc_explain::Kept;
 use jc_program::{KeepingDisk, run_program};
-use jc_runner::{Disk, OpenFault, Opened, RunFault, Standard, greet, program};
+use jc_runner::{
+    Disk, OpenFault, Opened, RunFault, Standard, WordsFault, greet, program, words_of,
+};
 use std::alloc::Global;
 use std::fs::Files;
+use std::io::{ErrorKind, Read, Write};
 use std::sync::Wait;
 use std::thread::Threads;
 use std::{fs, io};
@@ -80,26 +85,49 @@ fn printed<D: Disk, R: Threads + Wait + Sync + AllocGlobal>(
     })
 }
 
-/// Runs the program on these words and the machine's files, where standard input is a terminal or not.
+/// Runs the program on what the machine hands over as words and on its files, where standard input is a terminal or not.
+/// The result is its output, what it wrote on standard error, and its status.
+fn run_on<I: Read + Drop, O: Write + Drop, R: Files + Threads + Wait + Sync + AllocGlobal>(
+    rt: &R,
+    given: Result<Vec<String>, WordsFault>,
+    (input, output): (I, O),
+    at_terminal: bool,
+) -> (O, Vec<u8>, u8) {
+    let alloc = rt.alloc();
+    let mut disk = KeepingDisk::new(alloc, rt, true);
+    let mut opened = Opened::none();
+    let input = Kept::new(alloc, input, true);
+    let mut standard = Standard::new(input, output, Vec::new(alloc));
+    greet(&given, at_terminal, &mut standard.errors);
+    let ended = run_program(rt, alloc, given, &mut disk, &mut opened, &mut standard);
+    let (output, errors) = (standard.output.into_inner(), standard.errors.into_inner());
+    (output, errors, ended.status)
+}
+
+/// The same over output that is kept.
+fn printed_given<I: Read + Drop, R: Files + Threads + Wait + Sync + AllocGlobal>(
+    rt: &R,
+    given: Result<Vec<String>, WordsFault>,
+    input: I,
+    at_terminal: bool,
+) -> io::Result<Written> {
+    let (output, errors, status) = run_on(rt, given, (input, Vec::new(rt.alloc())), at_terminal);
+    Ok(Written {
+        output,
+        errors,
+        status,
+    })
+}
+
+/// The same of words that are text.
 fn printed_at<R: Files + Threads + Wait + Sync + AllocGlobal>(
     rt: &R,
     words: &[&str],
     input: &[u8],
     at_terminal: bool,
 ) -> io::Result<Written> {
-    let alloc = rt.alloc();
-    let given = Ok(owned(alloc, words)?);
-    let mut disk = KeepingDisk::new(alloc, rt, true);
-    let mut opened = Opened::none();
-    let input = Kept::new(alloc, input, true);
-    let mut standard = Standard::new(input, Vec::new(alloc), Vec::new(alloc));
-    greet(&given, at_terminal, &mut standard.errors);
-    let ended = run_program(rt, alloc, given, &mut disk, &mut opened, &mut standard);
-    Ok(Written {
-        output: standard.output.into_inner(),
-        errors: standard.errors.into_inner(),
-        status: ended.status,
-    })
+    let given = owned(rt.alloc(), words)?;
+    printed_given(rt, Ok(given), input, at_terminal)
 }
 
 /// The same where standard input is a file or a pipe.
@@ -150,6 +178,51 @@ pub fn run_typed<R: Files + Print + Threads + Wait + Sync + AllocGlobal>(
 ) -> io::Result<()> {
     let input = fs::read(rt, script)?;
     show(rt, &printed_at(rt, words, input.as_slice(), true)?)
+}
+
+/// Runs what the words ask for, with so many blanks on standard input.
+pub fn run_blanks<R: Files + Print + Threads + Wait + Sync + AllocGlobal>(
+    rt: &R,
+    count: &str,
+    words: &[&str],
+) -> io::Result<()> {
+    let Ok(left) = count.parse::<usize>() else {
+        return println!(rt; "no number");
+    };
+    let given = owned(rt.alloc(), words)?;
+    show(rt, &printed_given(rt, Ok(given), Blanks { left }, false)?)
+}
+
+/// Runs what the words ask for, where standard output takes nothing.
+pub fn run_unwritten<R: Files + Print + Threads + Wait + Sync + AllocGlobal>(
+    rt: &R,
+    kind: ErrorKind,
+    words: &[&str],
+) -> io::Result<()> {
+    let alloc = rt.alloc();
+    let given = owned(alloc, words)?;
+    let input: &[u8] = &[];
+    let (output, errors, status) = run_on(rt, Ok(given), (input, Unwritten { kind }), false);
+    drop(output);
+    let run = Written {
+        output: Vec::new(alloc),
+        errors,
+        status,
+    };
+    show(rt, &run)
+}
+
+/// Runs what the words ask for that are the lines of a file.
+pub fn run_words_of<R: Files + Print + Threads + Wait + Sync + AllocGlobal>(
+    rt: &R,
+    file: &str,
+) -> io::Result<()> {
+    let bytes = fs::read(rt, file)?;
+    let words = words_in(rt.alloc(), bytes.as_slice())?;
+    let words = words.as_slice();
+    let given = words_of(&(CommandLine { words }, rt.alloc()));
+    let input: &[u8] = &[];
+    show(rt, &printed_given(rt, given, input, false)?)
 }
 
 /// Runs a configuration and a script, with these words.
