@@ -14,7 +14,7 @@ use crate::mirror::{Mirror, NoMirror};
 use crate::scan::first_empty;
 use crate::table::LONGEST;
 use jc_model::OutOfMemory;
-use jc_place::place::{Placer, alternate};
+use jc_place::place::{Placer, alternate, rest};
 use std::alloc::AllocError;
 
 impl<P: Placer + Drop, M: Mirror> Cuckoo<P, M> {
@@ -55,7 +55,7 @@ impl<P: Placer + Drop, M: Mirror> Cuckoo<P, M> {
     {
         // At most four rows come to a bucket, so it has an empty slot.
         let place = self.placer.place(held.id, &held.key);
-        let first = place.first % self.buckets;
+        let first = rest(place.first, self.buckets);
         if first % half == (at / 4) as u32 {
             let _ = self.fill_first(first, place.tag, held);
             return;
@@ -100,7 +100,7 @@ impl<P: Placer + Drop, M: Mirror> Cuckoo<P, M> {
         ensures needed { NeedsStash (P.placing self.old.placer) self.old.buckets self.old.cells → NeedsStash (P.placing self.old.placer) self.new.buckets self.new.cells }
     {
         let place = self.placer.place(held.id, &held.key);
-        let first = place.first % self.buckets;
+        let first = rest(place.first, self.buckets);
         let second = alternate(first, place.tag, self.buckets);
         if self.fill_first(first, place.tag, held.same()) {
             return;

@@ -9,7 +9,7 @@ use crate::mirror::Mirror;
 use crate::scan::{is_at, scan_bucket};
 use jc_model::event::CacheId;
 use jc_model::key::Key;
-use jc_place::place::{Placer, alternate};
+use jc_place::place::{Placer, alternate, rest};
 
 impl<P: Placer + Drop, M: Mirror> Cuckoo<P, M> {
     /// The cell in which a key's row stands.
@@ -18,7 +18,7 @@ impl<P: Placer + Drop, M: Mirror> Cuckoo<P, M> {
         ensures { IsSought self.now.cells 0 (length self.now.cells) (id, key.now) result }
     {
         let place = self.placer.place(id, key);
-        let first = place.first % self.buckets;
+        let first = rest(place.first, self.buckets);
         if let Some(at) = scan_bucket(&self.tags, &self.cells, first, place.tag, id, key) {
             return Some(at);
         }

@@ -9,7 +9,7 @@ use crate::cuckoo::Cuckoo;
 use crate::held::{Held, Work};
 use crate::mirror::Mirror;
 use crate::queue::Queue;
-use jc_place::place::{Placer, alternate};
+use jc_place::place::{Placer, alternate, rest};
 
 /// The most rows of a path.
 const MOST_MOVES: u8 = 5;
@@ -126,7 +126,7 @@ impl<P: Placer + Drop, M: Mirror> Cuckoo<P, M> {
         ensures looked { (self.old.work.looked < self.new.work.looked) × (self.new.work.looked ≤ self.old.work.looked + 256) }
     {
         let place = self.placer.place(held.id, &held.key);
-        let first = place.first % self.buckets;
+        let first = rest(place.first, self.buckets);
         let second = alternate(first, place.tag, self.buckets);
         let mut queue = Queue::new(first, second);
         let mut work = self.work;

@@ -5,7 +5,7 @@ ghost use Rattle.jc_index.specs.Spelling.{buckets_of};
 
 use jc_model::event::CacheId;
 use jc_model::key::Key;
-use jc_place::place::{Placer, alternate};
+use jc_place::place::{Placer, alternate, rest};
 use jc_stripes::board::Law;
 
 /// The words spell an image of so many buckets, in which each key stands in one of the two that this placer gives it.
@@ -36,7 +36,7 @@ pub(crate) fn buckets_of<P: Placer>(
     ensures below { (result.0 < buckets) × (result.1 < buckets) }
 {
     let place = placer.place(id, key);
-    let first = place.first % buckets;
+    let first = rest(place.first, buckets);
     let second = alternate(first, place.tag, buckets);
     (first as usize, second as usize)
 }
