@@ -16,8 +16,8 @@ use Rattle.jc_runner.specs.Faults.{of_work}
 use Rattle.jc_runner.specs.Halfway.{Replies, RepliesAt}
 use Rattle.jc_runner.specs.Hooks.{HasNone}
 use Rattle.jc_runner.specs.Streams.{IsOfThreads}
-use Rattle.jc_runner.specs.declared.fault.RunFault.{RunFault}
-use Rattle.jc_runner.specs.declared.fault.RunFault.TheVariants as run
+use Rattle.jc_runner.specs.declared.exit.fault.RunFault.{RunFault}
+use Rattle.jc_runner.specs.declared.exit.fault.RunFault.TheVariants as run
 use Rattle.jc_runner.proofs.Hearing.{none_heard}
 
 pub map_set_same : {A B : Type 0} (f : A → B) (xs : List A) (k : ℕ) (d x : A) → f x ≡ f (get_or xs k d) → map f (set xs k x) ≡ map f xs

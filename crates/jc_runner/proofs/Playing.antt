@@ -26,11 +26,11 @@ use Rattle.jc_runner.specs.Reports.{ReportsOf}
 use Rattle.jc_runner.specs.Streams.{WritesFront, IsOfThreads, IsOfStrictness, HasRun}
 use Rattle.jc_runner.specs.Strictness.{HasNone, HasOne}
 use Rattle.jc_runner.specs.Together.{stated_of, GathersSo}
-use Rattle.jc_runner.specs.declared.fault.RunFault.{RunFault}
-use Rattle.jc_runner.specs.declared.fault.RunFault.TheVariants as run
-use Rattle.jc_runner.specs.declared.form.Form.{Form}
-use Rattle.jc_runner.specs.declared.watched.Watched.{Watched}
-use Rattle.jc_runner.specs.declared.watched.WatchedWriter.{WatchedWriter}
+use Rattle.jc_runner.specs.declared.exit.fault.RunFault.{RunFault}
+use Rattle.jc_runner.specs.declared.exit.fault.RunFault.TheVariants as run
+use Rattle.jc_runner.specs.declared.output.form.Form.{Form}
+use Rattle.jc_runner.specs.declared.input.Watched.{Watched}
+use Rattle.jc_runner.specs.declared.output.WatchedWriter.{WatchedWriter}
 use Rattle.jc_runner.proofs.Opening.{all_named_suit}
 use Rattle.jc_runner.proofs.Suiting.{suited}
 

@@ -29,8 +29,8 @@ use Rattle.jc_json.specs.Report.{json}
 use Rattle.jc_words.specs.declared.run.Format.{Format}
 use Rattle.jc_runner.specs.Alone.{line_of, alone_from}
 use Rattle.jc_runner.specs.Forms.{form_of, report_in, IsToldIn}
-use Rattle.jc_runner.specs.declared.form.Form.{Form}
-use Rattle.jc_runner.specs.declared.form.Form.TheVariants as form
+use Rattle.jc_runner.specs.declared.output.form.Form.{Form}
+use Rattle.jc_runner.specs.declared.output.form.Form.TheVariants as form
 use Rattle.jc_runner.specs.Halfway.{lives_now, as_read, NoneOpen, IsAtRest, Goes, Halfway}
 use Rattle.jc_runner.specs.Reports.{Reports, ReportsOf}
 use Rattle.jc_runner.specs.Streams.{IsAll}

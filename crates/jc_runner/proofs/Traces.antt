@@ -9,10 +9,10 @@ use Rattle.jc_replay.proofs.Traces.{too_long}
 use Rattle.jc_runner.specs.Faults.{of_trace}
 use Rattle.jc_runner.specs.Program.{TraceEnds, failed_once}
 use Rattle.jc_runner.specs.Streams.{IsOfReading}
-use Rattle.jc_runner.specs.declared.fault.RunFault.{RunFault}
-use Rattle.jc_runner.specs.declared.fault.RunFault.TheVariants as run
-use Rattle.jc_runner.specs.declared.watched.Watched.{Watched}
-use Rattle.jc_runner.specs.declared.watched.WatchedWriter.{WatchedWriter}
+use Rattle.jc_runner.specs.declared.exit.fault.RunFault.{RunFault}
+use Rattle.jc_runner.specs.declared.exit.fault.RunFault.TheVariants as run
+use Rattle.jc_runner.specs.declared.input.Watched.{Watched}
+use Rattle.jc_runner.specs.declared.output.WatchedWriter.{WatchedWriter}
 use Rattle.jc_runner.proofs.Named.{keeps_same}
 
 long_table : (trace capacities : List ℕ) → text_bytes < length trace → replay_table trace capacities ≡ Err replay.TooLong

@@ -6,12 +6,12 @@ use Rattle.clap.specs.Words.{kind_of}
 use Rattle.clap.specs.declared.error.kind.ErrorKind.TheVariants as kinds
 use Rattle.jc_runner.specs.Faults.{fault_line, explained_line, is_of_report}
 use Rattle.jc_runner.specs.Meters.{next_if}
-use Rattle.jc_runner.specs.declared.ending.Ending.{Ending}
-use Rattle.jc_runner.specs.declared.ending.Ending.TheVariants.{Done, Faulty, Explained, Refused, Mistaken, NotText}
-use Rattle.jc_runner.specs.declared.fault.ProgramFault.{ProgramFault}
-use Rattle.jc_runner.specs.declared.fault.ProgramFault.TheVariants.{Run}
-use Rattle.jc_runner.specs.declared.fault.RunFault.TheVariants.{Memory}
-use Rattle.jc_runner.specs.declared.watched.WatchedWriter.{WatchedWriter}
+use Rattle.jc_runner.specs.declared.exit.Ending.{Ending}
+use Rattle.jc_runner.specs.declared.exit.Ending.TheVariants.{Done, Faulty, Explained, Refused, Mistaken, NotText}
+use Rattle.jc_runner.specs.declared.exit.fault.ProgramFault.{ProgramFault}
+use Rattle.jc_runner.specs.declared.exit.fault.ProgramFault.TheVariants.{Run}
+use Rattle.jc_runner.specs.declared.exit.fault.RunFault.TheVariants.{Memory}
+use Rattle.jc_runner.specs.declared.output.WatchedWriter.{WatchedWriter}
 
 -- a fault is told alone, or explained
 abbrev pub told_so : Bool → ProgramFault → Ending

@@ -10,10 +10,10 @@ use Rattle.jc_replay.specs.declared.fault.ReplayFault.{ReplayFault}
 use Rattle.jc_replay.specs.declared.fault.ReplayFault.TheVariants as replay
 use Rattle.jc_threads.specs.declared.fault.WorkFault.{WorkFault}
 use Rattle.jc_threads.specs.declared.fault.WorkFault.TheVariants.{Close, OutOfMemory}
-use Rattle.jc_runner.specs.declared.fault.RunFault.{RunFault}
-use Rattle.jc_runner.specs.declared.fault.RunFault.TheVariants as run
-use Rattle.jc_runner.specs.declared.fault.ProgramFault.{ProgramFault}
-use Rattle.jc_runner.specs.declared.fault.ProgramFault.TheVariants.{ConfigRead, Config, NoCaches, TraceRead, Trace, Run}
+use Rattle.jc_runner.specs.declared.exit.fault.RunFault.{RunFault}
+use Rattle.jc_runner.specs.declared.exit.fault.RunFault.TheVariants as run
+use Rattle.jc_runner.specs.declared.exit.fault.ProgramFault.{ProgramFault}
+use Rattle.jc_runner.specs.declared.exit.fault.ProgramFault.TheVariants.{ConfigRead, Config, NoCaches, TraceRead, Trace, Run}
 
 -- a run on threads that came to no transcript
 abbrev pub of_work : WorkFault → RunFault

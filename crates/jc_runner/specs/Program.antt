@@ -33,19 +33,19 @@ use Rattle.jc_runner.specs.Reports.{ReportsOf}
 use Rattle.jc_runner.specs.Streams.{WritesFront}
 use Rattle.jc_runner.specs.Strictness.{HasNone, HasOne}
 use Rattle.jc_runner.specs.Together.{stated_of, GathersSo}
-use Rattle.jc_runner.specs.declared.ending.Ended.{Ended}
-use Rattle.jc_runner.specs.declared.ending.Ending.{Ending}
-use Rattle.jc_runner.specs.declared.ending.Ending.TheVariants.{Refused, Mistaken, NotText}
-use Rattle.jc_runner.specs.declared.ending.WordsFault.{WordsFault}
-use Rattle.jc_runner.specs.declared.ending.WordsFault.TheVariants as fault
-use Rattle.jc_runner.specs.declared.fault.ProgramFault.{ProgramFault}
-use Rattle.jc_runner.specs.declared.fault.ProgramFault.TheVariants as program
-use Rattle.jc_runner.specs.declared.fault.RunFault.{RunFault}
-use Rattle.jc_runner.specs.declared.fault.RunFault.TheVariants as run
-use Rattle.jc_runner.specs.declared.streams.Opened.{Opened}
-use Rattle.jc_runner.specs.declared.streams.Standard.{Standard}
-use Rattle.jc_runner.specs.declared.watched.Watched.{Watched}
-use Rattle.jc_runner.specs.declared.watched.WatchedWriter.{WatchedWriter}
+use Rattle.jc_runner.specs.declared.exit.Ended.{Ended}
+use Rattle.jc_runner.specs.declared.exit.Ending.{Ending}
+use Rattle.jc_runner.specs.declared.exit.Ending.TheVariants.{Refused, Mistaken, NotText}
+use Rattle.jc_runner.specs.declared.exit.WordsFault.{WordsFault}
+use Rattle.jc_runner.specs.declared.exit.WordsFault.TheVariants as fault
+use Rattle.jc_runner.specs.declared.exit.fault.ProgramFault.{ProgramFault}
+use Rattle.jc_runner.specs.declared.exit.fault.ProgramFault.TheVariants as program
+use Rattle.jc_runner.specs.declared.exit.fault.RunFault.{RunFault}
+use Rattle.jc_runner.specs.declared.exit.fault.RunFault.TheVariants as run
+use Rattle.jc_runner.specs.declared.command.streams.Opened.{Opened}
+use Rattle.jc_runner.specs.declared.command.streams.Standard.{Standard}
+use Rattle.jc_runner.specs.declared.input.Watched.{Watched}
+use Rattle.jc_runner.specs.declared.output.WatchedWriter.{WatchedWriter}
 
 -- the report of a script, with fresh callbacks of the kinds that the configuration names, of which this is true
 pub record Reported (format : Format) (c : Configuration) (script : List ℕ) (IsSo : List ℕ → Type 0) : Type 0 where

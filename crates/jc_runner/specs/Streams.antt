@@ -4,10 +4,10 @@ use Rattle.std.specs.IoError.{error_kind}
 use Rattle.std.specs.declared.io.Error.{Error}
 use Rattle.std.specs.declared.io.ErrorKind.TheVariants.{BrokenPipe}
 use Rattle.std.specs.Io.KnownBytes.{Consumes, IsAtEnd, Appends}
-use Rattle.jc_runner.specs.declared.fault.RunFault.{RunFault}
-use Rattle.jc_runner.specs.declared.fault.RunFault.TheVariants.{Read, TooLong, Script, Entry, Open, Close, Write, Memory}
-use Rattle.jc_runner.specs.declared.fault.ProgramFault.{ProgramFault}
-use Rattle.jc_runner.specs.declared.fault.ProgramFault.TheVariants.{ConfigRead, Config, Run}
+use Rattle.jc_runner.specs.declared.exit.fault.RunFault.{RunFault}
+use Rattle.jc_runner.specs.declared.exit.fault.RunFault.TheVariants.{Read, TooLong, Script, Entry, Open, Close, Write, Memory}
+use Rattle.jc_runner.specs.declared.exit.fault.ProgramFault.{ProgramFault}
+use Rattle.jc_runner.specs.declared.exit.fault.ProgramFault.TheVariants.{ConfigRead, Config, Run}
 
 -- all that was left was read
 abbrev pub IsAll : Option (List ℕ) → Option (List ℕ) → List ℕ → Type 0

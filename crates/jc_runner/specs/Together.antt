@@ -13,7 +13,7 @@ use Rattle.jc_shared.specs.Stated.{Stated, stated_by, shared_of}
 use Rattle.jc_threads.specs.Lines.{AreMade}
 use Rattle.jc_threads.specs.Managing.{AreManaged}
 use Rattle.jc_runner.specs.Forms.{report_in}
-use Rattle.jc_runner.specs.declared.form.Form.{Form}
+use Rattle.jc_runner.specs.declared.output.form.Form.{Form}
 
 -- what the loaders and processors state that were handed in
 abbrev pub stated_of : {L W P K : Type 0} → (L → List ℕ → Loaded) → (P → Option (List ℕ) → List ℕ → Result Verdict ProcessorFault) → List (CacheHooks L W P K) → List Stated

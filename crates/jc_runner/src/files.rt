@@ -1,22 +1,27 @@
-//! The two files of a run, and playing a script with the callbacks that a configuration names.
+//! The two files of a run: the configuration, and the script that is played with its callbacks.
 ghost use Rattle.std.specs.Prelude.{◌≡◌, ◌≢◌, ◌<◌, ◌⊎◌, ℕ, true, false, List, IfOk, IfErr, Ok, Err, string_bytes};
 ghost use Rattle.jc_runner.specs.Disks.{Asks, IsFound, MayBeMissing};
 ghost use Rattle.jc_runner.specs.Meters.{most_reads, AddsAtMost};
 ghost use Rattle.jc_runner.specs.Opens.{Opens};
 ghost use Rattle.jc_runner.specs.Program.{RunEnds, ConfigEnds, ConfigFrom, ScriptEnds, ScriptFrom, FilesEnd, allowed, unread};
 ghost use Rattle.jc_words.specs.Program.{is_input};
-ghost use Rattle.jc_runner.specs.declared.fault.RunFault.TheVariants.{Read, Memory};
+ghost use Rattle.jc_runner.specs.declared.exit.fault.RunFault.TheVariants.{Read, Memory};
 
-use crate::configuring::read_configuration;
-use crate::disk::{Disk, OpenFault};
-use crate::fault::{ProgramFault, RunFault};
-use crate::form::form_of;
-use crate::naming::all_hooks;
-use crate::reading::read_bytes;
-use crate::run::{lines_of, serial_as, strictly};
-use crate::streams::Opened;
-use crate::together::{Crew, Setup, threaded_as};
-use crate::watched::{Watched, WatchedWriter};
+pub mod check;
+pub mod configuration;
+pub mod disk;
+pub mod replay;
+
+use crate::callbacks::named::all_hooks;
+use crate::command::streams::Opened;
+use crate::exit::fault::{ProgramFault, RunFault};
+use crate::files::configuration::read_configuration;
+use crate::files::disk::{Disk, OpenFault};
+use crate::input::{Watched, read_bytes};
+use crate::output::WatchedWriter;
+use crate::output::form::form_of;
+use crate::serial_run::{lines_of, serial_as, strictly};
+use crate::threaded_run::{Crew, Setup, threaded_as};
 use jc_config::Configuration;
 use jc_threads::OpenGate;
 use jc_words::{Format, Run, is_input};

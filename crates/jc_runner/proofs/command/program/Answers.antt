@@ -1,0 +1,10 @@
+use Rattle.jc_runner.proofs.Pushed.{if_ok_weaker, if_err_weaker}
+use Rattle.jc_runner.proofs.command.program.Goals as goal
+
+pub returns-clause-ends : goal.returns-clause-ends
+returns-clause-ends g c =
+    if_ok_weaker c.args.words _ _ (λ v obeys. record { ending = c.heed-ending.result; written = c.heed-ending.new.output; obeys = obeys; status = c.say.ensures.status; says = c.say.ensures.says; leaves = c.say.ensures.leaves }) c.heed-ending.ensures.obeys
+
+pub returns-clause-wordless : goal.returns-clause-wordless
+returns-clause-wordless g c =
+    if_err_weaker c.args.words _ _ (λ fault obeys. record { ending = c.heed-ending.result; written = c.heed-ending.new.output; obeys = obeys; status = c.say.ensures.status; says = c.say.ensures.says; leaves = c.say.ensures.leaves }) c.heed-ending.ensures.wordless

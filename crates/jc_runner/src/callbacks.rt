@@ -1,0 +1,76 @@
+//! The callbacks of a cache: whether they are those that its configuration names, and their answer to one request.
+ghost use Rattle.std.specs.Prelude.{◌≡◌, ◌↔◌, ◌∷◌, [], IsTrue, IfOk};
+ghost use Rattle.jc_model.specs.Run.{is_answer_to};
+ghost use Rattle.jc_runner.specs.Answering.{Heard};
+ghost use Rattle.jc_runner.specs.Hooks.{AreSuited, HasNone, asked_of};
+
+pub mod named;
+
+use jc_config::Settings;
+use jc_hooks::{
+    CacheHooks, Hearer, Loader, Processor, Writer, ask_loader, ask_processor, ask_to_delete,
+    ask_to_write, first_unsuited, tell_all,
+};
+use jc_model::OutOfMemory;
+use jc_model::call::{Answer, Request};
+use std::alloc::Global;
+
+/// Whether each cache has the callbacks that its configuration names, and no others.
+pub fn all_suit<L: Loader, W: Writer, P: Processor, K: Hearer>(
+    settings: &Settings,
+    hooks: &[CacheHooks<L, W, P, K>],
+) -> bool
+    ensures { IsTrue result ↔ AreSuited P.wants settings.now hooks.now }
+{
+    match first_unsuited(settings.caches(), hooks) {
+        None => true,
+        Some(_) => false,
+    }
+}
+
+/// The callbacks of a cache that has none.
+pub(crate) fn no_hooks<L: Loader, W: Writer, P: Processor, K: Hearer>(
+    alloc: Global,
+) -> CacheHooks<L, W, P, K>
+    ensures { HasNone result }
+{
+    CacheHooks {
+        loader: None,
+        writer: None,
+        processors: Vec::new(alloc),
+        listeners: Vec::new(alloc),
+    }
+}
+
+/// The answer of a cache's callbacks to a request. A callback that is not there fails.
+pub fn answer<L: Loader, W: Writer, P: Processor, K: Hearer>(
+    alloc: Global,
+    hooks: &mut CacheHooks<L, W, P, K>,
+    request: Request,
+) -> Result<Answer, OutOfMemory>
+    ensures fits { IfOk result (λ a. IsTrue (is_answer_to request a)) }
+    ensures kept { asked_of hooks.new ≡ asked_of hooks.old }
+    ensures heard { IfOk result (λ a. Heard L.load_of W.may P.verdict_of K.state_after hooks.old hooks.new ((request, a) ∷ [])) }
+{
+    match request {
+        Request::Load(key) => ask_loader(alloc, &hooks.loader, &key),
+        Request::Write(key, value) => ask_to_write(alloc, &mut hooks.writer, &key, &value),
+        Request::Delete(key) => ask_to_delete(alloc, &mut hooks.writer, &key),
+        Request::Process {
+            key: _,
+            processor,
+            value,
+            argument,
+        } => ask_processor(
+            alloc,
+            hooks.processors.as_slice(),
+            processor,
+            value.as_ref(),
+            &argument,
+        ),
+        Request::Tell(notices) => {
+            tell_all(hooks.listeners.as_mut_slice(), notices.items());
+            Ok(Answer::Told)
+        }
+    }
+}

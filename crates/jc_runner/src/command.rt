@@ -1,0 +1,150 @@
+//! The program: it does what its words ask for, over a disk and the standard streams, and says how that ended.
+ghost use Rattle.std.specs.Prelude.{◌≡◌, ◌↔◌, ℕ, List, [], IsTrue, IfOk, IfErr, Ok, Err, map, string_bytes};
+ghost use Rattle.clap.specs.Words.{kind_of};
+ghost use Rattle.jc_runner.specs.Program.{WordsEnd, Obeys, Ends, RefusesSo};
+
+pub mod demonstration;
+pub mod streams;
+pub mod words;
+
+use crate::command::demonstration::demonstrate;
+use crate::command::streams::{Opened, Standard};
+use crate::exit::fault::{ProgramFault, RunFault};
+use crate::exit::{Ended, Ending, WordsFault, ending_of, say};
+use crate::files::check::check_files;
+use crate::files::disk::Disk;
+use crate::files::replay::replay_file;
+use crate::files::run_files;
+use crate::input::Watched;
+use crate::output::WatchedWriter;
+use clap::Error;
+use clap::error::ErrorKind;
+use jc_model::OutOfMemory;
+use jc_words::{Asked, asks_to_explain, mistake_text, read_words};
+use std::alloc::Global;
+use std::io::{Read, Write};
+use std::sync::Wait;
+use std::thread::Threads;
+
+/// The words as texts.
+fn texts_of<'a>(alloc: Global, words: &'a [String]) -> Result<Vec<&'a str>, OutOfMemory>
+    ensures { IfOk result (λ v. map (λ text. text.now) v.items ≡ map string_bytes words.entry.now) }
+{
+    let mut texts = Vec::with_capacity(alloc, words.len())?;
+    for word in words {
+        texts.push(word.as_str())?;
+    }
+    Ok(texts)
+}
+
+fn lacks_memory(error: &Error) -> bool
+    ensures { IsTrue result ↔ (kind_of error.now ≡ ErrorKind.OutOfMemory) }
+{
+    matches!(error.kind(), ErrorKind::OutOfMemory)
+}
+
+/// How words are refused: under the program's name where they ask for explanations and memory suffices, and then with
+/// the note on a number below 0. Help and the version are no mistakes.
+fn refusal(alloc: Global, words: &[&str], error: Error) -> Ending
+    ensures { RefusesSo (map (λ word. word.now) words.now) error result }
+{
+    if !error.use_stderr() || !asks_to_explain(words) {
+        return Ending::Refused(error);
+    }
+    match mistake_text(alloc, words, &error) {
+        Ok(text) => Ending::Mistaken(text),
+        Err(_) => Ending::Refused(error),
+    }
+}
+
+/// Does what the words after the program's name ask for.
+fn obey<D: Disk, I: Read, O: Write, R: Threads + Wait + Sync>(
+    rt: &R,
+    alloc: Global,
+    words: &[String],
+    disk: &mut D,
+    opened: &mut Opened<D::File>,
+    input: &mut Watched<I>,
+    output: &mut WatchedWriter<O>,
+) -> Ending
+    ensures ends { WordsEnd D.File.remaining I.remaining O.contents (D.holds disk.old) (D.asked disk.old) (D.asked disk.new) opened.old opened.new input.old input.new output.old output.new (map string_bytes words.now) result }
+    ensures same { (other : List ℕ) → D.holds disk.new other ≡ D.holds disk.old other }
+{
+    let Ok(texts) = texts_of(alloc, words) else {
+        return Ending::Faulty(ProgramFault::Run(RunFault::Memory));
+    };
+    match read_words(alloc, texts.as_slice()) {
+        Ok(Some(Asked::Run(run))) => {
+            let ran = run_files(rt, alloc, disk, opened, &run, input, output);
+            ending_of(run.explain, ran)
+        }
+        Ok(Some(Asked::Check(check))) => {
+            let ran = check_files(alloc, disk, opened, &check, input);
+            ending_of(check.explain, ran)
+        }
+        Ok(Some(Asked::Replay(replay))) => {
+            let ran = replay_file(alloc, disk, opened, &replay, input, output);
+            ending_of(false, ran)
+        }
+        Ok(None) => match demonstrate(alloc, input, output) {
+            Ok(()) => Ending::Done,
+            Err(fault) => Ending::Faulty(ProgramFault::Run(fault)),
+        },
+        Err(error) => {
+            if lacks_memory(&error) {
+                return Ending::Faulty(ProgramFault::Run(RunFault::Memory));
+            }
+            refusal(alloc, texts.as_slice(), error)
+        }
+    }
+}
+
+/// Does what the words ask for, where they are there.
+pub fn heed<D: Disk, I: Read, O: Write, R: Threads + Wait + Sync>(
+    rt: &R,
+    alloc: Global,
+    words: Result<Vec<String>, WordsFault>,
+    disk: &mut D,
+    opened: &mut Opened<D::File>,
+    input: &mut Watched<I>,
+    output: &mut WatchedWriter<O>,
+) -> Ending
+    ensures obeys { IfOk words (λ v. Obeys D.File.remaining I.remaining O.contents (D.holds disk.old) (D.asked disk.old) (D.asked disk.new) opened.old opened.new input.old input.new output.old output.new (Ok (map string_bytes v.items)) result) }
+    ensures wordless { IfErr words (λ fault. Obeys D.File.remaining I.remaining O.contents (D.holds disk.old) (D.asked disk.old) (D.asked disk.new) opened.old opened.new input.old input.new output.old output.new (Err fault) result) }
+    ensures same { (other : List ℕ) → D.holds disk.new other ≡ D.holds disk.old other }
+{
+    match words {
+        Ok(words) => obey(rt, alloc, words.as_slice(), disk, opened, input, output),
+        Err(WordsFault::NotText) => Ending::NotText,
+        Err(WordsFault::Explained(text)) => Ending::Mistaken(text),
+        Err(WordsFault::OutOfMemory) => Ending::Faulty(ProgramFault::Run(RunFault::Memory)),
+    }
+}
+
+/// The program: it does what the words after its name ask for, and says how that ended.
+///
+/// Without words the script on standard input is run on the demonstration's caches. Faults come in this order: the
+/// words, reading the configuration, its text, whether it has caches where that is asked for, reading the script, its
+/// text, members that its ops do not need where that is asked for, the run, the writing of the report. A check of the
+/// files ends before the run, and says nothing where they are fine. A replay reads the trace, counts, and writes the
+/// table. A report that nobody reads any more is told by the
+/// status alone.
+///
+/// Standard output has the report and nothing else, and nothing at all after a fault, save a prefix of the report
+/// where it could not be written whole; help goes there too. The texts of help and of mistaken words are `clap`'s.
+pub fn program<D: Disk, I: Read, O: Write, E: Write, R: Threads + Wait + Sync>(
+    rt: &R,
+    alloc: Global,
+    words: Result<Vec<String>, WordsFault>,
+    disk: &mut D,
+    opened: &mut Opened<D::File>,
+    standard: &mut Standard<I, O, E>,
+) -> Ended
+    ensures ends { IfOk words (λ v. Ends D.File.remaining I.remaining O.contents E.contents (D.holds disk.old) (D.asked disk.old) (D.asked disk.new) opened.old opened.new standard.old standard.new [] (Ok (map string_bytes v.items)) result) }
+    ensures wordless { IfErr words (λ fault. Ends D.File.remaining I.remaining O.contents E.contents (D.holds disk.old) (D.asked disk.old) (D.asked disk.new) opened.old opened.new standard.old standard.new [] (Err fault) result) }
+    ensures same { (other : List ℕ) → D.holds disk.new other ≡ D.holds disk.old other }
+{
+    let input = &mut standard.input;
+    let ending = heed(rt, alloc, words, disk, opened, input, &mut standard.output);
+    say(&ending, "", &mut standard.output, &mut standard.errors)
+}

@@ -1,0 +1,47 @@
+//! The files that the program opens, and its standard streams.
+
+ghost use Rattle.std.specs.Prelude.{◌≡◌, None, false};
+
+use crate::input::Watched;
+use crate::output::WatchedWriter;
+use std::io::{Read, Write};
+
+/// The files of a run, as far as they were opened, and how they were read.
+#[derive(Drop)]
+pub struct Opened<F> {
+    pub config: Option<Watched<F>>,
+    pub script: Option<Watched<F>>,
+}
+
+/// The standard streams.
+#[derive(Drop)]
+pub struct Standard<I, O, E> {
+    pub input: Watched<I>,
+    pub output: WatchedWriter<O>,
+    pub errors: WatchedWriter<E>,
+}
+
+impl<F> Opened<F> {
+    /// No file was opened yet.
+    pub fn none() -> Opened<F>
+        ensures { result ≡ record { config = None; script = None } }
+    {
+        Opened {
+            config: None,
+            script: None,
+        }
+    }
+}
+
+impl<I: Read, O: Write, E: Write> Standard<I, O, E> {
+    /// Streams that were not used yet.
+    pub fn new(input: I, output: O, errors: E) -> Standard<I, O, E>
+        ensures { result ≡ record { input = record { inner = input; reads = 0; failures = 0 }; output = record { inner = output; failures = 0; unheard = false; flushed = false }; errors = record { inner = errors; failures = 0; unheard = false; flushed = false } } }
+    {
+        Standard {
+            input: Watched::new(input),
+            output: WatchedWriter::new(output),
+            errors: WatchedWriter::new(errors),
+        }
+    }
+}

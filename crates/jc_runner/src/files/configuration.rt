@@ -1,0 +1,66 @@
+//! The configuration of a reader, read to its end.
+ghost use Rattle.std.specs.Prelude.{◌≡◌, ◌≢◌, ◌<◌, length, IfOk, IfErr, IfSome, OnOk, Ok, Err};
+ghost use Rattle.std.specs.Io.KnownBytes.{IsAtEnd};
+ghost use Rattle.jc_config.specs.Config.{configuration_of};
+ghost use Rattle.jc_config.specs.declared.fault.ConfigFault.{ConfigFault as TextFault};
+ghost use Rattle.jc_config.specs.declared.fault.ConfigFault.TheVariants.{TooLong};
+ghost use Rattle.jc_model.specs.Limits.{text_bytes};
+ghost use Rattle.jc_runner.specs.Meters.{next, most_reads, AddsAtMost};
+ghost use Rattle.jc_runner.specs.Opens.{Opens};
+ghost use Rattle.jc_runner.specs.Streams.{IsAll, IsOfConfiguring};
+ghost use Rattle.jc_runner.specs.declared.exit.fault.ProgramFault.TheVariants.{ConfigRead, Config};
+
+use crate::exit::fault::{ProgramFault, RunFault};
+use crate::input::{Watched, read_bytes};
+use jc_config::{ConfigFault, Configuration, read_config};
+use std::alloc::Global;
+use std::io::Read;
+
+fn text_of<R: Read>(alloc: Global, reader: &mut Watched<R>) -> Result<Vec<u8>, ProgramFault>
+    ensures all { IfOk result (λ v. IsAll (R.remaining reader.old.inner) (R.remaining reader.new.inner) v.items) }
+    ensures long { IfErr result (λ e. (f : TextFault) → e ≡ Config f → (f ≡ TooLong) × IfSome (R.remaining reader.old.inner) (λ input. text_bytes < length input)) }
+    ensures failed { result ≡ Err ConfigRead → reader.new.failures ≡ next reader.old.failures }
+    ensures unfailed { result ≢ Err ConfigRead → reader.new.failures ≡ reader.old.failures }
+    ensures others { IfErr result IsOfConfiguring }
+    ensures reads { AddsAtMost most_reads reader.old.reads reader.new.reads }
+{
+    match read_bytes(alloc, reader) {
+        Ok(bytes) => Ok(bytes),
+        Err(RunFault::Read) => Err(ProgramFault::ConfigRead),
+        Err(RunFault::TooLong) => Err(ProgramFault::Config(ConfigFault::TooLong)),
+        Err(_) => Err(ProgramFault::Run(RunFault::Memory)),
+    }
+}
+
+fn configuration_in(alloc: Global, bytes: &[u8]) -> Result<Configuration, ProgramFault>
+    ensures ok { IfOk result (λ c. configuration_of bytes.now ≡ Ok c) }
+    ensures opens { IfOk result Opens }
+    ensures config { (f : TextFault) → result ≡ Err (Config f) → configuration_of bytes.now ≡ Err f }
+    ensures others { IfErr result (λ e. (e ≡ ConfigRead → ⊥) × IsOfConfiguring e) }
+{
+    match read_config(alloc, bytes) {
+        Ok(configuration) => Ok(configuration),
+        Err(ConfigFault::OutOfMemory) => Err(ProgramFault::Run(RunFault::Memory)),
+        Err(fault) => Err(ProgramFault::Config(fault)),
+    }
+}
+
+/// Reads a configuration to its end.
+///
+/// `ConfigRead` where the reader failed; `Config` with the first fault; want of memory is the run's `Memory`.
+pub fn read_configuration<R: Read>(
+    alloc: Global,
+    reader: &mut Watched<R>,
+) -> Result<Configuration, ProgramFault>
+    ensures ok { IfOk result (λ c. IfSome (R.remaining reader.old.inner) (λ input. configuration_of input ≡ Ok c)) }
+    ensures opens { IfOk result Opens }
+    ensures end { OnOk result (IsAtEnd (R.remaining reader.new.inner)) }
+    ensures config { (f : TextFault) → result ≡ Err (Config f) → IfSome (R.remaining reader.old.inner) (λ input. configuration_of input ≡ Err f) }
+    ensures failed { result ≡ Err ConfigRead → reader.new.failures ≡ next reader.old.failures }
+    ensures unfailed { result ≢ Err ConfigRead → reader.new.failures ≡ reader.old.failures }
+    ensures others { IfErr result IsOfConfiguring }
+    ensures reads { AddsAtMost most_reads reader.old.reads reader.new.reads }
+{
+    let bytes = text_of(alloc, reader)?;
+    configuration_in(alloc, bytes.as_slice())
+}

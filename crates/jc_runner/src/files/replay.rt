@@ -1,0 +1,124 @@
+//! A replay of a trace: its file is read, and its table written.
+ghost use Rattle.std.specs.Prelude.{◌≡◌, ◌≢◌, ◌⊎◌, ℕ, List, IfOk, IfErr, Err, None, string_bytes};
+ghost use Rattle.std.specs.List.{All};
+ghost use Rattle.jc_replay.specs.Hits.{IsCapacity};
+ghost use Rattle.jc_runner.specs.Disks.{IsFound, MayBeMissing, Asks};
+ghost use Rattle.jc_runner.specs.Faults.{of_trace, of_replay};
+ghost use Rattle.jc_runner.specs.Meters.{most_reads, AddsAtMost};
+ghost use Rattle.jc_runner.specs.Program.{unread, TraceEnds, TraceFileEnds, ReplayEnds};
+ghost use Rattle.jc_runner.specs.declared.exit.fault.ProgramFault.TheVariants.{TraceRead};
+
+use crate::command::streams::Opened;
+use crate::exit::fault::{ProgramFault, RunFault};
+use crate::files::disk::Disk;
+use crate::files::open_script;
+use crate::input::{Watched, read_bytes};
+use crate::output::{WatchedWriter, write_text};
+use jc_replay::{ReplayFault, replay_table};
+use jc_words::{Replay, is_input};
+use std::alloc::Global;
+use std::io::{Read, Write};
+
+/// The fault of a trace that was not read to its end.
+fn trace_fault(fault: RunFault) -> ProgramFault
+    ensures { result ≡ of_trace fault }
+{
+    match fault {
+        RunFault::Read => ProgramFault::TraceRead,
+        RunFault::TooLong => ProgramFault::Trace(ReplayFault::TooLong),
+        other => ProgramFault::Run(other),
+    }
+}
+
+/// The fault of a replay.
+fn replay_fault(fault: ReplayFault) -> ProgramFault
+    ensures { result ≡ of_replay fault }
+{
+    match fault {
+        ReplayFault::OutOfMemory => ProgramFault::Run(RunFault::Memory),
+        ReplayFault::TooLong | ReplayFault::BadKey { .. } => ProgramFault::Trace(fault),
+    }
+}
+
+/// Reads a trace to its end, replays it, and writes the table.
+fn replay_all<I: Read, O: Write>(
+    alloc: Global,
+    capacities: &[u32],
+    reader: &mut Watched<I>,
+    writer: &mut WatchedWriter<O>,
+) -> Result<(), ProgramFault>
+    requires { All IsCapacity capacities.now }
+    ensures ends { TraceEnds I.remaining O.contents capacities.now reader.old reader.new writer.old writer.new result }
+    ensures unfailed { result ≢ Err TraceRead → reader.new.failures ≡ reader.old.failures }
+    ensures reads { AddsAtMost most_reads reader.old.reads reader.new.reads }
+{
+    let bytes = match read_bytes(alloc, reader) {
+        Ok(bytes) => bytes,
+        Err(fault) => return Err(trace_fault(fault)),
+    };
+    let text = match replay_table(alloc, bytes.as_slice(), capacities, 0) {
+        Ok(text) => text,
+        Err(fault) => return Err(replay_fault(fault)),
+    };
+    match write_text(writer, text.as_bytes()) {
+        Ok(()) => Ok(()),
+        Err(fault) => Err(ProgramFault::Run(fault)),
+    }
+}
+
+/// Opens a trace.
+fn open_trace<D: Disk>(disk: &mut D, path: &str) -> Result<Watched<D::File>, ProgramFault>
+    ensures unread { IfOk result (λ reader. (reader ≡ unread reader.inner) × IsFound (D.holds disk.old path.now) (D.File.remaining reader.inner)) }
+    ensures unopened { IfErr result (λ fault. ((fault ≡ TraceRead) × MayBeMissing (D.holds disk.old path.now)) ⊎ (fault ≡ ProgramFault.Run RunFault.Memory)) }
+    ensures asked { Asks (D.asked disk.old) (D.asked disk.new) path.now }
+    ensures same { (other : List ℕ) → D.holds disk.new other ≡ D.holds disk.old other }
+{
+    match open_script(disk, path) {
+        Ok(reader) => Ok(reader),
+        Err(fault) => Err(trace_fault(fault)),
+    }
+}
+
+/// Opens a trace and replays it.
+fn replay_opened<D: Disk, O: Write>(
+    alloc: Global,
+    disk: &mut D,
+    path: &str,
+    capacities: &[u32],
+    trace: &mut Option<Watched<D::File>>,
+    writer: &mut WatchedWriter<O>,
+) -> Result<(), ProgramFault>
+    requires { All IsCapacity capacities.now }
+    ensures ends { TraceFileEnds D.File.remaining O.contents (D.holds disk.old path.now) capacities.now writer.old writer.new trace.new result }
+    ensures asked { Asks (D.asked disk.old) (D.asked disk.new) path.now }
+    ensures same { (other : List ℕ) → D.holds disk.new other ≡ D.holds disk.old other }
+{
+    *trace = None;
+    let mut reader = open_trace(disk, path)?;
+    let replayed = replay_all(alloc, capacities, &mut reader, writer);
+    *trace = Some(reader);
+    replayed
+}
+
+/// Replays the trace that the words name, which may be standard input, and writes the table.
+pub fn replay_file<D: Disk, I: Read, O: Write>(
+    alloc: Global,
+    disk: &mut D,
+    opened: &mut Opened<D::File>,
+    replay: &Replay,
+    input: &mut Watched<I>,
+    writer: &mut WatchedWriter<O>,
+) -> Result<(), ProgramFault>
+    requires { All IsCapacity replay.now.capacities.items }
+    ensures ends { ReplayEnds D.File.remaining I.remaining O.contents (D.holds disk.old) (D.asked disk.old) (D.asked disk.new) replay.now opened.new.config opened.new.script input.old input.new writer.old writer.new result }
+    ensures same { (other : List ℕ) → D.holds disk.new other ≡ D.holds disk.old other }
+{
+    opened.config = None;
+    let path = replay.trace.as_str();
+    let capacities = replay.capacities.as_slice();
+    if is_input(path) {
+        opened.script = None;
+        return replay_all(alloc, capacities, input, writer);
+    }
+    replay_opened(alloc, disk, path, capacities, &mut opened.script, writer)
+}

@@ -1,0 +1,235 @@
+//! A run in the lines' order: a script in, a report out.
+ghost use Rattle.std.specs.Prelude.{◌≡◌, ◌<◌, ◌≢◌, ℕ, true, IfOk, IfErr, IfSome, IsSome, Some, None, OnOk, IsOk, Ok, Err, length, string_bytes};
+ghost use Rattle.std.specs.FinMap as finite;
+ghost use Rattle.std.specs.Io.KnownBytes.{Appends, IsAtEnd, Keeps};
+ghost use Rattle.jc_script.specs.Script.{lines};
+ghost use Rattle.jc_script.specs.declared.fault.ScriptFault.{ScriptFault as TextFault};
+ghost use Rattle.jc_script.specs.Named.{AllName};
+ghost use Rattle.jc_engine.specs.Opening.{open_refusal};
+ghost use Rattle.jc_model.specs.Limits.{text_bytes};
+ghost use Rattle.jc_model.specs.Legal.{at_first};
+ghost use Rattle.jc_model.specs.Runs.{opened_from};
+ghost use Rattle.jc_runner.specs.Halfway.{lives_now};
+ghost use Rattle.jc_runner.specs.Hooks.{AreKept, AreSuited, CannotOpen};
+ghost use Rattle.jc_runner.specs.Reports.{Reports, ReportsOf};
+ghost use Rattle.jc_runner.specs.Meters.{next, most_reads, AddsAtMost};
+ghost use Rattle.jc_runner.specs.Streams.{WritesFront, IsOfRunning, IsOfScript, IsOfStrictness, IsBeforeCalls, HasRun};
+ghost use Rattle.jc_runner.specs.Strictness.{HasNone, HasOne};
+ghost use Rattle.jc_strict.specs.Stray.{stray_line};
+ghost use Rattle.jc_runner.specs.declared.exit.fault.RunFault.TheVariants as faults;
+ghost use Rattle.jc_runner.specs.declared.output.form.Form.TheVariants as forms;
+ghost use Rattle.jc_words.specs.declared.run.Format.TheVariants as formats;
+
+mod caches;
+mod calls;
+mod lines;
+
+use crate::callbacks::all_suit;
+use crate::exit::fault::RunFault;
+use crate::input::{Watched, read_bytes};
+use crate::output::form::{Form, form_of, report_in};
+use crate::output::{WatchedWriter, write_text};
+use crate::serial_run::lines::run_all;
+use jc_config::Settings;
+use jc_engine::open::OpenRefusal;
+use jc_engine::recorded::Recorded;
+use jc_hooks::{CacheHooks, Hearer, Loader, Processor, Writer};
+use jc_ring::link_ring::LinkRing;
+use jc_rows::rows::Rows;
+use jc_script::{Line, ScriptFault, read_script};
+use jc_shared::table;
+use jc_strict::stray_line;
+use jc_words::Format;
+use std::alloc::Global;
+use std::io::{Read, Write};
+
+/// The lines of a script.
+pub(crate) fn lines_of(
+    alloc: Global,
+    bytes: &[u8],
+    settings: &Settings,
+) -> Result<Vec<Line>, RunFault>
+    ensures ok { IfOk result (λ v. lines settings.now bytes.now ≡ Ok v.items) }
+    ensures script { (f : TextFault) → result ≡ Err (faults.Script f) → lines settings.now bytes.now ≡ Err f }
+    ensures others { IfErr result IsOfScript }
+    ensures named { IfOk result (λ v. AllName (opened_from 0 settings.now) v.items) }
+{
+    match read_script(alloc, bytes, settings) {
+        Ok(lines) => Ok(lines),
+        Err(ScriptFault::OutOfMemory) => Err(RunFault::Memory),
+        Err(fault) => Err(RunFault::Script(fault)),
+    }
+}
+
+fn opened<T: Rows>(
+    alloc: Global,
+    rows: T,
+    settings: Settings,
+) -> Result<Recorded<T, LinkRing>, RunFault>
+    requires empty { T.contents rows ≡ finite.empty }
+    ensures fresh { IfOk result (λ r. lives_now r ≡ opened_from 0 settings) }
+    ensures unrecorded { IfOk result (λ r. r.transcript ≡ at_first 0 settings) }
+    ensures takes { OnOk result (open_refusal settings ≡ None) }
+    ensures faults { IfErr result IsOfRunning }
+    ensures refused { result ≡ Err faults.Open → IsSome (open_refusal settings) }
+    ensures memory { result ≡ Err faults.Memory → IsSome (open_refusal settings) → open_refusal settings ≡ Some OpenRefusal.OutOfMemory }
+{
+    match Recorded::open(alloc, rows, settings.into_caches()) {
+        Ok(recorded) => Ok(recorded),
+        Err(OpenRefusal::OutOfMemory) => Err(RunFault::Memory),
+        Err(_) => Err(RunFault::Open),
+    }
+}
+
+/// The same as `report_on`, with the report in this form. The seed picks places in tables, and changes nothing of it.
+fn report_as<T: Rows, L: Loader, W: Writer, P: Processor, K: Hearer>(
+    alloc: Global,
+    rows: T,
+    settings: Settings,
+    hooks: &mut [CacheHooks<L, W, P, K>],
+    lines: Vec<Line>,
+    form: &Form,
+    seed: u64,
+) -> Result<String, RunFault>
+    requires empty { T.contents rows ≡ finite.empty }
+    requires named { AllName (opened_from 0 settings) lines.items }
+    requires suit { AreSuited P.wants settings hooks.old }
+    ensures kept { AreKept hooks.old hooks.new }
+    ensures untouched { result ≡ Err faults.Open → hooks.new ≡ hooks.old }
+    ensures text { IfOk result (λ s. Reports L.load_of W.may P.verdict_of K.state_after form.now settings lines.items hooks.old hooks.new (string_bytes s)) }
+    ensures faults { IfErr result IsOfRunning }
+    ensures refused { result ≡ Err faults.Open → IsSome (open_refusal settings) }
+{
+    let caches = settings.caches().len();
+    let mut recorded = opened(alloc, rows, settings)?;
+    let managed = run_all(alloc, &mut recorded, hooks, lines)?;
+    let transcript = recorded.transcript();
+    let text = report_in(
+        alloc,
+        form,
+        caches as u32,
+        transcript,
+        managed.as_slice(),
+        seed,
+    )?;
+    Ok(text)
+}
+
+/// Runs the lines on caches of these settings, which share this empty table. The result is the report as text. A cache
+/// that a line creates has no callbacks.
+///
+/// `Memory`, also where a callback finds none; `Open` where the manager does not open.
+pub fn report_on<T: Rows, L: Loader, W: Writer, P: Processor, K: Hearer>(
+    alloc: Global,
+    rows: T,
+    settings: Settings,
+    hooks: &mut [CacheHooks<L, W, P, K>],
+    lines: Vec<Line>,
+) -> Result<String, RunFault>
+    requires empty { T.contents rows ≡ finite.empty }
+    requires named { AllName (opened_from 0 settings) lines.items }
+    requires suit { AreSuited P.wants settings hooks.old }
+    ensures kept { AreKept hooks.old hooks.new }
+    ensures untouched { result ≡ Err faults.Open → hooks.new ≡ hooks.old }
+    ensures text { IfOk result (λ s. Reports L.load_of W.may P.verdict_of K.state_after forms.Text settings lines.items hooks.old hooks.new (string_bytes s)) }
+    ensures faults { IfErr result IsOfRunning }
+    ensures refused { result ≡ Err faults.Open → IsSome (open_refusal settings) }
+{
+    report_as(alloc, rows, settings, hooks, lines, &Form::Text, 0)
+}
+
+/// Refuses a script with a member that its op does not need, where that is asked for.
+pub(crate) fn strictly(alloc: Global, bytes: &[u8], strict: bool) -> Result<(), RunFault>
+    ensures known { OnOk result (strict ≡ true → stray_line bytes.now ≡ None) }
+    ensures entry { (n : ℕ) → result ≡ Err (faults.Entry n) → (strict ≡ true) × (stray_line bytes.now ≡ Some n) }
+    ensures others { IfErr result IsOfStrictness }
+{
+    if !strict {
+        return Ok(());
+    }
+    match stray_line(alloc, bytes)? {
+        None => Ok(()),
+        Some(line) => Err(RunFault::Entry { line }),
+    }
+}
+
+/// The same as `serial`, with the report in this form. Where `strict` says so, `Entry` with the first line that has a
+/// member its op does not need; that is told of a script without other faults.
+pub(crate) fn serial_as<L: Loader, W: Writer, P: Processor, K: Hearer, R: Read, O: Write>(
+    alloc: Global,
+    settings: Settings,
+    hooks: &mut [CacheHooks<L, W, P, K>],
+    seed: u64,
+    strict: bool,
+    format: Format,
+    reader: &mut Watched<R>,
+    writer: &mut WatchedWriter<O>,
+) -> Result<(), RunFault>
+    ensures ok { OnOk result (IfSome (R.remaining reader.old.inner) (λ input. ReportsOf L.load_of W.may P.verdict_of K.state_after format settings input hooks.old hooks.new (λ text. Appends (O.contents writer.old.inner) (O.contents writer.new.inner) text))) }
+    ensures end { OnOk result (IsAtEnd (R.remaining reader.new.inner)) }
+    ensures script { (f : TextFault) → result ≡ Err (faults.Script f) → IfSome (R.remaining reader.old.inner) (λ input. lines settings input ≡ Err f) }
+    ensures entry { (n : ℕ) → result ≡ Err (faults.Entry n) → HasOne strict settings (R.remaining reader.old.inner) n }
+    ensures known { HasRun result → HasNone strict (R.remaining reader.old.inner) }
+    ensures long { result ≡ Err faults.TooLong → IfSome (R.remaining reader.old.inner) (λ input. text_bytes < length input) }
+    ensures open { result ≡ Err faults.Open → CannotOpen P.wants settings hooks.old }
+    ensures good { result ≡ Err faults.Open → IfSome (R.remaining reader.old.inner) (λ input. IsOk (lines settings input)) }
+    ensures kept { AreKept hooks.old hooks.new }
+    ensures untouched { IfErr result (λ e. IsBeforeCalls e → hooks.new ≡ hooks.old) }
+    ensures suit { HasRun result → AreSuited P.wants settings hooks.old }
+    ensures flushed { OnOk result ((writer.new.flushed ≡ true) × (writer.new.failures ≡ writer.old.failures)) }
+    ensures closed { result ≢ Err faults.Close }
+    ensures front { result ≡ Err faults.Write → IfSome (R.remaining reader.old.inner) (λ input. ReportsOf L.load_of W.may P.verdict_of K.state_after format settings input hooks.old hooks.new (λ text. WritesFront (O.contents writer.old.inner) (O.contents writer.new.inner) text)) }
+    ensures nothing { IfErr result (λ e. e ≢ faults.Write → Keeps (O.contents writer.old.inner) (O.contents writer.new.inner)) }
+    ensures read_failed { result ≡ Err faults.Read → reader.new.failures ≡ next reader.old.failures }
+    ensures unfailed { result ≢ Err faults.Read → reader.new.failures ≡ reader.old.failures }
+    ensures write_failed { result ≡ Err faults.Write → writer.new.failures ≡ next writer.old.failures }
+    ensures reads { AddsAtMost most_reads reader.old.reads reader.new.reads }
+{
+    let bytes = read_bytes(alloc, reader)?;
+    let lines = lines_of(alloc, bytes.as_slice(), &settings)?;
+    strictly(alloc, bytes.as_slice(), strict)?;
+    if !all_suit(&settings, hooks) {
+        return Err(RunFault::Open);
+    }
+    let form = form_of(alloc, format, bytes.as_slice(), lines.as_slice())?;
+    let rows = table(alloc, seed)?;
+    let text = report_as(alloc, rows, settings, hooks, lines, &form, seed)?;
+    write_text(writer, text.as_bytes())
+}
+
+/// Reads a script to its end, runs its lines in order on caches of these settings and on those that it creates, each
+/// request being answered by the callbacks of its cache, and writes the report.
+///
+/// `Read`, `TooLong`; `Script` with the first fault; `Open` where the callbacks are not those that the settings name,
+/// or where the manager does not open; `Memory`, also where a callback finds none; `Write`. Only after `Write` may a
+/// part of the report have been written. The seed picks the places in the table and changes nothing of the report.
+pub fn serial<L: Loader, W: Writer, P: Processor, K: Hearer, R: Read, O: Write>(
+    alloc: Global,
+    settings: Settings,
+    hooks: &mut [CacheHooks<L, W, P, K>],
+    seed: u64,
+    reader: &mut Watched<R>,
+    writer: &mut WatchedWriter<O>,
+) -> Result<(), RunFault>
+    ensures ok { OnOk result (IfSome (R.remaining reader.old.inner) (λ input. ReportsOf L.load_of W.may P.verdict_of K.state_after formats.Text settings input hooks.old hooks.new (λ text. Appends (O.contents writer.old.inner) (O.contents writer.new.inner) text))) }
+    ensures end { OnOk result (IsAtEnd (R.remaining reader.new.inner)) }
+    ensures script { (f : TextFault) → result ≡ Err (faults.Script f) → IfSome (R.remaining reader.old.inner) (λ input. lines settings input ≡ Err f) }
+    ensures lax { (n : ℕ) → result ≢ Err (faults.Entry n) }
+    ensures long { result ≡ Err faults.TooLong → IfSome (R.remaining reader.old.inner) (λ input. text_bytes < length input) }
+    ensures open { result ≡ Err faults.Open → CannotOpen P.wants settings hooks.old }
+    ensures good { result ≡ Err faults.Open → IfSome (R.remaining reader.old.inner) (λ input. IsOk (lines settings input)) }
+    ensures kept { AreKept hooks.old hooks.new }
+    ensures untouched { IfErr result (λ e. IsBeforeCalls e → hooks.new ≡ hooks.old) }
+    ensures suit { HasRun result → AreSuited P.wants settings hooks.old }
+    ensures flushed { OnOk result ((writer.new.flushed ≡ true) × (writer.new.failures ≡ writer.old.failures)) }
+    ensures closed { result ≢ Err faults.Close }
+    ensures front { result ≡ Err faults.Write → IfSome (R.remaining reader.old.inner) (λ input. ReportsOf L.load_of W.may P.verdict_of K.state_after formats.Text settings input hooks.old hooks.new (λ text. WritesFront (O.contents writer.old.inner) (O.contents writer.new.inner) text)) }
+    ensures nothing { IfErr result (λ e. e ≢ faults.Write → Keeps (O.contents writer.old.inner) (O.contents writer.new.inner)) }
+    ensures read_failed { result ≡ Err faults.Read → reader.new.failures ≡ next reader.old.failures }
+    ensures unfailed { result ≢ Err faults.Read → reader.new.failures ≡ reader.old.failures }
+    ensures write_failed { result ≡ Err faults.Write → writer.new.failures ≡ next writer.old.failures }
+    ensures reads { AddsAtMost most_reads reader.old.reads reader.new.reads }
+{
+    let format = Format::Text;
+    serial_as(alloc, settings, hooks, seed, false, format, reader, writer)
+}

@@ -1,0 +1,95 @@
+//! The call of a line, with the callbacks that answer its requests.
+ghost use Rattle.std.specs.Prelude.{◌≡◌, ℕ, Some, IfOk, IfErr, OnOk};
+ghost use Rattle.jc_model.specs.declared.event.Event.TheVariants.{Answer as Answered};
+ghost use Rattle.jc_model.specs.declared.event.Outcome.TheVariants.{Step as Stepped};
+ghost use Rattle.jc_runner.specs.Halfway.{event_of, CanMove, Moves, IsReady, Replies, RepliesAt};
+ghost use Rattle.jc_runner.specs.Hooks.{asked_of, AreKept};
+ghost use Rattle.jc_runner.specs.declared.exit.fault.RunFault.TheVariants as faults;
+
+use crate::callbacks::{answer, no_hooks};
+use crate::exit::fault::RunFault;
+use jc_engine::recorded::Recorded;
+use jc_hooks::{CacheHooks, Hearer, Loader, Processor, Writer};
+use jc_model::call::Answer;
+use jc_model::event::{CacheId, Cause, Step};
+use jc_ring::ring::Ring;
+use jc_rows::rows::Rows;
+use jc_script::LineCall;
+use std::alloc::Global;
+
+/// Begins the call of a line.
+fn begin<R: Rows, G: Ring>(recorded: &mut Recorded<R, G>, line: LineCall) -> Result<Step, RunFault>
+    requires { CanMove recorded.old (event_of line) }
+    ensures moves { IfOk result (λ step. Moves recorded.old recorded.new line.session (event_of line) (Stepped step)) }
+    ensures faults { IfErr result (λ e. e ≡ faults.Memory) }
+{
+    let LineCall {
+        session,
+        id,
+        at,
+        call,
+    } = line;
+    match recorded.begin(session, id, at, call) {
+        Ok((step, _)) => Ok(step),
+        Err((Cause::OutOfMemory, _)) => Err(RunFault::Memory),
+        Err(_) => unreachable!(),
+    }
+}
+
+/// Hands the open call of a cache the answer to its request.
+fn resume<R: Rows, G: Ring>(
+    recorded: &mut Recorded<R, G>,
+    id: CacheId,
+    answer: Answer,
+) -> Result<Step, RunFault>
+    requires { CanMove recorded.old (Answered id answer) }
+    ensures moves { IfOk result (λ step. (session : ℕ) → Moves recorded.old recorded.new session (Answered id answer) (Stepped step)) }
+    ensures faults { IfErr result (λ e. e ≡ faults.Memory) }
+{
+    match recorded.resume(id, answer) {
+        Ok((step, _)) => Ok(step),
+        Err((Cause::OutOfMemory, _)) => Err(RunFault::Memory),
+        Err(_) => unreachable!(),
+    }
+}
+
+/// Makes the call of a line: these callbacks answer each of its requests, until it replies.
+fn carry_out<R: Rows, G: Ring, L: Loader, W: Writer, P: Processor, K: Hearer>(
+    alloc: Global,
+    recorded: &mut Recorded<R, G>,
+    hooks: &mut CacheHooks<L, W, P, K>,
+    line: LineCall,
+) -> Result<(), RunFault>
+    requires ready { IsReady recorded.old line }
+    ensures replies { OnOk result (Replies L.load_of W.may P.verdict_of K.state_after recorded.old recorded.new (Some hooks.old) (Some hooks.new) line) }
+    ensures kept { asked_of hooks.new ≡ asked_of hooks.old }
+    ensures faults { IfErr result (λ e. e ≡ faults.Memory) }
+{
+    let id = line.id;
+    let mut step = begin(recorded, line)?;
+    while let Step::Need(request) = step {
+        let answer = answer(alloc, hooks, request)?;
+        step = resume(recorded, id, answer)?;
+    }
+    Ok(())
+}
+
+/// Makes the call of a line with the callbacks of its cache, or with none where it has none.
+pub(crate) fn run_call<R: Rows, G: Ring, L: Loader, W: Writer, P: Processor, K: Hearer>(
+    alloc: Global,
+    recorded: &mut Recorded<R, G>,
+    hooks: &mut [CacheHooks<L, W, P, K>],
+    line: LineCall,
+) -> Result<(), RunFault>
+    requires { IsReady recorded.old line }
+    ensures replies { OnOk result (RepliesAt L.load_of W.may P.verdict_of K.state_after recorded.old recorded.new hooks.old hooks.new line) }
+    ensures kept { AreKept hooks.old hooks.new }
+    ensures faults { IfErr result (λ e. e ≡ faults.Memory) }
+{
+    let place = line.id.number() as usize;
+    if place < hooks.len() {
+        return carry_out(alloc, recorded, &mut hooks[place], line);
+    }
+    let mut none: CacheHooks<L, W, P, K> = no_hooks(alloc);
+    carry_out(alloc, recorded, &mut none, line)
+}

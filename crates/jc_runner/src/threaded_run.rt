@@ -1,0 +1,261 @@
+//! A run on worker threads: the lines of a script in, a report out.
+ghost use Rattle.std.specs.Prelude.{◌≡◌, ◌≢◌, ◌<◌, ◌↔◌, true, IsTrue, IfOk, IfErr, OnOk, OnErr, Err, map, string_bytes};
+ghost use Rattle.std.specs.Io.KnownBytes.{Appends, Keeps};
+ghost use Rattle.jc_model.specs.Legal.{IsLegal};
+ghost use Rattle.jc_model.specs.Runs.{opened_from};
+ghost use Rattle.jc_script.specs.Calls.{calls_in};
+ghost use Rattle.jc_script.specs.Named.{AllName};
+ghost use Rattle.jc_shared.specs.Stated.{stated_by, shared_of};
+ghost use Rattle.jc_threads.specs.Lines.{AreMade};
+ghost use Rattle.jc_threads.specs.Managing.{AreManaged};
+ghost use Rattle.jc_runner.specs.Hooks.{AreSuited, CannotOpen};
+ghost use Rattle.jc_runner.specs.Meters.{next};
+ghost use Rattle.jc_runner.specs.Streams.{WritesFront, IsOfThreads, HasRun};
+ghost use Rattle.jc_runner.specs.Together.{stated_of, Gathers, GathersSo};
+ghost use Rattle.jc_runner.specs.declared.exit.fault.RunFault.TheVariants as faults;
+ghost use Rattle.jc_runner.specs.declared.output.form.Form.TheVariants as forms;
+
+use crate::exit::fault::RunFault;
+use crate::output::form::{Form, report_in};
+use crate::output::{WatchedWriter, write_text};
+use jc_config::Settings;
+use jc_hooks::{CacheHooks, Hearer, Loader, Processor, Writer};
+use jc_model::event::CreateRefusal;
+use jc_model::transcript::Transcript;
+use jc_script::{Followed, Line, Managed, follow, same_lives};
+use jc_shared::{Name, Shared, SharedRefusal};
+use jc_threads::{Gate, Transcription, transcribed};
+use std::alloc::Global;
+use std::io::Write;
+use std::marker::Brand;
+use std::sync::Wait;
+use std::thread::Threads;
+
+/// What a manager is opened with: its caches, their callbacks, and the seed that picks the places in its table.
+#[derive(Drop)]
+pub struct Setup<L, W, P, K> {
+    pub settings: Settings,
+    pub hooks: Vec<CacheHooks<L, W, P, K>>,
+    pub seed: u64,
+}
+
+/// Who makes the calls: so many workers, and the gate that they pass.
+#[derive(Drop)]
+pub struct Crew<'a, G> {
+    pub workers: usize,
+    pub gate: &'a G,
+}
+
+/// The manager, before it has a name.
+fn unnamed<L: Loader, W: Writer, P: Processor, K: Hearer>(
+    alloc: Global,
+    setup: Setup<L, W, P, K>,
+) -> Result<Shared<L, W, P, K>, RunFault>
+    ensures configs { IfOk result (λ s. s.configs ≡ setup.settings) }
+    ensures shared { IfOk result (λ s. s.shared ≡ map shared_of setup.hooks.items) }
+    ensures suit { OnOk result (AreSuited P.wants setup.settings setup.hooks.items) }
+    ensures opens { OnOk result (CannotOpen P.wants setup.settings setup.hooks.items → ⊥) }
+    ensures refused { result ≡ Err faults.Open → CannotOpen P.wants setup.settings setup.hooks.items }
+    ensures memory { result ≡ Err faults.Memory → CannotOpen P.wants setup.settings setup.hooks.items → ⊥ }
+    ensures closed { result ≢ Err faults.Close }
+    ensures faults { IfErr result IsOfThreads }
+{
+    let Setup {
+        settings,
+        hooks,
+        seed,
+    } = setup;
+    match Shared::open(alloc, settings.into_caches(), hooks, seed) {
+        Ok(shared) => Ok(shared),
+        Err(SharedRefusal::OutOfMemory) => Err(RunFault::Memory),
+        Err(SharedRefusal::Caches(_)) => Err(RunFault::Open),
+        Err(SharedRefusal::HooksDiffer { .. }) => Err(RunFault::Open),
+    }
+}
+
+/// The lines made by the crew, on a manager of this name.
+fn made_under<
+    N: Name + Send + Sync,
+    L: Loader,
+    W: Writer,
+    P: Processor,
+    K: Hearer,
+    G: Gate,
+    R: Threads + Wait + Sync,
+>(
+    rt: &R,
+    alloc: Global,
+    shared: Shared<L, W, P, K>,
+    crew: &Crew<'_, G>,
+    lines: Vec<Line>,
+) -> Result<Transcription, RunFault>
+    requires workers { 0 < crew.now.workers }
+    requires configs { shared.configs ≡ N.configs }
+    requires stated { map (stated_by L.load_of P.verdict_of) shared.shared ≡ N.stated }
+    requires index { shared.index ≡ N.index }
+    ensures legal { IfOk result (λ t. IsLegal t.transcript) }
+    ensures made { IfOk result (λ t. AreMade N.stated (calls_in lines.items) t.transcript.entries) }
+    ensures managed { IfOk result (λ t. AreManaged N.configs lines.items t.refusals.items) }
+    ensures faults { IfErr result IsOfThreads }
+    ensures opened { result ≢ Err faults.Open }
+{
+    let manager = shared.named::<N>();
+    match transcribed(rt, alloc, &manager, crew.gate, crew.workers, lines) {
+        Ok(made) => Ok(made),
+        Err(fault) => Err(RunFault::from(fault)),
+    }
+}
+
+/// The same, under a name that this call picks.
+fn made<L: Loader, W: Writer, P: Processor, K: Hearer, G: Gate, R: Threads + Wait + Sync>(
+    rt: &R,
+    alloc: Global,
+    shared: Shared<L, W, P, K>,
+    crew: &Crew<'_, G>,
+    lines: Vec<Line>,
+) -> Result<Transcription, RunFault>
+    requires workers { 0 < crew.now.workers }
+    ensures legal { IfOk result (λ t. IsLegal t.transcript) }
+    ensures made { IfOk result (λ t. AreMade (map (stated_by L.load_of P.verdict_of) shared.shared) (calls_in lines.items) t.transcript.entries) }
+    ensures managed { IfOk result (λ t. AreManaged shared.configs lines.items t.refusals.items) }
+    ensures faults { IfErr result IsOfThreads }
+    ensures opened { result ≢ Err faults.Open }
+{
+    made_under::<Brand, L, W, P, K, G, R>(rt, alloc, shared, crew, lines)
+}
+
+/// Whether these lines were refused as here.
+fn are_refused_so(managed: &[Managed], refusals: &[Option<CreateRefusal>]) -> bool
+    ensures { IsTrue result ↔ (map (λ m. m.refusal) managed.now ≡ refusals.now) }
+{
+    if managed.len() != refusals.len() {
+        return false;
+    }
+    for (i, line) in managed.iter().enumerate() {
+        if line.refusal != refusals[i] {
+            return false;
+        }
+    }
+    true
+}
+
+/// The transcript, where its lives are those that the lines come to, and the manager has refused as they do.
+fn compared(followed: &Followed, made: Transcription) -> Result<Transcript, RunFault>
+    ensures same { IfOk result (λ t. t ≡ made.transcript) }
+    ensures lives { IfOk result (λ t. t.lives ≡ followed.now.lives.items) }
+    ensures refusals { OnOk result (map (λ m. m.refusal) followed.now.managed.items ≡ made.refusals.items) }
+    ensures faults { IfErr result (λ e. e ≡ faults.Close) }
+    ensures differ { OnErr result (made.transcript.lives ≡ followed.now.lives.items → map (λ m. m.refusal) followed.now.managed.items ≡ made.refusals.items → ⊥) }
+{
+    let Transcription {
+        transcript,
+        refusals,
+    } = made;
+    if !same_lives(transcript.lives(), followed.lives.as_slice()) {
+        return Err(RunFault::Close);
+    }
+    if !are_refused_so(followed.managed.as_slice(), refusals.as_slice()) {
+        return Err(RunFault::Close);
+    }
+    Ok(transcript)
+}
+
+/// The report of a run on threads, in this form.
+fn gathered<L: Loader, W: Writer, P: Processor, K: Hearer, G: Gate, R: Threads + Wait + Sync>(
+    rt: &R,
+    alloc: Global,
+    setup: Setup<L, W, P, K>,
+    crew: &Crew<'_, G>,
+    lines: Vec<Line>,
+    form: &Form,
+) -> Result<String, RunFault>
+    requires workers { 0 < crew.now.workers }
+    requires named { AllName (opened_from 0 setup.settings) lines.items }
+    ensures text { IfOk result (λ s. Gathers form.now (stated_of L.load_of P.verdict_of setup.hooks.items) setup.settings lines.items (string_bytes s)) }
+    ensures suit { OnOk result (AreSuited P.wants setup.settings setup.hooks.items) }
+    ensures refused { result ≡ Err faults.Open → CannotOpen P.wants setup.settings setup.hooks.items }
+    ensures closed { result ≡ Err faults.Close → CannotOpen P.wants setup.settings setup.hooks.items → ⊥ }
+    ensures faults { IfErr result IsOfThreads }
+{
+    let followed = follow(alloc, &setup.settings, lines.as_slice())?;
+    let caches = setup.settings.caches().len();
+    let seed = setup.seed;
+    let shared = unnamed(alloc, setup)?;
+    let made = made(rt, alloc, shared, crew, lines)?;
+    let transcript = compared(&followed, made)?;
+    let managed = followed.managed.as_slice();
+    let text = report_in(alloc, form, caches as u32, &transcript, managed, seed)?;
+    Ok(text)
+}
+
+/// The same as `threaded`, with the report in this form.
+pub(crate) fn threaded_as<
+    L: Loader,
+    W: Writer,
+    P: Processor,
+    K: Hearer,
+    G: Gate,
+    R: Threads + Wait + Sync,
+    O: Write,
+>(
+    rt: &R,
+    alloc: Global,
+    setup: Setup<L, W, P, K>,
+    crew: &Crew<'_, G>,
+    lines: Vec<Line>,
+    form: &Form,
+    writer: &mut WatchedWriter<O>,
+) -> Result<(), RunFault>
+    requires workers { 0 < crew.now.workers }
+    requires named { AllName (opened_from 0 setup.settings) lines.items }
+    ensures ok { OnOk result (GathersSo form.now (stated_of L.load_of P.verdict_of setup.hooks.items) setup.settings lines.items (λ text. Appends (O.contents writer.old.inner) (O.contents writer.new.inner) text)) }
+    ensures flushed { OnOk result ((writer.new.flushed ≡ true) × (writer.new.failures ≡ writer.old.failures)) }
+    ensures suit { HasRun result → AreSuited P.wants setup.settings setup.hooks.items }
+    ensures refused { result ≡ Err faults.Open → CannotOpen P.wants setup.settings setup.hooks.items }
+    ensures closed { result ≡ Err faults.Close → CannotOpen P.wants setup.settings setup.hooks.items → ⊥ }
+    ensures front { result ≡ Err faults.Write → GathersSo form.now (stated_of L.load_of P.verdict_of setup.hooks.items) setup.settings lines.items (λ text. WritesFront (O.contents writer.old.inner) (O.contents writer.new.inner) text) }
+    ensures write_failed { result ≡ Err faults.Write → writer.new.failures ≡ next writer.old.failures }
+    ensures nothing { IfErr result (λ e. e ≢ faults.Write → Keeps (O.contents writer.old.inner) (O.contents writer.new.inner)) }
+    ensures others { IfErr result (λ e. e ≢ faults.Write → IsOfThreads e) }
+{
+    let text = gathered(rt, alloc, setup, crew, lines, form)?;
+    write_text(writer, text.as_bytes())
+}
+
+/// Runs lines as `read_script` gives them for these settings on worker threads, session s on worker s mod workers, and
+/// writes the report as text. Each worker makes its lines in their order; a cache that a line creates has no callbacks.
+///
+/// `Open` where the callbacks are not those that the settings name, or the manager does not open; `Memory`, also where
+/// a callback finds none; `Close` where the sessions and the transcript differ, or the manager has created and refused
+/// otherwise than the lines come to, one after the other; `Write`. Only after `Write` may a part of the report have
+/// been written.
+pub fn threaded<
+    L: Loader,
+    W: Writer,
+    P: Processor,
+    K: Hearer,
+    G: Gate,
+    R: Threads + Wait + Sync,
+    O: Write,
+>(
+    rt: &R,
+    alloc: Global,
+    setup: Setup<L, W, P, K>,
+    crew: &Crew<'_, G>,
+    lines: Vec<Line>,
+    writer: &mut WatchedWriter<O>,
+) -> Result<(), RunFault>
+    requires workers { 0 < crew.now.workers }
+    requires named { AllName (opened_from 0 setup.settings) lines.items }
+    ensures ok { OnOk result (GathersSo forms.Text (stated_of L.load_of P.verdict_of setup.hooks.items) setup.settings lines.items (λ text. Appends (O.contents writer.old.inner) (O.contents writer.new.inner) text)) }
+    ensures flushed { OnOk result ((writer.new.flushed ≡ true) × (writer.new.failures ≡ writer.old.failures)) }
+    ensures suit { HasRun result → AreSuited P.wants setup.settings setup.hooks.items }
+    ensures refused { result ≡ Err faults.Open → CannotOpen P.wants setup.settings setup.hooks.items }
+    ensures closed { result ≡ Err faults.Close → CannotOpen P.wants setup.settings setup.hooks.items → ⊥ }
+    ensures front { result ≡ Err faults.Write → GathersSo forms.Text (stated_of L.load_of P.verdict_of setup.hooks.items) setup.settings lines.items (λ text. WritesFront (O.contents writer.old.inner) (O.contents writer.new.inner) text) }
+    ensures write_failed { result ≡ Err faults.Write → writer.new.failures ≡ next writer.old.failures }
+    ensures nothing { IfErr result (λ e. e ≢ faults.Write → Keeps (O.contents writer.old.inner) (O.contents writer.new.inner)) }
+    ensures others { IfErr result (λ e. e ≢ faults.Write → IsOfThreads e) }
+{
+    threaded_as(rt, alloc, setup, crew, lines, &Form::Text, writer)
+}
