@@ -95,15 +95,51 @@ small_head : (n : ℕ) (text : List ℕ) → n < 256 → ((i : ℕ) → get_or t
 small_head n text few small zero = few
 small_head n text few small (suc i) = small i
 
--- a key's words spell it
-pub key_back : (text : List ℕ) → length text ≤ key_bytes → ((i : ℕ) → get_or text i 0 < 256) → key_of (words_of text) ≡ text
-key_back text few small =
+-- a key's words spell its length, and it
+words_back : (text : List ℕ) → length text ≤ key_bytes → ((i : ℕ) → get_or text i 0 < 256) → bytes_in (words_of text) ≡ bytes_of text
+words_back text few small =
     let zeros : List ℕ = replicate (key_bytes - length text) 0 in
     let bs : List ℕ = bytes_of text in
     let long : length bs ≡ 8 * key_words = omega (arith, length-append text zeros, long_zeros (key_bytes - length text)) in
     let all : (i : ℕ) → get_or bs i 0 < 256 = small_head (length text) (text ++ zeros) (omega arith) (at_append (λ x. x < 256) text zeros 0 small (at_zeros (key_bytes - length text))) in
-    let bytes : bytes_in (words_of text) ≡ bs = bytes_back key_words bs (omega (arith, long)) all ∙ take_long (8 * key_words) bs (omega (arith, long)) in
-    ap (λ (l : List ℕ). take (get_or l 0 0) (drop 1 l)) bytes ∙ take-append_seam text zeros
+    bytes_back key_words bs (omega (arith, long)) all ∙ take_long (8 * key_words) bs (omega (arith, long))
+
+pub length_back : (text : List ℕ) → length text ≤ key_bytes → ((i : ℕ) → get_or text i 0 < 256) → get_or (bytes_in (words_of text)) 0 0 ≡ length text
+length_back text few small = ap (λ (l : List ℕ). get_or l 0 0) (words_back text few small)
+
+pub key_back : (text : List ℕ) → length text ≤ key_bytes → ((i : ℕ) → get_or text i 0 < 256) → key_of (words_of text) ≡ text
+key_back text few small =
+    ap (λ (l : List ℕ). take (get_or l 0 0) (drop 1 l)) (words_back text few small) ∙ take-append_seam text (replicate (key_bytes - length text) 0)
+
+-- and the first of them alone do so, as far as they have it
+take_past : (xs ys : List ℕ) (k n : ℕ) → n ≡ length xs + k → take n (xs ++ ys) ≡ xs ++ take k ys
+take_past [] ys k n e = let f : n ≡ k = omega (arith, e) in ap (λ (i : ℕ). take i ys) f
+take_past (x ∷ xs) ys k zero e = absurd (omega (arith, e))
+take_past (x ∷ xs) ys k (suc n) e = ap (λ l. x ∷ l) (take_past xs ys k n (omega (arith, e)))
+
+bytes_take : (c : ℕ) (ws : List ℕ) → take (8 * c) (bytes_in ws) ≡ bytes_in (take c ws)
+bytes_take zero ws = refl
+bytes_take (suc c) [] = take_none (8 * suc c)
+bytes_take (suc c) (w ∷ ws) = take_past (to_le_bytes w64 w) (bytes_in ws) (8 * c) (8 * suc c) (omega arith) ∙ ap (λ l. to_le_bytes w64 w ++ l) (bytes_take c ws)
+
+take_take : (n m : ℕ) (xs : List ℕ) → n ≤ m → take n (take m xs) ≡ take n xs
+take_take zero m xs h = refl
+take_take (suc n) zero xs h = absurd (omega arith)
+take_take (suc n) (suc m) [] h = refl
+take_take (suc n) (suc m) (x ∷ xs) h = ap (λ l. x ∷ l) (take_take n m xs (omega arith))
+
+read_alike : (us vs : List ℕ) (m : ℕ) → take m us ≡ take m vs → get_or vs 0 0 < m → take (get_or us 0 0) (drop 1 us) ≡ take (get_or vs 0 0) (drop 1 vs)
+read_alike us vs zero same inside = absurd (omega arith)
+read_alike [] [] (suc m) same inside = refl
+read_alike [] (y ∷ ys) (suc m) same inside = absurd cc
+read_alike (x ∷ xs) [] (suc m) same inside = absurd cc
+read_alike (x ∷ xs) (y ∷ ys) (suc m) same inside =
+    let first : x ≡ y = cc same in
+    let rest : take m xs ≡ take m ys = cc same in
+    ap (λ (n : ℕ). take n xs) first ∙ (sym (take_take y m xs (omega arith)) ∙ (ap (take y) rest ∙ take_take y m ys (omega arith)))
+
+pub alike_back : (us ws : List ℕ) (c : ℕ) → take c us ≡ take c ws → get_or (bytes_in ws) 0 0 < 8 * c → key_of us ≡ key_of ws
+alike_back us ws c same inside = read_alike (bytes_in us) (bytes_in ws) (8 * c) (bytes_take c us ∙ (ap bytes_in same ∙ sym (bytes_take c ws))) inside
 
 lt_true : (a b : ℕ) → a < b → nat_lt a b ≡ true
 lt_true a b h = grind arith

@@ -1,5 +1,5 @@
 -- Whether a slot's words hold a key.
-use Rattle.std.proofs.Common.{◌≡◌, ◌≢◌, ℕ, zero, suc, ◌+◌, ◌-◌, ◌%◌, ◌^◌, ◌<◌, ◌≤◌, Bool, true, false, ◌&&◌, ◌==◌, List, get_or, nat_lt, if◌then◌else◌, Option, Some, None, inl, inr, refl, sym, ap, ◌∙◌, subst, arith, eq-eqb, ne_eqb}
+use Rattle.std.proofs.Common.{◌≡◌, ◌≢◌, ℕ, zero, suc, ◌+◌, ◌-◌, ◌%◌, ◌^◌, ◌<◌, ◌≤◌, ◌*◌, Bool, true, false, ◌&&◌, ◌==◌, List, get_or, take, nat_lt, if◌then◌else◌, Option, Some, None, inl, inr, refl, sym, ap, ◌∙◌, subst, arith, eq-eqb, ne_eqb}
 use Rattle.std.specs.Str.{bytes_eq}
 use Rattle.std.proofs.lemmas.Slice.Eq.{bytes_eq-Decides}
 use Rattle.jc_model.specs.Key.{words_of}
@@ -8,10 +8,11 @@ use Rattle.jc_model.specs.declared.config.Expiry.{Expiry}
 use Rattle.jc_model.specs.declared.config.Expiry.TheVariants.{Never, At}
 use Rattle.jc_rows.specs.Images.{Shown}
 use Rattle.jc_index.specs.Layout.{moment_place, slot_place, slot_words}
-use Rattle.jc_index.specs.Spelling.{IsCoded, key_of, slot_of, words_of_slot, never_bit, moment_of, key_in, key_words_at, slot_at, slot_in}
+use Rattle.jc_index.specs.Spelling.{IsCoded, bytes_in, key_of, slot_of, words_of_slot, never_bit, moment_of, key_in, key_words_at, slot_at, slot_in}
 use Rattle.jc_index.specs.Found.{seen}
 use Rattle.jc_index.specs.Passes.{IsHeadAt, IsSpeltAt}
 use Rattle.jc_index.specs.declared.sought.Sought.{Sought}
+use Rattle.jc_index.proofs.Coding.{alike_back}
 use Rattle.jc_index.proofs.Noting.{nth_word}
 
 abbrev data_of : {A : Type 0} → A → Option A → A
@@ -88,6 +89,14 @@ moment_live slot h now low is = ap (λ (x : Option Shown). nat_lt now (get_or (w
     by Never low = absurd (omega arith)
     by (At m) low = refl
 
+-- a row whose first words are those of a key has all of its words, where these have all of the key
+pub whole_key : (slot : Option Shown) (id count : ℕ) (key : List ℕ) → IsCoded slot → get_or (words_of_slot slot) 0 0 % 2 ^ 33 ≡ id + 1 → key ≡ words_of (key_of key) → get_or (bytes_in key) 0 0 < 8 * count
+    → take count (key_in (words_of_slot slot)) ≡ take count key → key_in (words_of_slot slot) ≡ key
+whole_key None id count key k number spelt long first = absurd (omega (arith, number))
+whole_key (Some h) id count key k number spelt long first =
+    let text : h.0.1 ≡ key_of key = sym (coded_key h k) ∙ alike_back (words_of h.0.1) key count first long in
+    ap words_of text ∙ sym spelt
+
 -- what a slot's words tell of the key that is sought, as far as they are read
 module _ (me : Sought) (words : List ℕ) (slot : ℕ) (at : IsSpeltAt words slot) where
   coded : IsCoded (slot_at words slot)
@@ -101,6 +110,10 @@ module _ (me : Sought) (words : List ℕ) (slot : ℕ) (at : IsSpeltAt words slo
 
   moment_is : get_or (words_of_slot (slot_at words slot)) moment_place 0 ≡ get_or words (slot_place slot + moment_place) 0
   moment_is = ap (λ (l : List ℕ). get_or l moment_place 0) at ∙ nth_word words (slot_place slot) slot_words moment_place (omega arith)
+
+  pub whole : (head : ℕ) → head ≡ get_or words (slot_place slot) 0 → head % 2 ^ 33 ≡ me.id + 1 → take me.count me.words ≡ take me.count (key_words_at words slot) → key_words_at words slot ≡ me.words
+  whole head is number first =
+      sym key_is ∙ whole_key (slot_at words slot) me.id me.count me.words coded (ap (λ (n : ℕ). n % 2 ^ 33) (head_is ∙ sym is) ∙ number) me.spelt me.long (ap (take me.count) key_is ∙ sym first)
 
   pub absent : IsHeadAt me.id me.words words slot None → None ≡ seen me.id (key_of me.words) me.moment (slot_at words slot)
   absent (inl other) = other_cache (slot_at words slot) me.id (key_of me.words) me.moment coded (λ e. other (ap (λ (n : ℕ). n % 2 ^ 33) (sym head_is) ∙ e))

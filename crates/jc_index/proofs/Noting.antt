@@ -1,5 +1,5 @@
 -- Notes after one another.
-use Rattle.std.proofs.Common.{◌≡◌, ℕ, zero, suc, ◌+◌, ◌/◌, ◌<◌, Bool, false, List, [], ◌∷◌, ◌++◌, length, take, get_or, refl, ap, sym, subst, ◌∙◌, arith, add-one}
+use Rattle.std.proofs.Common.{◌≡◌, ℕ, zero, suc, ◌+◌, ◌/◌, ◌<◌, ◌≤◌, Bool, false, List, [], ◌∷◌, ◌++◌, length, take, get_or, refl, ap, sym, subst, ◌∙◌, arith, add-one}
 use Rattle.atomic_table.specs.declared.shared.Seat.{Seat}
 use Rattle.jc_stripes.specs.declared.board.View.{View}
 use Rattle.jc_stripes.specs.declared.board.Role.{Role}
@@ -42,6 +42,12 @@ nth_word words p (suc n) zero few = let e : p ≡ p + 0 = omega arith in ap (λ 
 nth_word words p (suc n) (suc k) few =
     let e : suc p + k ≡ p + suc k = omega arith in
     nth_word words (suc p) n k (omega arith) ∙ ap (λ (q : ℕ). get_or words q 0) e
+
+-- the first of them
+pub first_of_words : (words : List ℕ) (p n k : ℕ) → k ≤ n → take k (words_at words p n) ≡ words_at words p k
+first_of_words words p n zero few = refl
+first_of_words words p zero (suc k) few = absurd (omega arith)
+first_of_words words p (suc n) (suc k) few = ap (λ l. get_or words p 0 ∷ l) (first_of_words words (suc p) n k (omega arith))
 
 module _ {L : Type 0} where
   -- nothing was read yet

@@ -11,24 +11,23 @@ use crate::layout::{BUCKET_SLOTS, MOMENT_PLACE, SLOT_WORDS};
 use crate::placed::Placed;
 use crate::slot::NEVER;
 use crate::sought::{Sought, answer};
-use jc_model::limits::KEY_WORDS;
 use jc_place::place::Placer;
 use jc_stripes::reader::Reader;
 
-/// The first word of a slot that holds the key. It reads no further than to the first word that differs.
+/// The first word of a slot that holds the key. It reads no further than to the key's end, or the first word that differs.
 fn head_at<P: Placer>(reader: &mut Reader<Placed<P>>, slot: usize, sought: &Sought) -> Option<u64>
     requires inside { header_words + slot_words * (slot + 1) ≤ reader.old.seat.table_id.words }
     requires young { (glance_of reader.old.seat.me.0).settled ≡ false }
     ensures same { reader.new.seat.table_id ≡ reader.old.seat.table_id }
     ensures young { (glance_of reader.new.seat.me.0).settled ≡ false }
-    ensures noted { (js : List ℕ) → Among (stripe_of (slot / bucket_slots)) js → IsNoted js reader.old.seat reader.new.seat (λ words. IsHeadAt sought.now.id sought.now.words words slot result) }
+    ensures noted { (js : List ℕ) → Among (stripe_of (slot / bucket_slots)) js → IsNoted js reader.old.seat reader.new.seat (λ words. IsSpeltAt words slot → IsHeadAt sought.now.id sought.now.words words slot result) }
 {
     let first = SLOT_WORDS * slot + 1;
     let head = reader.note(first);
     if !sought.is_of_cache(head) {
         return None;
     }
-    for k in 0..KEY_WORDS {
+    for k in 0..sought.count {
         if reader.note(first + 1 + k) != sought.words[k] {
             return None;
         }

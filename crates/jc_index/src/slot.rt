@@ -1,9 +1,9 @@
 //! A slot's words.
-ghost use Rattle.std.specs.Prelude.{◌≡◌, ◌≤◌, [], ◌∷◌, ◌++◌, length, option_map};
+ghost use Rattle.std.specs.Prelude.{◌≡◌, ◌≤◌, [], ◌∷◌, ◌++◌, length, option_map, slice_index};
 ghost use Rattle.jc_model.specs.Limits.{key_bytes};
 ghost use Rattle.jc_model.specs.Key.{words_of};
 ghost use Rattle.jc_cuckoo.specs.Images.{shown};
-ghost use Rattle.jc_index.specs.Spelling.{IsCoded, key_of, words_of_slot};
+ghost use Rattle.jc_index.specs.Spelling.{IsCoded, bytes_in, key_of, words_of_slot};
 
 use crate::layout::{MOMENT_PLACE, SLOT_WORDS};
 use jc_cuckoo::held::Held;
@@ -20,6 +20,7 @@ fn spelt(text: &[u8], words: [u64; KEY_WORDS]) -> [u64; KEY_WORDS]
     requires same { words ≡ words_of text.now }
     ensures same { result ≡ words_of text.now }
     ensures exact { key_of result ≡ text.now }
+    ensures first { slice_index (bytes_in result) 0 ≡ length text.now }
 {
     words
 }
@@ -28,6 +29,7 @@ fn spelt(text: &[u8], words: [u64; KEY_WORDS]) -> [u64; KEY_WORDS]
 pub(crate) fn words_of_key(key: &Key) -> [u64; KEY_WORDS]
     ensures same { result ≡ words_of key.now }
     ensures exact { key_of result ≡ key.now }
+    ensures first { slice_index (bytes_in result) 0 ≡ length key.now }
 {
     spelt(key.text().as_bytes(), key.words())
 }

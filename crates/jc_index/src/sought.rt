@@ -1,7 +1,8 @@
 //! What a lookup looks for.
-ghost use Rattle.std.specs.Prelude.{◌≡◌, ◌≢◌, ◌+◌, ◌%◌, ◌^◌, true, false, None};
+ghost use Rattle.std.specs.Prelude.{◌≡◌, ◌≢◌, ◌+◌, ◌*◌, ◌%◌, ◌^◌, ◌<◌, ◌≤◌, true, false, None, slice_index};
 ghost use Rattle.jc_model.specs.Key.{words_of};
-ghost use Rattle.jc_index.specs.Spelling.{key_of};
+ghost use Rattle.jc_model.specs.Limits.{key_words};
+ghost use Rattle.jc_index.specs.Spelling.{bytes_in, key_of};
 ghost use Rattle.jc_index.specs.Found.{answer};
 
 use crate::slot::{NEVER, words_of_key};
@@ -16,9 +17,13 @@ pub(crate) struct Sought {
     /// The cache's number plus 1, as a slot has it.
     pub(crate) number: u64,
     pub(crate) words: [u64; KEY_WORDS],
+    /// How many of them have its length and its text. The others are 0.
+    pub(crate) count: usize,
     pub(crate) moment: u64,
     pub(crate) ghost numbered: { number ≡ id + 1 },
     pub(crate) ghost spelt: { words ≡ words_of (key_of words) },
+    pub(crate) ghost long: { slice_index (bytes_in words) 0 < 8 * count },
+    pub(crate) ghost few: { count ≤ key_words },
 }
 
 impl Sought {
@@ -29,6 +34,7 @@ impl Sought {
             id,
             number: u64::from(id.number()) + 1,
             words: words_of_key(key),
+            count: key.text().len() / 8 + 1,
             moment,
         }
     }

@@ -14,5 +14,5 @@ hash_is seed id hash key is = is ∙ sym (fold-append fnv_step (bit_xor 0xcbf29c
 pub returns-clause-same : goal.returns-clause-same
 returns-clause-same c =
     let seed = c.self.inside.seed in
-    let walked : c.walk.result ≡ fold fnv_step (fold fnv_step (bit_xor 0xcbf29ce484222325 seed) (to_le_bytes w32 c.args.id)) c.args.key.now = rw (c.walk.ensures, c.walk-of_id.ensures, c.to_le_bytes.ensures, c.number.ensures, c.as_bytes.ensures.value, c.text.ensures.same) refl in
+    let walked : c.walk.result ≡ fold fnv_step (fold fnv_step (bit_xor 0xcbf29ce484222325 seed) (to_le_bytes w32 c.args.id)) c.args.key.now = rw (c.walk.ensures, c.walk_number-of_id.ensures, c.number.ensures, c.as_bytes.ensures.value, c.text.ensures.same) refl in
     rw (← c.self.view_is) (c.place_of.ensures.place ∙ ap place_of (hash_is seed c.args.id c.walk.result c.args.key.now walked))
