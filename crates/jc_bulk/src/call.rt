@@ -71,7 +71,7 @@ fn with_notices(next: Next, notices: Notices) -> Moved
 }
 
 /// Begins a call on one key, which is this step, where the key has this row, if it has one.
-pub fn start_key<R: Rows, G: Ring>(
+fn start_key<R: Rows, G: Ring>(
     alloc: Global,
     state: &mut CacheState<G>,
     rows: &mut R,

@@ -5,7 +5,9 @@ use Rattle.jc_engine.proofs.Names.{Asked, Replied, Idle, Waiting, Telling, Cache
 use Rattle.std.proofs.Common.{◌≡◌, ℕ, List, Option, Some, None, Bool, true, false, if◌then◌else◌, [], refl, sym, ap, subst, ◌∙◌, arith}
 use Rattle.jc_model.specs.declared.call.Reply.{Reply}
 use Rattle.jc_model.specs.State.{Item, live, is_live}
-use Rattle.jc_state.specs.Kept.{state_of, has_live, IsRow}
+use Rattle.jc_model.specs.declared.call.Counts.{Counts}
+use Rattle.jc_state.specs.Kept.{state_of, has_live, IsRow, Keeps}
+use Rattle.jc_engine.proofs.Names.{IsManaged, RowMap}
 use Rattle.jc_engine.specs.declared.cache.Turn.{Turn}
 use Rattle.jc_engine.proofs.Untold.{not_told, carried_out-untold, resume-untold, wait_run-untold}
 
@@ -40,6 +42,21 @@ pub began_at_once : (c : CacheConfig) (k : Kept) (turn : Turn) (now : ℕ) (call
 began_at_once c k Idle now call k' reply allowed run = began c k Idle now call k' Idle (Replied reply) allowed (settled_at_once c (carried_out c now (plan c now call (begun (state_of k))) (begun (state_of k))) k' reply run)
 began_at_once c k (Waiting s) now call k' reply allowed run = absurd cc
 began_at_once c k (Telling r) now call k' reply allowed run = absurd cc
+
+-- a cache whose counters alone have changed, or which has kept what it must, while no call is open there
+pub stays_managed : {G : Type 0} {m n : RowMap} {rows spare left : ℕ} {k k' : Kept} {turn : Turn} → Keeps rows m spare k n left k' → IsManaged {G = G} m k.id record { state = k; turn = turn } → turn ≡ Idle
+    → IsManaged {G = G} n k.id record { state = k'; turn = turn }
+stays_managed {k' = k'} keeps managed idle = record {
+  kept = record { id_is = keeps.id; tied = keeps.tied; within = keeps.within managed.kept.within };
+  waits = subst (WaitsThere k'.config k') (sym idle) tt;
+}
+
+pub counted_managed : {G : Type 0} {m : RowMap} {k k' : Kept} {turn : Turn} {n : Counts} → k' ≡ record k { counts = n } → IsManaged {G = G} m k.id record { state = k; turn = turn } → turn ≡ Idle
+    → IsManaged {G = G} m k.id record { state = k'; turn = turn }
+counted_managed {k' = k'} counted managed idle = record {
+  kept = rw counted (record { id_is = refl; tied = managed.kept.tied; within = managed.kept.within });
+  waits = subst (WaitsThere k'.config k') (sym idle) tt;
+}
 
 -- a suspended call goes on as its run does
 run_on : (c : CacheConfig) (p : Progress) (w : Wait) (a : Answer) (run : Run) → wait_run c p w ≡ run → ((q : Progress) (r : Reply) → run ≡ ended q r → ⊥) → run_of c p w a ≡ and_then (resume (wait_run c p w) a) told_first

@@ -1,7 +1,7 @@
 -- One event of the manager, by what it did to its cache.
 use Rattle.std.proofs.Common.{◌≡◌, ℕ, Bool, true, false, if◌then◌else◌, List, length, option_map, slice_set, OnOk, OnErr, IfOk, IfErr, Option, Some, None, Ok, Err, Result, refl, sym, ap, ◌∙◌}
 use Rattle.jc_engine.proofs.Names.{map-set, Cause, NoSuchCache, OutOfMemory, Outcome, there, at_place, Status, live_at, Said, says, reply_of, refuse_last, is_refused, for_memory, answer_of, answer_in, moved, put_moved, lives_by}
-use Rattle.jc_engine.proofs.Names.{Advance, Managed, Cache, status_of, lives_of, cache_in, is_step, Moves, outcome_of, of_start, ChangesOne, caches_in, Refused, Stepped, at_same}
+use Rattle.jc_engine.proofs.Names.{Advance, Managed, Cache, status_of, lives_of, cache_in, is_step, Moves, step_of, outcome_of, of_start, ChangesOne, caches_in, Refused, Stepped, at_same}
 use Rattle.jc_engine.proofs.Places.{same_set, place_of, Within, seen_is, live_is, Changes, seen_put}
 
 -- where memory suffices, a reply stays
@@ -55,6 +55,10 @@ pub started : {k k' : Cache} {said : Said} (r : Result Advance Cause) → IfOk r
     → Did k k' said (for_memory (of_start r)) (of_start r)
 started (Ok advance) ok err same = record { shows = ok.shows ∙ sym (plain _); moves = λ _. ok.moves; stays = λ e. absurd cc }
 started (Err cause) ok err same = record { shows = err; moves = λ e. absurd cc; stays = λ _. same }
+
+-- a call that has moved its cache
+pub moved_on : {k k' : Cache} {said : Said} {advance : Advance} → Moves k said advance k' → Did k k' said false (Stepped (step_of advance))
+moved_on moves = record { shows = moves.shows ∙ sym (plain _); moves = λ _. moves.moves; stays = λ e. absurd cc }
 
 -- a call is refused for want of memory, in the place of a step
 pub memory_alone : (reply : Outcome) → is_step reply ≡ true → Refused OutOfMemory ≡ refuse_last (for_memory (Refused OutOfMemory)) reply

@@ -1,6 +1,6 @@
 //! One cache under the manager: its configuration, its rows and counters, and its open call.
-ghost use Rattle.std.specs.Prelude.{◌≡◌, ℕ, ◌<◌, true, List, Some, None, IsOk, IfOk, IfErr, OnErr, MatchOption, is_some, length};
-ghost use Rattle.jc_model.specs.declared.call.Call.TheVariants.{Get};
+ghost use Rattle.std.specs.Prelude.{◌≡◌, ℕ, ◌<◌, true, List, Some, None, IsOk, IfSome, IfOk, IfErr, OnErr, MatchOption, is_some, length};
+ghost use Rattle.jc_model.specs.declared.call.Reply.TheVariants.{Found};
 ghost use Rattle.jc_model.specs.declared.config.CacheConfig.{CacheConfig};
 ghost use Rattle.jc_model.specs.declared.event.Outcome.TheVariants.{Refused, Destroyed};
 ghost use Rattle.jc_model.specs.Run.{Run, fits, for_tell};
@@ -12,19 +12,20 @@ ghost use Rattle.jc_bulk.specs.Moved.{ComesTo};
 ghost use Rattle.jc_engine.specs.Advances.{of_start};
 ghost use Rattle.jc_engine.specs.Caches.{status_of};
 ghost use Rattle.jc_engine.specs.Sound.{IsAt};
+ghost use Rattle.jc_engine.specs.declared.cache.Advance.TheVariants.{Replied};
 ghost use Rattle.jc_engine.specs.declared.cache.Turn.TheVariants.{Idle};
 ghost use Rattle.jc_engine.specs.Journals.{is_replied};
 ghost use Rattle.jc_engine.specs.Managed.{cache_in, turn_in, step_of, is_step, IsManaged, Moves, Settled, Abandons};
 
-use jc_bulk::call::{Moved, answer_call, start_call, start_key};
+use jc_bulk::call::{Moved, answer_call, start_call};
 use jc_bulk::waits::Suspended;
 use jc_model::OutOfMemory;
-use jc_model::call::{Answer, Call, KeyCall, Op, Reply, Request};
+use jc_model::call::{Answer, Call, Reply, Request};
 use jc_model::config::CacheConfig;
 use jc_model::event::{Cause, Step};
-use jc_model::key::Key;
 use jc_model::thrice::Thrice;
-use jc_ops::hit::hit;
+use jc_model::value::Value;
+use jc_ops::hit::{hit, miss};
 use jc_ring::ring::Ring;
 use jc_rows::rows::Rows;
 use jc_state::notices::Notices;
@@ -144,40 +145,46 @@ impl<G: Ring> Managed<G> {
         }
     }
 
-    /// Begins a get. One that hits asks and tells no one, and ends here.
-    fn start_get<R: Rows>(
+    /// What a get answers at once where it asks and tells no one: the value of its key's live row, or none, where the key
+    /// has no row and the cache no loader. Of any other call nothing, and nothing has changed; also where no copies of
+    /// the value can be had.
+    pub(crate) fn get_at_once<R: Rows>(
         &mut self,
-        alloc: Global,
         rows: &mut R,
         now: u64,
-        key: &Key,
-    ) -> Result<Advance, Cause>
+        call: &Call,
+    ) -> Option<Option<Thrice<Value>>>
         requires managed { IsManaged (R.contents rows.old) self.old.state.id self.old }
-        requires allowed { is_step (reply_of self.old.state.config (status_of (cache_in self.old)).standing (begins now (Get key.now))) ≡ true }
         ensures config { self.new.state.config ≡ self.old.state.config }
         ensures managed_after { IsManaged (R.contents rows.new) self.old.state.id self.new }
         ensures elsewhere { SameElsewhere self.old.state.id (R.contents rows.old) (R.contents rows.new) }
-        ensures ok { IfOk result (λ advance. Moves (cache_in self.old) (begins now (Get key.now)) advance (cache_in self.new)) }
-        ensures err { IfErr result (λ cause. cause ≡ Cause.OutOfMemory) }
-        ensures same { OnErr result (self.new ≡ self.old) }
-        ensures table { OnErr result (R.contents rows.new ≡ R.contents rows.old) }
+        ensures at_once { IfSome result (λ value. Moves (cache_in self.old) (begins now call.now) (Replied (Found value)) (cache_in self.new)) }
+        ensures same { result ≡ None → self.new ≡ self.old }
+        ensures table { result ≡ None → R.contents rows.new ≡ R.contents rows.old }
     {
-        let row = self.state.find(rows, key);
-        if let Some(row) = row {
-            if self.state.is_live(row, now) {
-                return match hit(&mut self.state, rows, now, row) {
-                    Ok(reply) => Ok(Advance::Replied(reply)),
-                    Err(_) => Err(Cause::OutOfMemory),
-                };
-            }
-        }
-        let step = KeyCall {
-            key: *key,
-            op: Op::Get,
+        let Call::Get(key) = call else {
+            return None;
         };
-        match start_key(alloc, &mut self.state, rows, now, row, step) {
-            Ok(moved) => Ok(self.settle(moved)),
-            Err(_) => Err(Cause::OutOfMemory),
+        let None = self.begin_refusal(call) else {
+            return None;
+        };
+        match self.state.find(rows, key) {
+            Some(row) => {
+                if !self.state.is_live(row, now) {
+                    return None;
+                }
+                match hit(&mut self.state, rows, now, row) {
+                    Ok(value) => Some(Some(value)),
+                    Err(_) => None,
+                }
+            }
+            None => {
+                if self.state.config().loader {
+                    return None;
+                }
+                miss(&mut self.state);
+                Some(None)
+            }
         }
     }
 
@@ -200,9 +207,6 @@ impl<G: Ring> Managed<G> {
         ensures same { OnErr result (self.new ≡ self.old) }
         ensures table { OnErr result (R.contents rows.new ≡ R.contents rows.old) }
     {
-        if let Call::Get(key) = call {
-            return self.start_get(alloc, rows, now, key);
-        }
         match start_call(alloc, &mut self.state, rows, now, call) {
             Ok(moved) => Ok(self.settle(moved)),
             Err(_) => Err(Cause::OutOfMemory),

@@ -9,11 +9,12 @@ ghost use Rattle.jc_model.specs.Places.{at_place};
 ghost use Rattle.jc_engine.specs.Caches.{AreSound, lives_of, names_of, id_of, expiry_in, holds_in};
 ghost use Rattle.jc_engine.specs.Results.{of_begin, of_resume, of_give_up};
 
-use crate::cache::Managed;
+use crate::cache::{Advance, Managed};
 use jc_model::call::{Answer, Call, Notice};
 use jc_model::event::{CacheId, Cause, Step};
 use jc_model::key::Key;
 use jc_model::list::Sequence;
+use jc_ops::step::reply::found;
 use jc_ring::ring::Ring;
 use jc_roster::roster::Roster;
 use jc_rows::rows::Rows;
@@ -107,6 +108,9 @@ impl<R: Rows, G: Ring> Engine<R, G> {
         ensures back { IfErr result (λ e. e.1 ≡ call) }
         ensures refused { OnErr result (self.new ≡ self.old) }
     {
+        if let Some(value) = self.get_at_once(id, now, &call) {
+            return Ok(Advance::Replied(found(value)).into_step());
+        }
         match self.start(id, now, &call) {
             Ok(advance) => Ok(advance.into_step()),
             Err(cause) => Err((cause, call)),

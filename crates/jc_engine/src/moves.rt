@@ -2,7 +2,10 @@
 //! and the recorded one are made of these.
 ghost use Rattle.std.specs.Prelude.{◌≡◌, ℕ, None, true, false, IsOk, IfSome, IfOk, IfErr, OnOk, OnErr, MatchOption};
 ghost use Rattle.jc_model.specs.declared.event.Event.TheVariants.{Begin, Answer as Answered, GiveUp};
-ghost use Rattle.jc_model.specs.declared.event.Outcome.TheVariants.{Refused};
+ghost use Rattle.jc_model.specs.declared.call.Reply.TheVariants.{Found};
+ghost use Rattle.jc_model.specs.declared.event.Outcome.TheVariants.{Refused, Step as Stepped};
+ghost use Rattle.jc_model.specs.declared.event.Step.TheVariants.{Done};
+ghost use Rattle.jc_engine.specs.declared.cache.Advance.TheVariants.{Replied};
 ghost use Rattle.jc_model.specs.Runs.{answer_to, lives_after, for_memory};
 ghost use Rattle.jc_model.specs.Run.{fits, for_tell};
 ghost use Rattle.jc_model.specs.Whole.{is_free};
@@ -15,6 +18,8 @@ use crate::cache::Advance;
 use crate::engine::Engine;
 use jc_model::call::{Answer, Call};
 use jc_model::event::{CacheId, Cause};
+use jc_model::thrice::Thrice;
+use jc_model::value::Value;
 use jc_ring::ring::Ring;
 use jc_rows::rows::Rows;
 use jc_state::notices::Notices;
@@ -74,6 +79,26 @@ impl<R: Rows, G: Ring> Engine<R, G> {
         match self.begin_refusal(id, call) {
             Some(cause) => cause,
             None => Cause::OutOfMemory,
+        }
+    }
+
+    /// What a call answers at once, as a cache's own `get_at_once`; else nothing has changed.
+    pub(crate) fn get_at_once(
+        &mut self,
+        id: CacheId,
+        now: u64,
+        call: &Call,
+    ) -> Option<Option<Thrice<Value>>>
+        ensures outcome { IfSome result (λ value. Stepped (Done (Found value)) ≡ answer_to (lives_of self.old) (Begin id now call.now) false) }
+        ensures lives { IfSome result (λ value. lives_of self.new ≡ lives_after (lives_of self.old) (Begin id now call.now) (Stepped (Done (Found value)))) }
+        ensures one { IfSome result (λ value. ChangesOne self.old id self.new) }
+        ensures fits { IfSome result (λ value. FitsAt (Replied (Found value)) (at_place self.new id)) }
+        ensures same { result ≡ None → self.new ≡ self.old }
+    {
+        let number = id.number();
+        match self.caches.get_mut(&number) {
+            Some(cache) => cache.get_at_once(&mut self.rows, now, call),
+            None => None,
         }
     }
 

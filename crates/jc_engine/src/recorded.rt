@@ -16,6 +16,7 @@ ghost use Rattle.jc_model.specs.Limits.{most_ids};
 mod over;
 mod watched;
 
+use crate::cache::Advance;
 use crate::engine::Engine;
 use crate::journal::Journal;
 use crate::journal::all_calls::AllCalls;
@@ -27,6 +28,7 @@ use jc_model::event::{CacheId, Cause, CreateRefusal, Entry, Step};
 use jc_model::key::Key;
 use jc_model::list::Sequence;
 use jc_model::transcript::Transcript;
+use jc_ops::step::reply::found;
 use jc_ring::ring::Ring;
 use jc_rows::rows::Rows;
 use std::alloc::Global;
@@ -192,6 +194,11 @@ impl<R: Rows, G: Ring, J: Journal> Recorded<R, G, J> {
             Ok(held) => held,
             Err(call) => return Err((self.engine.begin_refusal_without_memory(id, &call), call)),
         };
+        let at_once = self.engine.get_at_once(id, now, self.journal.call(&held));
+        if let Some(value) = at_once {
+            let replied = Advance::Replied(found(value));
+            return Ok(self.journal.begin(id, held, replied));
+        }
         match self.engine.start(id, now, self.journal.call(&held)) {
             Ok(advance) => Ok(self.journal.begin(id, held, advance)),
             Err(cause) => Err((cause, self.journal.take_back(held))),

@@ -1,10 +1,10 @@
--- A get that finds a live row.
-use Rattle.jc_ops.proofs.Names.{◌≡◌, ℕ, arith, true, List, refl, common_steps, Some, CacheConfig, Item, Progress, Kept, find_row, progress_of, ended, step}
+-- Gets that ask and tell no one.
+use Rattle.jc_ops.proofs.Names.{◌≡◌, ℕ, arith, true, List, refl, common_steps, Some, None, false, CacheConfig, Item, Progress, Kept, find_row, progress_of, ended, step}
 use Rattle.jc_model.specs.declared.call.Notice.{Notice}
 use Rattle.jc_model.specs.declared.call.Op.TheVariants.{Get}
 use Rattle.jc_model.specs.declared.call.Reply.TheVariants.{Found}
 use Rattle.jc_model.specs.State.{one_more}
-use Rattle.jc_model.specs.Changes.{access, hit}
+use Rattle.jc_model.specs.Changes.{access, hit, miss}
 use Rattle.jc_model.specs.Whole.{holds}
 
 -- it is counted, uses the row, and shows its value
@@ -13,3 +13,10 @@ hits c now key x p there live = grind (arith, common_steps)
 
 pub hit_counted : (k k' : Kept) (told : List Notice) → k' ≡ record k { counts = record k.counts { hits = one_more k.counts.hits } } → progress_of k' told ≡ hit (progress_of k told)
 hit_counted k k' told counted = rw counted refl
+
+-- a get of no row is counted as a miss, and shows nothing
+pub misses : (c : CacheConfig) (now : ℕ) (key : List ℕ) (p : Progress) → find_row key p ≡ None → c.loader ≡ false → step c now (record { key = key; op = Get }) p ≡ ended (miss p) (Found None)
+misses c now key p none unasked = grind (arith, common_steps)
+
+pub miss_counted : (k k' : Kept) (told : List Notice) → k' ≡ record k { counts = record k.counts { misses = one_more k.counts.misses } } → progress_of k' told ≡ miss (progress_of k told)
+miss_counted k k' told counted = rw counted refl

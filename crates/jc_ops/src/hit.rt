@@ -1,19 +1,20 @@
-//! A get that finds a live row.
+//! Gets that ask no one and tell no one: of a live row, and of none where there is no loader.
 //!
-//! It is a line of the case table like any other. But most calls are gets that hit, and this one asks no one and tells
-//! no one: so it is carried out here without the means of those that do.
-ghost use Rattle.std.specs.Prelude.{◌≡◌, ℕ, List, true, Some, IfOk, OnErr};
+//! They are lines of the case table like any other. But most calls are such gets: so they are carried out here without
+//! the means of those that ask and tell.
+ghost use Rattle.std.specs.Prelude.{◌≡◌, ℕ, List, true, false, Some, None, IfOk, OnErr};
 ghost use Rattle.jc_model.specs.declared.call.Notice.{Notice};
 ghost use Rattle.jc_model.specs.declared.call.Op.TheVariants.{Get};
 ghost use Rattle.jc_model.specs.Run.{ended};
 ghost use Rattle.jc_model.specs.Step.{step as step_of};
 ghost use Rattle.jc_state.specs.Shelf.{has_row};
+ghost use Rattle.jc_model.specs.declared.call.Reply.TheVariants.{Found};
+ghost use Rattle.jc_model.specs.State.{one_more};
 ghost use Rattle.jc_state.specs.Kept.{progress_of, has_live, IsTied, IsUnmoved, Keeps, FoundRow};
 
-use crate::step::reply::found;
 use jc_model::OutOfMemory;
-use jc_model::call::Reply;
 use jc_model::thrice::Thrice;
+use jc_model::value::Value;
 use jc_ring::ring::Ring;
 use jc_rows::rows::Rows;
 use jc_state::state::CacheState;
@@ -25,16 +26,26 @@ pub fn hit<R: Rows, G: Ring>(
     rows: &mut R,
     now: u64,
     row: u32,
-) -> Result<Thrice<Reply>, OutOfMemory>
+) -> Result<Thrice<Value>, OutOfMemory>
     requires tied { IsTied (R.contents rows.old) state.old }
     requires there { has_row row state.old.cells ≡ true }
     ensures keeps { Keeps 0 (R.contents rows.old) (R.spare rows.old) state.old (R.contents rows.new) (R.spare rows.new) state.new }
-    ensures ok { IfOk result (λ reply. (key : List ℕ) (told : List Notice) → FoundRow key state.old (Some row) → has_live now key state.old ≡ true →
-        step_of state.old.config now (record { key = key; op = Get }) (progress_of state.old told) ≡ ended (progress_of state.new told) reply) }
+    ensures ok { IfOk result (λ value. (key : List ℕ) (told : List Notice) → FoundRow key state.old (Some row) → has_live now key state.old ≡ true →
+        step_of state.old.config now (record { key = key; op = Get }) (progress_of state.old told) ≡ ended (progress_of state.new told) (Found (Some value))) }
     ensures same { OnErr result (IsUnmoved (R.contents rows.old) state.old (R.contents rows.new) state.new) }
 {
     let value = Thrice::of(state.value(row).first())?;
     state.hit();
     state.access(rows, now, row);
-    Ok(found(Some(value)))
+    Ok(value)
+}
+
+/// Gets nothing by a key without a row, where no loader is to be asked: a miss is counted.
+pub fn miss<G: Ring>(state: &mut CacheState<G>)
+    requires unasked { state.old.config.loader ≡ false }
+    ensures counted { state.new ≡ record state.old { counts = record state.old.counts { misses = one_more state.old.counts.misses } } }
+    ensures ended { (now : ℕ) (key : List ℕ) (told : List Notice) → FoundRow key state.old None →
+        step_of state.old.config now (record { key = key; op = Get }) (progress_of state.old told) ≡ ended (progress_of state.new told) (Found None) }
+{
+    state.miss();
 }

@@ -26,7 +26,7 @@ pub fn truth(answer: bool) -> Thrice<Reply>
 }
 
 /// The value that a key has, if any.
-pub(crate) fn found(value: Option<Thrice<Value>>) -> Thrice<Reply>
+pub fn found(value: Option<Thrice<Value>>) -> Thrice<Reply>
     ensures { result ≡ Reply.Found value }
 {
     match value {

@@ -15,6 +15,6 @@ returns-clause-ok g c = λ key told found live.
     let after : progress_of c.access.new.self told ≡ access s.config c.args.now x (hit (progress_of s told)) =
     c.access.ensures.progress key x told row
     ∙ ap₂ (λ (f : CacheConfig) (p : Progress). access f c.args.now x p) (ap (λ (k : Kept). k.config) c.hit.ensures) (hit_counted s c.hit.new.self told c.hit.ensures) in
-    let shown : c.found.result ≡ Found (Some x.value) =
-    c.found.ensures ∙ ap (λ (v : List ℕ). Found (Some v)) (c.in_ok-value.ensures ∙ (c.first.ensures ∙ c.value.ensures (record_of x) at.there)) in
+    let shown : Found (Some c.in_ok-value.value) ≡ Found (Some x.value) =
+    ap (λ (v : List ℕ). Found (Some v)) (c.in_ok-value.ensures ∙ (c.first.ensures ∙ c.value.ensures (record_of x) at.there)) in
     hits s.config c.args.now key x (progress_of s told) at.found live ∙ sym (ap₂ ended after shown)
