@@ -160,9 +160,36 @@ impl<'a, N: Name, L: Loader, W: Writer, P: Processor, K: Hearer, J: Keeping> Ses
         ensures front { IsPrefix self.old.pass.images self.new.pass.images }
     {
         let manager = self.manager;
-        if let Some(asked) = manager.opened(id) {
-            return self.call_opened(rt, asked, id, now, call);
+        let Some(asked) = manager.opened(id) else {
+            return self.call_created(rt, id, now, call);
+        };
+        // One without callbacks takes no lock but the manager's.
+        match manager.opened_lock(id) {
+            Some(lock) => {
+                let mut locked = lock.lock(rt);
+                self.make(rt, asked, &mut *locked, id, now, call)
+            }
+            None => self.make_at_once(rt, asked, id, now, call),
         }
+    }
+
+    /// The same on a cache that a session has created.
+    #[inline(never)]
+    fn call_created<R: Wait>(
+        &mut self,
+        rt: &R,
+        id: CacheId,
+        now: u64,
+        call: Call,
+    ) -> Result<Reply, CallFault>
+        requires created { slice_get N.configs id ≡ None }
+        ensures number { self.new.number ≡ self.old.number }
+        ensures ok { IfOk result (λ reply. Adds N.configs N.stated self.old self.new id now call (Replied reply)) }
+        ensures refused { Lacks N.configs id call → TellsLack result × (self.new ≡ self.old) }
+        ensures err { IfErr result (λ fault. Fails N.configs N.stated self.old self.new id now call fault) }
+        ensures front { IsPrefix self.old.pass.images self.new.pass.images }
+    {
+        let manager = self.manager;
         let lock = match manager.hooks_lock(rt, id) {
             Ok(lock) => lock,
             Err(unfound) => {
@@ -176,34 +203,8 @@ impl<'a, N: Name, L: Loader, W: Writer, P: Processor, K: Hearer, J: Keeping> Ses
         self.make(rt, asked, locked, id, now, call)
     }
 
-    /// The same on a cache of the opening. One without callbacks takes no lock but the manager's.
-    fn call_opened<R: Wait>(
-        &mut self,
-        rt: &R,
-        asked: &SharedHooks<L, P>,
-        id: CacheId,
-        now: u64,
-        call: Call,
-    ) -> Result<Reply, CallFault>
-        requires stated { AreOf L.load_of P.verdict_of N.stated id asked.now }
-        requires counted { (c : CacheConfig) → slice_get N.configs id ≡ Some c → length c.processors ≡ length asked.now.processors.items }
-        ensures number { self.new.number ≡ self.old.number }
-        ensures ok { IfOk result (λ reply. Adds N.configs N.stated self.old self.new id now call (Replied reply)) }
-        ensures refused { Lacks N.configs id call → TellsLack result × (self.new ≡ self.old) }
-        ensures err { IfErr result (λ fault. Fails N.configs N.stated self.old self.new id now call fault) }
-        ensures front { IsPrefix self.old.pass.images self.new.pass.images }
-    {
-        let manager = self.manager;
-        match manager.opened_lock(id) {
-            Some(lock) => {
-                let mut locked = lock.lock(rt);
-                self.make(rt, asked, &mut *locked, id, now, call)
-            }
-            None => self.make_at_once(rt, asked, id, now, call),
-        }
-    }
-
     /// The same by these callbacks of the cache.
+    #[inline(never)]
     fn make<R: Wait>(
         &mut self,
         rt: &R,

@@ -1,5 +1,5 @@
 //! A journal that keeps the entries of open calls alone. The history of which it tells exists in proofs.
-ghost use Rattle.std.specs.Prelude.{◌≡◌, ◌<◌, ◌≤◌, ◌+◌, ◌^◌, ℕ, false, Some, nat_eq, slice_set};
+ghost use Rattle.std.specs.Prelude.{◌≡◌, ◌<◌, ◌≤◌, ◌+◌, ◌^◌, ◌++◌, ◌∷◌, [], ℕ, false, length, Some, nat_eq, slice_set};
 ghost use Rattle.std.specs.HashMap.{get, spare};
 ghost use Rattle.jc_model.specs.declared.event.Entry.{Entry};
 ghost use Rattle.jc_model.specs.declared.event.Outcome.TheVariants.{Step as Stepped};
@@ -7,7 +7,7 @@ ghost use Rattle.jc_model.specs.Legal.{with_outcome};
 ghost use Rattle.jc_engine.specs.Results.{reply_in};
 ghost use Rattle.jc_engine.specs.Managed.{step_of};
 ghost use Rattle.jc_engine.specs.Recording.{blank, CanTell, with_entries};
-ghost use Rattle.jc_engine.specs.Journals.{IsKept, KeepsOthers, is_replied};
+ghost use Rattle.jc_engine.specs.Journals.{IsKept, Keeps, KeepsOthers, is_replied};
 ghost use Rattle.jc_engine.specs.Opens.{AreOpen, place_of};
 
 use super::Journal;
@@ -69,6 +69,28 @@ pub struct OpenCalls {
 }
 
 impl OpenCalls {
+    /// A call that has begun goes on. Its entry is kept from now on. Most calls have their reply at once, and are to have
+    /// no share in what this needs: so it is no part of `begin`.
+    #[inline(never)]
+    fn open(&mut self, id: CacheId, held: Beginning, advance: Advance) -> (Step, Option<Reply>)
+        requires room { (1 ≤ spare self.old.waiting) × (self.old.begun + 1 < 2 ^ 64) }
+        requires own { held.id ≡ id }
+        requires tells { CanTell advance (blank held.session held.id held.at held.call) }
+        requires waits { is_replied advance ≡ false }
+        ensures shown { result.0 ≡ step_of advance }
+        ensures copy { result.1 ≡ reply_in result.0 }
+        ensures noted { self.new.past.history ≡ with_entries (self.old.past.history.entries ++ with_outcome (Stepped (step_of advance)) (blank held.session held.id held.at held.call) ∷ []) self.old.past.history }
+        ensures places { Keeps (λ id. place_of (get nat_eq self.old.waiting id)) id (length self.old.past.history.entries) advance (λ id. place_of (get nat_eq self.new.waiting id)) }
+    {
+        let mut entry = held.into_entry();
+        let shown = write_outcome(&mut entry, advance);
+        self.past.push(&entry);
+        let place = self.begun;
+        self.begun += 1;
+        put_of(&mut self.waiting, id, OpenCall { place, entry });
+        shown
+    }
+
     /// A call that goes on has come to this.
     fn wait(&mut self, id: CacheId, advance: Advance) -> (Step, Option<Reply>)
         requires kept { (place : ℕ) × (e : Entry) × IsKept self.old.past.history (λ id. place_of (get nat_eq self.old.waiting id)) id place e × CanTell advance e }
@@ -160,6 +182,7 @@ impl Journal for OpenCalls {
         held.call
     }
 
+    #[inline(always)]
     fn begin(&mut self, id: CacheId, held: Beginning, advance: Advance) -> (Step, Option<Reply>) {
         match advance {
             Advance::Replied(reply) => {
@@ -169,15 +192,7 @@ impl Journal for OpenCalls {
                 drop((held, kept));
                 (Step::Done(reply), Some(copy))
             }
-            goes_on => {
-                let mut entry = held.into_entry();
-                let shown = write_outcome(&mut entry, goes_on);
-                self.past.push(&entry);
-                let place = self.begun;
-                self.begun += 1;
-                put_of(&mut self.waiting, id, OpenCall { place, entry });
-                shown
-            }
+            goes_on => self.open(id, held, goes_on),
         }
     }
 

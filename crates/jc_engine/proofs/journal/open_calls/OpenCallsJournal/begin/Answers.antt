@@ -1,21 +1,7 @@
-use Rattle.std.proofs.Common.{◌≡◌, ◌∙◌, ap, sym, subst, nat_eq}
-use Rattle.jc_engine.proofs.Names.{get, Entry, with_outcome, step_of, Stepped, CanTell}
-use Rattle.jc_model.specs.declared.event.End.TheVariants.{Waiting}
-use Rattle.jc_engine.proofs.Opens.{added_open, begun_open, goes_on, waits_on}
+use Rattle.std.proofs.Common.{nat_eq}
+use Rattle.jc_engine.proofs.Names.{get}
+use Rattle.jc_engine.proofs.Opens.{added_open}
 use Rattle.jc_engine.proofs.journal.open_calls.OpenCallsJournal.begin.Goals as goal
 
 pub invariant_of-self : goal.invariant_of-self
 invariant_of-self c = record { are_open = added_open c.args.self.now.past.history c.args.self.now.begun (get nat_eq c.args.self.now.waiting) c.args.self.now.are_open c.push_replied.new.self.history _ c.push_replied.ensures }
-
-pub invariant_of-self-in_default : goal.invariant_of-self-in_default
-invariant_of-self-in_default c =
-    let same : c.into_entry-entry.result ≡ c.requires.1 = c.into_entry-entry.ensures ∙ sym c.requires.2.1 in
-    let waits : c.into_entry-entry.result.end ≡ Waiting = ap (λ (e : Entry). e.end) same ∙ c.requires.4 in
-    let can : CanTell c.args.advance c.into_entry-entry.result = subst (CanTell c.args.advance) (sym same) c.requires.5 in
-    let written : c.write_outcome-shown.new.entry ≡ with_outcome (Stepped (step_of c.args.advance)) c.into_entry-entry.result = c.write_outcome-shown.ensures.written waits can in
-    record {
-      are_open = begun_open c.args.self.now.past.history c.args.self.now.begun (get nat_eq c.args.self.now.waiting) c.args.self.now.are_open c.push.new.self.history c.write_outcome-shown.new.entry c.push.ensures
-          c.args.id (get nat_eq c.put_of.new.map) c.put_of.ensures
-          (ap (λ (e : Entry). e.id) written ∙ (ap (λ (e : Entry). e.id) same ∙ c.requires.3))
-          (ap (λ (e : Entry). e.end) written ∙ waits_on c.args.advance (goes_on c.args.advance c.in_default.not-Replied));
-    }
