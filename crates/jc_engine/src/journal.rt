@@ -7,6 +7,7 @@ pub mod open_calls;
 pub mod past;
 
 use crate::cache::Advance;
+use crate::journal::change::Begun;
 use jc_model::OutOfMemory;
 use jc_model::call::{Answer, Call, Notice, Reply};
 use jc_model::config::CacheConfig;
@@ -18,7 +19,7 @@ use std::alloc::Global;
 /// It tells of all lives and calls. It may keep all of their entries in memory, or only those of the calls that wait:
 /// the history is what the clauses see.
 pub trait Journal: Drop {
-    ghost use Rattle.std.specs.Prelude.{◌≡◌, ◌∷◌, ◌++◌, ℕ, List, [], Option, Some, None, IsSome, OnOk, OnErr, IfOk, IfErr, length, option_map, slice_set, slice_get};
+    ghost use Rattle.std.specs.Prelude.{◌≡◌, ◌∷◌, ◌++◌, ℕ, true, false, List, [], Option, Some, None, IsSome, OnOk, OnErr, IfOk, IfErr, length, option_map, slice_set, slice_get};
     ghost use Rattle.jc_model.specs.declared.call.Answer.{Answer as Answered};
     ghost use Rattle.jc_model.specs.declared.config.CacheConfig.{CacheConfig as Configured};
     ghost use Rattle.jc_model.specs.declared.event.End.TheVariants.{Waiting};
@@ -28,6 +29,7 @@ pub trait Journal: Drop {
     ghost use Rattle.jc_engine.specs.Managed.{step_of};
     ghost use Rattle.jc_engine.specs.Results.{reply_in};
     ghost use Rattle.jc_engine.specs.Recording.{blank, CanTell, left_in, with_entries, with_life};
+    ghost use Rattle.jc_engine.specs.Changed.{replied_at_once};
     ghost use Rattle.jc_engine.specs.Journals.{IsKept, Keeps, KeepsOthers, kept_at};
 
     /// The lives and the calls that it tells of.
@@ -42,6 +44,9 @@ pub trait Journal: Drop {
     /// It tells of this history, over which the call with this entry is about to begin; what it has handed back of it.
     ghost Enters: { History → Self → Self.Held → Entry → Type 0 };
 
+    /// A call that has its reply at once can be noted, and nothing of it is kept in memory.
+    ghost Notes: { Self → Type 0 };
+
     /// No lives and no calls.
     fn new(alloc: Global) -> Self
         ensures { history result ≡ record { lives = []; entries = [] } };
@@ -49,6 +54,17 @@ pub trait Journal: Drop {
     /// The entry of a cache's open call.
     fn open_entry(&self, id: CacheId) -> Option<&Entry>
         ensures { option_map (λ e. e.now) result ≡ kept_at (history self.now) (places self.now id) };
+
+    /// Whether a call that has its reply at once can be noted without being handed over.
+    fn notes(&self) -> bool
+        ensures { result ≡ true → Notes self.now };
+
+    /// Notes such a call, behind all others, and its reply. Where that can't be, nothing has changed.
+    fn note(&mut self, begun: Begun, reply: &Reply) -> bool
+        ensures sure { Notes self.old → result ≡ true }
+        ensures noted { result ≡ true → history self.new ≡ with_entries ((history self.old).entries ++ replied_at_once begun reply.now ∷ []) (history self.old) }
+        ensures refused { result ≡ false → history self.new ≡ history self.old }
+        ensures places { (id : ℕ) → places self.new id ≡ places self.old id };
 
     /// Makes room for a call that is about to begin. Where memory is refused it is handed back, and nothing has changed.
     fn enter(

@@ -2,7 +2,10 @@
 ghost use Rattle.std.specs.Prelude.{◌≡◌, ◌⊎◌, ◌≤◌, ◌+◌, length, ℕ, List, None, true, false, [], ◌∷◌, ◌++◌, IfSome, IfOk, IfErr, OnErr, MatchOption, is_some, option_map};
 ghost use Rattle.std.specs.FinMap as table;
 ghost use Rattle.jc_model.specs.declared.event.Event.TheVariants.{Begin, Answer as Answered, GiveUp, Create, Destroy};
+ghost use Rattle.jc_model.specs.declared.call.Reply.TheVariants.{Found};
 ghost use Rattle.jc_model.specs.declared.event.Entry.{Entry};
+ghost use Rattle.jc_model.specs.declared.event.Outcome.TheVariants.{Step as Stepped};
+ghost use Rattle.jc_model.specs.declared.event.Step.TheVariants.{Done};
 ghost use Rattle.jc_model.specs.Places.{at_place};
 ghost use Rattle.jc_model.specs.Runs.{opened_from, create_refusal, answer_to, lives_after, for_memory};
 ghost use Rattle.jc_model.specs.Legal.{IsLegal, Tells, at_first, recorded};
@@ -20,6 +23,7 @@ use crate::cache::Advance;
 use crate::engine::Engine;
 use crate::journal::Journal;
 use crate::journal::all_calls::AllCalls;
+use crate::journal::change::Begun;
 use crate::open::{OpenRefusal, open_refusal_from};
 use jc_model::OutOfMemory;
 use jc_model::call::{Answer, Call, Notice, Reply};
@@ -27,7 +31,9 @@ use jc_model::config::CacheConfig;
 use jc_model::event::{CacheId, Cause, CreateRefusal, Entry, Step};
 use jc_model::key::Key;
 use jc_model::list::Sequence;
+use jc_model::thrice::Thrice;
 use jc_model::transcript::Transcript;
+use jc_model::value::Value;
 use jc_ops::step::reply::found;
 use jc_ring::ring::Ring;
 use jc_rows::rows::Rows;
@@ -68,6 +74,19 @@ fn first_lives<J: Journal>(
         journal.create(id, config)?;
     }
     Ok(journal)
+}
+
+/// The copies of a value, if there is one.
+fn three_of(value: Option<Thrice<Value>>) -> (Option<Value>, Option<Value>, Option<Value>)
+    ensures { (result.0 ≡ value) × (result.1 ≡ value) × (result.2 ≡ value) }
+{
+    match value {
+        None => (None, None, None),
+        Some(value) => {
+            let (first, second, third) = value.into_three();
+            (Some(first), Some(second), Some(third))
+        }
+    }
 }
 
 impl<R: Rows, G: Ring, J: Journal> Recorded<R, G, J> {
@@ -171,6 +190,34 @@ impl<R: Rows, G: Ring, J: Journal> Recorded<R, G, J> {
         ensures told { Tells self.now.transcript (lives_of self.now.caches) }
     {
         self.engine.open_call()
+    }
+
+    /// Makes a get of a session that has its reply at once, and of which the journal keeps nothing: the value that was
+    /// found, twice. Of any other call nothing, and nothing has changed.
+    pub fn get_at_once(
+        &mut self,
+        session: u32,
+        id: CacheId,
+        now: u64,
+        call: &Call,
+    ) -> Option<(Option<Value>, Option<Value>)>
+        ensures outcome { IfSome result (λ it. Stepped (Done (Found it.0)) ≡ answer_to (lives_of self.old.caches) (Begin id now call.now) false) }
+        ensures lives { IfSome result (λ it. lives_of self.new.caches ≡ lives_after (lives_of self.old.caches) (Begin id now call.now) (Stepped (Done (Found it.0)))) }
+        ensures transcript { IfSome result (λ it. self.new.transcript ≡ recorded session (Begin id now call.now) (Stepped (Done (Found it.0))) self.old.transcript) }
+        ensures told { Tells self.old.transcript (lives_of self.old.caches) × Tells self.new.transcript (lives_of self.new.caches) }
+        ensures copy { IfSome result (λ it. it.1 ≡ it.0) }
+        ensures same { result ≡ None → self.new ≡ self.old }
+    {
+        if !self.journal.notes() {
+            return None;
+        }
+        let value = self.engine.get_at_once(id, now, call)?;
+        let (value, copy, noted) = three_of(value);
+        let begun = Begun::of(session, id, now, call);
+        if !self.journal.note(begun, &Reply::Found(noted)) {
+            unreachable!()
+        }
+        Some((value, copy))
     }
 
     /// Begins a call of a session, which becomes the transcript's last entry. At `Done` the second part is an equal

@@ -4,6 +4,7 @@ ghost use Rattle.std.specs.HashMap.{get, spare};
 ghost use Rattle.jc_engine.specs.Recording.{with_entries};
 
 use super::Journal;
+use super::change::Begun;
 use super::notes::{blank, enter_answer, enter_life, kept_place, note, note_given_up, put_of};
 use crate::cache::Advance;
 use jc_model::OutOfMemory;
@@ -33,6 +34,8 @@ impl Journal for AllCalls {
 
     ghost Enters = { λ h j held e. (j.transcript ≡ with_entries (h.entries ++ e ∷ []) h) × (1 ≤ spare j.places) };
 
+    ghost Notes = { λ j. ⊥ };
+
     fn new(alloc: Global) -> AllCalls {
         AllCalls {
             transcript: Transcript::new(alloc),
@@ -44,6 +47,14 @@ impl Journal for AllCalls {
         let number = id.number();
         let place = self.places.get(&number)?;
         self.transcript.entries().get(*place)
+    }
+
+    fn notes(&self) -> bool {
+        false
+    }
+
+    fn note(&mut self, _begun: Begun, _reply: &Reply) -> bool {
+        false
     }
 
     fn enter(

@@ -4,6 +4,7 @@ ghost use Rattle.std.specs.HashMap.{get, spare};
 ghost use Rattle.jc_model.specs.declared.event.Entry.{Entry};
 ghost use Rattle.jc_model.specs.declared.event.Outcome.TheVariants.{Step as Stepped};
 ghost use Rattle.jc_model.specs.Legal.{with_outcome};
+ghost use Rattle.jc_engine.specs.Changed.{replied_at_once};
 ghost use Rattle.jc_engine.specs.Results.{reply_in};
 ghost use Rattle.jc_engine.specs.Managed.{step_of};
 ghost use Rattle.jc_engine.specs.Recording.{blank, CanTell, with_entries};
@@ -69,6 +70,16 @@ pub struct OpenCalls {
 }
 
 impl OpenCalls {
+    /// A call has begun, and had this reply at once. Nothing of it is kept.
+    fn push_replied(&mut self, begun: Begun, reply: &Reply)
+        requires room { self.old.begun + 1 < 2 ^ 64 }
+        ensures noted { self.new.past.history ≡ with_entries (self.old.past.history.entries ++ replied_at_once begun reply.now ∷ []) self.old.past.history }
+        ensures waiting { self.new.waiting ≡ self.old.waiting }
+    {
+        self.past.push_replied(begun, reply);
+        self.begun += 1;
+    }
+
     /// A call that has begun goes on. Its entry is kept from now on. Most calls have their reply at once, and are to have
     /// no share in what this needs: so it is no part of `begin`.
     #[inline(never)]
@@ -138,6 +149,8 @@ impl Journal for OpenCalls {
 
     ghost Enters = { λ h j held e. (j.past.history ≡ h) × (e ≡ blank held.session held.id held.at held.call) × (1 ≤ spare j.waiting) × (j.begun + 1 < 2 ^ 64) };
 
+    ghost Notes = { λ j. j.begun + 1 < 2 ^ 64 };
+
     fn new(alloc: Global) -> OpenCalls {
         OpenCalls {
             past: Past::new(),
@@ -154,6 +167,18 @@ impl Journal for OpenCalls {
         }
     }
 
+    fn notes(&self) -> bool {
+        self.begun < usize::MAX
+    }
+
+    fn note(&mut self, begun: Begun, reply: &Reply) -> bool {
+        if self.begun == usize::MAX {
+            return false;
+        }
+        self.push_replied(begun, reply);
+        true
+    }
+
     fn enter(
         &mut self,
         alloc: Global,
@@ -162,7 +187,7 @@ impl Journal for OpenCalls {
         now: u64,
         call: Call,
     ) -> Result<Beginning, Call> {
-        if self.begun == usize::MAX || self.waiting.reserve(1).is_err() {
+        if !self.notes() || self.waiting.reserve(1).is_err() {
             return Err(call);
         }
         Ok(Beginning {
@@ -186,8 +211,7 @@ impl Journal for OpenCalls {
     fn begin(&mut self, id: CacheId, held: Beginning, advance: Advance) -> (Step, Option<Reply>) {
         match advance {
             Advance::Replied(reply) => {
-                self.past.push_replied(held.begun(), reply.first());
-                self.begun += 1;
+                self.push_replied(held.begun(), reply.first());
                 let (reply, copy, kept) = reply.into_three();
                 drop((held, kept));
                 (Step::Done(reply), Some(copy))

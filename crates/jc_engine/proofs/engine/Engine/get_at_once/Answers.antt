@@ -1,6 +1,5 @@
-use Rattle.std.proofs.Common.{◌≡◌, List, ℕ, Some, None, Option, IfSome, sym, ap, rules, nat_eq}
-use Rattle.jc_model.specs.declared.call.Reply.TheVariants.{Found}
-use Rattle.jc_engine.proofs.Names.{get, begins, cache_in, Moves, Replied}
+use Rattle.std.proofs.Common.{Some, None, Option, IfSome, sym, ap, rules, nat_eq}
+use Rattle.jc_engine.proofs.Names.{get, cache_in}
 use Rattle.jc_engine.proofs.Numbered.{puts_for}
 use Rattle.jc_engine.proofs.Places.{within, managed_own, Changes, sound_moved}
 use Rattle.jc_engine.proofs.Moving.{moved_on, one_after, new_here, unchanged, outcome_after, lives_later}
