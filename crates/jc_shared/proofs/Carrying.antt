@@ -153,11 +153,6 @@ module _ (configs : List CacheConfig) (stated : List Stated) (old new : Sitting)
 
 -- A call that is entered when it has begun.
 
-pub begun_is : (begun : Begun) (session id at : ℕ) (call : Call) → (begun.session ≡ session) × (begun.id ≡ id) × (begun.at ≡ at) → begun.call.value ≡ call → begun_entry begun ≡ blank session id at call
-begun_is begun session id at call numbers same =
-    ap (λ (n : ℕ). blank n begun.id begun.at begun.call.value) numbers.0 ∙ ap (λ (n : ℕ). blank session n begun.at begun.call.value) numbers.1
-    ∙ ap (λ (n : ℕ). blank session id n begun.call.value) numbers.2 ∙ ap (blank session id at) same
-
 -- it had its reply at once
 pub replied_adds : (configs : List CacheConfig) (stated : List Stated) (old new : Sitting) (id at : ℕ) (call : Call) (begun : Begun) (turned : Turned) (second : Option Reply) (reply copy : Reply) → turned ≡ Replied reply → second ≡ Some copy → second ≡ reply_in (step_of turned)
     → GoesOn configs (blank old.number id at call) turned (ended_by second (blank old.number id at call)) new.pass → begun_entry begun ≡ blank old.number id at call → new.calls ≡ old.calls ++ replied_at_once begun copy ∷ [] → Adds configs stated old new id at call (ends.Replied reply)

@@ -1,6 +1,7 @@
 //! Calls on caches without callbacks. They have their reply at once, so no entry is made before it.
-ghost use Rattle.std.specs.Prelude.{◌≡◌, Some, IfOk, IfErr, length, slice_get};
+ghost use Rattle.std.specs.Prelude.{◌≡◌, Some, None, IfSome, IfOk, IfErr, length, slice_get};
 ghost use mathlib.Core.List.{IsPrefix};
+ghost use Rattle.jc_model.specs.declared.call.Reply.TheVariants.{Found};
 ghost use Rattle.jc_model.specs.declared.config.CacheConfig.{CacheConfig};
 ghost use Rattle.jc_model.specs.declared.event.End.TheVariants.{Replied};
 ghost use Rattle.jc_shared.specs.Calls.{Adds, Fails, Lacks, TellsLack};
@@ -15,6 +16,7 @@ use jc_engine::journal::change::Begun;
 use jc_hooks::{Hearer, Loader, Processor, Writer};
 use jc_model::call::{Call, Reply};
 use jc_model::event::CacheId;
+use jc_model::value::Value;
 use std::sync::Wait;
 
 impl<'a, N: Name, L: Loader, W: Writer, P: Processor, K: Hearer, J: Keeping> Session<
@@ -48,6 +50,60 @@ impl<'a, N: Name, L: Loader, W: Writer, P: Processor, K: Hearer, J: Keeping> Ses
             drop(call);
             return Err(manager.lacking(rt, id, fault));
         }
+        if let Some(value) = self.get_at_once(rt, id, now, &call) {
+            return Ok(Reply::Found(value));
+        }
+        self.make_kept(rt, id, now, call)
+    }
+
+    /// Makes a get that has its reply at once, where no entry of it is kept in memory: the value that was found. Of any
+    /// other call nothing, and the session is as it was.
+    fn get_at_once<R: Wait>(
+        &mut self,
+        rt: &R,
+        id: CacheId,
+        now: u64,
+        call: &Call,
+    ) -> Option<Option<Value>>
+        ensures number { self.new.number ≡ self.old.number }
+        ensures some { IfSome result (λ value. Adds N.configs N.stated self.old self.new id now call.now (Replied (Found value))) }
+        ensures same { result ≡ None → self.new ≡ self.old }
+        ensures front { IsPrefix self.old.pass.images self.new.pass.images }
+    {
+        if J::Own::are_in_memory() || !matches!(call, Call::Get(_)) {
+            return None;
+        }
+        let Ok(kept) = self.own.keep(call) else {
+            return None;
+        };
+        let manager = self.manager;
+        let begun = Begun::of(self.number, id, now, call);
+        let found = manager
+            .locked
+            .lock(rt)
+            .get_at_once(self.number, id, now, call, &mut self.pass);
+        let (value, copy) = found?;
+        self.own
+            .push_replied(manager.alloc, begun, kept, Reply::Found(copy));
+        Some(value)
+    }
+
+    /// Makes a call that the callbacks accept, of which an entry may be kept. It is never inlined: a get that hits is to
+    /// have no share in what this needs.
+    #[inline(never)]
+    fn make_kept<R: Wait>(
+        &mut self,
+        rt: &R,
+        id: CacheId,
+        now: u64,
+        call: Call,
+    ) -> Result<Reply, CallFault>
+        ensures number { self.new.number ≡ self.old.number }
+        ensures ok { IfOk result (λ reply. Adds N.configs N.stated self.old self.new id now call (Replied reply)) }
+        ensures err { IfErr result (λ fault. Fails N.configs N.stated self.old self.new id now call fault) }
+        ensures front { IsPrefix self.old.pass.images self.new.pass.images }
+    {
+        let manager = self.manager;
         let kept = self.own.keep(&call);
         let Ok(kept) = kept else {
             drop(call);

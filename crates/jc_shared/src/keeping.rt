@@ -32,6 +32,9 @@ pub trait OwnCalls: Drop {
     /// There is room for one more.
     ghost HasRoom: { Self → Type 0 };
 
+    /// Whether their entries are in memory, by the code alone: it picks a way, and no clause asks for it.
+    fn are_in_memory() -> bool;
+
     /// No calls.
     fn new(alloc: Global) -> Result<Self, OutOfMemory>
         ensures { IfOk result (λ own. calls own ≡ []) };
@@ -86,6 +89,10 @@ impl OwnCalls for OwnList {
 
     ghost HasRoom = { λ own. vec_len own.entries < vec_capacity own.entries };
 
+    fn are_in_memory() -> bool {
+        true
+    }
+
     fn new(alloc: Global) -> Result<OwnList, OutOfMemory> {
         let entries = Vec::with_capacity(alloc, FIRST_CALLS)?;
         Ok(OwnList { entries })
@@ -132,6 +139,10 @@ impl OwnCalls for OwnPast {
     ghost calls = { λ own. own.past.history.entries };
 
     ghost HasRoom = { λ own. ⊤ };
+
+    fn are_in_memory() -> bool {
+        false
+    }
 
     fn new(_alloc: Global) -> Result<OwnPast, OutOfMemory> {
         Ok(OwnPast { past: Past::new() })

@@ -23,6 +23,7 @@ ghost use Rattle.jc_shared.specs.Sessions.{BeginsWith, Sees, SeesSome};
 ghost use Rattle.jc_shared.specs.Finding.{fault_of, answer_fault_of, ended_by, turned_of, IsOfCall, IsOpen, IsReplied};
 ghost use Rattle.jc_shared.specs.Tenures.{IsTenure, IsRefusedCall, Stops, GivesUp, step_of};
 
+mod at_once;
 mod closing;
 mod living;
 
