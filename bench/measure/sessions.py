@@ -68,9 +68,11 @@ def our_words(jc_bench, case, tries):
     return [jc_bench, case.kind, *(word for name, size in sizes.items() for word in (f"--{name}", str(size)))]
 
 
-def our_other_ways(ours):
-    """The words for managers that keep their open calls alone: one, and two, each thread on a cache of its own."""
-    return {"open calls": [*ours, "--open"], "two managers": [*ours, "--caches", "4", "--apart", "--shards"]}
+def our_other_ways(ours, threads):
+    """The words for managers that keep their open calls alone: one, and several, each thread on a cache of its own."""
+    several = {"two managers": "2"} | ({"four managers": "4"} if threads == 4 else {})
+    apart = [*ours, "--caches", "4", "--apart", "--shards"]
+    return {"open calls": [*ours, "--open"]} | {name: [*apart, count] for name, count in several.items()}
 
 
 def peer_words(words, case, tries):
@@ -80,7 +82,7 @@ def peer_words(words, case, tries):
 def lines_of(bench, case):
     tries = case.tries(bench.short)
     ours = our_words(bench.tools.jc_bench, case, tries)
-    every = {OURS: ours} | ({} if case.kind in LOOKUPS else our_other_ways(ours))
+    every = {OURS: ours} | ({} if case.kind in LOOKUPS else our_other_ways(ours, case.threads))
     every |= {name: peer_words(words, case, tries) for name, words in bench.tools.maps.items()}
     contenders = {name: lambda words=words: did(words) for name, words in every.items()}
     rounds = interleaved(str(case), contenders, bench.repetitions)

@@ -9,18 +9,25 @@ use jc_model::config::Policy;
 use jc_model::key::Key;
 use jc_model::value::Value;
 use jc_shards::Caches;
-use jc_shared::{Keeping, OpenCalls, Shared};
+use jc_shared::{Keeping, Shared};
 use std::alloc::Global;
 use std::sync::Wait;
 
 /// A manager before it has a name.
 pub type Unnamed<J> = Shared<Unasked, Unasked, Unasked, Unasked, J>;
 
-/// Two managers before they have names, each of which keeps its open calls alone.
+/// Two managers before they have names.
 #[derive(Drop)]
-pub struct Unnamed2 {
-    pub first: Unnamed<OpenCalls>,
-    pub second: Unnamed<OpenCalls>,
+pub struct Unnamed2<J: Keeping> {
+    pub first: Unnamed<J>,
+    pub second: Unnamed<J>,
+}
+
+/// Two times two of them.
+#[derive(Drop)]
+pub struct Unnamed4<J: Keeping> {
+    pub left: Unnamed2<J>,
+    pub right: Unnamed2<J>,
 }
 
 /// The most rows that all caches may have together.
@@ -49,11 +56,20 @@ pub fn opened<J: Keeping>(alloc: Global, caches: u32) -> Result<Unnamed<J>, Faul
 }
 
 /// Two of them, between which so many caches are dealt out.
-pub fn opened_two(alloc: Global, caches: u32) -> Result<Unnamed2, Fault> {
+pub fn opened_two<J: Keeping>(alloc: Global, caches: u32) -> Result<Unnamed2<J>, Fault> {
     let each = caches.div_ceil(2);
     Ok(Unnamed2 {
         first: opened(alloc, each)?,
         second: opened(alloc, each)?,
+    })
+}
+
+/// Two times two of them, between which so many caches are dealt out.
+pub fn opened_four<J: Keeping>(alloc: Global, caches: u32) -> Result<Unnamed4<J>, Fault> {
+    let each = caches.div_ceil(2);
+    Ok(Unnamed4 {
+        left: opened_two(alloc, each)?,
+        right: opened_two(alloc, each)?,
     })
 }
 

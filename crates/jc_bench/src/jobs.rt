@@ -1,18 +1,12 @@
 //! The threads of a run, each with a session of its own.
-ghost use Rattle.std.specs.Prelude.{◌≡◌, Err, map};
-ghost use Rattle.jc_hooks.specs.declared.loader.Loaded.TheVariants.{Failed};
-ghost use Rattle.jc_shared.specs.Stated.{stated_by};
-
 use crate::asking::{Counts, Span, WRITTEN, ask_often, write_meanwhile};
-use crate::caches::{Unnamed, Unnamed2, fill, numbered, opened, opened_two};
+use crate::caches::{fill, numbered};
 use crate::fault::Fault;
-use crate::seats::{Both, One, Seats};
+use crate::seats::Seats;
 use crate::timing::Moment;
-use crate::words::{Kind, Managers, Size};
+use crate::words::{Kind, Size};
 use jc_model::key::Key;
-use jc_shared::{AllCalls, Name, OpenCalls};
 use std::alloc::Global;
-use std::marker::Brand;
 use std::sync::Wait;
 use std::sync::atomic::{AtomicU32, Ordering};
 use std::thread::{Threads, map_vec};
@@ -169,8 +163,8 @@ fn fill_caches<S: Seats, R: Wait>(
     fill::<S, R>(rt, alloc, &mut seat, size)
 }
 
-/// Fills the caches, and does it on all threads.
-fn time_threads<S: Seats + Send + Sync, R: Threads + Wait + Clock + CpuClock + Sync>(
+/// Fills the caches, and does it on all threads. The result has what each thread did, the writers last.
+pub fn time_threads<S: Seats + Send + Sync, R: Threads + Wait + Clock + CpuClock + Sync>(
     rt: &R,
     alloc: Global,
     seats: &S,
@@ -182,116 +176,4 @@ fn time_threads<S: Seats + Send + Sync, R: Threads + Wait + Clock + CpuClock + S
     let busy = AtomicU32::new(size.threads);
     let jobs = jobs(alloc, seats, (kind, size), &keys, &busy)?;
     Ok(map_vec(rt, jobs, &|job| work(rt, alloc, job))?)
-}
-
-fn played_all<N: Name + Send + Sync, R: Threads + Wait + Clock + CpuClock + Sync>(
-    rt: &R,
-    alloc: Global,
-    unnamed: Unnamed<AllCalls>,
-    kind: Kind,
-    size: Size,
-) -> Result<Vec<Done>, Fault>
-    requires configs { unnamed.configs ≡ N.configs }
-    requires stated { map (stated_by (λ _ _. Failed) (λ _ _ _. Err (record {}))) unnamed.shared ≡ N.stated }
-    requires index { unnamed.index ≡ N.index }
-{
-    let manager = unnamed.named::<N>();
-    time_threads(rt, alloc, &One { manager: &manager }, kind, size)
-}
-
-/// The same, under a name that this call picks.
-fn named_all<R: Threads + Wait + Clock + CpuClock + Sync>(
-    rt: &R,
-    alloc: Global,
-    unnamed: Unnamed<AllCalls>,
-    kind: Kind,
-    size: Size,
-) -> Result<Vec<Done>, Fault> {
-    played_all::<Brand, R>(rt, alloc, unnamed, kind, size)
-}
-
-fn played_open<N: Name + Send + Sync, R: Threads + Wait + Clock + CpuClock + Sync>(
-    rt: &R,
-    alloc: Global,
-    unnamed: Unnamed<OpenCalls>,
-    kind: Kind,
-    size: Size,
-) -> Result<Vec<Done>, Fault>
-    requires configs { unnamed.configs ≡ N.configs }
-    requires stated { map (stated_by (λ _ _. Failed) (λ _ _ _. Err (record {}))) unnamed.shared ≡ N.stated }
-    requires index { unnamed.index ≡ N.index }
-{
-    let manager = unnamed.named::<N>();
-    time_threads(rt, alloc, &One { manager: &manager }, kind, size)
-}
-
-/// The same, under a name that this call picks.
-fn named_open<R: Threads + Wait + Clock + CpuClock + Sync>(
-    rt: &R,
-    alloc: Global,
-    unnamed: Unnamed<OpenCalls>,
-    kind: Kind,
-    size: Size,
-) -> Result<Vec<Done>, Fault> {
-    played_open::<Brand, R>(rt, alloc, unnamed, kind, size)
-}
-
-/// Over two managers as one.
-fn play_both<
-    A: Seats + Send + Sync,
-    B: Seats + Send + Sync,
-    R: Threads + Wait + Clock + CpuClock + Sync,
->(
-    rt: &R,
-    alloc: Global,
-    (left, right): (&A, &B),
-    kind: Kind,
-    size: Size,
-) -> Result<Vec<Done>, Fault> {
-    time_threads(rt, alloc, &Both { left, right }, kind, size)
-}
-
-/// Over two that keep their open calls alone.
-fn played_two<
-    A: Name + Send + Sync,
-    B: Name + Send + Sync,
-    R: Threads + Wait + Clock + CpuClock + Sync,
->(rt: &R, alloc: Global, unnamed: Unnamed2, kind: Kind, size: Size) -> Result<Vec<Done>, Fault>
-    requires first { (unnamed.first.configs ≡ A.configs)
-        × (map (stated_by (λ _ _. Failed) (λ _ _ _. Err (record {}))) unnamed.first.shared ≡ A.stated)
-        × (unnamed.first.index ≡ A.index) }
-    requires second { (unnamed.second.configs ≡ B.configs)
-        × (map (stated_by (λ _ _. Failed) (λ _ _ _. Err (record {}))) unnamed.second.shared ≡ B.stated)
-        × (unnamed.second.index ≡ B.index) }
-{
-    let Unnamed2 { first, second } = unnamed;
-    let (first, second) = (first.named::<A>(), second.named::<B>());
-    let two = (&One { manager: &first }, &One { manager: &second });
-    play_both(rt, alloc, two, kind, size)
-}
-
-/// The same, under names that this call picks.
-fn named_two<R: Threads + Wait + Clock + CpuClock + Sync>(
-    rt: &R,
-    alloc: Global,
-    unnamed: Unnamed2,
-    kind: Kind,
-    size: Size,
-) -> Result<Vec<Done>, Fault> {
-    played_two::<Brand, Brand, R>(rt, alloc, unnamed, kind, size)
-}
-
-/// Does one kind on managers of its own. The result has what each thread did, the writers last.
-pub fn play<R: Threads + Wait + Clock + CpuClock + Sync>(
-    rt: &R,
-    alloc: Global,
-    kind: Kind,
-    size: Size,
-    managers: Managers,
-) -> Result<Vec<Done>, Fault> {
-    match managers {
-        Managers::AllCalls => named_all(rt, alloc, opened(alloc, size.caches)?, kind, size),
-        Managers::OpenCalls => named_open(rt, alloc, opened(alloc, size.caches)?, kind, size),
-        Managers::Shards => named_two(rt, alloc, opened_two(alloc, size.caches)?, kind, size),
-    }
 }

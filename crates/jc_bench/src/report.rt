@@ -1,6 +1,7 @@
 //! A run from its words to its lines.
 use crate::fault::Fault;
-use crate::jobs::{Done, play};
+use crate::jobs::Done;
+use crate::managers::play;
 use crate::words::read_words;
 use std::alloc::AllocGlobal;
 use std::env::Env;

@@ -77,7 +77,9 @@ pub enum Managers {
     /// One that keeps its open calls alone.
     OpenCalls,
     /// Two such.
-    Shards,
+    Two,
+    /// Four such.
+    Four,
 }
 
 /// What the words ask for: these kinds, one after the other, each on managers of its own.
@@ -113,6 +115,19 @@ fn flag<'a>(alloc: Global, name: &'a str, help: &'a str) -> Arg<'a> {
         .long(name)
         .help(help)
         .action(ArgAction::SetTrue)
+}
+
+/// How many managers there may be beside one, in the order of `managers_of`.
+static SHARDS: [&str; 2] = ["2", "4"];
+
+/// The option that asks for several managers.
+fn shards<'a>(alloc: Global) -> Arg<'a> {
+    Arg::new(alloc, "shards")
+        .long("shards")
+        .value_name("N")
+        .help("So many managers that keep the open calls alone")
+        .action(ArgAction::Set)
+        .value_parser(SHARDS.as_slice())
 }
 
 /// The program's command. A manager that keeps all calls has 64 sessions in its life: one fills its table.
@@ -151,11 +166,7 @@ fn command<'a>(alloc: Global) -> Result<Command<'a>, AllocError> {
         ))?
         .arg(flag(alloc, "apart", "Each thread asks a cache of its own"))?
         .arg(flag(alloc, "open", "The manager keeps the open calls alone"))?
-        .arg(flag(
-            alloc,
-            "shards",
-            "Two managers that keep the open calls alone",
-        ))?
+        .arg(shards(alloc))?
         .arg(flag(alloc, "stashed", "Some rows are in the table's stash"))?
         .arg(flag(alloc, "counts", "Print no times"))
 }
@@ -184,12 +195,11 @@ fn kinds_of(alloc: Global, matches: &ArgMatches<'_>) -> Result<Vec<Kind>, AllocE
 }
 
 fn managers_of(matches: &ArgMatches<'_>) -> Managers {
-    if matches.get_flag("shards") {
-        Managers::Shards
-    } else if matches.get_flag("open") {
-        Managers::OpenCalls
-    } else {
-        Managers::AllCalls
+    match matches.get_str("shards") {
+        Some("2") => Managers::Two,
+        Some(_) => Managers::Four,
+        None if matches.get_flag("open") => Managers::OpenCalls,
+        None => Managers::AllCalls,
     }
 }
 

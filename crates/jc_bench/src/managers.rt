@@ -1,0 +1,229 @@
+//! The managers of a run: each gets a name, and several are asked as one.
+//!
+//! What names one is generic in its journal: that a journal may go to another thread is a bound there, and for the
+//! prover nothing to search for.
+ghost use Rattle.std.specs.Prelude.{◌≡◌, Err, map};
+ghost use Rattle.jc_hooks.specs.declared.loader.Loaded.TheVariants.{Failed};
+ghost use Rattle.jc_shared.specs.Stated.{stated_by};
+
+use crate::caches::{Unnamed, Unnamed2, Unnamed4, opened, opened_four, opened_two};
+use crate::fault::Fault;
+use crate::jobs::{Done, time_threads};
+use crate::seats::{Both, One, Seats};
+use crate::words::{Kind, Managers, Size};
+use jc_shared::{AllCalls, Keeping, Name, OpenCalls, OwnCalls};
+use std::alloc::Global;
+use std::marker::Brand;
+use std::sync::Wait;
+use std::thread::Threads;
+use std::time::{Clock, CpuClock};
+
+/// Over one manager under this name.
+fn played_one<
+    N: Name + Send + Sync,
+    J: Keeping + Send,
+    R: Threads + Wait + Clock + CpuClock + Sync,
+>(rt: &R, alloc: Global, unnamed: Unnamed<J>, kind: Kind, size: Size) -> Result<Vec<Done>, Fault>
+where
+    J::Own: Send,
+    J::Held: Send,
+    <J::Own as OwnCalls>::Kept: Send,
+    requires configs { unnamed.configs ≡ N.configs }
+    requires stated { map (stated_by (λ _ _. Failed) (λ _ _ _. Err (record {}))) unnamed.shared ≡ N.stated }
+    requires index { unnamed.index ≡ N.index }
+{
+    let manager = unnamed.named::<N>();
+    time_threads(rt, alloc, &One { manager: &manager }, kind, size)
+}
+
+/// The same, under a name that this call picks.
+fn named_one<J: Keeping + Send, R: Threads + Wait + Clock + CpuClock + Sync>(
+    rt: &R,
+    alloc: Global,
+    unnamed: Unnamed<J>,
+    kind: Kind,
+    size: Size,
+) -> Result<Vec<Done>, Fault>
+where
+    J::Own: Send,
+    J::Held: Send,
+    <J::Own as OwnCalls>::Kept: Send,
+{
+    played_one::<Brand, J, R>(rt, alloc, unnamed, kind, size)
+}
+
+/// Over a pair, and two more beside it, as one.
+fn time_beside<
+    S: Seats + Send + Sync,
+    A: Seats + Send + Sync,
+    B: Seats + Send + Sync,
+    R: Threads + Wait + Clock + CpuClock + Sync,
+>(
+    rt: &R,
+    alloc: Global,
+    pair: &S,
+    (left, right): (&A, &B),
+    kind: Kind,
+    size: Size,
+) -> Result<Vec<Done>, Fault> {
+    let seats = Both {
+        left: pair,
+        right: &Both { left, right },
+    };
+    time_threads(rt, alloc, &seats, kind, size)
+}
+
+/// Over a pair, and two managers beside it under these names.
+fn played_beside<
+    S: Seats + Send + Sync,
+    A: Name + Send + Sync,
+    B: Name + Send + Sync,
+    J: Keeping + Send,
+    R: Threads + Wait + Clock + CpuClock + Sync,
+>(
+    rt: &R,
+    alloc: Global,
+    pair: &S,
+    unnamed: Unnamed2<J>,
+    kind: Kind,
+    size: Size,
+) -> Result<Vec<Done>, Fault>
+where
+    J::Own: Send,
+    J::Held: Send,
+    <J::Own as OwnCalls>::Kept: Send,
+    requires first { (unnamed.first.configs ≡ A.configs)
+        × (map (stated_by (λ _ _. Failed) (λ _ _ _. Err (record {}))) unnamed.first.shared ≡ A.stated)
+        × (unnamed.first.index ≡ A.index) }
+    requires second { (unnamed.second.configs ≡ B.configs)
+        × (map (stated_by (λ _ _. Failed) (λ _ _ _. Err (record {}))) unnamed.second.shared ≡ B.stated)
+        × (unnamed.second.index ≡ B.index) }
+{
+    let Unnamed2 { first, second } = unnamed;
+    let (first, second) = (first.named::<A>(), second.named::<B>());
+    let two = (&One { manager: &first }, &One { manager: &second });
+    time_beside(rt, alloc, pair, two, kind, size)
+}
+
+/// The same, under names that this call picks.
+fn named_beside<
+    S: Seats + Send + Sync,
+    J: Keeping + Send,
+    R: Threads + Wait + Clock + CpuClock + Sync,
+>(
+    rt: &R,
+    alloc: Global,
+    pair: &S,
+    unnamed: Unnamed2<J>,
+    kind: Kind,
+    size: Size,
+) -> Result<Vec<Done>, Fault>
+where
+    J::Own: Send,
+    J::Held: Send,
+    <J::Own as OwnCalls>::Kept: Send,
+{
+    played_beside::<S, Brand, Brand, J, R>(rt, alloc, pair, unnamed, kind, size)
+}
+
+/// Over two as one, and two more beside them where there are any.
+fn time_two<
+    A: Seats + Send + Sync,
+    B: Seats + Send + Sync,
+    J: Keeping + Send,
+    R: Threads + Wait + Clock + CpuClock + Sync,
+>(
+    rt: &R,
+    alloc: Global,
+    (left, right): (&A, &B),
+    others: Option<Unnamed2<J>>,
+    kind: Kind,
+    size: Size,
+) -> Result<Vec<Done>, Fault>
+where
+    J::Own: Send,
+    J::Held: Send,
+    <J::Own as OwnCalls>::Kept: Send,
+{
+    let pair = Both { left, right };
+    match others {
+        Some(others) => named_beside(rt, alloc, &pair, others, kind, size),
+        None => time_threads(rt, alloc, &pair, kind, size),
+    }
+}
+
+/// Over two managers under these names, and two more beside them where there are any.
+fn played_two<
+    A: Name + Send + Sync,
+    B: Name + Send + Sync,
+    J: Keeping + Send,
+    R: Threads + Wait + Clock + CpuClock + Sync,
+>(
+    rt: &R,
+    alloc: Global,
+    unnamed: Unnamed2<J>,
+    others: Option<Unnamed2<J>>,
+    kind: Kind,
+    size: Size,
+) -> Result<Vec<Done>, Fault>
+where
+    J::Own: Send,
+    J::Held: Send,
+    <J::Own as OwnCalls>::Kept: Send,
+    requires first { (unnamed.first.configs ≡ A.configs)
+        × (map (stated_by (λ _ _. Failed) (λ _ _ _. Err (record {}))) unnamed.first.shared ≡ A.stated)
+        × (unnamed.first.index ≡ A.index) }
+    requires second { (unnamed.second.configs ≡ B.configs)
+        × (map (stated_by (λ _ _. Failed) (λ _ _ _. Err (record {}))) unnamed.second.shared ≡ B.stated)
+        × (unnamed.second.index ≡ B.index) }
+{
+    let Unnamed2 { first, second } = unnamed;
+    let (first, second) = (first.named::<A>(), second.named::<B>());
+    let two = (&One { manager: &first }, &One { manager: &second });
+    time_two(rt, alloc, two, others, kind, size)
+}
+
+/// The same over managers that keep their open calls alone, under names that this call picks.
+fn named_two<R: Threads + Wait + Clock + CpuClock + Sync>(
+    rt: &R,
+    alloc: Global,
+    unnamed: Unnamed2<OpenCalls>,
+    others: Option<Unnamed2<OpenCalls>>,
+    kind: Kind,
+    size: Size,
+) -> Result<Vec<Done>, Fault> {
+    played_two::<Brand, Brand, OpenCalls, R>(rt, alloc, unnamed, others, kind, size)
+}
+
+/// Over one manager that keeps its open calls alone.
+fn play_open<R: Threads + Wait + Clock + CpuClock + Sync>(
+    rt: &R,
+    alloc: Global,
+    unnamed: Unnamed<OpenCalls>,
+    kind: Kind,
+    size: Size,
+) -> Result<Vec<Done>, Fault> {
+    named_one::<OpenCalls, R>(rt, alloc, unnamed, kind, size)
+}
+
+/// Does one kind on managers of its own. The result has what each thread did, the writers last.
+pub fn play<R: Threads + Wait + Clock + CpuClock + Sync>(
+    rt: &R,
+    alloc: Global,
+    kind: Kind,
+    size: Size,
+    managers: Managers,
+) -> Result<Vec<Done>, Fault> {
+    let caches = size.caches;
+    match managers {
+        Managers::AllCalls => {
+            named_one::<AllCalls, R>(rt, alloc, opened(alloc, caches)?, kind, size)
+        }
+        Managers::OpenCalls => play_open(rt, alloc, opened(alloc, caches)?, kind, size),
+        Managers::Two => named_two(rt, alloc, opened_two(alloc, caches)?, None, kind, size),
+        Managers::Four => {
+            let Unnamed4 { left, right } = opened_four(alloc, caches)?;
+            named_two(rt, alloc, left, Some(right), kind, size)
+        }
+    }
+}
