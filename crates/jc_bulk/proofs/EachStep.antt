@@ -1,7 +1,7 @@
 -- A call on many keys, by what its next step comes to; and a call by its plan.
-use Rattle.std.proofs.Common.{◌≡◌, ℕ, List, ◌∷◌, None, refl, ◌∙◌, false, Some}
+use Rattle.std.proofs.Common.{◌≡◌, ℕ, Bool, true, false, if◌then◌else◌, List, ◌∷◌, None, refl, ◌∙◌, Some}
 use Rattle.jc_model.specs.Suspended as suspended
-use Rattle.jc_bulk.proofs.Names.{Answer, KeyCall, Notice, Reply, Request, CacheConfig, Progress, Run, ended, and_then, resume, awaited_by, Sum, with_key, ends_call, step, after_key, each, KeyWait, key_run, bulk_run, Kept, progress_of, StepWaits, IsWaiting, WaitsOn, bulk_wait, Provided, calls_in, AreCovered, Bulk, empty_sum}
+use Rattle.jc_bulk.proofs.Names.{Answer, KeyCall, Notice, Reply, Request, CacheConfig, Progress, Run, ended, waiting, Awaited, and_then, resume, awaited_by, Sum, with_key, ends_call, step, after_key, each, KeyWait, key_run, bulk_run, Kept, progress_of, StepWaits, IsWaiting, WaitsOn, IsSuspended, IsHeld, wait_run, bulk_wait, waits_of, Provided, Needs, calls_in, AreCovered, Bulk, wait_of, Waits, empty_sum, items_of}
 use Rattle.jc_model.specs.Whole.{Plan, one, many, at_once, key_step, steps_in, gathers, is_at_once, carried_out}
 
 -- what comes after a step of a call
@@ -27,9 +27,36 @@ step_ended c now call calls sum sum' p q r run none added = rw (run, none, after
 abbrev pub after_wait : CacheConfig → Bulk → Progress → Reply → Run
 after_wait c b = afterwards c b.key.now b.key.call.key (calls_in b.rest) b.sum
 
+-- the step that waits of a call does so itself, whether or not others are ahead
+waits-by : (c : CacheConfig) (p : Progress) (b : Bulk) (alone : Bool) (request : Request) (resumed : Answer → Run) → wait_run c p (if alone then suspended.one b.key else suspended.many (bulk_wait b)) ≡ waiting request p resumed
+    → IsHeld c p (if alone then suspended.one b.key else suspended.many (bulk_wait b)) b.rest → IsWaiting c p b.key
+waits-by c p b true request resumed run held = record { request = request; resumed = resumed; run_is = run }
+waits-by c p b false request resumed run held = held.0
+
+pub step_of_call : {awaits : Awaited} {notices : List Notice} {s : Waits} (c : CacheConfig) (k : Kept) (b w : Bulk) → b ≡ w → waits_of awaits w notices ≡ s → IsSuspended c (progress_of k s.notices) s → IsWaiting c (progress_of k notices) b.key
+step_of_call c k b w same is h = let here = rw (← is) at h in rw same (waits-by c _ w w.alone here.request here.resumed here.run_is here.held)
+
+-- and the steps ahead have their values
+held-by : (c : CacheConfig) (p : Progress) (b : Bulk) (alone : Bool) → alone ≡ false → IsHeld c p (if alone then suspended.one b.key else suspended.many (bulk_wait b)) b.rest → AreCovered c p.state.ring b.rest
+held-by c p b true off held = absurd cc
+held-by c p b false off held = held.1
+
+pub rest_of_call : {awaits : Awaited} {notices : List Notice} {s : Waits} (c : CacheConfig) (k : Kept) (b w : Bulk) → b ≡ w → waits_of awaits w notices ≡ s → b.alone ≡ false → IsSuspended c (progress_of k s.notices) s → AreCovered c (items_of k.cells) b.rest
+rest_of_call c k b w same is off h = let here = rw (← is) at h in rw same (held-by c _ w w.alone (rw same at off) here.held)
+
 -- An answer goes to the step that waits. The code has the call and its notices under other names.
 pub step_answered : {b w : Bulk} {told told' : List Notice} (c : CacheConfig) (k : Kept) (a : Answer) → b ≡ w → told' ≡ told → IsWaiting c (progress_of k told) w.key → resume (bulk_run c (progress_of k told) (bulk_wait w)) a ≡ and_then (resume (key_run c (progress_of k told') b.key) a) (after_wait c b)
 step_answered {b} {w} {told} {told'} c k a same same_told waits = rw (same, same_told, waits.run_is)
+
+-- and where it waits again, so does the call
+pub waits_again : (c : CacheConfig) (k k' : Kept) (key step : KeyWait) (rest : List Provided) (needs : Needs) (sum : Sum) (alone : Bool) (request : Request) (notices ready told : List Notice) (a : Answer) → ready ≡ notices → IsWaiting c (progress_of k notices) key → step.now ≡ key.now → step.call.key ≡ key.call.key
+    → StepWaits c (progress_of k' told) request step (resume (key_run c (progress_of k ready) key) a) → (alone ≡ false → AreCovered c (items_of k'.cells) rest)
+    → WaitsOn c (progress_of k' told) request (waits_of (awaited_by request) (record { key = step; rest = rest; needs = needs; sum = sum; alone = alone }) told) (resume (wait_run c (progress_of k notices) (wait_of (record { key = key; rest = rest; needs = needs; sum = sum; alone = alone }))) a)
+waits_again c k k' key step rest needs sum true request notices ready told a kept waits at same come covered = let is = rw kept at come in record { resumed = is.resumed; run_is = is.run_is; meaning = is.meaning; awaits = refl; held = tt }
+waits_again c k k' key step rest needs sum false request notices ready told a kept waits at same come covered =
+    let is = rw kept at come in
+    let b : Bulk = record { key = key; rest = rest; needs = needs; sum = sum; alone = false } in
+    rw (step_answered {b = b} {w = b} c k a refl refl waits) (step_waits c key.now key.call.key step rest sum told _ _ request at same is (covered refl))
 
 -- A call with steps, by its plan.
 

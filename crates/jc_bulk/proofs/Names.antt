@@ -8,7 +8,7 @@ pub use Rattle.jc_model.specs.declared.call.Request.{Request}
 pub use Rattle.jc_model.specs.declared.config.CacheConfig.{CacheConfig}
 pub use Rattle.jc_model.specs.State.{Item, State, passed, stops_at, before_stop, from_stop, turned, row_of, with_row, is_live, after_access}
 pub use Rattle.jc_model.specs.Changes.{Progress, begun, hit, access}
-pub use Rattle.jc_model.specs.Run.{Run, ended, and_then, resume, awaited_by}
+pub use Rattle.jc_model.specs.Run.{Run, ended, waiting, Awaited, and_then, resume, awaited_by}
 pub use Rattle.jc_model.specs.Sound.{Lacks, HasDistinctKeys, Throughout}
 pub use Rattle.jc_model.specs.Bulk.{Sum, empty_sum, with_key, ends_call, same_op, put_each, remove_each}
 pub use Rattle.jc_model.specs.Step.{step}
@@ -23,8 +23,7 @@ pub use Rattle.jc_bulk.specs.declared.bulk.Needs.{Needs}
 pub use Rattle.jc_bulk.specs.declared.bulk.Provided.{Provided}
 pub use Rattle.jc_bulk.specs.declared.tally.Tally.{Tally}
 pub use Rattle.jc_bulk.specs.Entries.{live_value}
-pub use Rattle.jc_bulk.specs.Moved.{WaitsOn, ComesTo}
-pub use Rattle.jc_bulk.specs.Paused.{bulk_wait}
+pub use Rattle.jc_bulk.specs.Calls.{WaitsOn, IsSuspended, IsHeld, ComesTo, wait_run}
 pub use Rattle.jc_bulk.specs.Provided.{calls_in, keys_in, IsNone, AreApart, AreCovered, places_for, IsAhead, IsReady}
 pub use Rattle.jc_bulk.specs.Tallied.{HasRoomFor, sum_of, pushed}
-pub use Rattle.jc_bulk.specs.Waits.{Bulk}
+pub use Rattle.jc_bulk.specs.Waits.{Bulk, Waits, bulk_wait, wait_of, waits_of}

@@ -2,8 +2,6 @@ pub mod Listing
 pub mod Tallied
 pub mod Provided
 pub mod Waits
-pub mod Awaiting
-pub mod Paused
 pub mod Each
-pub mod Moved
+pub mod Calls
 pub mod Entries

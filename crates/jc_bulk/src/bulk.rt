@@ -2,17 +2,17 @@
 //!
 //! All that they need was made before the first of them, so none is refused. Where one waits for an answer, those after
 //! it keep their values: no other step changes the value of its key.
-ghost use Rattle.std.specs.Prelude.{◌≡◌, ◌≤◌, ◌∷◌, true, length};
+ghost use Rattle.std.specs.Prelude.{◌≡◌, ◌≤◌, ◌∷◌, ℕ, true, List, [], length};
 ghost use Rattle.jc_model.specs.Whole.{after_key, each};
 ghost use Rattle.jc_state.specs.Kept.{items_of, progress_of, IsTied, Remains};
 ghost use Rattle.jc_state.specs.Noted.{HasPlaces};
-ghost use Rattle.jc_bulk.specs.Moved.{ComesTo};
+ghost use Rattle.jc_bulk.specs.Calls.{ComesTo};
 ghost use Rattle.jc_bulk.specs.Provided.{calls_in, keys_in, places_for, AreCovered, IsAhead, IsReady};
 ghost use Rattle.jc_bulk.specs.Tallied.{sum_of};
 
-use crate::call::Moved;
+use crate::call::CallNext;
 use crate::tally::{Tally, ends_call};
-use crate::waits::{Paused, suspend};
+use crate::waits::suspend;
 use jc_model::call::{KeyCall, Reply};
 use jc_model::key::Key;
 use jc_model::thrice::Thrice;
@@ -23,6 +23,7 @@ use jc_ring::ring::Ring;
 use jc_rows::rows::Rows;
 use jc_state::notices::Notices;
 use jc_state::state::CacheState;
+use std::alloc::Global;
 use std::collections::VecDeque;
 use std::marker::Model;
 
@@ -50,11 +51,30 @@ pub struct Ahead {
     pub needs: Needs,
 }
 
-/// A call on many keys that waits: the step that waits, and those after it.
+/// The steps of a call that waits: the one that waits, and those after it.
 #[derive(Drop)]
 pub struct BulkStep {
     pub(crate) step: KeyStep,
     pub(crate) ahead: Ahead,
+    /// The call is on this one key: no steps are ahead, and its reply is the step's own.
+    pub(crate) alone: bool,
+}
+
+impl Ahead {
+    /// No steps are left, and nothing is gathered.
+    pub(crate) fn none(alloc: Global) -> Ahead
+        ensures rest { result.rest.items ≡ [] }
+        ensures ahead { (key : List ℕ) → IsAhead (key ∷ []) [] result.sum result.needs }
+    {
+        Ahead {
+            rest: VecDeque::new(alloc),
+            sum: Tally::nothing(),
+            needs: Needs {
+                adds: false,
+                tells: false,
+            },
+        }
+    }
 }
 
 impl Model for BulkStep {
@@ -65,7 +85,7 @@ impl Model for BulkStep {
 
     ghost Value = { Bulk };
 
-    ghost view = { λ b. record { key = b.step; rest = b.ahead.rest.items; needs = b.ahead.needs; sum = sum_of b.ahead.sum } };
+    ghost view = { λ b. record { key = b.step; rest = b.ahead.rest.items; needs = b.ahead.needs; sum = sum_of b.ahead.sum; alone = b.alone } };
 
     ghost invariant = { λ b. IsAhead (b.step.call.key ∷ keys_in (calls_in b.ahead.rest.items)) (calls_in b.ahead.rest.items) b.ahead.sum b.ahead.needs };
 }
@@ -77,7 +97,7 @@ pub(crate) fn go_on<R: Rows, G: Ring>(
     mut notices: Notices,
     now: u64,
     mut ahead: Ahead,
-) -> Moved
+) -> CallNext
     requires tied { IsTied (R.contents rows.old) state.old }
     requires ready { IsReady state.old.config (items_of state.old.cells) notices (R.spare rows.old) ahead.rest.items ahead.sum ahead.needs }
     ensures remains { Remains (R.contents rows.old) state.old (R.contents rows.new) state.new }
@@ -88,19 +108,24 @@ pub(crate) fn go_on<R: Rows, G: Ring>(
         let row = state.find(rows, &key);
         match KeyStep::start(state, rows, &mut notices, now, call, row, supply) {
             Next::Waiting(request, step) => {
-                return suspend(request, Paused::Many(BulkStep { step, ahead }), notices);
+                let bulk = BulkStep {
+                    step,
+                    ahead,
+                    alone: false,
+                };
+                return suspend(request, bulk, notices);
             }
             Next::Ended(reply) => {
                 if let Some(by) = ends_call(reply.first()) {
                     let done = ahead.sum.done;
                     drop((reply, ahead));
-                    return Moved::Ended(fault(by, Some(done)), notices);
+                    return Next::Ended((fault(by, Some(done)), notices));
                 }
                 ahead.sum.add(key, reply);
             }
         }
     }
-    Moved::Ended(ahead.sum.into_reply(), notices)
+    Next::Ended((ahead.sum.into_reply(), notices))
 }
 
 /// Goes on after the step that waited has ended with this reply.
@@ -112,7 +137,7 @@ pub(crate) fn go_on_after<R: Rows, G: Ring>(
     key: Key,
     reply: Thrice<Reply>,
     mut ahead: Ahead,
-) -> Moved
+) -> CallNext
     requires tied { IsTied (R.contents rows.old) state.old }
     requires ahead { IsAhead (key ∷ keys_in (calls_in ahead.rest.items)) (calls_in ahead.rest.items) ahead.sum ahead.needs }
     requires covered { AreCovered state.old.config (items_of state.old.cells) ahead.rest.items }
@@ -125,7 +150,7 @@ pub(crate) fn go_on_after<R: Rows, G: Ring>(
         Some(by) => {
             let done = ahead.sum.done;
             drop((reply, ahead));
-            Moved::Ended(fault(by, Some(done)), notices)
+            Next::Ended((fault(by, Some(done)), notices))
         }
         None => {
             ahead.sum.add(key, reply);

@@ -2,26 +2,22 @@
 //!
 //! A call first makes the memory that it may need. Where memory is refused, nothing has changed; from there on it can't
 //! be refused. It ends with its reply and its notices, or waits for one answer.
-ghost use Rattle.std.specs.Prelude.{◌≡◌, true, false, [], IfOk, IfErr, OnErr, IsOk};
+ghost use Rattle.std.specs.Prelude.{◌≡◌, true, false, IfOk, IfErr, OnErr, IsOk};
 ghost use Rattle.jc_model.specs.declared.config.CacheConfig.{CacheConfig};
 ghost use Rattle.jc_model.specs.Changes.{begun};
 ghost use Rattle.jc_model.specs.Run.{Run, ended, resume, fits};
 ghost use Rattle.jc_model.specs.Step.{step as step_of};
-ghost use Rattle.jc_model.specs.Suspended.{one, many, key_run, bulk_run};
 ghost use Rattle.jc_model.specs.Bulk.{empty_sum};
 ghost use Rattle.jc_model.specs.Whole.{plan, steps_in, gathers, is_at_once, each, carried_out, is_free};
-ghost use Rattle.jc_state.specs.Kept.{Kept, items_of, state_of, progress_of, IsTied, FoundRow, Remains, IsUnmoved};
-ghost use Rattle.jc_ops.specs.Stepped.{StepsTo, IsWaiting};
-ghost use Rattle.jc_bulk.specs.Awaiting.{awaited};
-ghost use Rattle.jc_bulk.specs.Moved.{ComesTo, IsSuspended, wait_run};
-ghost use Rattle.jc_bulk.specs.Paused.{bulk_wait};
-ghost use Rattle.jc_bulk.specs.Provided.{AreCovered};
+ghost use Rattle.jc_state.specs.Kept.{Kept, state_of, progress_of, IsTied, FoundRow, Remains, IsUnmoved};
+ghost use Rattle.jc_ops.specs.Stepped.{StepsTo};
+ghost use Rattle.jc_bulk.specs.Calls.{ComesTo, IsSuspended, wait_run};
 
-use crate::bulk::{BulkStep, go_on, go_on_after};
+use crate::bulk::{Ahead, BulkStep, go_on, go_on_after};
 use crate::entries::entries;
 use crate::provide::{prepare, prepare_answer};
 use crate::tally::listed;
-use crate::waits::{Awaits, Paused, Suspended, suspend};
+use crate::waits::{Suspended, suspend};
 use jc_model::OutOfMemory;
 use jc_model::call::{Answer, Call, Counts, KeyCall, Reply, Request};
 use jc_model::table::key_step;
@@ -36,11 +32,7 @@ use jc_state::state::CacheState;
 use std::alloc::Global;
 
 /// What a call has come to: its reply and its notices, or the next request.
-#[derive(Drop)]
-pub enum Moved {
-    Ended(Thrice<Reply>, Notices),
-    Waiting(Request, Suspended),
-}
+pub type CallNext = Next<Suspended, (Thrice<Reply>, Notices)>;
 
 /// The statistics as a reply.
 fn counted(counts: Counts) -> Thrice<Reply>
@@ -54,19 +46,27 @@ fn counted(counts: Counts) -> Thrice<Reply>
 }
 
 /// A call that told nothing.
-fn ended(alloc: Global, reply: Thrice<Reply>) -> Moved
+fn ended(alloc: Global, reply: Thrice<Reply>) -> CallNext
     ensures { (c : CacheConfig) → (run : Run) → (k : Kept) → run ≡ ended (begun (state_of k)) reply → ComesTo c run result k }
 {
-    Moved::Ended(reply, Notices::none(alloc))
+    Next::Ended((reply, Notices::none(alloc)))
 }
 
-/// A step's next word as the call's, with the call's notices so far.
-fn with_notices(next: Next, notices: Notices) -> Moved
+/// A call on one key, by what its step has come to.
+fn on_one_key(alloc: Global, next: Next<KeyStep>, notices: Notices) -> CallNext
     ensures { (c : CacheConfig) → (run : Run) → (k : Kept) → StepsTo c run next k notices.told → ComesTo c run result k }
 {
     match next {
-        Next::Ended(reply) => Moved::Ended(reply, notices),
-        Next::Waiting(request, step) => suspend(request, Paused::One(step), notices),
+        Next::Ended(reply) => Next::Ended((reply, notices)),
+        Next::Waiting(request, step) => {
+            let ahead = Ahead::none(alloc);
+            let bulk = BulkStep {
+                step,
+                ahead,
+                alone: true,
+            };
+            suspend(request, bulk, notices)
+        }
     }
 }
 
@@ -78,7 +78,7 @@ fn start_key<R: Rows, G: Ring>(
     now: u64,
     row: Option<u32>,
     step: KeyCall,
-) -> Result<Moved, OutOfMemory>
+) -> Result<CallNext, OutOfMemory>
     requires tied { IsTied (R.contents rows.old) state.old }
     requires row { FoundRow step.key state.old row }
     ensures remains { Remains (R.contents rows.old) state.old (R.contents rows.new) state.new }
@@ -88,7 +88,7 @@ fn start_key<R: Rows, G: Ring>(
     let mut notices = Notices::none(alloc);
     let supply = Supply::for_step(state, rows, &mut notices, now, row, &step)?;
     let next = KeyStep::start(state, rows, &mut notices, now, step, row, supply);
-    Ok(with_notices(next, notices))
+    Ok(on_one_key(alloc, next, notices))
 }
 
 /// Begins a call on many keys.
@@ -98,7 +98,7 @@ fn start_many<R: Rows, G: Ring>(
     rows: &mut R,
     now: u64,
     call: &Call,
-) -> Result<Moved, OutOfMemory>
+) -> Result<CallNext, OutOfMemory>
     requires tied { IsTied (R.contents rows.old) state.old }
     ensures remains { Remains (R.contents rows.old) state.old (R.contents rows.new) state.new }
     ensures ok { let todo = plan state.old.config now call.now (begun (state_of state.old)) in IfOk result (λ m. ComesTo state.old.config (each state.old.config now (steps_in todo) (empty_sum (gathers todo)) (begun (state_of state.old))) m state.new) }
@@ -116,7 +116,7 @@ fn start_steps<R: Rows, G: Ring>(
     rows: &mut R,
     now: u64,
     call: &Call,
-) -> Result<Moved, OutOfMemory>
+) -> Result<CallNext, OutOfMemory>
     requires tied { IsTied (R.contents rows.old) state.old }
     requires steps { is_at_once (plan state.old.config now call.now (begun (state_of state.old))) ≡ false }
     ensures remains { Remains (R.contents rows.old) state.old (R.contents rows.new) state.new }
@@ -139,7 +139,7 @@ pub fn start_call<R: Rows, G: Ring>(
     rows: &mut R,
     now: u64,
     call: &Call,
-) -> Result<Moved, OutOfMemory>
+) -> Result<CallNext, OutOfMemory>
     requires tied { IsTied (R.contents rows.old) state.old }
     ensures remains { Remains (R.contents rows.old) state.old (R.contents rows.new) state.new }
     ensures ok { IfOk result (λ m. ComesTo state.old.config (carried_out state.old.config now (plan state.old.config now call.now (begun (state_of state.old))) (begun (state_of state.old))) m state.new) }
@@ -165,88 +165,13 @@ pub fn start_call<R: Rows, G: Ring>(
     }
 }
 
-/// Gives a call on one key its answer.
-fn answer_key<R: Rows, G: Ring>(
-    state: &mut CacheState<G>,
-    rows: &mut R,
-    step: KeyStep,
-    awaits: Awaits,
-    mut notices: Notices,
-    answer: Answer,
-) -> Result<Moved, (Suspended, Answer)>
-    requires tied { IsTied (R.contents rows.old) state.old }
-    requires waits { IsWaiting state.old.config (progress_of state.old notices.told) step }
-    ensures remains { Remains (R.contents rows.old) state.old (R.contents rows.new) state.new }
-    ensures ok { IfOk result (λ m. ComesTo state.old.config (resume (key_run state.old.config (progress_of state.old notices.told) step) answer) m state.new) }
-    ensures back { IfErr result (λ back. back ≡ (record { awaits = awaited awaits; wait = one step; notices = notices.told; stock = [] }, answer)) }
-    ensures same { OnErr result (IsUnmoved (R.contents rows.old) state.old (R.contents rows.new) state.new) }
-{
-    let row = state.find(rows, &step.call().key);
-    match Supply::for_answer(state, rows, &mut notices, row, &step, &answer) {
-        Err(_) => Err((
-            Suspended {
-                paused: Paused::One(step),
-                awaits,
-                notices,
-            },
-            answer,
-        )),
-        Ok(supply) => {
-            let next = step.answer(state, rows, &mut notices, answer, row, supply);
-            Ok(with_notices(next, notices))
-        }
-    }
-}
-
-/// Gives a call on many keys its answer.
-fn answer_many<R: Rows, G: Ring>(
-    state: &mut CacheState<G>,
-    rows: &mut R,
-    bulk: BulkStep,
-    awaits: Awaits,
-    mut notices: Notices,
-    answer: Answer,
-) -> Result<Moved, (Suspended, Answer)>
-    requires tied { IsTied (R.contents rows.old) state.old }
-    requires waits { IsWaiting state.old.config (progress_of state.old notices.told) bulk.key }
-    requires covered { AreCovered state.old.config (items_of state.old.cells) bulk.rest }
-    ensures remains { Remains (R.contents rows.old) state.old (R.contents rows.new) state.new }
-    ensures ok { IfOk result (λ m. ComesTo state.old.config (resume (bulk_run state.old.config (progress_of state.old notices.told) (bulk_wait bulk)) answer) m state.new) }
-    ensures back { IfErr result (λ back. back ≡ (record { awaits = awaited awaits; wait = many (bulk_wait bulk); notices = notices.told; stock = bulk.rest }, answer)) }
-    ensures same { OnErr result (IsUnmoved (R.contents rows.old) state.old (R.contents rows.new) state.new) }
-{
-    let row = state.find(rows, &bulk.step.call().key);
-    match prepare_answer(state, rows, &mut notices, row, &bulk, &answer) {
-        Err(_) => Err((
-            Suspended {
-                paused: Paused::Many(bulk),
-                awaits,
-                notices,
-            },
-            answer,
-        )),
-        Ok(supply) => {
-            let BulkStep { step, ahead } = bulk;
-            let now = step.now();
-            let key = step.call().key;
-            match step.answer(state, rows, &mut notices, answer, row, supply) {
-                Next::Waiting(request, step) => {
-                    let bulk = BulkStep { step, ahead };
-                    Ok(suspend(request, Paused::Many(bulk), notices))
-                }
-                Next::Ended(reply) => Ok(go_on_after(state, rows, notices, now, key, reply, ahead)),
-            }
-        }
-    }
-}
-
 /// Gives a suspended call its answer. Where memory is refused, both are handed back, and nothing has changed.
 pub fn answer_call<R: Rows, G: Ring>(
     state: &mut CacheState<G>,
     rows: &mut R,
     suspended: Suspended,
     answer: Answer,
-) -> Result<Moved, (Suspended, Answer)>
+) -> Result<CallNext, (Suspended, Answer)>
     requires tied { IsTied (R.contents rows.old) state.old }
     requires awaited { fits suspended.awaits answer ≡ true }
     requires waits { IsSuspended state.old.config (progress_of state.old suspended.notices) suspended }
@@ -256,12 +181,36 @@ pub fn answer_call<R: Rows, G: Ring>(
     ensures same { OnErr result (IsUnmoved (R.contents rows.old) state.old (R.contents rows.new) state.new) }
 {
     let Suspended {
-        paused,
+        bulk,
         awaits,
-        notices,
+        mut notices,
     } = suspended;
-    match paused {
-        Paused::One(step) => answer_key(state, rows, step, awaits, notices, answer),
-        Paused::Many(bulk) => { answer_many(state, rows, bulk, awaits, notices, answer) }
+    let row = state.find(rows, &bulk.step.call().key);
+    match prepare_answer(state, rows, &mut notices, row, &bulk, &answer) {
+        Err(_) => Err((
+            Suspended {
+                bulk,
+                awaits,
+                notices,
+            },
+            answer,
+        )),
+        Ok(supply) => {
+            let BulkStep { step, ahead, alone } = bulk;
+            let now = step.now();
+            let key = step.call().key;
+            match step.answer(state, rows, &mut notices, answer, row, supply) {
+                Next::Waiting(request, step) => {
+                    let bulk = BulkStep { step, ahead, alone };
+                    Ok(suspend(request, bulk, notices))
+                }
+                Next::Ended(reply) => {
+                    if alone {
+                        return Ok(Next::Ended((reply, notices)));
+                    }
+                    Ok(go_on_after(state, rows, notices, now, key, reply, ahead))
+                }
+            }
+        }
     }
 }

@@ -1,13 +1,12 @@
 //! A call that waits for the answer to one request.
 ghost use Rattle.std.specs.Prelude.{◌≡◌};
 ghost use Rattle.jc_model.specs.Run.{awaited_by, fits};
-ghost use Rattle.jc_bulk.specs.Awaiting.{awaited};
-ghost use Rattle.jc_bulk.specs.Paused.{wait_of, stock_of};
+ghost use Rattle.jc_bulk.specs.Waits.{awaited, waits_of};
 
 use crate::bulk::BulkStep;
-use crate::call::Moved;
+use crate::call::CallNext;
 use jc_model::call::{Answer, Request};
-use jc_ops::step::KeyStep;
+use jc_ops::step::Next;
 use jc_state::notices::Notices;
 use std::marker::Model;
 
@@ -20,29 +19,20 @@ pub enum Awaits {
     Tell,
 }
 
-/// A step that waits: of a call on one key, or with the steps after it of a call on many.
-#[derive(Drop)]
-pub enum Paused {
-    One(KeyStep),
-    Many(BulkStep),
-}
-
 /// A call that waits for the answer to one request.
 #[derive(Drop)]
 pub struct Suspended {
-    pub(crate) paused: Paused,
+    pub(crate) bulk: BulkStep,
     pub(crate) awaits: Awaits,
     pub(crate) notices: Notices,
 }
 
 impl Model for Suspended {
-    ghost use Rattle.jc_bulk.specs.Awaiting.{awaited};
-    ghost use Rattle.jc_bulk.specs.Paused.{wait_of, stock_of};
-    ghost use Rattle.jc_bulk.specs.Waits.{Waits};
+    ghost use Rattle.jc_bulk.specs.Waits.{Waits, awaited, waits_of};
 
     ghost Value = { Waits };
 
-    ghost view = { λ s. record { awaits = awaited s.awaits; wait = wait_of s.paused; notices = s.notices.told; stock = stock_of s.paused } };
+    ghost view = { λ s. waits_of (awaited s.awaits) s.bulk s.notices.told };
 }
 
 /// What kind of answer a request awaits.
@@ -59,14 +49,14 @@ fn awaits_of(request: &Request) -> Awaits
 }
 
 /// A call that waits with this request.
-pub(crate) fn suspend(request: Request, paused: Paused, notices: Notices) -> Moved
-    ensures { result ≡ Moved.Waiting request (record { awaits = awaited_by request; wait = wait_of paused; notices = notices.told; stock = stock_of paused }) }
+pub(crate) fn suspend(request: Request, bulk: BulkStep, notices: Notices) -> CallNext
+    ensures { result ≡ Next.Waiting request (waits_of (awaited_by request) bulk notices.told) }
 {
     let awaits = awaits_of(&request);
-    Moved::Waiting(
+    Next::Waiting(
         request,
         Suspended {
-            paused,
+            bulk,
             awaits,
             notices,
         },
@@ -91,11 +81,11 @@ impl Suspended {
         ensures { result.told ≡ self.notices }
     {
         let Suspended {
-            paused,
+            bulk,
             awaits: _,
             notices,
         } = self;
-        drop(paused);
+        drop(bulk);
         notices
     }
 }

@@ -43,7 +43,7 @@ pub use Rattle.jc_roster.specs.Members.{Member, create_refusal_in, id_named, mem
 pub use Rattle.jc_state.specs.Kept.{IsTied, Kept, item_of, items_of, progress_of}
 pub use Rattle.jc_state.specs.Noted.{Noted}
 pub use Rattle.jc_state.specs.Tied.{SameElsewhere, Tied}
-pub use Rattle.jc_bulk.specs.Moved.{ComesTo, IsSuspended, WaitsOn, wait_run}
+pub use Rattle.jc_bulk.specs.Calls.{ComesTo, IsSuspended, WaitsOn, wait_run}
 pub use Rattle.jc_bulk.specs.Waits.{Waits}
 pub use Rattle.jc_engine.specs.declared.cache.Advance.{Advance}
 pub use Rattle.jc_engine.specs.declared.cache.Advance.TheVariants.{Asked, Replied, Told}

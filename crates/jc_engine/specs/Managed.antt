@@ -18,7 +18,7 @@ use Rattle.jc_model.specs.Suspended.{Wait, one, many, telling, standing_by}
 use Rattle.jc_rows.specs.Rows.{RowMap}
 use Rattle.jc_state.specs.Noted.{Noted}
 use Rattle.jc_state.specs.Kept.{Kept, progress_of, IsTied}
-use Rattle.jc_bulk.specs.Moved.{IsSuspended}
+use Rattle.jc_bulk.specs.Calls.{IsSuspended}
 use Rattle.jc_engine.specs.declared.cache.Turn.{Turn}
 use Rattle.jc_engine.specs.declared.cache.Turn.TheVariants.{Idle, Waiting, Telling}
 use Rattle.jc_engine.specs.declared.cache.Advance.{Advance}

@@ -8,7 +8,7 @@ ghost use Rattle.jc_model.specs.Whole.{is_free};
 ghost use Rattle.jc_model.specs.Runs.{begins, answers, reply_of, destroyed_by, refuse_last, for_memory};
 ghost use Rattle.jc_state.specs.Kept.{Kept};
 ghost use Rattle.jc_state.specs.Tied.{SameElsewhere};
-ghost use Rattle.jc_bulk.specs.Moved.{ComesTo};
+ghost use Rattle.jc_bulk.specs.Calls.{ComesTo};
 ghost use Rattle.jc_engine.specs.Advances.{of_start};
 ghost use Rattle.jc_engine.specs.Caches.{status_of};
 ghost use Rattle.jc_engine.specs.Sound.{IsAt};
@@ -17,7 +17,7 @@ ghost use Rattle.jc_engine.specs.declared.cache.Turn.TheVariants.{Idle};
 ghost use Rattle.jc_engine.specs.Journals.{is_replied};
 ghost use Rattle.jc_engine.specs.Managed.{cache_in, turn_in, step_of, is_step, IsManaged, Moves, Settled, Abandons};
 
-use jc_bulk::call::{Moved, answer_call, start_call};
+use jc_bulk::call::{CallNext, answer_call, start_call};
 use jc_bulk::waits::Suspended;
 use jc_model::OutOfMemory;
 use jc_model::call::{Answer, Call, Reply, Request};
@@ -26,6 +26,7 @@ use jc_model::event::{Cause, Step};
 use jc_model::thrice::Thrice;
 use jc_model::value::Value;
 use jc_ops::hit::{hit, miss};
+use jc_ops::step::Next;
 use jc_ring::ring::Ring;
 use jc_rows::rows::Rows;
 use jc_state::notices::Notices;
@@ -125,20 +126,20 @@ impl<G: Ring> Managed<G> {
     }
 
     /// Goes on from what its call has come to. All notices are told before the reply.
-    fn settle(&mut self, moved: Moved) -> Advance
+    fn settle(&mut self, next: CallNext) -> Advance
         requires idle { self.old.turn ≡ Idle }
         ensures state { self.new.state ≡ self.old.state }
-        ensures settled { (c : CacheConfig) (run : Run) (k : Kept) → ComesTo c run moved k → Settled c run k self.new.turn result }
+        ensures settled { (c : CacheConfig) (run : Run) (k : Kept) → ComesTo c run next k → Settled c run k self.new.turn result }
     {
-        match moved {
-            Moved::Ended(reply, notices) => {
+        match next {
+            Next::Ended((reply, notices)) => {
                 if notices.is_empty() {
                     return Advance::Replied(reply);
                 }
                 self.stand_at(Turn::Telling(reply));
                 Advance::Told(notices)
             }
-            Moved::Waiting(request, suspended) => {
+            Next::Waiting(request, suspended) => {
                 self.stand_at(Turn::Waiting(suspended));
                 Advance::Asked(request)
             }
@@ -208,7 +209,7 @@ impl<G: Ring> Managed<G> {
         ensures table { OnErr result (R.contents rows.new ≡ R.contents rows.old) }
     {
         match start_call(alloc, &mut self.state, rows, now, call) {
-            Ok(moved) => Ok(self.settle(moved)),
+            Ok(next) => Ok(self.settle(next)),
             Err(_) => Err(Cause::OutOfMemory),
         }
     }
@@ -255,7 +256,7 @@ impl<G: Ring> Managed<G> {
             Turn::Telling(reply) => Ok(Advance::Replied(reply)),
             Turn::Waiting(suspended) => {
                 match answer_call(&mut self.state, rows, suspended, answer) {
-                    Ok(moved) => Ok(self.settle(moved)),
+                    Ok(next) => Ok(self.settle(next)),
                     Err((suspended, answer)) => {
                         self.stand_at(Turn::Waiting(suspended));
                         Err(answer)

@@ -4,6 +4,7 @@ use Rattle.jc_model.specs.declared.call.Answer.{Answer}
 use Rattle.jc_model.specs.declared.call.KeyCall.{KeyCall}
 use Rattle.jc_model.specs.declared.call.Notice.{Notice}
 use Rattle.jc_model.specs.declared.call.Op.TheVariants.{Invoke}
+use Rattle.jc_model.specs.declared.call.Reply.{Reply}
 use Rattle.jc_model.specs.declared.call.Request.{Request}
 use Rattle.jc_model.specs.declared.config.CacheConfig.{CacheConfig}
 use Rattle.jc_model.specs.Changes.{Progress}
@@ -35,11 +36,11 @@ pub record IsWaiting (c : CacheConfig) (p : Progress) (w : KeyWait) : Type 0 whe
   pub run_is : key_run c p w ≡ waiting request p resumed
 
 -- the step does as its run, and the cache stands as the run says
-abbrev pub StepsTo : CacheConfig → Run → Next → Kept → List Notice → Type 0
+abbrev pub StepsTo : CacheConfig → Run → Next KeyWait Reply → Kept → List Notice → Type 0
 StepsTo c run (Ended reply) k told = run ≡ ended (progress_of k told) reply
 StepsTo c run (Waiting request w) k told = StepWaits c (progress_of k told) request w run
 
 -- a step that waits is still the step of this call
-abbrev pub StaysAt : ℕ → KeyCall → Next → Type 0
+abbrev pub StaysAt : ℕ → KeyCall → Next KeyWait Reply → Type 0
 StaysAt now call (Ended reply) = Unit {0}
 StaysAt now call (Waiting request w) = (w.now ≡ now) × (w.call ≡ call)

@@ -55,11 +55,12 @@ impl Model for KeyStep {
     ghost invariant = { λ s. is_invoke s.call.op ≡ false → given_by s.loaded s.verdict ≡ [] };
 }
 
-/// What a step has come to.
+/// What a step or a call has come to: it has ended with its reply, or its next request is to be answered, and this
+/// waits for the answer.
 #[derive(Drop)]
-pub enum Next {
-    Ended(Thrice<Reply>),
-    Waiting(Request, KeyStep),
+pub enum Next<W, E = Thrice<Reply>> {
+    Ended(E),
+    Waiting(Request, W),
 }
 
 impl KeyStep {
@@ -119,7 +120,7 @@ impl KeyStep {
         call: KeyCall,
         row: Option<u32>,
         supply: Supply,
-    ) -> Next
+    ) -> Next<KeyStep>
         requires tied { IsTied (R.contents rows.old) state.old }
         requires row { FoundRow call.key state.old row }
         requires places { HasPlaces state.old.config (most_told (has_live now call.key state.old) call.op) notices.old }
@@ -149,7 +150,7 @@ impl KeyStep {
         answer: Answer,
         row: Option<u32>,
         supply: Supply,
-    ) -> Next
+    ) -> Next<KeyStep>
         requires tied { IsTied (R.contents rows.old) state.old }
         requires row { FoundRow self.call.key state.old row }
         requires places { HasPlaces state.old.config (most_told (has_live self.now self.call.key state.old) self.call.op) notices.old }

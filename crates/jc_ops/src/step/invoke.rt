@@ -112,7 +112,7 @@ fn ask_processor(
     loaded: Option<Value>,
     entry: Option<Value>,
     copy: Option<Value>,
-) -> Next
+) -> Next<KeyStep>
     requires { copy ≡ Some invocation.argument }
     ensures { result ≡ Next.Waiting (Request.Process invocation.at.key invocation.processor entry invocation.argument) (invoked invocation.at.moment invocation.at.key invocation.processor invocation.argument (given_by (Some loaded) None)) }
 {
@@ -134,7 +134,7 @@ fn answer_load<G: Ring>(
     invocation: Invocation,
     answer: Answer,
     supply: Supply,
-) -> Next
+) -> Next<KeyStep>
     requires first { invocation.loaded ≡ None }
     requires entry { (loaded : Option (List ℕ)) → loaded_by answer ≡ Some loaded → supply.entry ≡ loaded }
     requires copy { (loaded : Option (List ℕ)) → loaded_by answer ≡ Some loaded → supply.copy ≡ Some invocation.argument }
@@ -186,7 +186,7 @@ fn act<R: Rows, G: Ring>(
     invocation: Invocation,
     verdict: Verdict,
     supply: Supply,
-) -> Next
+) -> Next<KeyStep>
     requires tied { IsTied (R.contents rows.old) state.old }
     requires row { FoundRow invocation.at.key state.old invocation.at.row }
     requires places { HasPlaces state.old.config (told_of (is_some invocation.at.row) Put) notices.old }
@@ -228,7 +228,7 @@ fn answer_process<R: Rows, G: Ring>(
     invocation: Invocation,
     answer: Answer,
     supply: Supply,
-) -> Next
+) -> Next<KeyStep>
     requires tied { IsTied (R.contents rows.old) state.old }
     requires row { FoundRow invocation.at.key state.old invocation.at.row }
     requires places { HasPlaces state.old.config (told_of (is_some invocation.at.row) Put) notices.old }
@@ -257,7 +257,7 @@ fn answer_verdict<R: Rows, G: Ring>(
     verdict: &Verdict,
     answer: &Answer,
     supply: Supply,
-) -> Next
+) -> Next<KeyStep>
     requires tied { IsTied (R.contents rows.old) state.old }
     requires row { FoundRow invocation.now.at.key state.old invocation.now.at.row }
     requires places { HasPlaces state.old.config (told_of (is_some invocation.now.at.row) Put) notices.old }
@@ -284,7 +284,7 @@ pub(super) fn answer_invoke<R: Rows, G: Ring>(
     verdict: Option<Verdict>,
     answer: Answer,
     supply: Supply,
-) -> Next
+) -> Next<KeyStep>
     requires tied { IsTied (R.contents rows.old) state.old }
     requires row { FoundRow invocation.at.key state.old invocation.at.row }
     requires places { HasPlaces state.old.config (told_of (is_some invocation.at.row) Put) notices.old }

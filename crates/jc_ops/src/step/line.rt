@@ -91,7 +91,7 @@ pub(super) fn begin<R: Rows, G: Ring>(
     at: &At,
     op: Op,
     supply: Supply,
-) -> Next
+) -> Next<KeyStep>
     requires tied { IsTied (R.contents rows.old) state.old }
     requires row { FoundRow at.now.key state.old at.now.row }
     requires places { HasPlaces state.old.config (told_on (is_some at.now.row) op) notices.old }
@@ -132,7 +132,7 @@ fn answer_loaded<R: Rows, G: Ring>(
     line: Line,
     answer: &Answer,
     supply: Supply,
-) -> Next
+) -> Next<KeyStep>
     requires tied { IsTied (R.contents rows.old) state.old }
     requires row { FoundRow at.now.key state.old at.now.row }
     requires places { HasPlaces state.old.config (told_of (is_some at.now.row) line.change) notices.old }
@@ -165,7 +165,7 @@ pub(super) fn answer_line<R: Rows, G: Ring>(
     op: &Op,
     answer: &Answer,
     supply: Supply,
-) -> Next
+) -> Next<KeyStep>
     requires tied { IsTied (R.contents rows.old) state.old }
     requires row { FoundRow at.now.key state.old at.now.row }
     requires places { HasPlaces state.old.config (told_on (is_some at.now.row) op.now) notices.old }

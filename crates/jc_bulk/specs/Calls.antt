@@ -1,18 +1,20 @@
 -- What a call has come to.
 use Rattle.std.specs.Prelude.{◌≡◌, List}
 use Rattle.jc_model.specs.declared.call.Answer.{Answer}
+use Rattle.jc_model.specs.declared.call.Reply.{Reply}
 use Rattle.jc_model.specs.declared.call.Request.{Request}
 use Rattle.jc_model.specs.declared.config.CacheConfig.{CacheConfig}
 use Rattle.jc_model.specs.Changes.{Progress}
 use Rattle.jc_model.specs.Run.{Run, ended, waiting, awaited_by}
 use Rattle.jc_model.specs.Suspended.{Wait, one, many, telling, key_run, bulk_run}
 use Rattle.jc_state.specs.Kept.{Kept, progress_of}
+use Rattle.jc_state.specs.Noted.{Noted}
+use Rattle.jc_ops.specs.declared.step.Next.{Next}
+use Rattle.jc_ops.specs.declared.step.Next.TheVariants.{Ended, Waiting}
 use Rattle.jc_ops.specs.Stepped.{IsWaiting}
 use Rattle.jc_bulk.specs.Provided.{AreCovered}
 use Rattle.jc_bulk.specs.Waits.{Waits}
 use Rattle.jc_bulk.specs.declared.bulk.Provided.{Provided}
-use Rattle.jc_bulk.specs.declared.call.Moved.{Moved}
-use Rattle.jc_bulk.specs.declared.call.Moved.TheVariants.{Ended, Waiting}
 
 abbrev pub wait_run : CacheConfig → Progress → Wait → Run
 wait_run c p (one w) = key_run c p w
@@ -42,6 +44,6 @@ pub record IsSuspended (c : CacheConfig) (p : Progress) (s : Waits) : Type 0 whe
   pub held : IsHeld c p s.wait s.stock
 
 -- the call does as its run, and the cache stands as the run says
-abbrev pub ComesTo : CacheConfig → Run → Moved → Kept → Type 0
-ComesTo c run (Ended reply notices) k = run ≡ ended (progress_of k notices.told) reply
+abbrev pub ComesTo : CacheConfig → Run → Next Waits (Reply × Noted) → Kept → Type 0
+ComesTo c run (Ended e) k = run ≡ ended (progress_of k e.1.told) e.0
 ComesTo c run (Waiting request s) k = WaitsOn c (progress_of k s.notices) request s run
