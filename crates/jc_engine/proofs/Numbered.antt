@@ -1,5 +1,6 @@
 -- A function of the numbers, as the list of all numbers given.
 use Rattle.std.proofs.Common.{◌≡◌, ◌≢◌, ℕ, zero, suc, ◌+◌, ◌<◌, ltb, nat_eq, if◌then◌else◌, List, [], ◌∷◌, ◌++◌, length, slice_set, Option, Some, None, inl, inr, refl, sym, ◌∙◌, ap, ap₂, arith}
+use Rattle.jc_engine.specs.Journals.{Puts}
 use Rattle.jc_engine.proofs.Names.{cases_lt, nat_tests, set_at, set-append_left, length_push, at_place, none_before, places_of, NoneFrom}
 
 pub length-places : {A : Type 0} (f : ℕ → Option A) (n : ℕ) → length (places_of f n) ≡ n
@@ -38,9 +39,6 @@ none-places f (suc n) none = ap₂ (λ xs x. xs ++ x ∷ []) (none-places f n no
     more (suc n) = ap (λ xs. None ∷ xs) (more n)
 
 -- What a map's updates make of it: g is f but for one number.
-
-abbrev pub Puts : {A : Type 0} → (ℕ → Option A) → ℕ → Option A → (ℕ → Option A) → Type 0
-Puts f i w g = (q : ℕ) → g q ≡ (if nat_eq i q then w else f q)
 
 module _ {A : Type 0} (f g : ℕ → Option A) (i : ℕ) (w : Option A) (puts : Puts f i w g) where
   pub put_here : g i ≡ w

@@ -1,6 +1,7 @@
 -- The caches of a manager, as its callers see them: by id, where a cache is live or none is.
 use Rattle.std.specs.Prelude.{◌≡◌, ℕ, Bool, false, List, map, option_map}
 use Rattle.std.specs.Prelude.{Option, Some, None}
+use Rattle.std.specs.FinMap as table
 use Rattle.jc_model.specs.declared.config.CacheConfig.{CacheConfig}
 use Rattle.jc_model.specs.declared.config.Expiry.{Expiry}
 use Rattle.jc_model.specs.State.{first_state, row_of}
@@ -8,9 +9,10 @@ use Rattle.jc_model.specs.Changes.{Progress, begun}
 use Rattle.jc_model.specs.Run.{Awaited}
 use Rattle.jc_model.specs.Whole.{holds}
 use Rattle.jc_model.specs.Sound.{IsSound}
-use Rattle.jc_model.specs.Runs.{Status, Lives}
+use Rattle.jc_model.specs.Runs.{Status, Lives, opened_from}
 use Rattle.jc_model.specs.Suspended.{Wait, standing_by}
 use Rattle.jc_model.specs.Places.{at_place, all_there, none_before, named_from}
+use Rattle.jc_rows.specs.Rows.{RowMap}
 
 -- a cache: its rows and counters with the notices of its open call, and how that call goes on, if there is one
 pub record Cache : Type 0 where
@@ -34,6 +36,10 @@ lives_of caches = map (option_map status_of) caches
 abbrev pub fresh_from : ℕ → List CacheConfig → List (Option Cache)
 fresh_from first configs = none_before first (map (λ c. Some (fresh_cache c)) configs)
 
+-- they stand as when a manager has just been opened
+abbrev pub AreJustOpened : List (Option Cache) → Type 0
+AreJustOpened caches = (first : ℕ) × (configs : List CacheConfig) × (lives_of caches ≡ opened_from first configs)
+
 -- the names of the live ones, in order of id
 abbrev pub names_of : List (Option Cache) → List (List ℕ)
 names_of caches = map (λ k. k.config.name) (all_there caches)
@@ -50,6 +56,11 @@ AreSound caches = (id : ℕ) (k : Cache) → at_place caches id ≡ Some k → I
 abbrev pub expiry_in : List ℕ → Option Cache → Option Expiry
 expiry_in key None = None
 expiry_in key (Some k) = option_map (λ x. x.expiry) (row_of key k.progress.state.ring)
+
+-- the table has at each place the expiry that the cache there has for the key
+abbrev pub IsTableOf : RowMap → List (Option Cache) → Type 0
+IsTableOf rows caches =
+    (id : ℕ) (key : List ℕ) → option_map (λ row. row.1) (table.get rows (id, key)) ≡ expiry_in key (at_place caches id)
 
 -- whether a cache has a live row of this key
 abbrev pub holds_in : ℕ → List ℕ → Option Cache → Bool

@@ -6,6 +6,7 @@ pub mod Advances
 pub mod Sound
 pub mod Fresh
 pub mod Free
+pub mod Heard
 pub mod Recording
 pub mod Journals
 pub mod Past

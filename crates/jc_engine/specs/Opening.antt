@@ -1,12 +1,12 @@
 -- Which configurations a manager opens with.
-use Rattle.std.specs.Prelude.{ℕ, ◌+◌, ◌||◌, ltb, Bool, if◌then◌else◌, List, [], ◌∷◌, ◌++◌, length, sum, map}
+use Rattle.std.specs.Prelude.{◌≡◌, ◌⊎◌, ℕ, ◌+◌, ◌||◌, ltb, Bool, if◌then◌else◌, List, [], ◌∷◌, ◌++◌, length, sum, map}
 use Rattle.std.specs.Prelude.{Option, Some, None}
 use Rattle.std.specs.List.{list_any}
 use Rattle.std.specs.Str.{bytes_eq}
 use Rattle.jc_model.specs.declared.config.CacheConfig.{CacheConfig}
 use Rattle.jc_model.specs.Limits.{most_caches, most_rows, most_rows_together, most_listeners, most_processors, most_ids}
 use Rattle.jc_engine.specs.declared.open.OpenRefusal.{OpenRefusal}
-use Rattle.jc_engine.specs.declared.open.OpenRefusal.TheVariants.{TooManyCaches, BadCapacity, TooManyListeners, TooManyProcessors, DuplicateName, TotalCapacity, IdsSpent}
+use Rattle.jc_engine.specs.declared.open.OpenRefusal.TheVariants.{TooManyCaches, BadCapacity, TooManyListeners, TooManyProcessors, DuplicateName, TotalCapacity, IdsSpent, OutOfMemory}
 
 -- the first of two refusals
 abbrev pub or_else : Option OpenRefusal → Option OpenRefusal → Option OpenRefusal
@@ -47,3 +47,7 @@ open_refusal configs =
 -- the same, where the first cache has this id
 abbrev pub open_refusal_from : ℕ → List CacheConfig → Option OpenRefusal
 open_refusal_from first configs = or_else (open_refusal configs) (if ltb most_ids (first + length configs) then Some IdsSpent else None)
+
+-- a refusal is the one that is due, or memory was refused
+abbrev pub IsDueOrForMemory : Option OpenRefusal → OpenRefusal → Type 0
+IsDueOrForMemory due refusal = (due ≡ Some refusal) ⊎ (refusal ≡ OutOfMemory)

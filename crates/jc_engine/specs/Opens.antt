@@ -1,12 +1,24 @@
 -- The entries of open calls, and of which history they are.
-use Rattle.std.specs.Prelude.{◌≡◌, ℕ, length, Option, Some, None, slice_get}
+use Rattle.std.specs.Prelude.{◌≡◌, ℕ, length, Option, Some, None, nat_eq, slice_get}
+use Rattle.std.specs.HashMap.{HashMap, get}
 use Rattle.jc_model.specs.declared.event.End.TheVariants.{Waiting}
+use Rattle.jc_model.specs.declared.event.Entry.{Entry}
 use Rattle.jc_model.specs.Legal.{History}
 use Rattle.jc_engine.specs.declared.journal.open_call.OpenCall.{OpenCall}
+use Rattle.jc_engine.specs.declared.journal.open_calls.Beginning.{Beginning}
+use Rattle.jc_engine.specs.Recording.{blank}
 
 abbrev pub place_of : Option OpenCall → Option ℕ
 place_of None = None
 place_of (Some call) = Some call.place
+
+-- by cache, the place of its open call
+abbrev pub kept_places : {S : Type 0} → HashMap ℕ OpenCall S → ℕ → Option ℕ
+kept_places calls = λ id. place_of (get nat_eq calls id)
+
+-- the entry of a call that is about to begin
+abbrev pub beginning_entry : Beginning → Entry
+beginning_entry held = blank held.session held.id held.at held.call
 
 -- the entry stands in the history at its place, is of the cache, and waits
 pub record StandsOpen (h : History) (id : ℕ) (call : OpenCall) : Type 0 where

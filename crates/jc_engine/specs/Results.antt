@@ -5,6 +5,7 @@ use Rattle.jc_model.specs.declared.call.Call.{Call}
 use Rattle.jc_model.specs.declared.call.Answer.{Answer}
 use Rattle.jc_model.specs.declared.call.Notice.{Notice}
 use Rattle.jc_model.specs.declared.call.Reply.{Reply}
+use Rattle.jc_model.specs.declared.call.Reply.TheVariants.{Found}
 use Rattle.jc_model.specs.declared.config.CacheConfig.{CacheConfig}
 use Rattle.jc_model.specs.declared.event.Step.{Step}
 use Rattle.jc_model.specs.declared.event.Step.TheVariants.{Done, Need}
@@ -41,6 +42,10 @@ of_recorded_begin (Err e) = Refused e.0
 abbrev pub of_recorded_resume : Result (Step × Option Reply) (Cause × Answer) → Outcome
 of_recorded_resume (Ok s) = Stepped s.0
 of_recorded_resume (Err e) = Refused e.0
+
+-- of a get that has its reply at once
+abbrev pub of_found : Option (List ℕ) → Outcome
+of_found value = Stepped (Done (Found value))
 
 -- the reply that a step shows, if it does
 abbrev pub reply_in : Step → Option Reply

@@ -1,12 +1,13 @@
 -- What an image of the table shows of the caches.
-use Rattle.std.specs.Prelude.{◌≡◌, ℕ, ◌+◌, List, length, map, sum_by, option_map, is_some, count_by}
+use Rattle.std.specs.Prelude.{◌≡◌, true, Bool, ℕ, ◌+◌, List, length, map, sum_by, option_map, is_some, count_by}
 use Rattle.std.specs.Prelude.{Option, Some, None}
 use Rattle.jc_model.specs.declared.config.Expiry.{Expiry}
 use Rattle.jc_model.specs.State.{State, row_of}
 use Rattle.jc_model.specs.Runs.{Lives}
 use Rattle.jc_model.specs.Solo.{state_of}
-use Rattle.jc_rows.specs.Images.{Image, Shown, slot}
+use Rattle.jc_rows.specs.Images.{Image, Shown, slot, last_image}
 use Rattle.jc_model.specs.Places.{at_place, all_there}
+use Rattle.jc_engine.specs.Caches.{Cache, lives_of}
 
 -- the rows and counters of live caches, by their ids
 abbrev pub states_of : Lives → List (Option State)
@@ -23,3 +24,7 @@ pub record ShowsStates (states : List (Option State)) (image : Image) : Type 0 w
   pub placed : (i : ℕ) (s : Shown) → slot image i ≡ Some s → expiry_at s.0.1 (at_place states s.0.0) ≡ Some s.1
   pub others : count_by is_some image.slots + image.stash ≡ sum_by (λ s. length s.ring) (all_there states)
   pub whole : image.stash ≡ 0 → (id : ℕ) (key : List ℕ) (e : Expiry) → expiry_at key (at_place states id) ≡ Some e → (i : ℕ) × (slot image i ≡ Some ((id, key), e))
+
+-- a watcher has met the last of these images, and it shows the caches
+abbrev pub SeesCaches : List (Option Cache) → List Image → Bool → Type 0
+SeesCaches caches images met = ShowsStates (states_of (lives_of caches)) (last_image images) × (met ≡ true)

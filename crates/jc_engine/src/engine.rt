@@ -1,12 +1,11 @@
 //! The manager: many caches over one table of rows, each with at most one open call.
-ghost use Rattle.std.specs.Prelude.{◌≡◌, ℕ, List, true, false, IfErr, OnErr, is_some, option_map};
-ghost use Rattle.std.specs.FinMap as table;
+ghost use Rattle.std.specs.Prelude.{◌≡◌, true, IfErr, OnErr, is_some};
 ghost use Rattle.jc_model.specs.declared.event.Event.TheVariants.{Begin, Answer as Answered, GiveUp};
-ghost use Rattle.jc_model.specs.Runs.{answer_to, lives_after, for_memory};
 ghost use Rattle.jc_model.specs.Run.{fits, for_tell};
 ghost use Rattle.jc_model.specs.Whole.{is_free};
 ghost use Rattle.jc_model.specs.Places.{at_place};
-ghost use Rattle.jc_engine.specs.Caches.{AreSound, lives_of, names_of, id_of, expiry_in, holds_in};
+ghost use Rattle.jc_engine.specs.Caches.{AreSound, IsTableOf, names_of, id_of, holds_in};
+ghost use Rattle.jc_engine.specs.Heard.{IsAnswer, IsFreeAnswer, LeadsTo};
 ghost use Rattle.jc_engine.specs.Results.{of_begin, of_resume, of_give_up};
 
 use crate::cache::{Advance, Managed};
@@ -81,7 +80,7 @@ impl<R: Rows, G: Ring> Engine<R, G> {
     /// the keys of a cache are distinct, and its rows are no more than its capacity.
     pub fn rows(&self) -> &R
         ensures sound { AreSound self.now }
-        ensures table { (id : ℕ) (key : List ℕ) → option_map (λ row. row.1) (table.get (R.contents result.now) (id, key)) ≡ expiry_in key (at_place self.now id) }
+        ensures table { IsTableOf (R.contents result.now) self.now }
     {
         &self.rows
     }
@@ -102,9 +101,9 @@ impl<R: Rows, G: Ring> Engine<R, G> {
     /// Refused as `NoSuchCache`, `Busy` (a call on this cache is open), `NoSuchProcessor`, `OutOfMemory`, in this order.
     /// `Contains`, `Clear`, `Stats` and `ClearStats` take no memory.
     pub fn begin(&mut self, id: CacheId, now: u64, call: Call) -> Result<Step, (Cause, Call)>
-        ensures outcome { of_begin result ≡ answer_to (lives_of self.old) (Begin id now call) (for_memory (of_begin result)) }
-        ensures lives { lives_of self.new ≡ lives_after (lives_of self.old) (Begin id now call) (of_begin result) }
-        ensures free { is_free call ≡ true → of_begin result ≡ answer_to (lives_of self.old) (Begin id now call) false }
+        ensures outcome { IsAnswer self.old (Begin id now call) (of_begin result) }
+        ensures lives { LeadsTo self.old (Begin id now call) (of_begin result) self.new }
+        ensures free { is_free call ≡ true → IsFreeAnswer self.old (Begin id now call) (of_begin result) }
         ensures back { IfErr result (λ e. e.1 ≡ call) }
         ensures refused { OnErr result (self.new ≡ self.old) }
     {
@@ -122,9 +121,9 @@ impl<R: Rows, G: Ring> Engine<R, G> {
     /// Refused as `NoSuchCache`, `NoTurn` (no call is open), `WrongAnswer` (not of the awaited kind), `OutOfMemory`, in
     /// this order. `Told` takes no memory.
     pub fn resume(&mut self, id: CacheId, answer: Answer) -> Result<Step, (Cause, Answer)>
-        ensures outcome { of_resume result ≡ answer_to (lives_of self.old) (Answered id answer) (for_memory (of_resume result)) }
-        ensures lives { lives_of self.new ≡ lives_after (lives_of self.old) (Answered id answer) (of_resume result) }
-        ensures told { fits for_tell answer ≡ true → of_resume result ≡ answer_to (lives_of self.old) (Answered id answer) false }
+        ensures outcome { IsAnswer self.old (Answered id answer) (of_resume result) }
+        ensures lives { LeadsTo self.old (Answered id answer) (of_resume result) self.new }
+        ensures told { fits for_tell answer ≡ true → IsFreeAnswer self.old (Answered id answer) (of_resume result) }
         ensures back { IfErr result (λ e. e.1 ≡ answer) }
         ensures refused { OnErr result (self.new ≡ self.old) }
     {
@@ -140,8 +139,8 @@ impl<R: Rows, G: Ring> Engine<R, G> {
     /// Ends the open call without a reply. What its finished steps have changed stands, and the notices that no
     /// one was told are handed out. Refused as `NoSuchCache`, `NoTurn`; takes no memory.
     pub fn give_up(&mut self, id: CacheId) -> Result<Sequence<Notice>, Cause>
-        ensures outcome { of_give_up result ≡ answer_to (lives_of self.old) (GiveUp id) false }
-        ensures lives { lives_of self.new ≡ lives_after (lives_of self.old) (GiveUp id) (of_give_up result) }
+        ensures outcome { IsFreeAnswer self.old (GiveUp id) (of_give_up result) }
+        ensures lives { LeadsTo self.old (GiveUp id) (of_give_up result) self.new }
         ensures refused { OnErr result (self.new ≡ self.old) }
     {
         match self.abandon(id)? {

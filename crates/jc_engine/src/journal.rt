@@ -19,18 +19,16 @@ use std::alloc::Global;
 /// It tells of all lives and calls. It may keep all of their entries in memory, or only those of the calls that wait:
 /// the history is what the clauses see.
 pub trait Journal: Drop {
-    ghost use Rattle.std.specs.Prelude.{◌≡◌, ◌∷◌, ◌++◌, ℕ, true, false, List, [], Option, Some, None, IsSome, OnOk, OnErr, IfOk, IfErr, length, option_map, slice_set, slice_get};
-    ghost use Rattle.jc_model.specs.declared.call.Answer.{Answer as Answered};
-    ghost use Rattle.jc_model.specs.declared.config.CacheConfig.{CacheConfig as Configured};
-    ghost use Rattle.jc_model.specs.declared.event.End.TheVariants.{Waiting};
+    ghost use Rattle.std.specs.Prelude.{◌≡◌, ℕ, true, false, [], Option, OnOk, OnErr, IfOk, IfErr, option_map};
     ghost use Rattle.jc_model.specs.declared.event.Entry.{Entry};
-    ghost use Rattle.jc_model.specs.declared.event.Outcome.TheVariants.{Step as Stepped, GivenUp};
-    ghost use Rattle.jc_model.specs.Legal.{History, with_answer, with_outcome};
+    ghost use Rattle.jc_model.specs.Legal.{History};
     ghost use Rattle.jc_engine.specs.Managed.{step_of};
     ghost use Rattle.jc_engine.specs.Results.{reply_in};
-    ghost use Rattle.jc_engine.specs.Recording.{blank, CanTell, left_in, with_entries, with_life};
+    ghost use Rattle.jc_engine.specs.Recording.{blank, left_in, with_entry, with_life};
     ghost use Rattle.jc_engine.specs.Changed.{replied_at_once};
-    ghost use Rattle.jc_engine.specs.Journals.{IsKept, Keeps, KeepsOthers, kept_at};
+    ghost use Rattle.jc_engine.specs.Journals.{CanBegin, BeginsEntry, KeepsBegun, KeepsEntry, KeepsPlace, KeepsOthers};
+    ghost use Rattle.jc_engine.specs.Journals.{CanGoOn, CanGiveUp, AnswersEntry, AdvancesEntry, GivesEntryUp};
+    ghost use Rattle.jc_engine.specs.Journals.{TakesAnswer, TakesLife, kept_at};
 
     /// The lives and the calls that it tells of.
     ghost history: { Self → History };
@@ -62,7 +60,7 @@ pub trait Journal: Drop {
     /// Notes such a call, behind all others, and its reply. Where that can't be, nothing has changed.
     fn note(&mut self, begun: Begun, reply: &Reply) -> bool
         ensures sure { Notes self.old → result ≡ true }
-        ensures noted { result ≡ true → history self.new ≡ with_entries ((history self.old).entries ++ replied_at_once begun reply.now ∷ []) (history self.old) }
+        ensures noted { result ≡ true → history self.new ≡ with_entry (replied_at_once begun reply.now) (history self.old) }
         ensures refused { result ≡ false → history self.new ≡ history self.old }
         ensures places { (id : ℕ) → places self.new id ≡ places self.old id };
 
@@ -93,38 +91,38 @@ pub trait Journal: Drop {
 
     /// The call has begun, and come to this. The result is what the caller is shown, and a copy of the reply.
     fn begin(&mut self, id: CacheId, held: Self::Held, advance: Advance) -> (Step, Option<Reply>)
-        requires { (h : History) × (e : Entry) × Enters h self.old held e × (e.id ≡ id) × (e.end ≡ Waiting) × CanTell advance e }
+        requires { CanBegin (λ h e. Enters h self.old held e) id advance }
         ensures shown { result.0 ≡ step_of advance }
         ensures copy { result.1 ≡ reply_in result.0 }
-        ensures noted { (h : History) (e : Entry) → Enters h self.old held e → e.end ≡ Waiting → CanTell advance e → history self.new ≡ with_entries (h.entries ++ with_outcome (Stepped (step_of advance)) e ∷ []) h }
-        ensures places { (h : History) (e : Entry) → Enters h self.old held e → Keeps (places self.old) id (length h.entries) advance (places self.new) };
+        ensures noted { BeginsEntry (λ h e. Enters h self.old held e) advance (history self.new) }
+        ensures places { KeepsBegun (λ h e. Enters h self.old held e) (places self.old) id advance (places self.new) };
 
     /// Adds an answer to the entry of a cache's open call. Where memory is refused nothing has changed.
     fn answer(&mut self, id: CacheId, answer: &Answer) -> Result<(), OutOfMemory>
-        requires { (place : ℕ) × (e : Entry) × IsKept (history self.old) (places self.old) id place e }
-        ensures ok { OnOk result ((place : ℕ) (e : Entry) → IsKept (history self.old) (places self.old) id place e → history self.new ≡ with_entries (slice_set (history self.old).entries place (with_answer answer.now e)) (history self.old)) }
+        requires { KeepsEntry (history self.old) (places self.old) id }
+        ensures ok { OnOk result (AnswersEntry (history self.old) (places self.old) id answer.now (history self.new)) }
         ensures refused { OnErr result (history self.new ≡ history self.old) }
         ensures places { (other : ℕ) → places self.new other ≡ places self.old other };
 
     /// Takes the last answer back.
     fn take_answer(&mut self, id: CacheId)
-        requires { (place : ℕ) × (e : Entry) × IsKept (history self.old) (places self.old) id place e }
-        ensures back { (place : ℕ) (e : Entry) (a : Answered) → IsKept (history self.old) (places self.old) id place (with_answer a e) → history self.new ≡ with_entries (slice_set (history self.old).entries place e) (history self.old) }
+        requires { KeepsEntry (history self.old) (places self.old) id }
+        ensures back { TakesAnswer (history self.old) (places self.old) id (history self.new) }
         ensures places { (other : ℕ) → places self.new other ≡ places self.old other };
 
     /// A cache's open call has come to this.
     fn go_on(&mut self, id: CacheId, advance: Advance) -> (Step, Option<Reply>)
-        requires { (place : ℕ) × (e : Entry) × IsKept (history self.old) (places self.old) id place e × CanTell advance e }
+        requires { CanGoOn (history self.old) (places self.old) id advance }
         ensures shown { result.0 ≡ step_of advance }
         ensures copy { result.1 ≡ reply_in result.0 }
-        ensures noted { (place : ℕ) (e : Entry) → IsKept (history self.old) (places self.old) id place e → CanTell advance e → history self.new ≡ with_entries (slice_set (history self.old).entries place (with_outcome (Stepped (step_of advance)) e)) (history self.old) }
-        ensures places { (place : ℕ) (e : Entry) → IsKept (history self.old) (places self.old) id place e → Keeps (places self.old) id place advance (places self.new) };
+        ensures noted { AdvancesEntry (history self.old) (places self.old) id advance (history self.new) }
+        ensures places { KeepsPlace (history self.old) (places self.old) id advance (places self.new) };
 
     /// A cache's open call was given up. The result is the notices that are left.
     fn give_up(&mut self, alloc: Global, id: CacheId, left: Option<Notices>) -> Sequence<Notice>
-        requires { (place : ℕ) × (e : Entry) × IsKept (history self.old) (places self.old) id place e × (IsSome left → e.told ≡ []) }
+        requires { CanGiveUp (history self.old) (places self.old) id left }
         ensures left { result ≡ left_in left }
-        ensures noted { (place : ℕ) (e : Entry) → IsKept (history self.old) (places self.old) id place e → (IsSome left → e.told ≡ []) → history self.new ≡ with_entries (slice_set (history self.old).entries place (with_outcome (GivenUp (left_in left)) e)) (history self.old) }
+        ensures noted { GivesEntryUp (history self.old) (places self.old) id left (history self.new) }
         ensures places { KeepsOthers (places self.old) id (places self.new) };
 
     /// Adds a life. Where memory is refused nothing has changed.
@@ -135,7 +133,7 @@ pub trait Journal: Drop {
 
     /// Takes the last life back.
     fn take_life(&mut self)
-        ensures back { (h : History) (id : ℕ) (c : Configured) → history self.old ≡ with_life id c h → history self.new ≡ h }
+        ensures back { TakesLife (history self.old) (history self.new) }
         ensures places { (other : ℕ) → places self.new other ≡ places self.old other };
 
     /// A cache has gone, in which no call is open. Its life and its calls stay in the history.

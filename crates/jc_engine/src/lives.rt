@@ -1,11 +1,11 @@
 //! Caches that are created and destroyed while the manager runs.
-ghost use Rattle.std.specs.Prelude.{◌≡◌, ◌≤◌, None, Some, [], ◌∷◌, ◌++◌, IfOk, IfErr, OnOk, OnErr, MatchOption, length, slice_set, false};
+ghost use Rattle.std.specs.Prelude.{◌≡◌, ◌≤◌, None, Some, [], ◌∷◌, ◌++◌, IfOk, IfErr, OnOk, OnErr, length, slice_set};
 ghost use Rattle.jc_model.specs.declared.event.Event.TheVariants.{Create, Destroy};
-ghost use Rattle.jc_model.specs.declared.event.Outcome.TheVariants.{Destroyed, Refused};
 ghost use Rattle.jc_model.specs.Places.{at_place};
-ghost use Rattle.jc_model.specs.Runs.{answer_to, lives_after, for_memory, create_refusal};
+ghost use Rattle.jc_model.specs.Runs.{create_refusal};
 ghost use Rattle.jc_engine.specs.Caches.{Cache, lives_of, fresh_cache};
 ghost use Rattle.jc_engine.specs.Fresh.{MayCome, fresh_fields};
+ghost use Rattle.jc_engine.specs.Heard.{IsAnswer, IsFreeAnswer, IsDestroyRefusal, LeadsTo};
 ghost use Rattle.jc_engine.specs.Results.{of_create, of_destroy};
 
 use crate::cache::{Managed, Turn};
@@ -24,8 +24,8 @@ impl<R: Rows, G: Ring> Engine<R, G> {
     /// `DuplicateName` (of a live cache), `TotalCapacity` (of all live caches together), `IdsSpent`, `OutOfMemory`, in
     /// this order; the configuration is then handed back.
     pub fn create(&mut self, config: CacheConfig) -> Result<CacheId, (CreateRefusal, CacheConfig)>
-        ensures outcome { of_create result ≡ answer_to (lives_of self.old) (Create config) (for_memory (of_create result)) }
-        ensures lives { lives_of self.new ≡ lives_after (lives_of self.old) (Create config) (of_create result) }
+        ensures outcome { IsAnswer self.old (Create config) (of_create result) }
+        ensures lives { LeadsTo self.old (Create config) (of_create result) self.new }
         ensures added { OnOk result (self.new ≡ self.old ++ Some (fresh_cache config) ∷ []) }
         ensures back { IfErr result (λ e. e.1 ≡ config) }
         ensures refused { OnErr result (self.new ≡ self.old) }
@@ -44,8 +44,8 @@ impl<R: Rows, G: Ring> Engine<R, G> {
     ///
     /// Refused as `NoSuchCache`, `Busy` (a call on this cache is open), in this order; takes no memory.
     pub fn destroy(&mut self, id: CacheId) -> Result<(), Cause>
-        ensures outcome { of_destroy result ≡ answer_to (lives_of self.old) (Destroy id) false }
-        ensures lives { lives_of self.new ≡ lives_after (lives_of self.old) (Destroy id) (of_destroy result) }
+        ensures outcome { IsFreeAnswer self.old (Destroy id) (of_destroy result) }
+        ensures lives { LeadsTo self.old (Destroy id) (of_destroy result) self.new }
         ensures gone { OnOk result (self.new ≡ slice_set self.old id None) }
         ensures refused { OnErr result (self.new ≡ self.old) }
     {
@@ -98,7 +98,7 @@ impl<R: Rows, G: Ring> Engine<R, G> {
 
     /// Why a cache can't be destroyed now.
     pub(crate) fn destroy_refusal(&self, id: CacheId) -> Option<Cause>
-        ensures { let reply = answer_to (lives_of self.now) (Destroy id) false in MatchOption result (reply ≡ Destroyed) (λ cause. reply ≡ Refused cause) }
+        ensures { IsDestroyRefusal self.now id result }
     {
         let number = id.number();
         match self.caches.get(&number) {

@@ -1,16 +1,17 @@
 //! The manager's calls in two parts: whether they are refused, and the move of one cache. Both the plain manager
 //! and the recorded one are made of these.
-ghost use Rattle.std.specs.Prelude.{◌≡◌, ℕ, None, true, false, IsOk, IfSome, IfOk, IfErr, OnOk, OnErr, MatchOption};
+ghost use Rattle.std.specs.Prelude.{◌≡◌, ℕ, None, true, false, IsOk, IfSome, IfOk, IfErr, OnOk, OnErr};
 ghost use Rattle.jc_model.specs.declared.event.Event.TheVariants.{Begin, Answer as Answered, GiveUp};
 ghost use Rattle.jc_model.specs.declared.call.Reply.TheVariants.{Found};
-ghost use Rattle.jc_model.specs.declared.event.Outcome.TheVariants.{Refused, Step as Stepped};
-ghost use Rattle.jc_model.specs.declared.event.Step.TheVariants.{Done};
+ghost use Rattle.jc_model.specs.declared.event.Outcome.TheVariants.{Refused};
 ghost use Rattle.jc_engine.specs.declared.cache.Advance.TheVariants.{Replied};
-ghost use Rattle.jc_model.specs.Runs.{answer_to, lives_after, for_memory};
+ghost use Rattle.jc_model.specs.Runs.{answer_to};
 ghost use Rattle.jc_model.specs.Run.{fits, for_tell};
 ghost use Rattle.jc_model.specs.Whole.{is_free};
 ghost use Rattle.jc_model.specs.Places.{at_place};
 ghost use Rattle.jc_engine.specs.Caches.{lives_of};
+ghost use Rattle.jc_engine.specs.Heard.{IsAnswer, IsFreeAnswer, IsRefusal, LeadsTo};
+ghost use Rattle.jc_engine.specs.Results.{of_found};
 ghost use Rattle.jc_engine.specs.Managed.{is_step};
 ghost use Rattle.jc_engine.specs.Advances.{outcome_of, of_start, of_abandon, FitsAt, LeavesAt, ClosedAt, ChangesOne, is_open_in};
 
@@ -52,7 +53,7 @@ impl<R: Rows, G: Ring> Engine<R, G> {
 
     /// Why a call can't begin now, where memory suffices.
     pub(crate) fn begin_refusal(&self, id: CacheId, call: &Call) -> Option<Cause>
-        ensures { (now : ℕ) → let reply = answer_to (lives_of self.now) (Begin id now call.now) false in MatchOption result (is_step reply ≡ true) (λ cause. reply ≡ Refused cause) }
+        ensures { (now : ℕ) → IsRefusal self.now (Begin id now call.now) result }
     {
         let number = id.number();
         match self.caches.get(&number) {
@@ -63,7 +64,7 @@ impl<R: Rows, G: Ring> Engine<R, G> {
 
     /// Why an answer is refused now, where memory suffices.
     pub(crate) fn resume_refusal(&self, id: CacheId, answer: &Answer) -> Option<Cause>
-        ensures { let reply = answer_to (lives_of self.now) (Answered id answer.now) false in MatchOption result (is_step reply ≡ true) (λ cause. reply ≡ Refused cause) }
+        ensures { IsRefusal self.now (Answered id answer.now) result }
     {
         let number = id.number();
         match self.caches.get(&number) {
@@ -74,7 +75,7 @@ impl<R: Rows, G: Ring> Engine<R, G> {
 
     /// Why a call does not begin for which memory was refused: what comes before that, or that.
     pub(crate) fn begin_refusal_without_memory(&self, id: CacheId, call: &Call) -> Cause
-        ensures { (now : ℕ) → Refused result ≡ answer_to (lives_of self.now) (Begin id now call.now) (for_memory (Refused result)) }
+        ensures { (now : ℕ) → IsAnswer self.now (Begin id now call.now) (Refused result) }
     {
         match self.begin_refusal(id, call) {
             Some(cause) => cause,
@@ -89,8 +90,8 @@ impl<R: Rows, G: Ring> Engine<R, G> {
         now: u64,
         call: &Call,
     ) -> Option<Option<Thrice<Value>>>
-        ensures outcome { IfSome result (λ value. Stepped (Done (Found value)) ≡ answer_to (lives_of self.old) (Begin id now call.now) false) }
-        ensures lives { IfSome result (λ value. lives_of self.new ≡ lives_after (lives_of self.old) (Begin id now call.now) (Stepped (Done (Found value)))) }
+        ensures outcome { IfSome result (λ value. IsFreeAnswer self.old (Begin id now call.now) (of_found value)) }
+        ensures lives { IfSome result (λ value. LeadsTo self.old (Begin id now call.now) (of_found value) self.new) }
         ensures one { IfSome result (λ value. ChangesOne self.old id self.new) }
         ensures fits { IfSome result (λ value. FitsAt (Replied (Found value)) (at_place self.new id)) }
         ensures same { result ≡ None → self.new ≡ self.old }
@@ -104,11 +105,11 @@ impl<R: Rows, G: Ring> Engine<R, G> {
 
     /// Begins a call. Refused as the manager's `begin`, before any change.
     pub(crate) fn start(&mut self, id: CacheId, now: u64, call: &Call) -> Result<Advance, Cause>
-        ensures outcome { of_start result ≡ answer_to (lives_of self.old) (Begin id now call.now) (for_memory (of_start result)) }
-        ensures lives { lives_of self.new ≡ lives_after (lives_of self.old) (Begin id now call.now) (of_start result) }
+        ensures outcome { IsAnswer self.old (Begin id now call.now) (of_start result) }
+        ensures lives { LeadsTo self.old (Begin id now call.now) (of_start result) self.new }
         ensures one { OnOk result (ChangesOne self.old id self.new) }
         ensures fits { IfOk result (λ advance. FitsAt advance (at_place self.new id)) }
-        ensures free { is_free call.now ≡ true → of_start result ≡ answer_to (lives_of self.old) (Begin id now call.now) false }
+        ensures free { is_free call.now ≡ true → IsFreeAnswer self.old (Begin id now call.now) (of_start result) }
         ensures refused { OnErr result (self.new ≡ self.old) }
     {
         let number = id.number();
@@ -121,8 +122,8 @@ impl<R: Rows, G: Ring> Engine<R, G> {
     /// Goes on with the open call. Only memory can refuse it, before any change.
     pub(crate) fn go_on(&mut self, id: CacheId, answer: Answer) -> Result<Advance, Answer>
         requires { is_step (answer_to (lives_of self.old) (Answered id answer) false) ≡ true }
-        ensures outcome { outcome_of result ≡ answer_to (lives_of self.old) (Answered id answer) (for_memory (outcome_of result)) }
-        ensures lives { lives_of self.new ≡ lives_after (lives_of self.old) (Answered id answer) (outcome_of result) }
+        ensures outcome { IsAnswer self.old (Answered id answer) (outcome_of result) }
+        ensures lives { LeadsTo self.old (Answered id answer) (outcome_of result) self.new }
         ensures one { ChangesOne self.old id self.new }
         ensures fits { IfOk result (λ advance. FitsAt advance (at_place self.new id)) }
         ensures back { IfErr result (λ back. back ≡ answer) }
@@ -138,8 +139,8 @@ impl<R: Rows, G: Ring> Engine<R, G> {
 
     /// Ends the open call without a reply, and hands out the notices that no one was told, if any may be left.
     pub(crate) fn abandon(&mut self, id: CacheId) -> Result<Option<Notices>, Cause>
-        ensures outcome { of_abandon result ≡ answer_to (lives_of self.old) (GiveUp id) false }
-        ensures lives { lives_of self.new ≡ lives_after (lives_of self.old) (GiveUp id) (of_abandon result) }
+        ensures outcome { IsFreeAnswer self.old (GiveUp id) (of_abandon result) }
+        ensures lives { LeadsTo self.old (GiveUp id) (of_abandon result) self.new }
         ensures one { OnOk result (ChangesOne self.old id self.new) }
         ensures closed { OnOk result (ClosedAt (at_place self.new id)) }
         ensures left { IfOk result (λ left. LeavesAt (at_place self.old id) left) }

@@ -1,11 +1,11 @@
 //! Opening a manager: which configurations it takes, and the caches as they are at first.
-ghost use Rattle.std.specs.Prelude.{◌≡◌, ◌<◌, ◌≤◌, ℕ, false, List, [], ◌∷◌, ◌++◌, IfSome, IfOk, IfErr, ◌⊎◌, sum, length};
+ghost use Rattle.std.specs.Prelude.{◌≡◌, ◌<◌, ◌≤◌, ℕ, false, List, [], ◌∷◌, ◌++◌, IfSome, IfOk, IfErr, sum, length};
 ghost use Rattle.std.specs.FinMap as table;
 ghost use Rattle.std.specs.List.{list_any};
 ghost use Rattle.std.specs.Str.{bytes_eq};
 ghost use Rattle.jc_model.specs.Limits.{most_caches};
 ghost use Rattle.jc_engine.specs.Caches.{fresh_from};
-ghost use Rattle.jc_engine.specs.Opening.{open_refusal, open_refusal_from, limit_refusal, refusal_from, is_taken, capacities, names_in};
+ghost use Rattle.jc_engine.specs.Opening.{IsDueOrForMemory, open_refusal, open_refusal_from, limit_refusal, refusal_from, is_taken, capacities, names_in};
 ghost use Rattle.jc_engine.specs.Fresh.{AreNames};
 
 use crate::engine::Engine;
@@ -65,7 +65,7 @@ impl<R: Rows, G: Ring> Engine<R, G> {
     ) -> Result<Engine<R, G>, OpenRefusal>
         requires { R.contents rows ≡ table.empty }
         ensures refused { IfSome (open_refusal configs.items) (λ refusal. result ≡ Err refusal) }
-        ensures memory { IfErr result (λ refusal. (open_refusal configs.items ≡ Some refusal) ⊎ (refusal ≡ OpenRefusal.OutOfMemory)) }
+        ensures memory { IfErr result (λ refusal. IsDueOrForMemory (open_refusal configs.items) refusal) }
         ensures opened { IfOk result (λ engine. engine ≡ fresh_from 0 configs.items) }
     {
         Engine::open_from(alloc, rows, configs, 0)
@@ -81,7 +81,7 @@ impl<R: Rows, G: Ring> Engine<R, G> {
     ) -> Result<Engine<R, G>, OpenRefusal>
         requires { R.contents rows ≡ table.empty }
         ensures refused { IfSome (open_refusal_from first configs.items) (λ refusal. result ≡ Err refusal) }
-        ensures memory { IfErr result (λ refusal. (open_refusal_from first configs.items ≡ Some refusal) ⊎ (refusal ≡ OpenRefusal.OutOfMemory)) }
+        ensures memory { IfErr result (λ refusal. IsDueOrForMemory (open_refusal_from first configs.items) refusal) }
         ensures opened { IfOk result (λ engine. engine ≡ fresh_from first configs.items) }
     {
         if let Some(refusal) = open_refusal_from(alloc, &configs, first) {

@@ -1,9 +1,7 @@
 //! A manager that is moved to another table before its first call.
-ghost use Rattle.std.specs.Prelude.{◌≡◌, ℕ, List};
+ghost use Rattle.std.specs.Prelude.{◌≡◌};
 ghost use Rattle.std.specs.FinMap as table;
-ghost use Rattle.jc_model.specs.declared.config.CacheConfig.{CacheConfig};
-ghost use Rattle.jc_model.specs.Runs.{opened_from};
-ghost use Rattle.jc_engine.specs.Caches.{lives_of};
+ghost use Rattle.jc_engine.specs.Caches.{AreJustOpened};
 
 use crate::engine::Engine;
 use jc_ring::ring::Ring;
@@ -13,7 +11,7 @@ impl<R: Rows, G: Ring> Engine<R, G> {
     /// The same manager over another empty table. No call has changed a cache yet.
     pub fn over<S: Rows>(self, rows: S) -> Engine<S, G>
         requires empty { S.contents rows ≡ table.empty }
-        requires opened { (first : ℕ) × (configs : List CacheConfig) × (lives_of self ≡ opened_from first configs) }
+        requires opened { AreJustOpened self }
         ensures { result ≡ self }
     {
         Engine {

@@ -1,19 +1,17 @@
 //! The manager with a journal of its calls.
-ghost use Rattle.std.specs.Prelude.{◌≡◌, ◌⊎◌, ◌≤◌, ◌+◌, length, ℕ, List, None, true, false, [], ◌∷◌, ◌++◌, IfSome, IfOk, IfErr, OnErr, MatchOption, is_some, option_map};
+ghost use Rattle.std.specs.Prelude.{◌≡◌, ◌≤◌, ◌+◌, length, ℕ, None, true, false, [], IfSome, IfOk, IfErr, OnErr, MatchOption, is_some};
 ghost use Rattle.std.specs.FinMap as table;
 ghost use Rattle.jc_model.specs.declared.event.Event.TheVariants.{Begin, Answer as Answered, GiveUp, Create, Destroy};
-ghost use Rattle.jc_model.specs.declared.call.Reply.TheVariants.{Found};
-ghost use Rattle.jc_model.specs.declared.event.Entry.{Entry};
-ghost use Rattle.jc_model.specs.declared.event.Outcome.TheVariants.{Step as Stepped};
-ghost use Rattle.jc_model.specs.declared.event.Step.TheVariants.{Done};
 ghost use Rattle.jc_model.specs.Places.{at_place};
-ghost use Rattle.jc_model.specs.Runs.{opened_from, create_refusal, answer_to, lives_after, for_memory};
-ghost use Rattle.jc_model.specs.Legal.{IsLegal, Tells, at_first, recorded};
-ghost use Rattle.jc_engine.specs.Caches.{AreSound, lives_of, names_of, id_of, expiry_in, holds_in};
-ghost use Rattle.jc_engine.specs.Opening.{open_refusal, open_refusal_from};
-ghost use Rattle.jc_engine.specs.Results.{of_recorded_begin, of_recorded_resume, of_give_up, of_create, of_destroy, reply_in};
+ghost use Rattle.jc_model.specs.Runs.{opened_from, create_refusal};
+ghost use Rattle.jc_model.specs.Legal.{IsLegal, at_first};
+ghost use Rattle.jc_engine.specs.Caches.{AreSound, IsTableOf, lives_of, names_of, id_of, holds_in};
+ghost use Rattle.jc_engine.specs.Heard.{IsAnswer, IsFreeAnswer, LeadsTo};
+ghost use Rattle.jc_engine.specs.Opening.{IsDueOrForMemory, open_refusal, open_refusal_from};
+ghost use Rattle.jc_engine.specs.Results.{of_found, of_recorded_begin, of_recorded_resume, of_give_up};
+ghost use Rattle.jc_engine.specs.Results.{of_create, of_destroy, reply_in};
 ghost use Rattle.jc_engine.specs.Advances.{is_open_in};
-ghost use Rattle.jc_engine.specs.Recording.{IsEntryOf};
+ghost use Rattle.jc_engine.specs.Recording.{AreLeftOf, HasOpenEntry, IsLastOf, RecordsEvent, TellsItsCaches};
 ghost use Rattle.jc_model.specs.Limits.{most_ids};
 
 mod over;
@@ -99,7 +97,7 @@ impl<R: Rows, G: Ring, J: Journal> Recorded<R, G, J> {
     ) -> Result<Recorded<R, G, J>, OpenRefusal>
         requires { R.contents rows ≡ table.empty }
         ensures refused { IfSome (open_refusal configs.items) (λ refusal. result ≡ Err refusal) }
-        ensures memory { IfErr result (λ refusal. (open_refusal configs.items ≡ Some refusal) ⊎ (refusal ≡ OpenRefusal.OutOfMemory)) }
+        ensures memory { IfErr result (λ refusal. IsDueOrForMemory (open_refusal configs.items) refusal) }
         ensures opened { IfOk result (λ r. lives_of r.caches ≡ opened_from 0 configs.items) }
         ensures uncalled { IfOk result (λ r. r.transcript ≡ at_first 0 configs.items) }
     {
@@ -116,7 +114,7 @@ impl<R: Rows, G: Ring, J: Journal> Recorded<R, G, J> {
     ) -> Result<Recorded<R, G, J>, OpenRefusal>
         requires { R.contents rows ≡ table.empty }
         ensures refused { IfSome (open_refusal_from first configs.items) (λ refusal. result ≡ Err refusal) }
-        ensures memory { IfErr result (λ refusal. (open_refusal_from first configs.items ≡ Some refusal) ⊎ (refusal ≡ OpenRefusal.OutOfMemory)) }
+        ensures memory { IfErr result (λ refusal. IsDueOrForMemory (open_refusal_from first configs.items) refusal) }
         ensures opened { IfOk result (λ r. lives_of r.caches ≡ opened_from first configs.items) }
         ensures uncalled { IfOk result (λ r. r.transcript ≡ at_first first configs.items) }
     {
@@ -135,7 +133,7 @@ impl<R: Rows, G: Ring, J: Journal> Recorded<R, G, J> {
     /// The id of the live cache with this name.
     pub fn cache(&self, name: &Key) -> Option<CacheId>
         ensures exact { result ≡ id_of name.now self.now.caches }
-        ensures told { Tells self.now.transcript (lives_of self.now.caches) }
+        ensures told { TellsItsCaches self.now }
     {
         self.engine.cache(name)
     }
@@ -143,7 +141,7 @@ impl<R: Rows, G: Ring, J: Journal> Recorded<R, G, J> {
     /// Whether a live cache has this id.
     pub fn is_live(&self, id: CacheId) -> bool
         ensures exact { result ≡ is_some (at_place self.now.caches id) }
-        ensures told { Tells self.now.transcript (lives_of self.now.caches) }
+        ensures told { TellsItsCaches self.now }
     {
         self.engine.is_live(id)
     }
@@ -165,16 +163,16 @@ impl<R: Rows, G: Ring, J: Journal> Recorded<R, G, J> {
     /// The table: exactly the rows of all live caches, with their expiries, which are sound at each moment.
     pub fn rows(&self) -> &R
         ensures sound { AreSound self.now.caches }
-        ensures table { (id : ℕ) (key : List ℕ) → option_map (λ row. row.1) (table.get (R.contents result.now) (id, key)) ≡ expiry_in key (at_place self.now.caches id) }
+        ensures table { IsTableOf (R.contents result.now) self.now.caches }
     {
         self.engine.rows()
     }
 
     /// The entry of a cache's open call, if one is open there.
     pub fn open_entry(&self, id: CacheId) -> Option<&Entry>
-        ensures entry { IfSome result (λ e. (place : ℕ) × IsEntryOf self.now.transcript.entries id place e.now) }
+        ensures entry { IfSome result (λ e. HasOpenEntry self.now.transcript.entries id e.now) }
         ensures open { is_some result ≡ is_open_in (at_place self.now.caches id) }
-        ensures told { Tells self.now.transcript (lives_of self.now.caches) }
+        ensures told { TellsItsCaches self.now }
     {
         if self.engine.is_open(id) {
             self.journal.open_entry(id)
@@ -187,7 +185,7 @@ impl<R: Rows, G: Ring, J: Journal> Recorded<R, G, J> {
     pub fn open_call(&self) -> Option<CacheId>
         ensures none { result ≡ None → (id : ℕ) → is_open_in (at_place self.now.caches id) ≡ false }
         ensures some { IfSome result (λ id. is_open_in (at_place self.now.caches id) ≡ true) }
-        ensures told { Tells self.now.transcript (lives_of self.now.caches) }
+        ensures told { TellsItsCaches self.now }
     {
         self.engine.open_call()
     }
@@ -201,10 +199,10 @@ impl<R: Rows, G: Ring, J: Journal> Recorded<R, G, J> {
         now: u64,
         call: &Call,
     ) -> Option<(Option<Value>, Option<Value>)>
-        ensures outcome { IfSome result (λ it. Stepped (Done (Found it.0)) ≡ answer_to (lives_of self.old.caches) (Begin id now call.now) false) }
-        ensures lives { IfSome result (λ it. lives_of self.new.caches ≡ lives_after (lives_of self.old.caches) (Begin id now call.now) (Stepped (Done (Found it.0)))) }
-        ensures transcript { IfSome result (λ it. self.new.transcript ≡ recorded session (Begin id now call.now) (Stepped (Done (Found it.0))) self.old.transcript) }
-        ensures told { Tells self.old.transcript (lives_of self.old.caches) × Tells self.new.transcript (lives_of self.new.caches) }
+        ensures outcome { IfSome result (λ it. IsFreeAnswer self.old.caches (Begin id now call.now) (of_found it.0)) }
+        ensures lives { IfSome result (λ it. LeadsTo self.old.caches (Begin id now call.now) (of_found it.0) self.new.caches) }
+        ensures transcript { IfSome result (λ it. RecordsEvent session (Begin id now call.now) (of_found it.0) self.old self.new) }
+        ensures told { TellsItsCaches self.old × TellsItsCaches self.new }
         ensures copy { IfSome result (λ it. it.1 ≡ it.0) }
         ensures same { result ≡ None → self.new ≡ self.old }
     {
@@ -229,10 +227,10 @@ impl<R: Rows, G: Ring, J: Journal> Recorded<R, G, J> {
         now: u64,
         call: Call,
     ) -> Result<(Step, Option<Reply>), (Cause, Call)>
-        ensures outcome { of_recorded_begin result ≡ answer_to (lives_of self.old.caches) (Begin id now call) (for_memory (of_recorded_begin result)) }
-        ensures lives { lives_of self.new.caches ≡ lives_after (lives_of self.old.caches) (Begin id now call) (of_recorded_begin result) }
-        ensures transcript { self.new.transcript ≡ recorded session (Begin id now call) (of_recorded_begin result) self.old.transcript }
-        ensures told { Tells self.old.transcript (lives_of self.old.caches) × Tells self.new.transcript (lives_of self.new.caches) }
+        ensures outcome { IsAnswer self.old.caches (Begin id now call) (of_recorded_begin result) }
+        ensures lives { LeadsTo self.old.caches (Begin id now call) (of_recorded_begin result) self.new.caches }
+        ensures transcript { RecordsEvent session (Begin id now call) (of_recorded_begin result) self.old self.new }
+        ensures told { TellsItsCaches self.old × TellsItsCaches self.new }
         ensures copy { IfOk result (λ s. s.1 ≡ reply_in s.0) }
         ensures back { IfErr result (λ e. e.1 ≡ call) }
         ensures refused { OnErr result (self.new ≡ self.old) }
@@ -259,10 +257,10 @@ impl<R: Rows, G: Ring, J: Journal> Recorded<R, G, J> {
         id: CacheId,
         answer: Answer,
     ) -> Result<(Step, Option<Reply>), (Cause, Answer)>
-        ensures outcome { of_recorded_resume result ≡ answer_to (lives_of self.old.caches) (Answered id answer) (for_memory (of_recorded_resume result)) }
-        ensures lives { lives_of self.new.caches ≡ lives_after (lives_of self.old.caches) (Answered id answer) (of_recorded_resume result) }
-        ensures transcript { (session : ℕ) → self.new.transcript ≡ recorded session (Answered id answer) (of_recorded_resume result) self.old.transcript }
-        ensures told { Tells self.old.transcript (lives_of self.old.caches) × Tells self.new.transcript (lives_of self.new.caches) }
+        ensures outcome { IsAnswer self.old.caches (Answered id answer) (of_recorded_resume result) }
+        ensures lives { LeadsTo self.old.caches (Answered id answer) (of_recorded_resume result) self.new.caches }
+        ensures transcript { (session : ℕ) → RecordsEvent session (Answered id answer) (of_recorded_resume result) self.old self.new }
+        ensures told { TellsItsCaches self.old × TellsItsCaches self.new }
         ensures copy { IfOk result (λ s. s.1 ≡ reply_in s.0) }
         ensures back { IfErr result (λ e. e.1 ≡ answer) }
         ensures refused { OnErr result (self.new ≡ self.old) }
@@ -284,11 +282,11 @@ impl<R: Rows, G: Ring, J: Journal> Recorded<R, G, J> {
 
     /// Ends the open call without a reply, as the manager's `give_up`; its entry ends so too.
     pub fn give_up(&mut self, id: CacheId) -> Result<Sequence<Notice>, Cause>
-        ensures outcome { of_give_up result ≡ answer_to (lives_of self.old.caches) (GiveUp id) false }
-        ensures lives { lives_of self.new.caches ≡ lives_after (lives_of self.old.caches) (GiveUp id) (of_give_up result) }
-        ensures transcript { (session : ℕ) → self.new.transcript ≡ recorded session (GiveUp id) (of_give_up result) self.old.transcript }
-        ensures left { IfOk result (λ left. (place : ℕ) × (e : Entry) × IsEntryOf self.old.transcript.entries id place e × ((e.told ≡ []) ⊎ (left ≡ []))) }
-        ensures told { Tells self.old.transcript (lives_of self.old.caches) × Tells self.new.transcript (lives_of self.new.caches) }
+        ensures outcome { IsFreeAnswer self.old.caches (GiveUp id) (of_give_up result) }
+        ensures lives { LeadsTo self.old.caches (GiveUp id) (of_give_up result) self.new.caches }
+        ensures transcript { (session : ℕ) → RecordsEvent session (GiveUp id) (of_give_up result) self.old self.new }
+        ensures left { IfOk result (λ left. AreLeftOf self.old.transcript.entries id left) }
+        ensures told { TellsItsCaches self.old × TellsItsCaches self.new }
         ensures refused { OnErr result (self.new ≡ self.old) }
     {
         let left = self.engine.abandon(id)?;
@@ -298,17 +296,17 @@ impl<R: Rows, G: Ring, J: Journal> Recorded<R, G, J> {
     /// Why no cache can be created with this configuration now, where memory suffices.
     pub fn create_refusal(&self, config: &CacheConfig) -> Option<CreateRefusal>
         ensures exact { result ≡ create_refusal (lives_of self.now.caches) config.now }
-        ensures told { Tells self.now.transcript (lives_of self.now.caches) }
+        ensures told { TellsItsCaches self.now }
     {
         self.engine.create_refusal(config)
     }
 
     /// Creates a cache, as the manager's `create`; the transcript gets its life. Room is made before any change.
     pub fn create(&mut self, config: CacheConfig) -> Result<CacheId, (CreateRefusal, CacheConfig)>
-        ensures outcome { of_create result ≡ answer_to (lives_of self.old.caches) (Create config) (for_memory (of_create result)) }
-        ensures lives { lives_of self.new.caches ≡ lives_after (lives_of self.old.caches) (Create config) (of_create result) }
-        ensures transcript { (session : ℕ) → self.new.transcript ≡ recorded session (Create config) (of_create result) self.old.transcript }
-        ensures told { Tells self.old.transcript (lives_of self.old.caches) × Tells self.new.transcript (lives_of self.new.caches) }
+        ensures outcome { IsAnswer self.old.caches (Create config) (of_create result) }
+        ensures lives { LeadsTo self.old.caches (Create config) (of_create result) self.new.caches }
+        ensures transcript { (session : ℕ) → RecordsEvent session (Create config) (of_create result) self.old self.new }
+        ensures told { TellsItsCaches self.old × TellsItsCaches self.new }
         ensures back { IfErr result (λ e. e.1 ≡ config) }
         ensures refused { OnErr result (self.new ≡ self.old) }
     {
@@ -330,10 +328,10 @@ impl<R: Rows, G: Ring, J: Journal> Recorded<R, G, J> {
 
     /// Destroys a cache, as the manager's `destroy`; the transcript keeps its life and its calls.
     pub fn destroy(&mut self, id: CacheId) -> Result<(), Cause>
-        ensures outcome { of_destroy result ≡ answer_to (lives_of self.old.caches) (Destroy id) false }
-        ensures lives { lives_of self.new.caches ≡ lives_after (lives_of self.old.caches) (Destroy id) (of_destroy result) }
-        ensures transcript { (session : ℕ) → self.new.transcript ≡ recorded session (Destroy id) (of_destroy result) self.old.transcript }
-        ensures told { Tells self.old.transcript (lives_of self.old.caches) × Tells self.new.transcript (lives_of self.new.caches) }
+        ensures outcome { IsFreeAnswer self.old.caches (Destroy id) (of_destroy result) }
+        ensures lives { LeadsTo self.old.caches (Destroy id) (of_destroy result) self.new.caches }
+        ensures transcript { (session : ℕ) → RecordsEvent session (Destroy id) (of_destroy result) self.old self.new }
+        ensures told { TellsItsCaches self.old × TellsItsCaches self.new }
         ensures refused { OnErr result (self.new ≡ self.old) }
     {
         self.engine.destroy(id)?;
@@ -347,7 +345,7 @@ impl<R: Rows, G: Ring> Recorded<R, G> {
     pub fn transcript(&self) -> &Transcript
         ensures value { result.now ≡ self.now.transcript }
         ensures legal { IsLegal self.now.transcript }
-        ensures tells { Tells self.now.transcript (lives_of self.now.caches) }
+        ensures tells { TellsItsCaches self.now }
     {
         // The clauses follow from the invariant of all fields, and so the engine is read too.
         let _engine = &self.engine;
@@ -356,7 +354,7 @@ impl<R: Rows, G: Ring> Recorded<R, G> {
 
     /// The entry of the call that has begun last.
     pub fn last(&self) -> Option<&Entry>
-        ensures { MatchOption result (self.now.transcript.entries ≡ []) (λ e. (before : List Entry) × (self.now.transcript.entries ≡ before ++ e.now ∷ [])) }
+        ensures { MatchOption result (self.now.transcript.entries ≡ []) (λ e. IsLastOf self.now.transcript.entries e.now) }
     {
         self.journal.transcript.last()
     }

@@ -1,10 +1,11 @@
 //! Many events one after the other, and what each cache sees of them.
 ghost use Rattle.std.specs.Prelude.{◌≡◌, ℕ, Some, true, false, IfOk, IfErr, OnErr};
 ghost use Rattle.jc_model.specs.declared.config.CacheConfig.{CacheConfig};
-ghost use Rattle.jc_model.specs.Runs.{answer_to, lives_after, for_memory, IsRun, lives_in_end, opened};
+ghost use Rattle.jc_model.specs.Runs.{for_memory, IsRun, opened};
 ghost use Rattle.jc_model.specs.Solo.{begun, calls, seen, solo};
 ghost use Rattle.jc_engine.specs.Caches.{lives_of};
 ghost use Rattle.jc_engine.specs.Free.{takes_none, FreeAreHeard};
+ghost use Rattle.jc_engine.specs.Heard.{IsAnswer, LeadsTo, RunLeadsTo};
 
 use crate::engine::Engine;
 use jc_model::event::{Cause, Event, Outcome};
@@ -29,9 +30,11 @@ impl<R: Rows, G: Ring> Engine<R, G> {
     /// outcomes, before the first event; the events are then handed back.
     pub fn run(&mut self, events: Vec<Event>) -> Result<Vec<Outcome>, Vec<Event>>
         ensures outcomes { IfOk result (λ outcomes. IsRun (lives_of self.old) events.items outcomes.items) }
-        ensures lives { IfOk result (λ outcomes. lives_of self.new ≡ lives_in_end (lives_of self.old) events.items outcomes.items) }
-        ensures alone { IfOk result (λ outcomes. (id : ℕ) (c : CacheConfig) → begun id (lives_of self.old) events.items outcomes.items ≡ Some (opened c)
-            → seen id (lives_of self.old) events.items outcomes.items (lives_of self.new) ≡ Some (solo c (calls id events.items outcomes.items))) }
+        ensures lives { IfOk result (λ outcomes. RunLeadsTo self.old events.items outcomes.items self.new) }
+        ensures alone { IfOk result (λ outcomes. (id : ℕ) (c : CacheConfig)
+            → begun id (lives_of self.old) events.items outcomes.items ≡ Some (opened c)
+            → seen id (lives_of self.old) events.items outcomes.items (lives_of self.new)
+            ≡ Some (solo c (calls id events.items outcomes.items))) }
         ensures free { IfOk result (λ outcomes. FreeAreHeard events.items outcomes.items) }
         ensures back { IfErr result (λ back. back.items ≡ events.items) }
         ensures refused { OnErr result (self.new ≡ self.old) }
@@ -50,8 +53,8 @@ impl<R: Rows, G: Ring> Engine<R, G> {
 
     /// One event.
     fn take(&mut self, event: Event) -> Outcome
-        ensures outcome { result ≡ answer_to (lives_of self.old) event (for_memory result) }
-        ensures lives { lives_of self.new ≡ lives_after (lives_of self.old) event result }
+        ensures outcome { IsAnswer self.old event result }
+        ensures lives { LeadsTo self.old event result self.new }
         ensures free { takes_none event ≡ true → for_memory result ≡ false }
     {
         match event {

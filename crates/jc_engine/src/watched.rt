@@ -1,9 +1,7 @@
 //! A manager whose table others may watch.
-ghost use Rattle.std.specs.Prelude.{◌≡◌, true, false, IfOk, OnOk, OnErr};
+ghost use Rattle.std.specs.Prelude.{◌≡◌, false, IfOk, OnOk, OnErr};
 ghost use mathlib.Core.List.{IsPrefix};
-ghost use Rattle.jc_rows.specs.Images.{last_image};
-ghost use Rattle.jc_engine.specs.Caches.{lives_of};
-ghost use Rattle.jc_engine.specs.Watching.{ShowsStates, states_of};
+ghost use Rattle.jc_engine.specs.Watching.{SeesCaches};
 
 use crate::engine::Engine;
 use jc_model::OutOfMemory;
@@ -14,7 +12,7 @@ impl<R: Watched, G: Ring> Engine<R, G> {
     /// A watcher of the table. The last image that it has seen shows the caches as they are.
     pub fn watch(&mut self) -> Result<R::Watcher, OutOfMemory>
         ensures same { self.new ≡ self.old }
-        ensures watcher { IfOk result (λ w. ShowsStates (states_of (lives_of self.old)) (last_image (R.seen w)) × (R.met w ≡ true)) }
+        ensures watcher { IfOk result (λ w. SeesCaches self.old (R.seen w) (R.met w)) }
     {
         self.rows.watch()
     }
@@ -23,7 +21,7 @@ impl<R: Watched, G: Ring> Engine<R, G> {
     pub fn meet(&mut self, watcher: &mut R::Watcher) -> Result<(), OutOfMemory>
         ensures same { self.new ≡ self.old }
         ensures front { IsPrefix (R.seen watcher.old) (R.seen watcher.new) }
-        ensures met { OnOk result (ShowsStates (states_of (lives_of self.old)) (last_image (R.seen watcher.new)) × (R.met watcher.new ≡ true)) }
+        ensures met { OnOk result (SeesCaches self.old (R.seen watcher.new) (R.met watcher.new)) }
         ensures refused { OnErr result ((R.seen watcher.new ≡ R.seen watcher.old) × (R.met watcher.new ≡ false)) }
     {
         self.rows.meet(watcher)

@@ -1,7 +1,7 @@
 //! A journal that keeps the entries of all calls.
-ghost use Rattle.std.specs.Prelude.{◌≡◌, ◌≤◌, ◌∷◌, ◌++◌, [], nat_eq};
+ghost use Rattle.std.specs.Prelude.{◌≡◌, ◌≤◌, nat_eq};
 ghost use Rattle.std.specs.HashMap.{get, spare};
-ghost use Rattle.jc_engine.specs.Recording.{with_entries};
+ghost use Rattle.jc_engine.specs.Recording.{with_entry};
 
 use super::Journal;
 use super::change::Begun;
@@ -32,7 +32,7 @@ impl Journal for AllCalls {
 
     type Held = ();
 
-    ghost Enters = { λ h j held e. (j.transcript ≡ with_entries (h.entries ++ e ∷ []) h) × (1 ≤ spare j.places) };
+    ghost Enters = { λ h j held e. (j.transcript ≡ with_entry e h) × (1 ≤ spare j.places) };
 
     ghost Notes = { λ j. ⊥ };
 

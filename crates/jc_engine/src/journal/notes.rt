@@ -1,13 +1,10 @@
 //! What is written into a transcript, and where it is found.
-ghost use Rattle.std.specs.Prelude.{◌≡◌, ◌≤◌, ◌<◌, ℕ, [], Some, IsSome, IfOk, OnOk, OnErr, length, nat_eq, if◌then◌else◌, slice_get, slice_set};
+ghost use Rattle.std.specs.Prelude.{◌≡◌, ◌≤◌, ◌<◌, Some, IsSome, OnOk, OnErr, length, nat_eq};
 ghost use Rattle.std.specs.HashMap.{get, spare};
-ghost use Rattle.jc_model.specs.declared.event.Outcome.TheVariants.{Step as Stepped, GivenUp};
-ghost use Rattle.jc_model.specs.declared.event.End.TheVariants.{Waiting};
-ghost use Rattle.jc_model.specs.declared.event.Entry.{Entry};
-ghost use Rattle.jc_model.specs.Legal.{with_outcome, with_answer};
 ghost use Rattle.jc_engine.specs.Results.{reply_in};
 ghost use Rattle.jc_engine.specs.Managed.{step_of};
-ghost use Rattle.jc_engine.specs.Recording.{blank, CanTell, left_in, with_entries, with_life};
+ghost use Rattle.jc_engine.specs.Recording.{blank, left_in, with_life};
+ghost use Rattle.jc_engine.specs.Journals.{AnswersAt, AdvancesAt, GivesUpAt, Puts};
 
 use crate::cache::Advance;
 use jc_model::OutOfMemory;
@@ -52,7 +49,7 @@ pub(crate) fn enter_life(
 /// Puts a value of a cache into a map, where there is room for it.
 pub(super) fn put_of<T: Drop>(map: &mut HashMap<u32, T>, id: CacheId, value: T)
     requires { 1 ≤ spare map.old }
-    ensures { (other : ℕ) → get nat_eq map.new other ≡ (if nat_eq id other then Some value else get nat_eq map.old other) }
+    ensures { Puts (get nat_eq map.old) id (Some value) (get nat_eq map.new) }
 {
     let number = id.number();
     if map.insert(number, value).is_err() {
@@ -79,7 +76,7 @@ pub(crate) fn enter_answer(
     answer: &Answer,
 ) -> Result<(), OutOfMemory>
     requires { place < length transcript.old.entries }
-    ensures ok { OnOk result ((e : Entry) → slice_get transcript.old.entries place ≡ Some e → transcript.new ≡ with_entries (slice_set transcript.old.entries place (with_answer answer.now e)) transcript.old) }
+    ensures ok { OnOk result (AnswersAt place answer.now transcript.old transcript.new) }
     ensures err { OnErr result (transcript.new ≡ transcript.old) }
 {
     let answer = answer.share()?;
@@ -95,7 +92,7 @@ pub(crate) fn note(
     requires { place < length transcript.old.entries }
     ensures shown { result.0 ≡ step_of advance }
     ensures copy { result.1 ≡ reply_in result.0 }
-    ensures noted { (e : Entry) → slice_get transcript.old.entries place ≡ Some e → e.end ≡ Waiting → CanTell advance e → transcript.new ≡ with_entries (slice_set transcript.old.entries place (with_outcome (Stepped (step_of advance)) e)) transcript.old }
+    ensures noted { AdvancesAt place advance transcript.old transcript.new }
 {
     match advance {
         Advance::Replied(reply) => {
@@ -121,7 +118,7 @@ pub(crate) fn note_given_up(
 ) -> Sequence<Notice>
     requires { place < length transcript.old.entries }
     ensures left { result ≡ left_in left }
-    ensures noted { (e : Entry) → slice_get transcript.old.entries place ≡ Some e → (IsSome left → e.told ≡ []) → transcript.new ≡ with_entries (slice_set transcript.old.entries place (with_outcome (GivenUp (left_in left)) e)) transcript.old }
+    ensures noted { GivesUpAt place left transcript.old transcript.new }
 {
     match left {
         Some(left) => {

@@ -3,11 +3,10 @@ ghost use Rattle.std.specs.Prelude.{◌≡◌, [], IsSome, OnOk, OnErr};
 ghost use Rattle.jc_model.specs.declared.call.Answer.{Answer as Answered};
 ghost use Rattle.jc_model.specs.declared.event.End.TheVariants.{Waiting};
 ghost use Rattle.jc_model.specs.declared.event.Entry.{Entry};
-ghost use Rattle.jc_model.specs.declared.event.Outcome.TheVariants.{Step as Stepped, GivenUp};
-ghost use Rattle.jc_model.specs.Legal.{with_answer, with_outcome};
+ghost use Rattle.jc_model.specs.Legal.{with_answer};
 ghost use Rattle.jc_engine.specs.Results.{reply_in};
 ghost use Rattle.jc_engine.specs.Managed.{step_of};
-ghost use Rattle.jc_engine.specs.Recording.{CanTell, left_in};
+ghost use Rattle.jc_engine.specs.Recording.{CanTell, left_in, with_advance, with_give_up};
 
 use crate::cache::Advance;
 use jc_model::OutOfMemory;
@@ -46,7 +45,7 @@ pub(crate) fn take_answer(entry: &mut Entry)
 pub(crate) fn write_outcome(entry: &mut Entry, advance: Advance) -> (Step, Option<Reply>)
     ensures shown { result.0 ≡ step_of advance }
     ensures copy { result.1 ≡ reply_in result.0 }
-    ensures written { entry.old.end ≡ Waiting → CanTell advance entry.old → entry.new ≡ with_outcome (Stepped (step_of advance)) entry.old }
+    ensures written { entry.old.end ≡ Waiting → CanTell advance entry.old → entry.new ≡ with_advance advance entry.old }
 {
     match advance {
         Advance::Replied(reply) => {
@@ -70,7 +69,7 @@ pub(crate) fn write_given_up(
     left: Option<Notices>,
 ) -> Sequence<Notice>
     ensures left { result ≡ left_in left }
-    ensures written { (IsSome left → entry.old.told ≡ []) → entry.new ≡ with_outcome (GivenUp (left_in left)) entry.old }
+    ensures written { (IsSome left → entry.old.told ≡ []) → entry.new ≡ with_give_up left entry.old }
 {
     entry.end = End::GivenUp;
     match left {

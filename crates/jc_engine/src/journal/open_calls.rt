@@ -1,15 +1,12 @@
 //! A journal that keeps the entries of open calls alone. The history of which it tells exists in proofs.
-ghost use Rattle.std.specs.Prelude.{◌≡◌, ◌<◌, ◌≤◌, ◌+◌, ◌^◌, ◌++◌, ◌∷◌, [], ℕ, false, length, Some, nat_eq, slice_set};
+ghost use Rattle.std.specs.Prelude.{◌≡◌, ◌<◌, ◌≤◌, ◌+◌, ◌^◌, ℕ, false, nat_eq};
 ghost use Rattle.std.specs.HashMap.{get, spare};
-ghost use Rattle.jc_model.specs.declared.event.Entry.{Entry};
-ghost use Rattle.jc_model.specs.declared.event.Outcome.TheVariants.{Step as Stepped};
-ghost use Rattle.jc_model.specs.Legal.{with_outcome};
-ghost use Rattle.jc_engine.specs.Changed.{replied_at_once};
+ghost use Rattle.jc_engine.specs.Changed.{begun_entry, replied_at_once};
 ghost use Rattle.jc_engine.specs.Results.{reply_in};
 ghost use Rattle.jc_engine.specs.Managed.{step_of};
-ghost use Rattle.jc_engine.specs.Recording.{blank, CanTell, with_entries};
-ghost use Rattle.jc_engine.specs.Journals.{IsKept, Keeps, KeepsOthers, is_replied};
-ghost use Rattle.jc_engine.specs.Opens.{AreOpen, place_of};
+ghost use Rattle.jc_engine.specs.Recording.{CanTell, with_advance, with_entry};
+ghost use Rattle.jc_engine.specs.Journals.{CanGoOn, AdvancesEntry, KeepsLast, KeepsOthers, is_replied};
+ghost use Rattle.jc_engine.specs.Opens.{AreOpen, beginning_entry, kept_places};
 
 use super::Journal;
 use super::change::Begun;
@@ -39,14 +36,14 @@ pub struct Beginning {
 impl Beginning {
     /// What a history tells of it.
     fn begun(&self) -> Begun
-        ensures { blank result.session result.id result.at result.call.value ≡ blank self.now.session self.now.id self.now.at self.now.call }
+        ensures { begun_entry result ≡ beginning_entry self.now }
     {
         Begun::of(self.session, self.id, self.at, &self.call)
     }
 
     /// Its entry.
     fn into_entry(self) -> Entry
-        ensures { result ≡ blank self.session self.id self.at self.call }
+        ensures { result ≡ beginning_entry self }
     {
         let Beginning {
             alloc,
@@ -73,7 +70,7 @@ impl OpenCalls {
     /// A call has begun, and had this reply at once. Nothing of it is kept.
     fn push_replied(&mut self, begun: Begun, reply: &Reply)
         requires room { self.old.begun + 1 < 2 ^ 64 }
-        ensures noted { self.new.past.history ≡ with_entries (self.old.past.history.entries ++ replied_at_once begun reply.now ∷ []) self.old.past.history }
+        ensures noted { self.new.past.history ≡ with_entry (replied_at_once begun reply.now) self.old.past.history }
         ensures waiting { self.new.waiting ≡ self.old.waiting }
     {
         self.past.push_replied(begun, reply);
@@ -86,12 +83,12 @@ impl OpenCalls {
     fn open(&mut self, id: CacheId, held: Beginning, advance: Advance) -> (Step, Option<Reply>)
         requires room { (1 ≤ spare self.old.waiting) × (self.old.begun + 1 < 2 ^ 64) }
         requires own { held.id ≡ id }
-        requires tells { CanTell advance (blank held.session held.id held.at held.call) }
+        requires tells { CanTell advance (beginning_entry held) }
         requires waits { is_replied advance ≡ false }
         ensures shown { result.0 ≡ step_of advance }
         ensures copy { result.1 ≡ reply_in result.0 }
-        ensures noted { self.new.past.history ≡ with_entries (self.old.past.history.entries ++ with_outcome (Stepped (step_of advance)) (blank held.session held.id held.at held.call) ∷ []) self.old.past.history }
-        ensures places { Keeps (λ id. place_of (get nat_eq self.old.waiting id)) id (length self.old.past.history.entries) advance (λ id. place_of (get nat_eq self.new.waiting id)) }
+        ensures noted { self.new.past.history ≡ with_entry (with_advance advance (beginning_entry held)) self.old.past.history }
+        ensures places { KeepsLast (kept_places self.old.waiting) id self.old.past.history advance (kept_places self.new.waiting) }
     {
         let mut entry = held.into_entry();
         let shown = write_outcome(&mut entry, advance);
@@ -104,12 +101,12 @@ impl OpenCalls {
 
     /// A call that goes on has come to this.
     fn wait(&mut self, id: CacheId, advance: Advance) -> (Step, Option<Reply>)
-        requires kept { (place : ℕ) × (e : Entry) × IsKept self.old.past.history (λ id. place_of (get nat_eq self.old.waiting id)) id place e × CanTell advance e }
+        requires kept { CanGoOn self.old.past.history (kept_places self.old.waiting) id advance }
         requires waits { is_replied advance ≡ false }
         ensures shown { result.0 ≡ step_of advance }
         ensures copy { result.1 ≡ reply_in result.0 }
-        ensures noted { (place : ℕ) (e : Entry) → IsKept self.old.past.history (λ id. place_of (get nat_eq self.old.waiting id)) id place e → CanTell advance e → self.new.past.history ≡ with_entries (slice_set self.old.past.history.entries place (with_outcome (Stepped (step_of advance)) e)) self.old.past.history }
-        ensures places { (other : ℕ) → place_of (get nat_eq self.new.waiting other) ≡ place_of (get nat_eq self.old.waiting other) }
+        ensures noted { AdvancesEntry self.old.past.history (kept_places self.old.waiting) id advance self.new.past.history }
+        ensures places { (other : ℕ) → kept_places self.new.waiting other ≡ kept_places self.old.waiting other }
     {
         let number = id.number();
         match self.waiting.get_mut(&number) {
@@ -124,11 +121,11 @@ impl OpenCalls {
 
     /// A call has ended with this reply. Its entry is let go.
     fn end(&mut self, id: CacheId, advance: Advance) -> (Step, Option<Reply>)
-        requires kept { (place : ℕ) × (e : Entry) × IsKept self.old.past.history (λ id. place_of (get nat_eq self.old.waiting id)) id place e × CanTell advance e }
+        requires kept { CanGoOn self.old.past.history (kept_places self.old.waiting) id advance }
         ensures shown { result.0 ≡ step_of advance }
         ensures copy { result.1 ≡ reply_in result.0 }
-        ensures noted { (place : ℕ) (e : Entry) → IsKept self.old.past.history (λ id. place_of (get nat_eq self.old.waiting id)) id place e → CanTell advance e → self.new.past.history ≡ with_entries (slice_set self.old.past.history.entries place (with_outcome (Stepped (step_of advance)) e)) self.old.past.history }
-        ensures places { KeepsOthers (λ id. place_of (get nat_eq self.old.waiting id)) id (λ id. place_of (get nat_eq self.new.waiting id)) }
+        ensures noted { AdvancesEntry self.old.past.history (kept_places self.old.waiting) id advance self.new.past.history }
+        ensures places { KeepsOthers (kept_places self.old.waiting) id (kept_places self.new.waiting) }
     {
         let number = id.number();
         let Some(mut call) = self.waiting.remove(&number) else {
@@ -143,11 +140,11 @@ impl OpenCalls {
 impl Journal for OpenCalls {
     ghost history = { λ j. j.past.history };
 
-    ghost places = { λ j. (λ id. place_of (get nat_eq j.waiting id)) };
+    ghost places = { λ j. kept_places j.waiting };
 
     type Held = Beginning;
 
-    ghost Enters = { λ h j held e. (j.past.history ≡ h) × (e ≡ blank held.session held.id held.at held.call) × (1 ≤ spare j.waiting) × (j.begun + 1 < 2 ^ 64) };
+    ghost Enters = { λ h j held e. (j.past.history ≡ h) × (e ≡ beginning_entry held) × (1 ≤ spare j.waiting) × (j.begun + 1 < 2 ^ 64) };
 
     ghost Notes = { λ j. j.begun + 1 < 2 ^ 64 };
 

@@ -1,7 +1,7 @@
 //! A history that exists in proofs alone: it is made of its changes, and none of them is in memory.
-ghost use Rattle.std.specs.Prelude.{◌≡◌, ◌-◌, ◌∷◌, ◌++◌, [], length, take, slice_set};
-ghost use Rattle.jc_engine.specs.Recording.{with_life};
-ghost use Rattle.jc_engine.specs.Changed.{begun_entry, changed, replied_at_once};
+ghost use Rattle.std.specs.Prelude.{◌≡◌};
+ghost use Rattle.jc_engine.specs.Recording.{with_entry, with_entry_at, with_life};
+ghost use Rattle.jc_engine.specs.Changed.{begun_entry, changed, replied_at_once, without_life};
 ghost use Rattle.jc_engine.specs.Past.{nothing};
 
 use crate::journal::change::{Begun, Change};
@@ -59,28 +59,28 @@ impl Past {
 
     /// A call more, the last.
     pub fn push(&mut self, entry: &Entry)
-        ensures { self.new.history ≡ record self.old.history { entries = self.old.history.entries ++ entry.now ∷ [] } }
+        ensures { self.new.history ≡ with_entry entry.now self.old.history }
     {
         self.change(Change::Entered(Snapshot::of(entry)));
     }
 
     /// A call more, the last, which waits.
     pub fn push_waiting(&mut self, begun: Begun)
-        ensures { self.new.history ≡ record self.old.history { entries = self.old.history.entries ++ begun_entry begun ∷ [] } }
+        ensures { self.new.history ≡ with_entry (begun_entry begun) self.old.history }
     {
         self.change(Change::Waits(Snapshot::of(&begun)));
     }
 
     /// A call more, the last, which had this reply at once.
     pub fn push_replied(&mut self, begun: Begun, reply: &Reply)
-        ensures { self.new.history ≡ record self.old.history { entries = self.old.history.entries ++ replied_at_once begun reply.now ∷ [] } }
+        ensures { self.new.history ≡ with_entry (replied_at_once begun reply.now) self.old.history }
     {
         self.change(Change::Replied(Snapshot::of(&begun), Snapshot::of(reply)));
     }
 
     /// The call at a place has this entry now.
     pub(crate) fn set(&mut self, place: usize, entry: &Entry)
-        ensures { self.new.history ≡ record self.old.history { entries = slice_set self.old.history.entries place entry.now } }
+        ensures { self.new.history ≡ with_entry_at place entry.now self.old.history }
     {
         self.change(Change::Written(place, Snapshot::of(entry)));
     }
@@ -94,7 +94,7 @@ impl Past {
 
     /// The last life is taken back.
     pub(crate) fn pop_life(&mut self)
-        ensures { self.new.history ≡ record self.old.history { lives = take (length self.old.history.lives - 1) self.old.history.lives } }
+        ensures { self.new.history ≡ without_life self.old.history }
     {
         self.change(Change::Unlived);
     }

@@ -1,0 +1,36 @@
+-- What a manager answers to an event that it hears, and how the event leaves the caches.
+use Rattle.std.specs.Prelude.{◌≡◌, ℕ, true, false, List, Option, MatchOption}
+use Rattle.jc_model.specs.declared.event.Cause.{Cause}
+use Rattle.jc_model.specs.declared.event.Event.{Event}
+use Rattle.jc_model.specs.declared.event.Event.TheVariants.{Destroy}
+use Rattle.jc_model.specs.declared.event.Outcome.{Outcome}
+use Rattle.jc_model.specs.declared.event.Outcome.TheVariants.{Refused, Destroyed}
+use Rattle.jc_model.specs.Runs.{answer_to, lives_after, for_memory, lives_in_end}
+use Rattle.jc_engine.specs.Caches.{Cache, lives_of}
+use Rattle.jc_engine.specs.Managed.{is_step}
+
+-- the outcome is the manager's answer to an event, memory being refused where it says so
+abbrev pub IsAnswer : List (Option Cache) → Event → Outcome → Type 0
+IsAnswer caches event outcome = outcome ≡ answer_to (lives_of caches) event (for_memory outcome)
+
+-- it is its answer where memory suffices
+abbrev pub IsFreeAnswer : List (Option Cache) → Event → Outcome → Type 0
+IsFreeAnswer caches event outcome = outcome ≡ answer_to (lives_of caches) event false
+
+-- why an event gets no step where memory suffices: this cause, or none where it gets one
+abbrev pub IsRefusal : List (Option Cache) → Event → Option Cause → Type 0
+IsRefusal caches event refusal =
+    MatchOption refusal (is_step (answer_to (lives_of caches) event false) ≡ true) (λ cause. answer_to (lives_of caches) event false ≡ Refused cause)
+
+-- why a cache is not destroyed: this cause, or none where it is
+abbrev pub IsDestroyRefusal : List (Option Cache) → ℕ → Option Cause → Type 0
+IsDestroyRefusal caches id refusal =
+    MatchOption refusal (answer_to (lives_of caches) (Destroy id) false ≡ Destroyed) (λ cause. answer_to (lives_of caches) (Destroy id) false ≡ Refused cause)
+
+-- an event with this outcome leads from these caches to those
+abbrev pub LeadsTo : List (Option Cache) → Event → Outcome → List (Option Cache) → Type 0
+LeadsTo old event outcome new = lives_of new ≡ lives_after (lives_of old) event outcome
+
+-- and so do the events of a run
+abbrev pub RunLeadsTo : List (Option Cache) → List Event → List Outcome → List (Option Cache) → Type 0
+RunLeadsTo old events outcomes new = lives_of new ≡ lives_in_end (lives_of old) events outcomes
