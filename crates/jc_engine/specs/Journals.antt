@@ -1,6 +1,7 @@
 -- What a journal keeps of the calls of a manager.
 use Rattle.std.specs.Prelude.{◌≡◌, ℕ, Bool, true, false, [], length, if◌then◌else◌, nat_eq, Option, Some, None, IsSome, slice_get}
 use Rattle.jc_model.specs.declared.call.Answer.{Answer}
+use Rattle.jc_model.specs.declared.call.Call.{Call}
 use Rattle.jc_model.specs.declared.event.End.TheVariants.{Waiting}
 use Rattle.jc_model.specs.declared.event.Entry.{Entry}
 use Rattle.jc_model.specs.Legal.{History, with_answer}
@@ -27,7 +28,11 @@ pub record IsKept (h : History) (places : ℕ → Option ℕ) (id place : ℕ) (
   pub own : entry.id ≡ id
   pub waits : entry.end ≡ Waiting
 
--- the places that are kept of the other caches are what they were
+-- the places that are kept are what they were
+abbrev pub KeepsAll : (ℕ → Option ℕ) → (ℕ → Option ℕ) → Type 0
+KeepsAll old new = (id : ℕ) → new id ≡ old id
+
+-- those of the other caches are
 abbrev pub KeepsOthers : (ℕ → Option ℕ) → ℕ → (ℕ → Option ℕ) → Type 0
 KeepsOthers old id new = (other : ℕ) → (other ≡ id → ⊥) → new other ≡ old other
 
@@ -44,14 +49,18 @@ KeepsLast old id h advance new = Keeps old id (length h.entries) advance new
 abbrev pub Puts : {A : Type 0} → (ℕ → Option A) → ℕ → Option A → (ℕ → Option A) → Type 0
 Puts old number value new = (other : ℕ) → new other ≡ (if nat_eq number other then value else old other)
 
--- A call that is about to begin, over a history and with an entry of which a journal knows.
+-- A call that is about to begin: a journal knows over which history, and with which entry.
 
--- it is one of the cache, and can come to this
+-- it is on this cache, and can come to this
 abbrev pub CanBegin : (History → Entry → Type 0) → ℕ → Advance → Type 0
 CanBegin Enters id advance =
     (h : History) × (entry : Entry) × Enters h entry × (entry.id ≡ id) × (entry.end ≡ Waiting) × CanTell advance entry
 
--- it has begun and come to this, and its entry is the last
+-- it does not begin: it is handed back, and the history is what it was
+abbrev pub TakesBack : (History → Entry → Type 0) → Call → History → Type 0
+TakesBack Enters call new = (h : History) (entry : Entry) → Enters h entry → (call ≡ entry.call) × (new ≡ h)
+
+-- it has begun and come to this: its entry is the last
 abbrev pub BeginsEntry : (History → Entry → Type 0) → Advance → History → Type 0
 BeginsEntry Enters advance new =
     (h : History) (entry : Entry) → Enters h entry → entry.end ≡ Waiting → CanTell advance entry → new ≡ with_entry (with_advance advance entry) h
@@ -96,8 +105,8 @@ KeepsPlace h old id advance new =
     (place : ℕ) (entry : Entry) → IsKept h old id place entry → Keeps old id place advance new
 
 -- its call was given up, where this was left
-abbrev pub GivesEntryUp : History → (ℕ → Option ℕ) → ℕ → Option Noted → History → Type 0
-GivesEntryUp h places id left new =
+abbrev pub GivesUp : History → (ℕ → Option ℕ) → ℕ → Option Noted → History → Type 0
+GivesUp h places id left new =
     (place : ℕ) (entry : Entry) → IsKept h places id place entry → (IsSome left → entry.told ≡ []) → new ≡ with_entry_at place (with_give_up left entry) h
 
 -- The entry at a place, in the same ways.

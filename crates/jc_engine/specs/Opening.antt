@@ -1,6 +1,6 @@
 -- Which configurations a manager opens with.
 use Rattle.std.specs.Prelude.{◌≡◌, ◌⊎◌, ℕ, ◌+◌, ◌||◌, ltb, Bool, if◌then◌else◌, List, [], ◌∷◌, ◌++◌, length, sum, map}
-use Rattle.std.specs.Prelude.{Option, Some, None}
+use Rattle.std.specs.Prelude.{Option, Some, None, IfSome, Result, Err, IfErr}
 use Rattle.std.specs.List.{list_any}
 use Rattle.std.specs.Str.{bytes_eq}
 use Rattle.jc_model.specs.declared.config.CacheConfig.{CacheConfig}
@@ -48,6 +48,10 @@ open_refusal configs =
 abbrev pub open_refusal_from : ℕ → List CacheConfig → Option OpenRefusal
 open_refusal_from first configs = or_else (open_refusal configs) (if ltb most_ids (first + length configs) then Some IdsSpent else None)
 
--- a refusal is the one that is due, or memory was refused
-abbrev pub IsDueOrForMemory : Option OpenRefusal → OpenRefusal → Type 0
-IsDueOrForMemory due refusal = (due ≡ Some refusal) ⊎ (refusal ≡ OutOfMemory)
+-- the refusal that is due, if one is, is the result
+abbrev pub RefusesDue : {T : Type 0} → Option OpenRefusal → Result T OpenRefusal → Type 0
+RefusesDue due result = IfSome due (λ refusal. result ≡ Err refusal)
+
+-- and no other is, but one for want of memory
+abbrev pub RefusesNoOther : {T : Type 0} → Option OpenRefusal → Result T OpenRefusal → Type 0
+RefusesNoOther due result = IfErr result (λ refusal. (due ≡ Some refusal) ⊎ (refusal ≡ OutOfMemory))

@@ -13,8 +13,8 @@ place_of None = None
 place_of (Some call) = Some call.place
 
 -- by cache, the place of its open call
-abbrev pub kept_places : {S : Type 0} → HashMap ℕ OpenCall S → ℕ → Option ℕ
-kept_places calls = λ id. place_of (get nat_eq calls id)
+abbrev pub places_in : {S : Type 0} → HashMap ℕ OpenCall S → ℕ → Option ℕ
+places_in calls = λ id. place_of (get nat_eq calls id)
 
 -- the entry of a call that is about to begin
 abbrev pub beginning_entry : Beginning → Entry

@@ -32,6 +32,10 @@ TellsItsCaches r = Tells r.transcript (lives_of r.caches)
 abbrev pub RecordsEvent : ℕ → Event → Outcome → Recording → Recording → Type 0
 RecordsEvent session event outcome old new = new.transcript ≡ recorded session event outcome old.transcript
 
+-- whatever its session
+abbrev pub RecordsFromAny : Event → Outcome → Recording → Recording → Type 0
+RecordsFromAny event outcome old new = (session : ℕ) → RecordsEvent session event outcome old new
+
 -- this entry is the last
 abbrev pub IsLastOf : List Entry → Entry → Type 0
 IsLastOf transcript entry = (before : List Entry) × (transcript ≡ before ++ entry ∷ [])
@@ -49,7 +53,7 @@ pub record IsEntryOf (transcript : List Entry) (id place : ℕ) (entry : Entry) 
   pub own : entry.id ≡ id
   pub waits : entry.end ≡ Waiting
 
--- and somewhere
+-- it stands somewhere
 abbrev pub HasOpenEntry : List Entry → ℕ → Entry → Type 0
 HasOpenEntry transcript id entry = (place : ℕ) × IsEntryOf transcript id place entry
 

@@ -1,5 +1,5 @@
 -- What an image of the table shows of the caches.
-use Rattle.std.specs.Prelude.{◌≡◌, true, Bool, ℕ, ◌+◌, List, length, map, sum_by, option_map, is_some, count_by}
+use Rattle.std.specs.Prelude.{◌≡◌, true, false, Bool, ℕ, ◌+◌, List, length, map, sum_by, option_map, is_some, count_by}
 use Rattle.std.specs.Prelude.{Option, Some, None}
 use Rattle.jc_model.specs.declared.config.Expiry.{Expiry}
 use Rattle.jc_model.specs.State.{State, row_of}
@@ -25,6 +25,10 @@ pub record ShowsStates (states : List (Option State)) (image : Image) : Type 0 w
   pub others : count_by is_some image.slots + image.stash ≡ sum_by (λ s. length s.ring) (all_there states)
   pub whole : image.stash ≡ 0 → (id : ℕ) (key : List ℕ) (e : Expiry) → expiry_at key (at_place states id) ≡ Some e → (i : ℕ) × (slot image i ≡ Some ((id, key), e))
 
--- a watcher has met the last of these images, and it shows the caches
-abbrev pub SeesCaches : List (Option Cache) → List Image → Bool → Type 0
-SeesCaches caches images met = ShowsStates (states_of (lives_of caches)) (last_image images) × (met ≡ true)
+-- a watcher has met the last image that it has seen, and it shows the caches
+abbrev pub SeesCaches : {W : Type 0} → (W → List Image) → (W → Bool) → W → List (Option Cache) → Type 0
+SeesCaches seen met watcher caches = ShowsStates (states_of (lives_of caches)) (last_image (seen watcher)) × (met watcher ≡ true)
+
+-- it has not met the table, and has seen what it had seen
+abbrev pub SeesNoMore : {W : Type 0} → (W → List Image) → (W → Bool) → W → W → Type 0
+SeesNoMore seen met old new = (seen new ≡ seen old) × (met new ≡ false)

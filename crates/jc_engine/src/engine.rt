@@ -1,11 +1,9 @@
 //! The manager: many caches over one table of rows, each with at most one open call.
-ghost use Rattle.std.specs.Prelude.{◌≡◌, true, IfErr, OnErr, is_some};
+ghost use Rattle.std.specs.Prelude.{◌≡◌, IfErr, OnErr, is_some};
 ghost use Rattle.jc_model.specs.declared.event.Event.TheVariants.{Begin, Answer as Answered, GiveUp};
-ghost use Rattle.jc_model.specs.Run.{fits, for_tell};
-ghost use Rattle.jc_model.specs.Whole.{is_free};
 ghost use Rattle.jc_model.specs.Places.{at_place};
 ghost use Rattle.jc_engine.specs.Caches.{AreSound, IsTableOf, names_of, id_of, holds_in};
-ghost use Rattle.jc_engine.specs.Heard.{IsAnswer, IsFreeAnswer, LeadsTo};
+ghost use Rattle.jc_engine.specs.Heard.{IsAnswer, IsFreeAnswer, FreeIsAnswered, LeadsTo};
 ghost use Rattle.jc_engine.specs.Results.{of_begin, of_resume, of_give_up};
 
 use crate::cache::{Advance, Managed};
@@ -103,7 +101,7 @@ impl<R: Rows, G: Ring> Engine<R, G> {
     pub fn begin(&mut self, id: CacheId, now: u64, call: Call) -> Result<Step, (Cause, Call)>
         ensures outcome { IsAnswer self.old (Begin id now call) (of_begin result) }
         ensures lives { LeadsTo self.old (Begin id now call) (of_begin result) self.new }
-        ensures free { is_free call ≡ true → IsFreeAnswer self.old (Begin id now call) (of_begin result) }
+        ensures free { FreeIsAnswered self.old (Begin id now call) (of_begin result) }
         ensures back { IfErr result (λ e. e.1 ≡ call) }
         ensures refused { OnErr result (self.new ≡ self.old) }
     {
@@ -123,7 +121,7 @@ impl<R: Rows, G: Ring> Engine<R, G> {
     pub fn resume(&mut self, id: CacheId, answer: Answer) -> Result<Step, (Cause, Answer)>
         ensures outcome { IsAnswer self.old (Answered id answer) (of_resume result) }
         ensures lives { LeadsTo self.old (Answered id answer) (of_resume result) self.new }
-        ensures told { fits for_tell answer ≡ true → IsFreeAnswer self.old (Answered id answer) (of_resume result) }
+        ensures told { FreeIsAnswered self.old (Answered id answer) (of_resume result) }
         ensures back { IfErr result (λ e. e.1 ≡ answer) }
         ensures refused { OnErr result (self.new ≡ self.old) }
     {

@@ -27,8 +27,8 @@ pub trait Journal: Drop {
     ghost use Rattle.jc_engine.specs.Recording.{blank, left_in, with_entry, with_life};
     ghost use Rattle.jc_engine.specs.Changed.{replied_at_once};
     ghost use Rattle.jc_engine.specs.Journals.{CanBegin, BeginsEntry, KeepsBegun, KeepsEntry, KeepsPlace, KeepsOthers};
-    ghost use Rattle.jc_engine.specs.Journals.{CanGoOn, CanGiveUp, AnswersEntry, AdvancesEntry, GivesEntryUp};
-    ghost use Rattle.jc_engine.specs.Journals.{TakesAnswer, TakesLife, kept_at};
+    ghost use Rattle.jc_engine.specs.Journals.{CanGoOn, CanGiveUp, AnswersEntry, AdvancesEntry, GivesUp};
+    ghost use Rattle.jc_engine.specs.Journals.{TakesAnswer, TakesBack, TakesLife, KeepsAll, kept_at};
 
     /// The lives and the calls that it tells of.
     ghost history: { Self → History };
@@ -60,9 +60,10 @@ pub trait Journal: Drop {
     /// Notes such a call, behind all others, and its reply. Where that can't be, nothing has changed.
     fn note(&mut self, begun: Begun, reply: &Reply) -> bool
         ensures sure { Notes self.old → result ≡ true }
-        ensures noted { result ≡ true → history self.new ≡ with_entry (replied_at_once begun reply.now) (history self.old) }
+        ensures noted { result ≡ true
+            → history self.new ≡ with_entry (replied_at_once begun reply.now) (history self.old) }
         ensures refused { result ≡ false → history self.new ≡ history self.old }
-        ensures places { (id : ℕ) → places self.new id ≡ places self.old id };
+        ensures places { KeepsAll (places self.old) (places self.new) };
 
     /// Makes room for a call that is about to begin. Where memory is refused it is handed back, and nothing has changed.
     fn enter(
@@ -74,7 +75,7 @@ pub trait Journal: Drop {
         call: Call,
     ) -> Result<Self::Held, Call>
         ensures entered { IfOk result (λ held. Enters (history self.old) self.new held (blank session id now call)) }
-        ensures places { (other : ℕ) → places self.new other ≡ places self.old other }
+        ensures places { KeepsAll (places self.old) (places self.new) }
         ensures back { IfErr result (λ back. back ≡ call) }
         ensures refused { OnErr result (history self.new ≡ history self.old) };
 
@@ -86,8 +87,8 @@ pub trait Journal: Drop {
     /// The call does not begin. It is handed back.
     fn take_back(&mut self, held: Self::Held) -> Call
         requires { (h : History) × (e : Entry) × Enters h self.old held e }
-        ensures back { (h : History) (e : Entry) → Enters h self.old held e → (result ≡ e.call) × (history self.new ≡ h) }
-        ensures places { (id : ℕ) → places self.new id ≡ places self.old id };
+        ensures back { TakesBack (λ h e. Enters h self.old held e) result (history self.new) }
+        ensures places { KeepsAll (places self.old) (places self.new) };
 
     /// The call has begun, and come to this. The result is what the caller is shown, and a copy of the reply.
     fn begin(&mut self, id: CacheId, held: Self::Held, advance: Advance) -> (Step, Option<Reply>)
@@ -102,13 +103,13 @@ pub trait Journal: Drop {
         requires { KeepsEntry (history self.old) (places self.old) id }
         ensures ok { OnOk result (AnswersEntry (history self.old) (places self.old) id answer.now (history self.new)) }
         ensures refused { OnErr result (history self.new ≡ history self.old) }
-        ensures places { (other : ℕ) → places self.new other ≡ places self.old other };
+        ensures places { KeepsAll (places self.old) (places self.new) };
 
     /// Takes the last answer back.
     fn take_answer(&mut self, id: CacheId)
         requires { KeepsEntry (history self.old) (places self.old) id }
         ensures back { TakesAnswer (history self.old) (places self.old) id (history self.new) }
-        ensures places { (other : ℕ) → places self.new other ≡ places self.old other };
+        ensures places { KeepsAll (places self.old) (places self.new) };
 
     /// A cache's open call has come to this.
     fn go_on(&mut self, id: CacheId, advance: Advance) -> (Step, Option<Reply>)
@@ -122,19 +123,19 @@ pub trait Journal: Drop {
     fn give_up(&mut self, alloc: Global, id: CacheId, left: Option<Notices>) -> Sequence<Notice>
         requires { CanGiveUp (history self.old) (places self.old) id left }
         ensures left { result ≡ left_in left }
-        ensures noted { GivesEntryUp (history self.old) (places self.old) id left (history self.new) }
+        ensures noted { GivesUp (history self.old) (places self.old) id left (history self.new) }
         ensures places { KeepsOthers (places self.old) id (places self.new) };
 
     /// Adds a life. Where memory is refused nothing has changed.
     fn create(&mut self, id: CacheId, config: &CacheConfig) -> Result<(), OutOfMemory>
         ensures ok { OnOk result (history self.new ≡ with_life id config.now (history self.old)) }
         ensures refused { OnErr result (history self.new ≡ history self.old) }
-        ensures places { (other : ℕ) → places self.new other ≡ places self.old other };
+        ensures places { KeepsAll (places self.old) (places self.new) };
 
     /// Takes the last life back.
     fn take_life(&mut self)
         ensures back { TakesLife (history self.old) (history self.new) }
-        ensures places { (other : ℕ) → places self.new other ≡ places self.old other };
+        ensures places { KeepsAll (places self.old) (places self.new) };
 
     /// A cache has gone, in which no call is open. Its life and its calls stay in the history.
     fn destroy(&mut self, id: CacheId)

@@ -7,10 +7,9 @@ ghost use Rattle.jc_model.specs.declared.event.Outcome.TheVariants.{Refused};
 ghost use Rattle.jc_engine.specs.declared.cache.Advance.TheVariants.{Replied};
 ghost use Rattle.jc_model.specs.Runs.{answer_to};
 ghost use Rattle.jc_model.specs.Run.{fits, for_tell};
-ghost use Rattle.jc_model.specs.Whole.{is_free};
 ghost use Rattle.jc_model.specs.Places.{at_place};
 ghost use Rattle.jc_engine.specs.Caches.{lives_of};
-ghost use Rattle.jc_engine.specs.Heard.{IsAnswer, IsFreeAnswer, IsRefusal, LeadsTo};
+ghost use Rattle.jc_engine.specs.Heard.{IsAnswer, IsFreeAnswer, FreeIsAnswered, FindsValue, IsRefusal, LeadsTo};
 ghost use Rattle.jc_engine.specs.Results.{of_found};
 ghost use Rattle.jc_engine.specs.Managed.{is_step};
 ghost use Rattle.jc_engine.specs.Advances.{outcome_of, of_start, of_abandon, FitsAt, LeavesAt, ClosedAt, ChangesOne, is_open_in};
@@ -90,7 +89,7 @@ impl<R: Rows, G: Ring> Engine<R, G> {
         now: u64,
         call: &Call,
     ) -> Option<Option<Thrice<Value>>>
-        ensures outcome { IfSome result (λ value. IsFreeAnswer self.old (Begin id now call.now) (of_found value)) }
+        ensures outcome { IfSome result (λ value. FindsValue self.old id now call.now value) }
         ensures lives { IfSome result (λ value. LeadsTo self.old (Begin id now call.now) (of_found value) self.new) }
         ensures one { IfSome result (λ value. ChangesOne self.old id self.new) }
         ensures fits { IfSome result (λ value. FitsAt (Replied (Found value)) (at_place self.new id)) }
@@ -109,7 +108,7 @@ impl<R: Rows, G: Ring> Engine<R, G> {
         ensures lives { LeadsTo self.old (Begin id now call.now) (of_start result) self.new }
         ensures one { OnOk result (ChangesOne self.old id self.new) }
         ensures fits { IfOk result (λ advance. FitsAt advance (at_place self.new id)) }
-        ensures free { is_free call.now ≡ true → IsFreeAnswer self.old (Begin id now call.now) (of_start result) }
+        ensures free { FreeIsAnswered self.old (Begin id now call.now) (of_start result) }
         ensures refused { OnErr result (self.new ≡ self.old) }
     {
         let number = id.number();

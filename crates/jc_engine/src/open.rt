@@ -1,11 +1,12 @@
 //! Opening a manager: which configurations it takes, and the caches as they are at first.
-ghost use Rattle.std.specs.Prelude.{◌≡◌, ◌<◌, ◌≤◌, ℕ, false, List, [], ◌∷◌, ◌++◌, IfSome, IfOk, IfErr, sum, length};
+ghost use Rattle.std.specs.Prelude.{◌≡◌, ◌<◌, ◌≤◌, ℕ, false, List, [], ◌∷◌, ◌++◌, IfOk, sum, length};
 ghost use Rattle.std.specs.FinMap as table;
 ghost use Rattle.std.specs.List.{list_any};
 ghost use Rattle.std.specs.Str.{bytes_eq};
 ghost use Rattle.jc_model.specs.Limits.{most_caches};
 ghost use Rattle.jc_engine.specs.Caches.{fresh_from};
-ghost use Rattle.jc_engine.specs.Opening.{IsDueOrForMemory, open_refusal, open_refusal_from, limit_refusal, refusal_from, is_taken, capacities, names_in};
+ghost use Rattle.jc_engine.specs.Opening.{RefusesDue, RefusesNoOther, open_refusal, open_refusal_from};
+ghost use Rattle.jc_engine.specs.Opening.{limit_refusal, refusal_from, is_taken, capacities, names_in};
 ghost use Rattle.jc_engine.specs.Fresh.{AreNames};
 
 use crate::engine::Engine;
@@ -64,8 +65,8 @@ impl<R: Rows, G: Ring> Engine<R, G> {
         configs: Vec<CacheConfig>,
     ) -> Result<Engine<R, G>, OpenRefusal>
         requires { R.contents rows ≡ table.empty }
-        ensures refused { IfSome (open_refusal configs.items) (λ refusal. result ≡ Err refusal) }
-        ensures memory { IfErr result (λ refusal. IsDueOrForMemory (open_refusal configs.items) refusal) }
+        ensures refused { RefusesDue (open_refusal configs.items) result }
+        ensures memory { RefusesNoOther (open_refusal configs.items) result }
         ensures opened { IfOk result (λ engine. engine ≡ fresh_from 0 configs.items) }
     {
         Engine::open_from(alloc, rows, configs, 0)
@@ -80,8 +81,8 @@ impl<R: Rows, G: Ring> Engine<R, G> {
         first: u32,
     ) -> Result<Engine<R, G>, OpenRefusal>
         requires { R.contents rows ≡ table.empty }
-        ensures refused { IfSome (open_refusal_from first configs.items) (λ refusal. result ≡ Err refusal) }
-        ensures memory { IfErr result (λ refusal. IsDueOrForMemory (open_refusal_from first configs.items) refusal) }
+        ensures refused { RefusesDue (open_refusal_from first configs.items) result }
+        ensures memory { RefusesNoOther (open_refusal_from first configs.items) result }
         ensures opened { IfOk result (λ engine. engine ≡ fresh_from first configs.items) }
     {
         if let Some(refusal) = open_refusal_from(alloc, &configs, first) {
@@ -177,7 +178,8 @@ fn is_taken(names: &Option<HashSet<Key>>, before: &[CacheConfig], name: Key) -> 
 
 /// The set with one name more, unless memory is refused for it.
 fn with_name(names: Option<HashSet<Key>>, name: Key) -> Option<HashSet<Key>>
-    ensures { (taken : List (List ℕ)) → AreNames names taken → AreNames result (taken ++ name ∷ []) }
+    ensures { (taken : List (List ℕ))
+        → AreNames names taken → AreNames result (taken ++ name ∷ []) }
 {
     let mut names = names?;
     match names.insert(name) {

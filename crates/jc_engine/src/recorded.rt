@@ -6,12 +6,12 @@ ghost use Rattle.jc_model.specs.Places.{at_place};
 ghost use Rattle.jc_model.specs.Runs.{opened_from, create_refusal};
 ghost use Rattle.jc_model.specs.Legal.{IsLegal, at_first};
 ghost use Rattle.jc_engine.specs.Caches.{AreSound, IsTableOf, lives_of, names_of, id_of, holds_in};
-ghost use Rattle.jc_engine.specs.Heard.{IsAnswer, IsFreeAnswer, LeadsTo};
-ghost use Rattle.jc_engine.specs.Opening.{IsDueOrForMemory, open_refusal, open_refusal_from};
+ghost use Rattle.jc_engine.specs.Heard.{IsAnswer, IsFreeAnswer, FindsValue, LeadsTo};
+ghost use Rattle.jc_engine.specs.Opening.{RefusesDue, RefusesNoOther, open_refusal, open_refusal_from};
 ghost use Rattle.jc_engine.specs.Results.{of_found, of_recorded_begin, of_recorded_resume, of_give_up};
 ghost use Rattle.jc_engine.specs.Results.{of_create, of_destroy, reply_in};
 ghost use Rattle.jc_engine.specs.Advances.{is_open_in};
-ghost use Rattle.jc_engine.specs.Recording.{AreLeftOf, HasOpenEntry, IsLastOf, RecordsEvent, TellsItsCaches};
+ghost use Rattle.jc_engine.specs.Recording.{AreLeftOf, HasOpenEntry, IsLastOf, RecordsEvent, RecordsFromAny, TellsItsCaches};
 ghost use Rattle.jc_model.specs.Limits.{most_ids};
 
 mod over;
@@ -96,8 +96,8 @@ impl<R: Rows, G: Ring, J: Journal> Recorded<R, G, J> {
         configs: Vec<CacheConfig>,
     ) -> Result<Recorded<R, G, J>, OpenRefusal>
         requires { R.contents rows ≡ table.empty }
-        ensures refused { IfSome (open_refusal configs.items) (λ refusal. result ≡ Err refusal) }
-        ensures memory { IfErr result (λ refusal. IsDueOrForMemory (open_refusal configs.items) refusal) }
+        ensures refused { RefusesDue (open_refusal configs.items) result }
+        ensures memory { RefusesNoOther (open_refusal configs.items) result }
         ensures opened { IfOk result (λ r. lives_of r.caches ≡ opened_from 0 configs.items) }
         ensures uncalled { IfOk result (λ r. r.transcript ≡ at_first 0 configs.items) }
     {
@@ -113,8 +113,8 @@ impl<R: Rows, G: Ring, J: Journal> Recorded<R, G, J> {
         first: u32,
     ) -> Result<Recorded<R, G, J>, OpenRefusal>
         requires { R.contents rows ≡ table.empty }
-        ensures refused { IfSome (open_refusal_from first configs.items) (λ refusal. result ≡ Err refusal) }
-        ensures memory { IfErr result (λ refusal. IsDueOrForMemory (open_refusal_from first configs.items) refusal) }
+        ensures refused { RefusesDue (open_refusal_from first configs.items) result }
+        ensures memory { RefusesNoOther (open_refusal_from first configs.items) result }
         ensures opened { IfOk result (λ r. lives_of r.caches ≡ opened_from first configs.items) }
         ensures uncalled { IfOk result (λ r. r.transcript ≡ at_first first configs.items) }
     {
@@ -199,7 +199,7 @@ impl<R: Rows, G: Ring, J: Journal> Recorded<R, G, J> {
         now: u64,
         call: &Call,
     ) -> Option<(Option<Value>, Option<Value>)>
-        ensures outcome { IfSome result (λ it. IsFreeAnswer self.old.caches (Begin id now call.now) (of_found it.0)) }
+        ensures outcome { IfSome result (λ it. FindsValue self.old.caches id now call.now it.0) }
         ensures lives { IfSome result (λ it. LeadsTo self.old.caches (Begin id now call.now) (of_found it.0) self.new.caches) }
         ensures transcript { IfSome result (λ it. RecordsEvent session (Begin id now call.now) (of_found it.0) self.old self.new) }
         ensures told { TellsItsCaches self.old × TellsItsCaches self.new }
@@ -259,7 +259,7 @@ impl<R: Rows, G: Ring, J: Journal> Recorded<R, G, J> {
     ) -> Result<(Step, Option<Reply>), (Cause, Answer)>
         ensures outcome { IsAnswer self.old.caches (Answered id answer) (of_recorded_resume result) }
         ensures lives { LeadsTo self.old.caches (Answered id answer) (of_recorded_resume result) self.new.caches }
-        ensures transcript { (session : ℕ) → RecordsEvent session (Answered id answer) (of_recorded_resume result) self.old self.new }
+        ensures transcript { RecordsFromAny (Answered id answer) (of_recorded_resume result) self.old self.new }
         ensures told { TellsItsCaches self.old × TellsItsCaches self.new }
         ensures copy { IfOk result (λ s. s.1 ≡ reply_in s.0) }
         ensures back { IfErr result (λ e. e.1 ≡ answer) }
@@ -284,7 +284,7 @@ impl<R: Rows, G: Ring, J: Journal> Recorded<R, G, J> {
     pub fn give_up(&mut self, id: CacheId) -> Result<Sequence<Notice>, Cause>
         ensures outcome { IsFreeAnswer self.old.caches (GiveUp id) (of_give_up result) }
         ensures lives { LeadsTo self.old.caches (GiveUp id) (of_give_up result) self.new.caches }
-        ensures transcript { (session : ℕ) → RecordsEvent session (GiveUp id) (of_give_up result) self.old self.new }
+        ensures transcript { RecordsFromAny (GiveUp id) (of_give_up result) self.old self.new }
         ensures left { IfOk result (λ left. AreLeftOf self.old.transcript.entries id left) }
         ensures told { TellsItsCaches self.old × TellsItsCaches self.new }
         ensures refused { OnErr result (self.new ≡ self.old) }
@@ -305,7 +305,7 @@ impl<R: Rows, G: Ring, J: Journal> Recorded<R, G, J> {
     pub fn create(&mut self, config: CacheConfig) -> Result<CacheId, (CreateRefusal, CacheConfig)>
         ensures outcome { IsAnswer self.old.caches (Create config) (of_create result) }
         ensures lives { LeadsTo self.old.caches (Create config) (of_create result) self.new.caches }
-        ensures transcript { (session : ℕ) → RecordsEvent session (Create config) (of_create result) self.old self.new }
+        ensures transcript { RecordsFromAny (Create config) (of_create result) self.old self.new }
         ensures told { TellsItsCaches self.old × TellsItsCaches self.new }
         ensures back { IfErr result (λ e. e.1 ≡ config) }
         ensures refused { OnErr result (self.new ≡ self.old) }
@@ -330,7 +330,7 @@ impl<R: Rows, G: Ring, J: Journal> Recorded<R, G, J> {
     pub fn destroy(&mut self, id: CacheId) -> Result<(), Cause>
         ensures outcome { IsFreeAnswer self.old.caches (Destroy id) (of_destroy result) }
         ensures lives { LeadsTo self.old.caches (Destroy id) (of_destroy result) self.new.caches }
-        ensures transcript { (session : ℕ) → RecordsEvent session (Destroy id) (of_destroy result) self.old self.new }
+        ensures transcript { RecordsFromAny (Destroy id) (of_destroy result) self.old self.new }
         ensures told { TellsItsCaches self.old × TellsItsCaches self.new }
         ensures refused { OnErr result (self.new ≡ self.old) }
     {

@@ -1,7 +1,7 @@
 //! A manager whose table others may watch.
-ghost use Rattle.std.specs.Prelude.{◌≡◌, false, IfOk, OnOk, OnErr};
+ghost use Rattle.std.specs.Prelude.{◌≡◌, IfOk, OnOk, OnErr};
 ghost use mathlib.Core.List.{IsPrefix};
-ghost use Rattle.jc_engine.specs.Watching.{SeesCaches};
+ghost use Rattle.jc_engine.specs.Watching.{SeesCaches, SeesNoMore};
 
 use crate::engine::Engine;
 use jc_model::OutOfMemory;
@@ -12,7 +12,7 @@ impl<R: Watched, G: Ring> Engine<R, G> {
     /// A watcher of the table. The last image that it has seen shows the caches as they are.
     pub fn watch(&mut self) -> Result<R::Watcher, OutOfMemory>
         ensures same { self.new ≡ self.old }
-        ensures watcher { IfOk result (λ w. SeesCaches self.old (R.seen w) (R.met w)) }
+        ensures watcher { IfOk result (λ w. SeesCaches R.seen R.met w self.old) }
     {
         self.rows.watch()
     }
@@ -21,8 +21,8 @@ impl<R: Watched, G: Ring> Engine<R, G> {
     pub fn meet(&mut self, watcher: &mut R::Watcher) -> Result<(), OutOfMemory>
         ensures same { self.new ≡ self.old }
         ensures front { IsPrefix (R.seen watcher.old) (R.seen watcher.new) }
-        ensures met { OnOk result (SeesCaches self.old (R.seen watcher.new) (R.met watcher.new)) }
-        ensures refused { OnErr result ((R.seen watcher.new ≡ R.seen watcher.old) × (R.met watcher.new ≡ false)) }
+        ensures met { OnOk result (SeesCaches R.seen R.met watcher.new self.old) }
+        ensures refused { OnErr result (SeesNoMore R.seen R.met watcher.old watcher.new) }
     {
         self.rows.meet(watcher)
     }

@@ -45,7 +45,8 @@ pub(crate) fn take_answer(entry: &mut Entry)
 pub(crate) fn write_outcome(entry: &mut Entry, advance: Advance) -> (Step, Option<Reply>)
     ensures shown { result.0 ≡ step_of advance }
     ensures copy { result.1 ≡ reply_in result.0 }
-    ensures written { entry.old.end ≡ Waiting → CanTell advance entry.old → entry.new ≡ with_advance advance entry.old }
+    ensures written { entry.old.end ≡ Waiting → CanTell advance entry.old
+        → entry.new ≡ with_advance advance entry.old }
 {
     match advance {
         Advance::Replied(reply) => {
@@ -69,7 +70,8 @@ pub(crate) fn write_given_up(
     left: Option<Notices>,
 ) -> Sequence<Notice>
     ensures left { result ≡ left_in left }
-    ensures written { (IsSome left → entry.old.told ≡ []) → entry.new ≡ with_give_up left entry.old }
+    ensures written { (IsSome left → entry.old.told ≡ [])
+        → entry.new ≡ with_give_up left entry.old }
 {
     entry.end = End::GivenUp;
     match left {

@@ -5,8 +5,8 @@ ghost use Rattle.jc_engine.specs.Changed.{begun_entry, replied_at_once};
 ghost use Rattle.jc_engine.specs.Results.{reply_in};
 ghost use Rattle.jc_engine.specs.Managed.{step_of};
 ghost use Rattle.jc_engine.specs.Recording.{CanTell, with_advance, with_entry};
-ghost use Rattle.jc_engine.specs.Journals.{CanGoOn, AdvancesEntry, KeepsLast, KeepsOthers, is_replied};
-ghost use Rattle.jc_engine.specs.Opens.{AreOpen, beginning_entry, kept_places};
+ghost use Rattle.jc_engine.specs.Journals.{CanGoOn, AdvancesEntry, KeepsAll, KeepsLast, KeepsOthers, is_replied};
+ghost use Rattle.jc_engine.specs.Opens.{AreOpen, beginning_entry, places_in};
 
 use super::Journal;
 use super::change::Begun;
@@ -88,7 +88,7 @@ impl OpenCalls {
         ensures shown { result.0 ≡ step_of advance }
         ensures copy { result.1 ≡ reply_in result.0 }
         ensures noted { self.new.past.history ≡ with_entry (with_advance advance (beginning_entry held)) self.old.past.history }
-        ensures places { KeepsLast (kept_places self.old.waiting) id self.old.past.history advance (kept_places self.new.waiting) }
+        ensures places { KeepsLast (places_in self.old.waiting) id self.old.past.history advance (places_in self.new.waiting) }
     {
         let mut entry = held.into_entry();
         let shown = write_outcome(&mut entry, advance);
@@ -101,12 +101,12 @@ impl OpenCalls {
 
     /// A call that goes on has come to this.
     fn wait(&mut self, id: CacheId, advance: Advance) -> (Step, Option<Reply>)
-        requires kept { CanGoOn self.old.past.history (kept_places self.old.waiting) id advance }
+        requires kept { CanGoOn self.old.past.history (places_in self.old.waiting) id advance }
         requires waits { is_replied advance ≡ false }
         ensures shown { result.0 ≡ step_of advance }
         ensures copy { result.1 ≡ reply_in result.0 }
-        ensures noted { AdvancesEntry self.old.past.history (kept_places self.old.waiting) id advance self.new.past.history }
-        ensures places { (other : ℕ) → kept_places self.new.waiting other ≡ kept_places self.old.waiting other }
+        ensures noted { AdvancesEntry self.old.past.history (places_in self.old.waiting) id advance self.new.past.history }
+        ensures places { KeepsAll (places_in self.old.waiting) (places_in self.new.waiting) }
     {
         let number = id.number();
         match self.waiting.get_mut(&number) {
@@ -121,11 +121,11 @@ impl OpenCalls {
 
     /// A call has ended with this reply. Its entry is let go.
     fn end(&mut self, id: CacheId, advance: Advance) -> (Step, Option<Reply>)
-        requires kept { CanGoOn self.old.past.history (kept_places self.old.waiting) id advance }
+        requires kept { CanGoOn self.old.past.history (places_in self.old.waiting) id advance }
         ensures shown { result.0 ≡ step_of advance }
         ensures copy { result.1 ≡ reply_in result.0 }
-        ensures noted { AdvancesEntry self.old.past.history (kept_places self.old.waiting) id advance self.new.past.history }
-        ensures places { KeepsOthers (kept_places self.old.waiting) id (kept_places self.new.waiting) }
+        ensures noted { AdvancesEntry self.old.past.history (places_in self.old.waiting) id advance self.new.past.history }
+        ensures places { KeepsOthers (places_in self.old.waiting) id (places_in self.new.waiting) }
     {
         let number = id.number();
         let Some(mut call) = self.waiting.remove(&number) else {
@@ -140,7 +140,7 @@ impl OpenCalls {
 impl Journal for OpenCalls {
     ghost history = { λ j. j.past.history };
 
-    ghost places = { λ j. kept_places j.waiting };
+    ghost places = { λ j. places_in j.waiting };
 
     type Held = Beginning;
 
