@@ -3,8 +3,7 @@ use Rattle.jc_engine.proofs.Names.{common_steps, map-append, length_push, CacheC
 use Rattle.jc_engine.proofs.Names.{fresh_fields, IsAt, IsSound, places_of, caches_in, get-empty}
 use Rattle.std.proofs.Common.{◌≡◌, ℕ, ◌+◌, ◌≤◌, zero, suc, List, [], ◌∷◌, ◌++◌, map, length, option_map, Option, Some, None, refl, sym, ap, subst, ◌∙◌, arith}
 use Rattle.std.specs.FinMap as table
-use Rattle.jc_engine.specs.Journals.{Puts}
-use Rattle.jc_engine.proofs.Numbered.{none-places, put_other, places_more}
+use Rattle.jc_engine.proofs.Numbered.{none-places, Puts, put_other, places_more}
 use Rattle.jc_engine.proofs.Places.{Within, listed_seen, stands, each_put}
 
 fresh_at : {G : Type 0} (m : RowMap) (id : ℕ) (c : CacheConfig) → IsAt {G = G} m id None → IsManaged {G = G} m id (fresh_fields id c)

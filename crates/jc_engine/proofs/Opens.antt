@@ -4,10 +4,10 @@ use Rattle.jc_engine.proofs.Names.{cases_eq, length_push, Entry, History, Advanc
 use Rattle.jc_model.specs.declared.call.Reply.{Reply}
 use Rattle.jc_model.specs.declared.event.End.TheVariants.{Waiting}
 use Rattle.jc_model.specs.Legal.{end_by}
-use Rattle.jc_engine.specs.Journals.{is_replied, IsKept, Puts}
+use Rattle.jc_engine.specs.Journals.{is_replied, IsKept}
 use Rattle.jc_engine.specs.declared.journal.open_call.OpenCall.{OpenCall}
 use Rattle.jc_engine.specs.Opens.{AreOpen, StandsOpen, place_of}
-use Rattle.jc_engine.proofs.Numbered.{put_here, put_other}
+use Rattle.jc_engine.proofs.Numbered.{Puts, put_here, put_other}
 use Rattle.jc_engine.proofs.Entries.{StayElsewhere, added_elsewhere, set_elsewhere, get_last}
 
 -- a call that has no reply goes on

@@ -2,8 +2,7 @@
 use Rattle.std.proofs.Common.{zero, suc, [], ◌∷◌, ◌≡◌, ◌≢◌, ℕ, ◌<◌, List, map, length, option_map, slice_get, slice_set, Option, Some, inl, inr, refl, sym, ap, subst, ◌∙◌, length-set}
 use Rattle.jc_engine.proofs.Names.{cases_eq, length-map, map-set, set-get_or, get_or_from_slice_get, CacheConfig, at_place, Status, live_at, RowMap, Member, member_of, members_of, SameElsewhere, Managed, IsManaged, cache_in}
 use Rattle.jc_engine.proofs.Names.{Cache, status_of, lives_of, IsAt, IsSound, NoneFrom, places_of, caches_in, at_place_map}
-use Rattle.jc_engine.specs.Journals.{Puts}
-use Rattle.jc_engine.proofs.Numbered.{length-places, at-places, below-places, put_here, put_other, places_put, none_put}
+use Rattle.jc_engine.proofs.Numbered.{Puts, length-places, at-places, below-places, put_here, put_other, places_put, none_put}
 use Rattle.jc_engine.proofs.Tables.{at_elsewhere}
 
 pub length_map : {A B : Type 0} (f : A → B) (xs : List A) → length (map f xs) ≡ length xs

@@ -1,5 +1,5 @@
 //! A journal that keeps the entries of open calls alone. The history of which it tells exists in proofs.
-ghost use Rattle.std.specs.Prelude.{◌≡◌, ◌<◌, ◌≤◌, ◌+◌, ◌^◌, ℕ, false, nat_eq};
+ghost use Rattle.std.specs.Prelude.{◌≡◌, ◌<◌, ◌≤◌, ◌+◌, ◌^◌, false, nat_eq};
 ghost use Rattle.std.specs.HashMap.{get, spare};
 ghost use Rattle.jc_engine.specs.Changed.{begun_entry, replied_at_once};
 ghost use Rattle.jc_engine.specs.Results.{reply_in};

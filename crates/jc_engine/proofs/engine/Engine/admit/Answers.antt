@@ -1,7 +1,6 @@
 use Rattle.std.proofs.Common.{ℕ, length, Some, ap, ◌∙◌, nat_eq}
 use Rattle.jc_engine.proofs.Names.{get, fresh_fields}
-use Rattle.jc_engine.specs.Journals.{Puts}
-use Rattle.jc_engine.proofs.Numbered.{puts_same}
+use Rattle.jc_engine.proofs.Numbered.{Puts, puts_same}
 use Rattle.jc_engine.proofs.Places.{within}
 use Rattle.jc_engine.proofs.Listed.{id_listed}
 use Rattle.jc_engine.proofs.Coming.{seen_more, sound_more}
