@@ -4,6 +4,7 @@ pub mod Tenures
 pub mod Livings
 pub mod Asked
 pub mod Comparing
+pub mod Walking
 pub mod Carrying
 pub mod GivingUp
 pub mod Writing

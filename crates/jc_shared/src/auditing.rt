@@ -6,6 +6,7 @@ ghost use Rattle.std.specs.List.{All};
 ghost use Rattle.jc_shared.specs.Accounts.{calls_of, times, own_of, IsLeastFrom, AreGiven, NoneWaits, AllAgree, PartAt, DiffersFirst, Accounts, IsFault};
 
 use crate::fault::CloseFault;
+use crate::keeping::MOST_SESSIONS;
 use jc_model::event::{End, Entry};
 use jc_model::exact::Exact;
 use jc_model::transcript::Transcript;
@@ -172,11 +173,46 @@ fn least_from(entries: &[Entry], given: u32) -> Option<u32>
     least
 }
 
+/// Whether each session's entries are its list, by one walk over the transcript. It also says no where more numbers were
+/// given out than it has places for.
+fn agree<S: Logged>(entries: &[Entry], logs: &[S], given: u32) -> bool
+    requires { AreGiven given (map S.log logs.now) }
+    ensures { IsTrue result → AllAgree entries.now (map S.log logs.now) }
+{
+    if given > MOST_SESSIONS {
+        return false;
+    }
+    let mut rests: [&[Entry]; MOST_SESSIONS as usize] = [&[]; MOST_SESSIONS as usize];
+    for number in 0..MOST_SESSIONS {
+        rests[number as usize] = own_of(logs, number);
+    }
+    let mut left = entries;
+    while let Some((entry, later)) = left.split_first() {
+        if entry.session >= MOST_SESSIONS {
+            return false;
+        }
+        match past(rests[entry.session as usize], entry) {
+            Some(rest) => rests[entry.session as usize] = rest,
+            None => return false,
+        }
+        left = later;
+    }
+    for session in 0..MOST_SESSIONS {
+        if !rests[session as usize].is_empty() {
+            return false;
+        }
+    }
+    true
+}
+
 /// The least session whose entries are not its list, and the first place where they part.
 fn first_difference<S: Logged>(entries: &[Entry], logs: &[S], given: u32) -> Option<(u32, usize)>
     requires { AreGiven given (map S.log logs.now) }
     ensures { MatchOption result (AllAgree entries.now (map S.log logs.now)) (λ d. DiffersFirst entries.now (map S.log logs.now) d.0 d.1) }
 {
+    if agree(entries, logs, given) {
+        return None;
+    }
     for session in 0..given {
         if let Some(place) = parting(entries, session, own_of(logs, session)) {
             return Some((session, place));

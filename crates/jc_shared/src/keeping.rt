@@ -197,7 +197,7 @@ impl Keeping for AllCalls {
 }
 
 /// The most sessions of a manager that keeps all calls, which tells them apart when it closes.
-const MOST_SESSIONS: u32 = 64;
+pub(crate) const MOST_SESSIONS: u32 = 64;
 
 impl Keeping for OpenCalls {
     type Own = OwnPast;
