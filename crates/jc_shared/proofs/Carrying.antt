@@ -14,21 +14,20 @@ use Rattle.jc_model.specs.declared.event.End.TheVariants as ends
 use Rattle.jc_model.specs.declared.event.Cause.TheVariants as causes
 use Rattle.jc_model.specs.declared.event.Entry.{Entry}
 use Rattle.jc_model.specs.declared.event.Event.TheVariants as event
+use Rattle.jc_model.specs.declared.event.Step.{Step}
+use Rattle.jc_model.specs.declared.event.Step.TheVariants.{Done, Need}
 use Rattle.jc_engine.specs.Changed.{begun_entry, replied_at_once}
 use Rattle.jc_engine.specs.Recording.{blank}
 use Rattle.jc_engine.specs.Results.{reply_in}
 use Rattle.jc_engine.specs.declared.journal.change.Begun.{Begun}
 use Rattle.jc_shared.specs.declared.fault.CallFault.{CallFault}
 use Rattle.jc_shared.specs.declared.fault.CallFault.TheVariants as faults
-use Rattle.jc_shared.specs.declared.turned.Turned.{Turned}
-use Rattle.jc_shared.specs.declared.turned.Turned.TheVariants.{Asked, Replied}
 use Rattle.jc_model.specs.Asking.{AsksOf}
 use Rattle.jc_hooks.specs.Asking.{states_after}
 use Rattle.jc_shared.specs.declared.hooks.LockedHooks.{LockedHooks}
 use Rattle.jc_shared.specs.Serving.{told_behind, TellsOnce, Tells, TellsOn, Serves}
 use Rattle.jc_shared.specs.Stated.{Stated, AreStated, IsStatedBy}
 use Rattle.jc_shared.specs.Finding.{accepted, ended_by}
-use Rattle.jc_shared.specs.Tenures.{step_of}
 use Rattle.jc_shared.specs.Sessions.{Sitting, Sight}
 use Rattle.jc_shared.specs.Living.{Refuses}
 use Rattle.jc_shared.specs.Calls.{Stands, called, IsSameCall, HasEnded, Stays, EndsFaulty, GoesOn, Adds, AddsWaiting, Fails, MayLack, IsBeginFault}
@@ -70,14 +69,14 @@ module _ {W K : Type 0} (state_after : K → List Notice → List ℕ) where
   served_on may old new (Process key n value argument) a told once s = tells_nothing old new told told (ap (λ (h : LockedHooks W K). h.listeners) s) refl
 
 -- a tenure tells nothing
-pub goes_untold : (configs : List CacheConfig) (d e : Entry) (pass : Sight) (turned : Turned) → GoesOn configs d turned e pass → e.told ≡ d.told
-goes_untold configs d e pass (Asked q) goes = ap (λ (x : Entry). x.told) goes.0
-goes_untold configs d e pass (Replied r) goes = ap (λ (x : Entry). x.told) goes.0
+pub goes_untold : (configs : List CacheConfig) (d e : Entry) (pass : Sight) (step : Step) → GoesOn configs d step e pass → e.told ≡ d.told
+goes_untold configs d e pass (Need q) goes = ap (λ (x : Entry). x.told) goes.0
+goes_untold configs d e pass (Done r) goes = ap (λ (x : Entry). x.told) goes.0
 
 -- nor does it answer
-pub goes_unanswered : (configs : List CacheConfig) (d e : Entry) (pass : Sight) (turned : Turned) → GoesOn configs d turned e pass → e.answers ≡ d.answers
-goes_unanswered configs d e pass (Asked q) goes = ap (λ (x : Entry). x.answers) goes.0
-goes_unanswered configs d e pass (Replied r) goes = ap (λ (x : Entry). x.answers) goes.0
+pub goes_unanswered : (configs : List CacheConfig) (d e : Entry) (pass : Sight) (step : Step) → GoesOn configs d step e pass → e.answers ≡ d.answers
+goes_unanswered configs d e pass (Need q) goes = ap (λ (x : Entry). x.answers) goes.0
+goes_unanswered configs d e pass (Done r) goes = ap (λ (x : Entry). x.answers) goes.0
 
 -- the answer that the draft was given
 pub noted_waits : (stated : List Stated) (d told d' : Entry) (notices : List Notice) (a : Answer) → told ≡ record d { told = notices } → d' ≡ record told { answers = told.answers ++ a ∷ [] } → d.end ≡ ends.Waiting → AreStated (slice_get stated d.id) d.call d.answers
@@ -89,27 +88,27 @@ noted_waits stated d told d' notices a kept noted waits answered is =
     )
 
 -- a tenure has brought it on
-pub goes_stays : (configs : List CacheConfig) (stated : List Stated) (d e : Entry) (pass : Sight) (turned : Turned) → GoesOn configs d turned e pass → (d.end ≡ ends.Waiting) × AreStated (slice_get stated d.id) d.call d.answers → Stays configs stated turned e pass
-goes_stays configs stated d e pass (Asked q) goes h = record {
+pub goes_stays : (configs : List CacheConfig) (stated : List Stated) (d e : Entry) (pass : Sight) (step : Step) → GoesOn configs d step e pass → (d.end ≡ ends.Waiting) × AreStated (slice_get stated d.id) d.call d.answers → Stays configs stated step e pass
+goes_stays configs stated d e pass (Need q) goes h = record {
   waits = ap (λ (x : Entry). x.end) goes.0 ∙ h.0;
   asks = subst (λ (x : Entry). AsksOf x.call q) (sym goes.0) goes.1;
   answered = subst (λ (x : Entry). AreStated (slice_get stated x.id) x.call x.answers) (sym goes.0) h.1;
 }
-goes_stays configs stated d e pass (Replied r) goes h = record {
+goes_stays configs stated d e pass (Done r) goes h = record {
   ended = ap (λ (x : Entry). x.end) goes.0;
   stands = goes.1;
   answered = subst (λ (x : Entry). AreStated (slice_get stated x.id) x.call x.answers) (sym goes.0) h.1;
 }
 
 -- the call has begun
-pub begun_stays : (configs : List CacheConfig) (stated : List Stated) (session id at : ℕ) (call : Call) (draft draft' : Entry) (pass : Sight) (turned : Turned) → draft ≡ blank session id at call → GoesOn configs draft turned draft' pass → Stays configs stated turned draft' pass
-begun_stays configs stated session id at call draft draft' pass turned is goes =
-    goes_stays configs stated draft draft' pass turned goes (ap (λ (e : Entry). e.end) is, no_answers (slice_get stated draft.id) draft.call draft.answers (ap (λ (e : Entry). e.answers) is))
+pub begun_stays : (configs : List CacheConfig) (stated : List Stated) (session id at : ℕ) (call : Call) (draft draft' : Entry) (pass : Sight) (step : Step) → draft ≡ blank session id at call → GoesOn configs draft step draft' pass → Stays configs stated step draft' pass
+begun_stays configs stated session id at call draft draft' pass step is goes =
+    goes_stays configs stated draft draft' pass step goes (ap (λ (e : Entry). e.end) is, no_answers (slice_get stated draft.id) draft.call draft.answers (ap (λ (e : Entry). e.answers) is))
 
 -- it is the call of its draft
-pub begun_same : (configs : List CacheConfig) (draft draft' : Entry) (pass : Sight) (turned : Turned) → GoesOn configs draft turned draft' pass → IsSameCall draft draft'
-begun_same configs draft draft' pass (Asked q) goes = subst (IsSameCall draft) (sym goes.0) refl
-begun_same configs draft draft' pass (Replied r) goes = subst (IsSameCall draft) (sym goes.0) refl
+pub begun_same : (configs : List CacheConfig) (draft draft' : Entry) (pass : Sight) (step : Step) → GoesOn configs draft step draft' pass → IsSameCall draft draft'
+begun_same configs draft draft' pass (Need q) goes = subst (IsSameCall draft) (sym goes.0) refl
+begun_same configs draft draft' pass (Done r) goes = subst (IsSameCall draft) (sym goes.0) refl
 
 pub same_call : (d e f : Entry) → IsSameCall d e → IsSameCall e f → IsSameCall d f
 same_call d e f first second = second ∙ ap (λ (x : Entry). called x.session x.id x.at x.call f.answers f.told f.end) first
@@ -143,26 +142,26 @@ module _ (configs : List CacheConfig) (stated : List Stated) (old new : Sitting)
   fails faults.OutOfMemory h = inr (adds ends.GivenUp h)
 
   -- at a reply, and else
-  pub added_ok : (r : Result Reply CallFault) → MatchResult r (λ reply. Stays configs stated (Replied reply) e new.pass) (λ fault. EndsFaulty configs stated fault e new.pass) → IfOk r (λ reply. Adds configs stated old new id at call (ends.Replied reply))
+  pub added_ok : (r : Result Reply CallFault) → MatchResult r (λ reply. Stays configs stated (Done reply) e new.pass) (λ fault. EndsFaulty configs stated fault e new.pass) → IfOk r (λ reply. Adds configs stated old new id at call (ends.Replied reply))
   added_ok (Ok reply) h = adds (ends.Replied reply) h
   added_ok (Err fault) h = tt
 
-  pub added_err : (r : Result Reply CallFault) → MatchResult r (λ reply. Stays configs stated (Replied reply) e new.pass) (λ fault. EndsFaulty configs stated fault e new.pass) → IfErr r (λ fault. Fails configs stated old new id at call fault)
+  pub added_err : (r : Result Reply CallFault) → MatchResult r (λ reply. Stays configs stated (Done reply) e new.pass) (λ fault. EndsFaulty configs stated fault e new.pass) → IfErr r (λ fault. Fails configs stated old new id at call fault)
   added_err (Ok reply) h = tt
   added_err (Err fault) h = fails fault h
 
 -- A call that is entered when it has begun.
 
 -- it had its reply at once
-pub replied_adds : (configs : List CacheConfig) (stated : List Stated) (old new : Sitting) (id at : ℕ) (call : Call) (begun : Begun) (turned : Turned) (second : Option Reply) (reply copy : Reply) → turned ≡ Replied reply → second ≡ Some copy → second ≡ reply_in (step_of turned)
-    → GoesOn configs (blank old.number id at call) turned (ended_by second (blank old.number id at call)) new.pass → begun_entry begun ≡ blank old.number id at call → new.calls ≡ old.calls ++ replied_at_once begun copy ∷ [] → Adds configs stated old new id at call (ends.Replied reply)
-replied_adds configs stated old new id at call begun turned second reply copy turns is copied goes begins added =
-    let both : Some copy ≡ Some reply = sym is ∙ copied ∙ ap (λ (t : Turned). reply_in (step_of t)) turns in
+pub replied_adds : (configs : List CacheConfig) (stated : List Stated) (old new : Sitting) (id at : ℕ) (call : Call) (begun : Begun) (step : Step) (second : Option Reply) (reply copy : Reply) → step ≡ Done reply → second ≡ Some copy → second ≡ reply_in step
+    → GoesOn configs (blank old.number id at call) step (ended_by second (blank old.number id at call)) new.pass → begun_entry begun ≡ blank old.number id at call → new.calls ≡ old.calls ++ replied_at_once begun copy ∷ [] → Adds configs stated old new id at call (ends.Replied reply)
+replied_adds configs stated old new id at call begun step second reply copy turns is copied goes begins added =
+    let both : Some copy ≡ Some reply = sym is ∙ copied ∙ ap reply_in turns in
     let same : copy ≡ reply = cc in
     let draft : Entry = blank old.number id at call in
     let e : Entry = record draft { end = ends.Replied copy } in
-    let ends_so : GoesOn configs draft turned e new.pass = subst (λ (r : Option Reply). GoesOn configs draft turned (ended_by r draft) new.pass) is goes in
-    let here : GoesOn configs draft (Replied reply) e new.pass = subst (λ (t : Turned). GoesOn configs draft t e new.pass) turns ends_so in
+    let ends_so : GoesOn configs draft step e new.pass = subst (λ (r : Option Reply). GoesOn configs draft step (ended_by r draft) new.pass) is goes in
+    let here : GoesOn configs draft (Done reply) e new.pass = subst (λ (t : Step). GoesOn configs draft t e new.pass) turns ends_so in
     let one_more : new.calls ≡ old.calls ++ e ∷ [] = added ∙ ap (λ (x : Entry). old.calls ++ record x { end = ends.Replied copy } ∷ []) begins in
     adds configs stated old new id at call draft e refl refl one_more (ends.Replied reply)
     (record { ended = ap ends.Replied same; stands = here.1; answered = no_answers (slice_get stated e.id) e.call e.answers refl })

@@ -36,15 +36,13 @@ use Rattle.jc_engine.specs.Recording.{Recording, HasOpen, IsEntryOf, blank}
 use Rattle.jc_model.specs.Asking.{AsksOf, AsksIn, invoked_by}
 use Rattle.jc_shared.specs.declared.fault.CallFault.{CallFault}
 use Rattle.jc_shared.specs.declared.fault.CallFault.TheVariants as faults
-use Rattle.jc_shared.specs.declared.turned.Turned.{Turned}
-use Rattle.jc_shared.specs.declared.turned.Turned.TheVariants.{Asked, Replied}
 use Rattle.jc_shared.specs.Sessions.{Sight, BeginsWith, Sees}
 use Rattle.jc_shared.specs.Calls.{Stands, GoesOn, MayLack, IsBeginFault, called}
 use Rattle.jc_engine.specs.Results.{reply_in}
-use Rattle.jc_shared.specs.Finding.{fault_of, answer_fault_of, ended_by, turned_of, IsOfCall, IsOpen, Turns, IsReplied}
+use Rattle.jc_shared.specs.Finding.{fault_of, answer_fault_of, ended_by, IsOfCall, IsOpen, IsReplied}
 use Rattle.jc_shared.specs.Living.{Refuses}
 use Rattle.jc_shared.specs.Pending.{IsRefusedAnswer}
-use Rattle.jc_shared.specs.Tenures.{IsTenure, IsRefusedFor, Stops, step_of}
+use Rattle.jc_shared.specs.Tenures.{IsTenure, IsRefusedFor, Stops}
 use Rattle.jc_model.proofs.Asking.{whole_asks}
 use Rattle.jc_shared.proofs.Last.{open_last, open_stands, changed_there, open_same, changed_last, added_last}
 
@@ -120,35 +118,16 @@ resumed_asks lives transcript tells id place there a step m is = at (live_at liv
         goes_on k.config run (at_each-answered (λ q p. AsksOf e.call q) (λ p r. Unit {0}) (run_of k.config s (played e)) e.answers (whole_asks k.config e.at e.call s))
         (not_refused step m (reply_of k.config k.standing (given_answer a)) is ∙ ap (λ (t : Standing). reply_of k.config t (given_answer a)) (open_stands lives transcript tells id place there k here))
 
--- the entry and what is told are the step's
-pub turns_into : (e : Entry) (step : Step) (copy : Option Reply) (turned : Turned) → copy ≡ reply_in step → turned ≡ turned_of step → Turns e step turned (ended_by copy e)
-turns_into e step copy turned copied told = subst (λ (t : Turned). Turns e step t (ended_by copy e)) (sym told) (subst (λ (c : Option Reply). Turns e step (turned_of step) (ended_by c e)) (sym copied) (go step))
-  where
-    go : (step : Step) → Turns e step (turned_of step) (ended_by (reply_in step) e)
-    go (Need q) = (refl, refl)
-    go (Done r) = (refl, refl)
-
--- so do those of a draft that ends by the reply
-pub turns_as : (draft draft' : Entry) (step : Step) (copy : Option Reply) (turned : Turned) → copy ≡ reply_in step → turned ≡ turned_of step → draft' ≡ ended_by copy draft → Turns draft step turned draft'
-turns_as draft draft' step copy turned copied told ends = subst (λ (e : Entry). Turns draft step turned e) (sym ends) (turns_into draft step copy turned copied told)
-
 -- a draft that is the entry of a call that begins, and ends as it
-pub drafted : (configs : List CacheConfig) (draft draft' entry : Entry) (turned : Turned) (copy : Option Reply) (pass : Sight) → draft ≡ entry → draft' ≡ ended_by copy draft → GoesOn configs entry turned (ended_by copy entry) pass → GoesOn configs draft turned draft' pass
-drafted configs draft draft' entry turned copy pass is ends goes =
-    subst (λ (e : Entry). GoesOn configs draft turned e pass) (sym ends) (subst (λ (e : Entry). GoesOn configs e turned (ended_by copy e) pass) (sym is) goes)
+pub drafted : (configs : List CacheConfig) (draft draft' entry : Entry) (step : Step) (copy : Option Reply) (pass : Sight) → draft ≡ entry → draft' ≡ ended_by copy draft → GoesOn configs entry step (ended_by copy entry) pass → GoesOn configs draft step draft' pass
+drafted configs draft draft' entry step copy pass is ends goes =
+    subst (λ (e : Entry). GoesOn configs draft step e pass) (sym ends) (subst (λ (e : Entry). GoesOn configs e step (ended_by copy e) pass) (sym is) goes)
 
--- the step that a tenure tells is the engine's
-turns_step : (draft draft' : Entry) (step : Step) (turned : Turned) → Turns draft step turned draft' → step ≡ step_of turned
-turns_step draft draft' (Need q) (Asked q') turns = ap Need (sym turns.0)
-turns_step draft draft' (Need q) (Replied r) turns = absurd turns
-turns_step draft draft' (Done r) (Asked q') turns = absurd turns
-turns_step draft draft' (Done r) (Replied r') turns = ap Done (sym turns.0)
-
-pub is_tenure : (old mid new : Recording) (session : ℕ) (event : Event) (step : Step) (turned : Turned) (draft draft' : Entry) → Turns draft step turned draft' → new ≡ mid → outcome.Step step ≡ answer_to (lives_of old.caches) event false
-    → mid.transcript ≡ recorded session event (outcome.Step step) old.transcript → lives_of mid.caches ≡ lives_after (lives_of old.caches) event (outcome.Step step) → IsTenure old new session event (outcome.Step (step_of turned))
-is_tenure old mid new session event step turned draft draft' turns same answered written after =
-    subst (λ (r : Recording). IsTenure old r session event (outcome.Step (step_of turned))) (sym same)
-    (subst (λ (s : Step). IsTenure old mid session event (outcome.Step s)) (turns_step draft draft' step turned turns) (record { answered = answered; transcript = written; lives = after }))
+-- the engine has come to this step, and a meeting leaves it as it is
+pub is_tenure : (old mid new : Recording) (session : ℕ) (event : Event) (step : Step) → new ≡ mid → outcome.Step step ≡ answer_to (lives_of old.caches) event false → mid.transcript ≡ recorded session event (outcome.Step step) old.transcript
+    → lives_of mid.caches ≡ lives_after (lives_of old.caches) event (outcome.Step step) → IsTenure old new session event (outcome.Step step)
+is_tenure old mid new session event step same answered written after =
+    subst (λ (r : Recording). IsTenure old r session event (outcome.Step step)) (sym same) (record { answered = answered; transcript = written; lives = after })
 
 -- why an answer was not taken
 pub stops : (old : Recording) (draft : Entry) (answers : List Answer) (a : Answer) (cause : Cause) → IsOpen (lives_of old.caches) old.transcript draft answers → IsRefusedFor (lives_of old.caches) (event.Answer draft.id a) cause → Stops old draft answers a (answer_fault_of cause)
@@ -279,16 +258,13 @@ begun_live lives new id now call step m is after = at (live_at lives id) refl is
 
 -- How a tenure leaves the draft.
 
-pub begun_goes_on : (configs : List CacheConfig) (t new : History) (draft draft' : Entry) (pass : Sight) (call : Call) (step : Step) (turned : Turned) → draft ≡ blank draft.session draft.id draft.at call → Turns draft step turned draft'
-    → IsLegal new → BeginsWith configs new → (lives : Lives) → IsSome (live_at lives draft.id) → (IsReplied turned → Sees new lives pass) → new ≡ recorded draft.session (event.Begin draft.id draft.at call) (outcome.Step step) t → AsksIn call step → GoesOn configs draft turned draft' pass
-begun_goes_on configs t new draft draft' pass call (Need q) (Asked q') is turns legal first lives live sees written asks =
-    (turns.1, subst (λ (c : Call). AsksOf c q') (sym (ap (λ (e : Entry). e.call) is)) (subst (AsksOf call) (sym turns.0) asks))
-begun_goes_on configs t new draft draft' pass call (Need q) (Replied r) is turns legal first lives live sees written asks = absurd turns
-begun_goes_on configs t new draft draft' pass call (Done r) (Asked q') is turns legal first lives live sees written asks = absurd turns
-begun_goes_on configs t new draft draft' pass call (Done r) (Replied r') is turns legal first lives live sees written asks =
+pub begun_goes_on : (configs : List CacheConfig) (t new : History) (draft draft' : Entry) (pass : Sight) (call : Call) (step : Step) → draft ≡ blank draft.session draft.id draft.at call → draft' ≡ ended_by (reply_in step) draft
+    → IsLegal new → BeginsWith configs new → (lives : Lives) → IsSome (live_at lives draft.id) → (IsReplied step → Sees new lives pass) → new ≡ recorded draft.session (event.Begin draft.id draft.at call) (outcome.Step step) t → AsksIn call step → GoesOn configs draft step draft' pass
+begun_goes_on configs t new draft draft' pass call (Need q) is ends_so legal first lives live sees written asks = (ends_so, subst (λ (c : Call). AsksOf c q) (sym (ap (λ (e : Entry). e.call) is)) asks)
+begun_goes_on configs t new draft draft' pass call (Done r) is ends_so legal first lives live sees written asks =
     let e : Entry = record (blank draft.session draft.id draft.at call) { end = ends.Replied r } in
-    let same : draft' ≡ e = turns.1 ∙ ap (λ (d : Entry). record d { end = ends.Replied r }) is in (
-      turns.1 ∙ ap (λ (reply : Reply). record draft { end = ends.Replied reply }) (sym turns.0),
+    let same : draft' ≡ e = ends_so ∙ ap (λ (d : Entry). record d { end = ends.Replied r }) is in (
+      ends_so,
       subst (λ (d : Entry). Stands configs d pass) (sym same) (record { transcript = new; legal = legal; begins = first; before = entries_of draft.id t.entries; last = ap (λ (h : History). entries_of draft.id h.entries) written ∙ added_last t.entries e; lives = lives; shown = live; sees = sees tt }),
     )
 
@@ -322,21 +298,18 @@ module _ (configs : List CacheConfig) (lives lives' : Lives) (t new : History) (
       let last = changed_last lives t found.here.tells draft.id found.place found.here.opened k at f keeps draft' there in
       record { transcript = new; legal = legal; begins = first; before = last.0; last = ap (λ (id : ℕ). entries_of id new.entries) same ∙ ap (entries_of draft.id) written ∙ last.1; lives = lives'; shown = subst (λ (i : ℕ). IsSome (live_at lives' i)) (sym same) live; sees = sees }
 
-  pub resumed_goes_on : (a : Answer) (step : Step) (turned : Turned) (m : Bool) → draft.answers ≡ answers ++ a ∷ [] → Turns draft step turned draft' → IsLegal new → BeginsWith configs new → (IsReplied turned → Sees new lives' pass)
-      → lives' ≡ lives_by lives (says draft.id (given_answer a)) (outcome.Step step) → new ≡ recorded draft.session (event.Answer draft.id a) (outcome.Step step) t → outcome.Step step ≡ answer_to lives (event.Answer draft.id a) m → GoesOn configs draft turned draft' pass
-  resumed_goes_on a (Need q) (Asked q') m all turns legal first sees after written is =
+  pub resumed_goes_on : (a : Answer) (step : Step) (m : Bool) → draft.answers ≡ answers ++ a ∷ [] → draft' ≡ ended_by (reply_in step) draft → IsLegal new → BeginsWith configs new → (IsReplied step → Sees new lives' pass)
+      → lives' ≡ lives_by lives (says draft.id (given_answer a)) (outcome.Step step) → new ≡ recorded draft.session (event.Answer draft.id a) (outcome.Step step) t → outcome.Step step ≡ answer_to lives (event.Answer draft.id a) m → GoesOn configs draft step draft' pass
+  resumed_goes_on a (Need q) m all ends_so legal first sees after written is =
       let asks : AsksOf opened.call q = resumed_asks lives t found.here.tells draft.id found.place found.here.opened a (Need q) m is in
-      (turns.1, subst (λ (c : Call). AsksOf c q') found.here.own.call (subst (AsksOf opened.call) (sym turns.0) asks))
-  resumed_goes_on a (Need q) (Replied r) m all turns legal first sees after written is = absurd turns
-  resumed_goes_on a (Done r) (Asked q') m all turns legal first sees after written is = absurd turns
-  resumed_goes_on a (Done r) (Replied r') m all turns legal first sees after written is =
-      (turns.1 ∙ ap (λ (reply : Reply). record draft { end = ends.Replied reply }) (sym turns.0), at (live_at lives draft.id) refl is)
+      (ends_so, subst (λ (c : Call). AsksOf c q) found.here.own.call asks)
+  resumed_goes_on a (Done r) m all ends_so legal first sees after written is = (ends_so, at (live_at lives draft.id) refl is)
     where
       at : (k : Option Status) → live_at lives draft.id ≡ k → outcome.Step (Done r) ≡ answer_of k (given_answer a) m → Stands configs draft' pass
       at None here is = absurd cc
       at (Some k) here is =
           stands_there (λ d. with_outcome (outcome.Step (Done r)) (with_answer a d)) (λ d. refl) (ap (λ (h : History). h.entries) written)
-          (turns.1 ∙ ap (λ (given : List Answer). record draft { answers = given; end = ends.Replied r }) all) legal first (sees tt) (ap (λ (e : Entry). e.id) turns.1)
+          (ends_so ∙ ap (λ (given : List Answer). record draft { answers = given; end = ends.Replied r }) all) legal first (sees tt) (ap (λ (e : Entry). e.id) ends_so)
           (stays_there lives lives' draft.id (given_answer a) k (outcome.Step (Done r)) here refl after) k here
 
   -- a call that is given up has told its notices, or they are left

@@ -11,12 +11,12 @@ use Rattle.jc_model.specs.declared.event.End.{End}
 use Rattle.jc_model.specs.declared.event.End.TheVariants as end
 use Rattle.jc_model.specs.declared.event.Entry.{Entry}
 use Rattle.jc_model.specs.declared.event.Event.TheVariants as event
+use Rattle.jc_model.specs.declared.event.Step.{Step}
+use Rattle.jc_model.specs.declared.event.Step.TheVariants.{Done, Need}
 use Rattle.jc_model.specs.Runs.{Lives, live_at, has_processor}
 use Rattle.jc_model.specs.Legal.{History, IsLegal, entries_of}
 use Rattle.jc_shared.specs.declared.fault.CallFault.{CallFault}
 use Rattle.jc_shared.specs.declared.fault.CallFault.TheVariants.{NoSuchCache, NoSuchProcessor, Busy, Overtaken, OutOfMemory}
-use Rattle.jc_shared.specs.declared.turned.Turned.{Turned}
-use Rattle.jc_shared.specs.declared.turned.Turned.TheVariants.{Asked, Replied}
 use Rattle.jc_model.specs.Asking.{AsksOf, invoked_by}
 use Rattle.jc_shared.specs.Sessions.{Sitting, Sight, BeginsWith, Sees}
 use Rattle.jc_shared.specs.Living.{Refuses, IsMissing}
@@ -84,9 +84,9 @@ pub record IsWaiting (stated : List Stated) (e : Entry) (request : Request) : Ty
   pub answered : AreStated (slice_get stated e.id) e.call e.answers
 
 -- how a call stands
-abbrev pub Stays : List CacheConfig → List Stated → Turned → Entry → Sight → Type 0
-Stays configs stated (Asked request) e pass = IsWaiting stated e request
-Stays configs stated (Replied reply) e pass = HasEnded configs stated e pass (end.Replied reply)
+abbrev pub Stays : List CacheConfig → List Stated → Step → Entry → Sight → Type 0
+Stays configs stated (Need request) e pass = IsWaiting stated e request
+Stays configs stated (Done reply) e pass = HasEnded configs stated e pass (end.Replied reply)
 
 -- how it ends without a reply; where it was overtaken its entry waits for ever
 abbrev pub EndsFaulty : List CacheConfig → List Stated → CallFault → Entry → Sight → Type 0
@@ -95,9 +95,9 @@ EndsFaulty configs stated Overtaken e pass = e.end ≡ end.Waiting
 EndsFaulty configs stated fault e pass = ⊥
 
 -- a tenure of the lock has brought the call on
-abbrev pub GoesOn : List CacheConfig → Entry → Turned → Entry → Sight → Type 0
-GoesOn configs old (Asked request) new pass = (new ≡ old) × AsksOf old.call request
-GoesOn configs old (Replied reply) new pass = (new ≡ record old { end = end.Replied reply }) × Stands configs new pass
+abbrev pub GoesOn : List CacheConfig → Entry → Step → Entry → Sight → Type 0
+GoesOn configs old (Need request) new pass = (new ≡ old) × AsksOf old.call request
+GoesOn configs old (Done reply) new pass = (new ≡ record old { end = end.Replied reply }) × Stands configs new pass
 
 -- the session's list has grown by this call
 pub record Adds (configs : List CacheConfig) (stated : List Stated) (old new : Sitting) (id at : ℕ) (call : Call) (n : End) : Type 0 where

@@ -16,8 +16,6 @@ use Rattle.jc_model.specs.declared.event.Entry.{Entry}
 use Rattle.jc_model.specs.declared.event.End.TheVariants as end
 use Rattle.jc_model.specs.declared.event.Step.{Step}
 use Rattle.jc_model.specs.declared.event.Step.TheVariants.{Done, Need}
-use Rattle.jc_shared.specs.declared.turned.Turned.{Turned}
-use Rattle.jc_shared.specs.declared.turned.Turned.TheVariants.{Asked, Replied}
 use Rattle.jc_model.specs.Runs.{Lives}
 use Rattle.jc_model.specs.Legal.{History, Tells}
 use Rattle.jc_engine.specs.Recording.{HasOpen}
@@ -74,21 +72,12 @@ pub record IsOpen (lives : Lives) (transcript : History) (draft : Entry) (answer
   pub place : ℕ
   pub here : IsOpenFor lives transcript draft answers place
 
-abbrev pub turned_of : Step → Turned
-turned_of (Need request) = Asked request
-turned_of (Done reply) = Replied reply
-
 -- an entry with its call's reply, if it has one
 abbrev pub ended_by : Option Reply → Entry → Entry
 ended_by None e = e
 ended_by (Some reply) e = record e { end = end.Replied reply }
 
--- what a step comes to
-abbrev pub Turns : Entry → Step → Turned → Entry → Type 0
-Turns old (Need request) (Asked asked) new = (asked ≡ request) × (new ≡ old)
-Turns old (Done reply) (Replied replied) new = (replied ≡ reply) × (new ≡ record old { end = end.Replied reply })
-Turns old _ _ new = ⊥
-
-abbrev pub IsReplied : Turned → Type 0
-IsReplied (Asked request) = ⊥
-IsReplied (Replied reply) = ⊤
+-- the step is a reply
+abbrev pub IsReplied : Step → Type 0
+IsReplied (Need request) = ⊥
+IsReplied (Done reply) = ⊤

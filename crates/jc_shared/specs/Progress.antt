@@ -8,6 +8,8 @@ use Rattle.jc_model.specs.declared.event.End.{End}
 use Rattle.jc_model.specs.declared.event.End.TheVariants as ends
 use Rattle.jc_model.specs.declared.event.Entry.{Entry}
 use Rattle.jc_model.specs.declared.event.Event.TheVariants as event
+use Rattle.jc_model.specs.declared.event.Step.{Step}
+use Rattle.jc_model.specs.declared.event.Step.TheVariants.{Done, Need}
 use Rattle.jc_model.specs.Asking.{AsksOf}
 use Rattle.jc_engine.specs.Recording.{blank}
 use Rattle.jc_shared.specs.Calls.{IsBeginFault, called}
@@ -16,8 +18,6 @@ use Rattle.jc_shared.specs.declared.fault.CallFault.{CallFault}
 use Rattle.jc_shared.specs.declared.fault.CallFault.TheVariants as faults
 use Rattle.jc_shared.specs.declared.pending.Progress.{Progress}
 use Rattle.jc_shared.specs.declared.pending.Progress.TheVariants as progress
-use Rattle.jc_shared.specs.declared.turned.Turned.{Turned}
-use Rattle.jc_shared.specs.declared.turned.Turned.TheVariants.{Asked, Replied}
 use Rattle.jc_shared.specs.Pending.{Pending, AddsEntry}
 use Rattle.jc_shared.specs.Sessions.{Sitting}
 
@@ -28,9 +28,9 @@ IsBroughtTo configs old new e (progress.Replied reply) = AddsEntry configs old n
 IsBroughtTo configs old new e (progress.Waits p) = (new ≡ old) × (p.draft ≡ e) × AsksOf e.call p.request
 
 -- what a tenure of the lock has brought a call to is shown so
-abbrev pub ShowsAs : Sitting → Entry → Turned → Sitting → Progress Pending → Type 0
-ShowsAs old e (Replied reply) new (progress.Replied shown) = (shown ≡ reply) × (new ≡ record old { calls = old.calls ++ e ∷ [] })
-ShowsAs old e (Asked request) new (progress.Waits p) = (p ≡ record { draft = e; request = request }) × (new ≡ old)
+abbrev pub ShowsAs : Sitting → Entry → Step → Sitting → Progress Pending → Type 0
+ShowsAs old e (Done reply) new (progress.Replied shown) = (shown ≡ reply) × (new ≡ record old { calls = old.calls ++ e ∷ [] })
+ShowsAs old e (Need request) new (progress.Waits p) = (p ≡ record { draft = e; request = request }) × (new ≡ old)
 ShowsAs old e _ new _ = ⊥
 
 -- the session's list has grown by the call of this entry, which was given some answers, has told some notices, and ended so

@@ -9,8 +9,6 @@ use Rattle.jc_model.specs.declared.event.Event.{Event}
 use Rattle.jc_model.specs.declared.event.Event.TheVariants as event
 use Rattle.jc_model.specs.declared.event.Outcome.{Outcome}
 use Rattle.jc_model.specs.declared.event.Outcome.TheVariants as outcome
-use Rattle.jc_model.specs.declared.event.Step.{Step}
-use Rattle.jc_model.specs.declared.event.Step.TheVariants.{Done, Need}
 use Rattle.jc_model.specs.Runs.{Lives, answer_to, lives_after, for_memory}
 use Rattle.jc_model.specs.Legal.{recorded}
 use Rattle.jc_engine.specs.Caches.{lives_of}
@@ -18,8 +16,6 @@ use Rattle.jc_engine.specs.Recording.{Recording}
 use Rattle.jc_shared.specs.declared.fault.CallFault.{CallFault}
 use Rattle.jc_shared.specs.declared.fault.AnswerFault.{AnswerFault}
 use Rattle.jc_shared.specs.declared.fault.AnswerFault.TheVariants as answering
-use Rattle.jc_shared.specs.declared.turned.Turned.{Turned}
-use Rattle.jc_shared.specs.declared.turned.Turned.TheVariants.{Asked, Replied}
 use Rattle.jc_shared.specs.Finding.{fault_of, IsOpen}
 
 -- the engine has taken this one event of a session, and answered it so
@@ -37,11 +33,6 @@ pub record IsRefusedCall (lives : Lives) (event : Event) (fault : CallFault) : T
   pub cause : Cause
   pub told : fault ≡ fault_of cause
   pub refusal : IsRefusedFor lives event cause
-
--- the step that a tenure tells
-abbrev pub step_of : Turned → Step
-step_of (Asked request) = Need request
-step_of (Replied reply) = Done reply
 
 -- why an answer brings the draft's call no further, which has been given these before
 abbrev pub Stops : Recording → Entry → List Answer → Answer → AnswerFault → Type 0

@@ -11,11 +11,10 @@ use crate::hooks::SharedHooks;
 use crate::keeping::{Keeping, OwnCalls};
 use crate::name::Name;
 use crate::session::Session;
-use crate::turned::Turned;
 use jc_engine::journal::change::Begun;
 use jc_hooks::{Hearer, Loader, Processor, Writer};
 use jc_model::call::{Call, Reply};
-use jc_model::event::CacheId;
+use jc_model::event::{CacheId, Step};
 use jc_model::value::Value;
 use std::sync::Wait;
 
@@ -114,19 +113,19 @@ impl<'a, N: Name, L: Loader, W: Writer, P: Processor, K: Hearer, J: Keeping> Ses
             .locked
             .lock(rt)
             .begin_call(self.number, id, now, call, &mut self.pass);
-        let (turned, copy) = match came {
+        let (step, copy) = match came {
             Ok(pair) => pair,
             Err(fault) => return Err(fault),
         };
-        match turned {
-            Turned::Replied(reply) => match copy {
+        match step {
+            Step::Done(reply) => match copy {
                 Some(copy) => {
                     self.own.push_replied(manager.alloc, begun, kept, copy);
                     Ok(reply)
                 }
                 None => unreachable!(),
             },
-            Turned::Asked(_) => {
+            Step::Need(_) => {
                 self.own.push_waiting(manager.alloc, begun, kept);
                 Err(CallFault::Overtaken)
             }

@@ -15,11 +15,10 @@ use crate::fault::{AnswerFault, CallFault};
 use crate::name::Name;
 use crate::pending::{PendingCall, Progress};
 use crate::session::{Session, copy_for, draft_of};
-use crate::turned::Turned;
 use jc_engine::journal::open_calls::OpenCalls;
 use jc_hooks::{Hearer, Loader, Processor, Writer};
 use jc_model::call::{Answer, Call, Notice, Request};
-use jc_model::event::{CacheId, Entry};
+use jc_model::event::{CacheId, Entry, Step};
 use jc_model::list::Sequence;
 use std::alloc::Global;
 use std::mem;
@@ -111,7 +110,7 @@ impl<'a, N: Name, L: Loader, W: Writer, P: Processor, K: Hearer> Session<
             .lock(rt)
             .begin(&mut draft, call, &mut self.pass);
         match begun {
-            Ok(turned) => Ok(self.come_to(draft, turned)),
+            Ok(step) => Ok(self.come_to(draft, step)),
             Err(fault) => Err((fault, call_of(draft))),
         }
     }
@@ -156,9 +155,9 @@ impl<'a, N: Name, L: Loader, W: Writer, P: Processor, K: Hearer> Session<
             .lock(rt)
             .resume(&mut draft, answer, &mut self.pass);
         match resumed {
-            Ok(turned) => {
+            Ok(step) => {
                 drop(held);
-                Ok(self.come_to(draft, turned))
+                Ok(self.come_to(draft, step))
             }
             Err(fault) => {
                 let Some(answer) = take_back(&mut draft) else {
@@ -205,16 +204,16 @@ impl<'a, N: Name, L: Loader, W: Writer, P: Processor, K: Hearer> Session<
     }
 
     /// A call has come to this. Where it has its reply, its entry is added to the session's own.
-    fn come_to(&mut self, draft: Entry, turned: Turned) -> Progress<PendingCall<N>>
-        requires { IsReplied turned ⊎ (draft.end ≡ Waiting) }
-        ensures { ShowsAs self.old draft turned self.new result }
+    fn come_to(&mut self, draft: Entry, step: Step) -> Progress<PendingCall<N>>
+        requires { IsReplied step ⊎ (draft.end ≡ Waiting) }
+        ensures { ShowsAs self.old draft step self.new result }
     {
-        match turned {
-            Turned::Replied(reply) => {
+        match step {
+            Step::Done(reply) => {
                 self.own.past.push(&draft);
                 Progress::Replied(reply)
             }
-            Turned::Asked(request) => Progress::Waits(PendingCall::new(draft, request)),
+            Step::Need(request) => Progress::Waits(PendingCall::new(draft, request)),
         }
     }
 }

@@ -3,11 +3,11 @@ ghost use Rattle.std.specs.Prelude.{◌≡◌, ◌++◌, ◌∷◌, [], List, So
 ghost use mathlib.Core.List.{IsPrefix};
 ghost use Rattle.jc_model.specs.declared.call.Answer.{Answer as Given};
 ghost use Rattle.jc_model.specs.declared.event.End.TheVariants.{Waiting};
+ghost use Rattle.jc_model.specs.declared.event.Step.TheVariants.{Done, Need};
 ghost use Rattle.jc_model.specs.Run.{is_answer_to};
 ghost use Rattle.jc_model.specs.Asking.{AsksOf};
 ghost use Rattle.jc_shared.specs.Calls.{IsSameCall, Stays, EndsFaulty};
 ghost use Rattle.jc_shared.specs.Serving.{Serves, TellsOn, TellsOnce, told_behind, TakesIn, WritesOn, StatesOn};
-ghost use Rattle.jc_shared.specs.declared.turned.Turned.TheVariants.{Asked, Replied};
 ghost use Rattle.jc_shared.specs.Stated.{AreOf, IsStatedBy, AreStated};
 
 use crate::fault::{AnswerFault, CallFault};
@@ -16,14 +16,13 @@ use crate::keeping::Keeping;
 use crate::manager::Manager;
 use crate::name::Name;
 use crate::tables::TablePass;
-use crate::turned::Turned;
 use jc_hooks::{
     Hearer, Loader, Processor, Writer, ask_loader, ask_processor, ask_to_delete, ask_to_write,
     tell_all,
 };
 use jc_model::OutOfMemory;
 use jc_model::call::{Answer, Reply, Request};
-use jc_model::event::Entry;
+use jc_model::event::{Entry, Step};
 use jc_model::share::Share;
 use std::sync::Wait;
 
@@ -114,13 +113,13 @@ impl<N: Name, L: Loader, W: Writer, P: Processor, K: Hearer, J: Keeping> Manager
         draft: &mut Entry,
         request: Request,
         pass: &mut TablePass<N>,
-    ) -> Result<Turned, CallFault>
+    ) -> Result<Step, CallFault>
         requires shared { AreOf L.load_of P.verdict_of N.stated draft.old.id asked.now }
-        requires asked { Stays N.configs N.stated (Asked request) draft.old pass.old }
+        requires asked { Stays N.configs N.stated (Need request) draft.old pass.old }
         ensures same { IsSameCall draft.old draft.new }
         ensures served { OnOk result (TakesIn W.may K.state_after hooks.old hooks.new request draft.old.answers draft.new.answers) }
         ensures kept { OnErr result (draft.new.answers ≡ draft.old.answers) }
-        ensures brought { MatchResult result (λ turned. Stays N.configs N.stated turned draft.new pass.new) (λ fault. EndsFaulty N.configs N.stated fault draft.new pass.new) }
+        ensures brought { MatchResult result (λ step. Stays N.configs N.stated step draft.new pass.new) (λ fault. EndsFaulty N.configs N.stated fault draft.new pass.new) }
         ensures front { IsPrefix pass.old.images pass.new.images }
         ensures told { TellsOn K.state_after hooks.old hooks.new draft.old.told draft.new.told }
     {
@@ -139,7 +138,7 @@ impl<N: Name, L: Loader, W: Writer, P: Processor, K: Hearer, J: Keeping> Manager
         }
         let resumed = self.locked.lock(rt).resume(draft, answer, pass);
         match resumed {
-            Ok(turned) => Ok(turned),
+            Ok(step) => Ok(step),
             Err(AnswerFault::OutOfMemory) => {
                 take_back(draft);
                 Err(self.give_up(rt, hooks, draft, pass))
@@ -162,20 +161,18 @@ impl<N: Name, L: Loader, W: Writer, P: Processor, K: Hearer, J: Keeping> Manager
         pass: &mut TablePass<N>,
     ) -> Result<Reply, CallFault>
         requires shared { AreOf L.load_of P.verdict_of N.stated draft.old.id asked.now }
-        requires asked { Stays N.configs N.stated (Asked request) draft.old pass.old }
+        requires asked { Stays N.configs N.stated (Need request) draft.old pass.old }
         ensures same { IsSameCall draft.old draft.new }
-        ensures ends { MatchResult result (λ reply. Stays N.configs N.stated (Replied reply) draft.new pass.new) (λ fault. EndsFaulty N.configs N.stated fault draft.new pass.new) }
+        ensures ends { MatchResult result (λ reply. Stays N.configs N.stated (Done reply) draft.new pass.new) (λ fault. EndsFaulty N.configs N.stated fault draft.new pass.new) }
         ensures front { IsPrefix pass.old.images pass.new.images }
         ensures told { TellsOn K.state_after hooks.old hooks.new draft.old.told draft.new.told }
         ensures wrote { MatchResult result (λ _. WritesOn W.may hooks.old hooks.new draft.old.answers draft.new.answers) (λ _. StatesOn W.may hooks.old draft.old.answers draft.new.answers) }
     {
-        let mut turned = Turned::Asked(request);
+        let mut step = Step::Need(request);
         for _ in rt.forever() {
-            match turned {
-                Turned::Replied(reply) => return Ok(reply),
-                Turned::Asked(request) => turned = self.advance(
-                    rt, asked, hooks, draft, request, pass,
-                )?,
+            match step {
+                Step::Done(reply) => return Ok(reply),
+                Step::Need(request) => step = self.advance(rt, asked, hooks, draft, request, pass)?,
             }
         }
         unreachable!()

@@ -18,7 +18,6 @@ mod pending;
 mod session;
 mod shared;
 mod tables;
-mod turned;
 
 pub use auditing::{Logged, SessionLog, audit};
 pub use fault::{

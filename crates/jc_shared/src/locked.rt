@@ -20,8 +20,8 @@ ghost use Rattle.jc_shared.specs.Calls.{Stands, GoesOn, IsBeginFault};
 ghost use Rattle.jc_shared.specs.Living.{IsHeld, IsIdle, HasOpenCall, Refuses, has_live_row};
 ghost use Rattle.jc_shared.specs.Pending.{IsRefusedAnswer};
 ghost use Rattle.jc_shared.specs.Sessions.{BeginsWith, Sees, SeesSome};
-ghost use Rattle.jc_shared.specs.Finding.{fault_of, answer_fault_of, ended_by, turned_of, IsOfCall, IsOpen, IsReplied};
-ghost use Rattle.jc_shared.specs.Tenures.{IsTenure, IsRefusedCall, Stops, GivesUp, step_of};
+ghost use Rattle.jc_shared.specs.Finding.{fault_of, answer_fault_of, ended_by, IsOfCall, IsOpen, IsReplied};
+ghost use Rattle.jc_shared.specs.Tenures.{IsTenure, IsRefusedCall, Stops, GivesUp};
 
 mod at_once;
 mod closing;
@@ -31,7 +31,6 @@ use crate::fault::{AnswerFault, CallFault, SessionRefusal};
 use crate::keeping::Keeping;
 use crate::name::Name;
 use crate::tables::{ShownTable, TablePass};
-use crate::turned::Turned;
 use jc_engine::recorded::Recorded;
 use jc_model::OutOfMemory;
 use jc_model::call::{Answer, Call, Notice, Reply};
@@ -130,16 +129,6 @@ fn end_by(draft: &mut Entry, reply: Option<Reply>)
     }
 }
 
-/// What a step comes to.
-fn turned_of(step: Step) -> Turned
-    ensures { result ≡ turned_of step }
-{
-    match step {
-        Step::Need(request) => Turned::Asked(request),
-        Step::Done(reply) => Turned::Replied(reply),
-    }
-}
-
 impl<N: Name, J: Keeping> Locked<N, J> {
     pub(crate) fn new(recorded: Recorded<ShownTable<N>, LinkRing, J>) -> Locked<N, J>
         requires { BeginsWith N.configs recorded.transcript }
@@ -185,15 +174,15 @@ impl<N: Name, J: Keeping> Locked<N, J> {
     }
 
     /// At a reply the pass sees the table as it is now, where memory allows it.
-    fn show_reply(&mut self, turned: &Turned, pass: &mut TablePass<N>)
+    fn show_reply(&mut self, step: &Step, pass: &mut TablePass<N>)
         ensures same { (self.new.recorded ≡ self.old.recorded) × (self.new.given ≡ self.old.given) × (self.new.closed ≡ self.old.closed) }
         ensures front { IsPrefix pass.old.images pass.new.images }
-        ensures sees { IsReplied turned.now → Sees self.old.recorded.transcript (lives_of self.old.recorded.caches) pass.new }
-        ensures unseen { IsReplied turned.now ⊎ (pass.new ≡ pass.old) }
+        ensures sees { IsReplied step.now → Sees self.old.recorded.transcript (lives_of self.old.recorded.caches) pass.new }
+        ensures unseen { IsReplied step.now ⊎ (pass.new ≡ pass.old) }
     {
-        match turned {
-            Turned::Asked(_) => {}
-            Turned::Replied(_) => self.show(pass),
+        match step {
+            Step::Need(_) => {}
+            Step::Done(_) => self.show(pass),
         }
     }
 
@@ -205,11 +194,11 @@ impl<N: Name, J: Keeping> Locked<N, J> {
         now: u64,
         call: Call,
         pass: &mut TablePass<N>,
-    ) -> Result<(Turned, Option<Reply>), CallFault>
+    ) -> Result<(Step, Option<Reply>), CallFault>
         ensures ok { IfOk result (λ it. GoesOn N.configs (blank session id now call) it.0 (ended_by it.1 (blank session id now call)) pass.new) }
-        ensures copy { IfOk result (λ it. it.1 ≡ reply_in (step_of it.0)) }
+        ensures copy { IfOk result (λ it. it.1 ≡ reply_in it.0) }
         ensures unseen { IfOk result (λ it. IsReplied it.0 ⊎ (pass.new ≡ pass.old)) }
-        ensures tenure { IfOk result (λ it. IsTenure self.old.recorded self.new.recorded session (Begin id now call) (Stepped (step_of it.0))) }
+        ensures tenure { IfOk result (λ it. IsTenure self.old.recorded self.new.recorded session (Begin id now call) (Stepped it.0)) }
         ensures front { IsPrefix pass.old.images pass.new.images }
         ensures err { IfErr result (λ fault. IsBeginFault N.configs id now call fault) }
         ensures refused { IfErr result (λ fault. IsRefusedCall (lives_of self.old.recorded.caches) (Begin id now call) fault) }
@@ -218,10 +207,8 @@ impl<N: Name, J: Keeping> Locked<N, J> {
     {
         match self.recorded.begin(session, id, now, call) {
             Ok(pair) => {
-                let (step, copy) = pair;
-                let turned = turned_of(step);
-                self.show_reply(&turned, pass);
-                Ok((turned, copy))
+                self.show_reply(&pair.0, pass);
+                Ok(pair)
             }
             Err((cause, _)) => Err(fault_of(cause)),
         }
@@ -233,11 +220,11 @@ impl<N: Name, J: Keeping> Locked<N, J> {
         draft: &mut Entry,
         call: Call,
         pass: &mut TablePass<N>,
-    ) -> Result<Turned, CallFault>
+    ) -> Result<Step, CallFault>
         requires { draft.old ≡ blank draft.old.session draft.old.id draft.old.at call }
-        ensures ok { IfOk result (λ turned. GoesOn N.configs draft.old turned draft.new pass.new) }
-        ensures unseen { IfOk result (λ turned. IsReplied turned ⊎ (pass.new ≡ pass.old)) }
-        ensures tenure { IfOk result (λ turned. IsTenure self.old.recorded self.new.recorded draft.old.session (Begin draft.old.id draft.old.at call) (Stepped (step_of turned))) }
+        ensures ok { IfOk result (λ step. GoesOn N.configs draft.old step draft.new pass.new) }
+        ensures unseen { IfOk result (λ step. IsReplied step ⊎ (pass.new ≡ pass.old)) }
+        ensures tenure { IfOk result (λ step. IsTenure self.old.recorded self.new.recorded draft.old.session (Begin draft.old.id draft.old.at call) (Stepped step)) }
         ensures front { IsPrefix pass.old.images pass.new.images }
         ensures err { IfErr result (λ fault. IsBeginFault N.configs draft.old.id draft.old.at call fault) }
         ensures refused { IfErr result (λ fault. IsRefusedCall (lives_of self.old.recorded.caches) (Begin draft.old.id draft.old.at call) fault) }
@@ -246,9 +233,9 @@ impl<N: Name, J: Keeping> Locked<N, J> {
     {
         let (session, id, now) = (draft.session, draft.id, draft.at);
         match self.begin_call(session, id, now, call, pass) {
-            Ok((turned, copy)) => {
+            Ok((step, copy)) => {
                 end_by(draft, copy);
-                Ok(turned)
+                Ok(step)
             }
             Err(fault) => Err(fault),
         }
@@ -261,12 +248,12 @@ impl<N: Name, J: Keeping> Locked<N, J> {
         draft: &mut Entry,
         answer: Answer,
         pass: &mut TablePass<N>,
-    ) -> Result<Turned, AnswerFault>
+    ) -> Result<Step, AnswerFault>
         requires waits { draft.old.end ≡ Waiting }
         requires answered { (before : List Given) × (draft.old.answers ≡ before ++ answer ∷ []) }
-        ensures ok { IfOk result (λ turned. GoesOn N.configs draft.old turned draft.new pass.new) }
-        ensures unseen { IfOk result (λ turned. IsReplied turned ⊎ (pass.new ≡ pass.old)) }
-        ensures tenure { IfOk result (λ turned. IsTenure self.old.recorded self.new.recorded draft.old.session (Answered draft.old.id answer) (Stepped (step_of turned))) }
+        ensures ok { IfOk result (λ step. GoesOn N.configs draft.old step draft.new pass.new) }
+        ensures unseen { IfOk result (λ step. IsReplied step ⊎ (pass.new ≡ pass.old)) }
+        ensures tenure { IfOk result (λ step. IsTenure self.old.recorded self.new.recorded draft.old.session (Answered draft.old.id answer) (Stepped step)) }
         ensures front { IsPrefix pass.old.images pass.new.images }
         ensures err { IfErr result (λ fault. (before : List Given) → draft.old.answers ≡ before ++ answer ∷ [] → Stops self.old.recorded draft.old before answer fault) }
         ensures same { OnErr result ((self.new.recorded ≡ self.old.recorded) × (draft.new ≡ draft.old) × (pass.new ≡ pass.old)) }
@@ -283,9 +270,8 @@ impl<N: Name, J: Keeping> Locked<N, J> {
             Ok(pair) => {
                 let (step, copy) = pair;
                 end_by(draft, copy);
-                let turned = turned_of(step);
-                self.show_reply(&turned, pass);
-                Ok(turned)
+                self.show_reply(&step, pass);
+                Ok(step)
             }
             Err((cause, _)) => Err(answer_fault_of(cause)),
         }

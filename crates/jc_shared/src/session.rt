@@ -24,14 +24,13 @@ use crate::keeping::{Keeping, OwnCalls};
 use crate::manager::Manager;
 use crate::name::Name;
 use crate::tables::TablePass;
-use crate::turned::Turned;
 use jc_engine::journal::all_calls::AllCalls;
 use jc_hooks::{CacheHooks, Hearer, Loader, Processor, Writer, suits};
 use jc_index::lookup::Lookup;
 use jc_model::OutOfMemory;
 use jc_model::call::{Call, Reply};
 use jc_model::config::CacheConfig;
-use jc_model::event::{CacheId, End, Entry};
+use jc_model::event::{CacheId, End, Entry, Step};
 use jc_model::key::Key;
 use jc_model::list::Sequence;
 use jc_model::share::Share;
@@ -239,8 +238,8 @@ impl<'a, N: Name, L: Loader, W: Writer, P: Processor, K: Hearer, J: Keeping> Ses
             .lock(rt)
             .begin(&mut draft, call, &mut self.pass);
         let request = match begun {
-            Ok(Turned::Asked(request)) => request,
-            Ok(Turned::Replied(reply)) => {
+            Ok(Step::Need(request)) => request,
+            Ok(Step::Done(reply)) => {
                 self.own.push(draft);
                 return Ok(reply);
             }

@@ -14,7 +14,6 @@ use super::Locked;
 use crate::keeping::Keeping;
 use crate::name::Name;
 use crate::tables::TablePass;
-use crate::turned::Turned;
 use jc_model::call::Call;
 use jc_model::event::CacheId;
 use jc_model::value::Value;
@@ -30,7 +29,7 @@ impl<N: Name, J: Keeping> Locked<N, J> {
         call: &Call,
         pass: &mut TablePass<N>,
     ) -> Option<(Option<Value>, Option<Value>)>
-        ensures some { IfSome result (λ it. GoesOn N.configs (blank session id now call.now) (Turned.Replied (Found it.0)) (ended_by (Some (Found it.1)) (blank session id now call.now)) pass.new) }
+        ensures some { IfSome result (λ it. GoesOn N.configs (blank session id now call.now) (Done (Found it.0)) (ended_by (Some (Found it.1)) (blank session id now call.now)) pass.new) }
         ensures copy { IfSome result (λ it. it.1 ≡ it.0) }
         ensures tenure { IfSome result (λ it. IsTenure self.old.recorded self.new.recorded session (Begin id now call.now) (Stepped (Done (Found it.0)))) }
         ensures front { IsPrefix pass.old.images pass.new.images }

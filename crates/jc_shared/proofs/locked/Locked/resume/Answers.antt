@@ -1,9 +1,11 @@
-use Rattle.std.proofs.Common.{◌≡◌, ◌++◌, ◌∷◌, [], sym, ◌∙◌}
+use Rattle.std.proofs.Common.{◌≡◌, ◌++◌, ◌∷◌, [], Option, sym, ◌∙◌, ap}
+use Rattle.jc_model.specs.declared.call.Reply.{Reply}
 use Rattle.jc_model.specs.declared.event.Event.TheVariants as event
 use Rattle.jc_model.specs.Runs.{answers}
 use Rattle.jc_engine.specs.Caches.{lives_of}
 use Rattle.jc_engine.specs.Results.{of_recorded_resume}
-use Rattle.jc_shared.proofs.Tenures.{still_begins, resumed_goes_on, is_tenure, refused_answer, last_given, turns_as}
+use Rattle.jc_shared.specs.Finding.{ended_by}
+use Rattle.jc_shared.proofs.Tenures.{still_begins, resumed_goes_on, is_tenure, refused_answer, last_given}
 use Rattle.jc_shared.proofs.locked.Locked.resume.Goals as goal
 
 pub invariant_of-self : goal.invariant_of-self
@@ -20,15 +22,15 @@ returns-in-Ok-clause-ok g c =
     let draft = c.args.draft.now in
     let given : draft.answers ≡ c.in-Some.before.now ++ c.args.answer ∷ [] = last_given draft.answers c.in-Some.before.now c.requires.answered.0 c.in-Some.field-0-0.now c.args.answer (sym c.items.ensures ∙ c.in-Some.ensures.cases.0) c.requires.answered.1 in
     resumed_goes_on g.N.Name.configs (lives_of old.caches) (lives_of new.caches) old.transcript new.transcript draft c.end_by.new.draft c.in-Some.before.now c.show_reply.new.pass (c.is_open.ensures c.if-not-is_open.false) c.requires.waits
-    c.args.answer c.in-Ok.pair.0 c.turned_of-turned.result _ given (turns_as draft c.end_by.new.draft c.in-Ok.pair.0 c.in-Ok.pair.1 c.turned_of-turned.result c.in-Ok.ensures.copy c.turned_of-turned.ensures c.end_by.ensures) c.in-Ok.ensures.told.1.legal
+    c.args.answer c.in-Ok.pair.0 _ given (c.end_by.ensures ∙ ap (λ (copy : Option Reply). ended_by copy draft) c.in-Ok.ensures.copy) c.in-Ok.ensures.told.1.legal
     (still_begins g.N.Name.configs old.transcript new.transcript draft.session draft.id (answers c.args.answer) (of_recorded_resume c.resume.result) c.args.self.now.begins (c.resume.ensures.transcript draft.session))
     c.show_reply.ensures.sees c.in-Ok.ensures.lives (c.in-Ok.ensures.transcript draft.session) c.in-Ok.ensures.outcome
 
 pub returns-in-Ok-clause-tenure : goal.returns-in-Ok-clause-tenure
 returns-in-Ok-clause-tenure g c =
     let draft = c.args.draft.now in
-    is_tenure c.args.self.now.recorded c.resume.new.self c.show_reply.new.self.recorded draft.session (event.Answer draft.id c.args.answer) c.in-Ok.pair.0 c.turned_of-turned.result draft c.end_by.new.draft
-    (turns_as draft c.end_by.new.draft c.in-Ok.pair.0 c.in-Ok.pair.1 c.turned_of-turned.result c.in-Ok.ensures.copy c.turned_of-turned.ensures c.end_by.ensures) c.show_reply.ensures.same.0 c.in-Ok.ensures.outcome (c.in-Ok.ensures.transcript draft.session) c.in-Ok.ensures.lives
+    is_tenure c.args.self.now.recorded c.resume.new.self c.show_reply.new.self.recorded draft.session (event.Answer draft.id c.args.answer) c.in-Ok.pair.0
+    c.show_reply.ensures.same.0 c.in-Ok.ensures.outcome (c.in-Ok.ensures.transcript draft.session) c.in-Ok.ensures.lives
 
 pub returns-clause-refused : goal.returns-clause-refused
 returns-clause-refused g c =

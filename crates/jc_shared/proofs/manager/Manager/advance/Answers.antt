@@ -10,7 +10,7 @@ use Rattle.jc_shared.proofs.manager.Manager.advance.Goals as goal
 pub returns-in-Ok-resumed-clause-brought : goal.returns-in-Ok-resumed-clause-brought
 returns-in-Ok-resumed-clause-brought g c =
     let noted = on_ok c.note_answer.result c.note_answer.ensures.ok (sym c.is_err.ensures.value ∙ c.if-is_err.false) in
-    goes_stays g.N.Name.configs g.N.Name.stated c.note_answer.new.draft c.resume-resumed.new.draft c.resume-resumed.new.pass c.in-Ok-resumed.turned c.in-Ok-resumed.ensures.ok
+    goes_stays g.N.Name.configs g.N.Name.stated c.note_answer.new.draft c.resume-resumed.new.draft c.resume-resumed.new.pass c.in-Ok-resumed.step c.in-Ok-resumed.ensures.ok
     (noted_waits g.N.Name.stated c.args.draft.now c.keep_told.new.draft c.note_answer.new.draft (told_behind c.args.request c.args.draft.now.told) c.in-Ok.answer c.keep_told.ensures noted c.requires.asked.waits c.requires.asked.answered c.in-Ok.ensures.stated)
 
 pub returns-then-is_err-clause-told : goal.returns-then-is_err-clause-told
@@ -56,7 +56,7 @@ returns-in-Ok-resumed-clause-told g c =
     let told = told_behind c.args.request c.args.draft.now.told in
     let noted = on_ok c.note_answer.result c.note_answer.ensures.ok (sym c.is_err.ensures.value ∙ c.if-is_err.false) in
     let kept : c.resume-resumed.new.draft.told ≡ told =
-    goes_untold g.N.Name.configs c.note_answer.new.draft c.resume-resumed.new.draft c.resume-resumed.new.pass c.in-Ok-resumed.turned c.in-Ok-resumed.ensures.ok ∙ ap (λ (e : Entry). e.told) noted ∙ ap (λ (e : Entry). e.told) c.keep_told.ensures in
+    goes_untold g.N.Name.configs c.note_answer.new.draft c.resume-resumed.new.draft c.resume-resumed.new.pass c.in-Ok-resumed.step c.in-Ok-resumed.ensures.ok ∙ ap (λ (e : Entry). e.told) noted ∙ ap (λ (e : Entry). e.told) c.keep_told.ensures in
     let served = served_on g.K.Hearer.state_after g.W.Writer.may c.args.hooks.now c.answer.new.hooks c.args.request c.in-Ok.answer c.args.draft.now.told (c.tells_again.ensures c.if-tells_again.false) c.in-Ok.ensures.served in
     λ first h. subst (λ (ns : List Notice). Tells g.K.Hearer.state_after first c.answer.new.hooks ns) (sym kept) (served first h)
 
@@ -67,6 +67,6 @@ returns-in-Ok-resumed-clause-served g c =
       answer = c.in-Ok.answer;
       fits = c.in-Ok.ensures.fits;
       serves = c.in-Ok.ensures.served;
-      added = goes_unanswered g.N.Name.configs c.note_answer.new.draft c.resume-resumed.new.draft c.resume-resumed.new.pass c.in-Ok-resumed.turned c.in-Ok-resumed.ensures.ok ∙ ap (λ (e : Entry). e.answers) noted
+      added = goes_unanswered g.N.Name.configs c.note_answer.new.draft c.resume-resumed.new.draft c.resume-resumed.new.pass c.in-Ok-resumed.step c.in-Ok-resumed.ensures.ok ∙ ap (λ (e : Entry). e.answers) noted
           ∙ ap (λ (e : Entry). e.answers ++ c.in-Ok.answer ∷ []) c.keep_told.ensures;
     }

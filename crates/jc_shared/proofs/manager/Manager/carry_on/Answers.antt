@@ -9,7 +9,7 @@ use Rattle.jc_shared.proofs.manager.Manager.carry_on.Goals as goal
 pub loop-preserved : goal.loop-preserved
 loop-preserved g c =
     let before = c.loop.invariant in
-    let step = c.in_ok-turned-in-Asked.ensures in (
+    let step = c.in_ok-step-in-Need.ensures in (
       tt,
       tt,
       same_call c.args.draft.now c.loop.draft c.advance.new.draft before.2 step.same,
@@ -19,7 +19,7 @@ loop-preserved g c =
       λ first h. takes_in g.W.Writer.may g.K.Hearer.state_after c.loop.hooks c.advance.new.hooks c.loop.draft.answers _ c.advance.new.draft.answers step.served first (before.6 first h),
     )
 
-pub returns-in_err-turned-in-Asked-clause-wrote : goal.returns-in_err-turned-in-Asked-clause-wrote
-returns-in_err-turned-in-Asked-clause-wrote g c =
+pub returns-in_err-step-in-Need-clause-wrote : goal.returns-in_err-step-in-Need-clause-wrote
+returns-in_err-step-in-Need-clause-wrote g c =
     let p = err_from_is_err_and c.from_residual.result c.from_residual.ensures.1 in
-    rw p.1 (λ first h. subst (HasStated g.W.Writer.may first) (sym c.in_err-turned-in-Asked.ensures.kept) (has_stated g.W.Writer.may first c.loop.hooks c.loop.draft.answers (c.loop.invariant.6 first h)))
+    rw p.1 (λ first h. subst (HasStated g.W.Writer.may first) (sym c.in_err-step-in-Need.ensures.kept) (has_stated g.W.Writer.may first c.loop.hooks c.loop.draft.answers (c.loop.invariant.6 first h)))

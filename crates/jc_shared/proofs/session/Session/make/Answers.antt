@@ -13,7 +13,7 @@ returns-clause-ok g c =
     let e = c.carry_on-replied.new.draft in
     let draft = c.draft_of-draft.result in
     let is : draft ≡ blank c.self.inside.number c.args.id c.args.now c.args.call = c.draft_of-draft.ensures ∙ ap (blank c.self.inside.number c.args.id c.args.now) c.in-Ok.ensures.copy in
-    let same : IsSameCall draft e = same_call draft c.begin-begun.new.draft e (begun_same g.N.Name.configs draft c.begin-begun.new.draft c.begin-begun.new.pass c.in-Ok-Asked.field-0 c.in-Ok-Asked.ensures.ok) c.carry_on-replied.ensures.same in
+    let same : IsSameCall draft e = same_call draft c.begin-begun.new.draft e (begun_same g.N.Name.configs draft c.begin-begun.new.draft c.begin-begun.new.pass c.in-Ok-Need.field-0 c.in-Ok-Need.ensures.ok) c.carry_on-replied.ensures.same in
     let added : g.J.Own.OwnCalls.calls c.push-2.new.self ≡ g.J.Own.OwnCalls.calls c.self.inside.own ++ e ∷ [] = c.push-2.ensures ∙ ap (λ (es : List Entry). es ++ e ∷ []) c.copy_for-copied.ensures.same in
     rw (← c.self.view_is)
     (added_ok g.N.Name.configs g.N.Name.stated (record { number = c.self.inside.number; calls = g.J.Own.OwnCalls.calls c.self.inside.own; pass = c.self.inside.pass }) (record { number = c.self.inside.number; calls = g.J.Own.OwnCalls.calls c.push-2.new.self; pass = c.carry_on-replied.new.pass }) c.args.id c.args.now c.args.call
@@ -24,7 +24,7 @@ returns-clause-err g c =
     let e = c.carry_on-replied.new.draft in
     let draft = c.draft_of-draft.result in
     let is : draft ≡ blank c.self.inside.number c.args.id c.args.now c.args.call = c.draft_of-draft.ensures ∙ ap (blank c.self.inside.number c.args.id c.args.now) c.in-Ok.ensures.copy in
-    let same : IsSameCall draft e = same_call draft c.begin-begun.new.draft e (begun_same g.N.Name.configs draft c.begin-begun.new.draft c.begin-begun.new.pass c.in-Ok-Asked.field-0 c.in-Ok-Asked.ensures.ok) c.carry_on-replied.ensures.same in
+    let same : IsSameCall draft e = same_call draft c.begin-begun.new.draft e (begun_same g.N.Name.configs draft c.begin-begun.new.draft c.begin-begun.new.pass c.in-Ok-Need.field-0 c.in-Ok-Need.ensures.ok) c.carry_on-replied.ensures.same in
     let added : g.J.Own.OwnCalls.calls c.push-2.new.self ≡ g.J.Own.OwnCalls.calls c.self.inside.own ++ e ∷ [] = c.push-2.ensures ∙ ap (λ (es : List Entry). es ++ e ∷ []) c.copy_for-copied.ensures.same in
     rw (← c.self.view_is)
     (added_err g.N.Name.configs g.N.Name.stated (record { number = c.self.inside.number; calls = g.J.Own.OwnCalls.calls c.self.inside.own; pass = c.self.inside.pass }) (record { number = c.self.inside.number; calls = g.J.Own.OwnCalls.calls c.push-2.new.self; pass = c.carry_on-replied.new.pass }) c.args.id c.args.now c.args.call

@@ -14,7 +14,7 @@ returns-in-Some-clause-ok g c =
     let begins : begun_entry c.of-begun.result ≡ blank old.number c.args.id c.args.now c.args.call = begun_is c.of-begun.result old.number c.args.id c.args.now c.args.call c.of-begun.ensures.numbers c.of-begun.ensures.call in
     let added : new.calls ≡ old.calls ++ replied_at_once c.of-begun.result c.in-Some.copy ∷ [] = c.push_replied.ensures ∙ ap (λ (es : List Entry). es ++ replied_at_once c.of-begun.result c.in-Some.copy ∷ []) c.in-Ok.ensures.same in
     rw (← c.self.view_is)
-    (replied_adds g.N.Name.configs g.N.Name.stated old new c.args.id c.args.now c.args.call c.of-begun.result c.in-Ok-came.pair.0 c.in-Ok-came.pair.1 c.in-Replied.reply c.in-Some.copy c.in-Replied.is c.in-Some.is c.in-Ok-came.ensures.copy c.in-Ok-came.ensures.ok begins added)
+    (replied_adds g.N.Name.configs g.N.Name.stated old new c.args.id c.args.now c.args.call c.of-begun.result c.in-Ok-came.pair.0 c.in-Ok-came.pair.1 c.in-Done.reply c.in-Some.copy c.in-Done.is c.in-Some.is c.in-Ok-came.ensures.copy c.in-Ok-came.ensures.ok begins added)
 
 pub returns-clause-err : goal.returns-clause-err
 returns-clause-err g c =
