@@ -1,5 +1,5 @@
 -- What a session knows of its calls.
-use Rattle.std.specs.Prelude.{◌≡◌, ◌⊎◌, ℕ, false, List, [], ◌∷◌, ◌++◌, slice_get, Some, IsSome, Result, Ok, Err, ⊤}
+use Rattle.std.specs.Prelude.{◌≡◌, ◌⊎◌, ℕ, false, List, [], ◌∷◌, ◌++◌, slice_get, Option, Some, IsSome, Result, Ok, Err, ⊤}
 use Rattle.jc_model.specs.declared.call.Answer.{Answer}
 use Rattle.jc_model.specs.declared.call.Call.{Call}
 use Rattle.jc_model.specs.declared.call.Notice.{Notice}
@@ -18,6 +18,7 @@ use Rattle.jc_model.specs.Legal.{History, IsLegal, entries_of}
 use Rattle.jc_shared.specs.declared.fault.CallFault.{CallFault}
 use Rattle.jc_shared.specs.declared.fault.CallFault.TheVariants.{NoSuchCache, NoSuchProcessor, Busy, Overtaken, OutOfMemory}
 use Rattle.jc_model.specs.Asking.{AsksOf, invoked_by}
+use Rattle.jc_shared.specs.Finding.{ended_by}
 use Rattle.jc_shared.specs.Sessions.{Sitting, Sight, BeginsWith, Sees}
 use Rattle.jc_shared.specs.Living.{Refuses, IsMissing}
 use Rattle.jc_shared.specs.Stated.{Stated, AreStated}
@@ -98,6 +99,10 @@ EndsFaulty configs stated fault e pass = ⊥
 abbrev pub GoesOn : List CacheConfig → Entry → Step → Entry → Sight → Type 0
 GoesOn configs old (Need request) new pass = (new ≡ old) × AsksOf old.call request
 GoesOn configs old (Done reply) new pass = (new ≡ record old { end = end.Replied reply }) × Stands configs new pass
+
+-- and its entry ends by this copy of the reply, if there is one
+abbrev pub GoesOnTo : List CacheConfig → Entry → Step → Option Reply → Sight → Type 0
+GoesOnTo configs old step copy pass = GoesOn configs old step (ended_by copy old) pass
 
 -- the session's list has grown by this call
 pub record Adds (configs : List CacheConfig) (stated : List Stated) (old new : Sitting) (id at : ℕ) (call : Call) (n : End) : Type 0 where

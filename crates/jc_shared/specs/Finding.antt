@@ -18,7 +18,8 @@ use Rattle.jc_model.specs.declared.event.Step.{Step}
 use Rattle.jc_model.specs.declared.event.Step.TheVariants.{Done, Need}
 use Rattle.jc_model.specs.Runs.{Lives}
 use Rattle.jc_model.specs.Legal.{History, Tells}
-use Rattle.jc_engine.specs.Recording.{HasOpen}
+use Rattle.jc_engine.specs.Caches.{lives_of}
+use Rattle.jc_engine.specs.Recording.{Recording, HasOpen}
 
 -- why a call has no reply, by why the engine refuses it
 abbrev pub fault_of : Cause → CallFault
@@ -71,6 +72,10 @@ pub record IsOpenFor (lives : Lives) (transcript : History) (draft : Entry) (ans
 pub record IsOpen (lives : Lives) (transcript : History) (draft : Entry) (answers : List Answer) : Type 0 where
   pub place : ℕ
   pub here : IsOpenFor lives transcript draft answers place
+
+-- so it is in a recorded engine
+abbrev pub IsOpenIn : Recording → Entry → List Answer → Type 0
+IsOpenIn r draft answers = IsOpen (lives_of r.caches) r.transcript draft answers
 
 -- an entry with its call's reply, if it has one
 abbrev pub ended_by : Option Reply → Entry → Entry

@@ -10,3 +10,4 @@ pub mod Living
 pub mod Finding
 pub mod Admitting
 pub mod Serving
+pub mod Lookups

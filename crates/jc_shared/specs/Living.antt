@@ -22,7 +22,7 @@ use Rattle.jc_shared.specs.declared.fault.CreateFault.{CreateFault}
 use Rattle.jc_shared.specs.declared.fault.CreateFault.TheVariants.{Cache, HooksDiffer, OutOfMemory}
 use Rattle.jc_shared.specs.declared.fault.DestroyFault.{DestroyFault}
 use Rattle.jc_shared.specs.declared.fault.DestroyFault.TheVariants as destroying
-use Rattle.jc_shared.specs.Sessions.{Sight, BeginsWith, Sees}
+use Rattle.jc_shared.specs.Sessions.{Sight, BeginsWith, Sees, SeesEngine}
 use Rattle.jc_shared.specs.Tenures.{IsTenure, IsRefusedFor}
 
 -- these caches are live, and stand as a legal transcript leaves them, which begins with the caches of the opening
@@ -77,7 +77,7 @@ pub record HasGone (configs : List CacheConfig) (id : ℕ) (pass : Sight) : Type
   pub new : Recording
   pub told : IsToldOf configs new
   pub tenure : (session : ℕ) → IsTenure old new session (event.Destroy id) Destroyed
-  pub sees : Sees new.transcript (lives_of new.caches) pass
+  pub sees : SeesEngine new pass
   pub lived : IsSome (config_of id new.transcript.lives)
   pub gone : live_at (lives_of new.caches) id ≡ None
 

@@ -5,6 +5,8 @@ use Rattle.jc_model.specs.declared.event.Entry.{Entry}
 use Rattle.jc_model.specs.Runs.{Lives}
 use Rattle.jc_model.specs.Legal.{History, IsLegal, Tells, numbered}
 use Rattle.jc_rows.specs.Images.{last_image}
+use Rattle.jc_engine.specs.Caches.{lives_of}
+use Rattle.jc_engine.specs.Recording.{Recording}
 use Rattle.jc_engine.specs.Watching.{ShowsStates, states_of}
 use Rattle.jc_index.specs.Indexes.{Passing}
 
@@ -35,6 +37,10 @@ BeginsWith configs transcript = take (length configs) transcript.lives ≡ numbe
 pub record Sees (transcript : History) (lives : Lives) (pass : Sight) : Type 0 where
   pub tells : Tells transcript lives
   pub shows : pass.met ≡ true → ShowsStates (states_of lives) (last_image pass.images)
+
+-- it shows those of a recorded engine
+abbrev pub SeesEngine : Recording → Sight → Type 0
+SeesEngine r pass = Sees r.transcript (lives_of r.caches) pass
 
 -- it shows those that are live at some moment, as a legal transcript leaves them, which begins with these caches
 pub record SeesSome (configs : List CacheConfig) (pass : Sight) : Type 0 where

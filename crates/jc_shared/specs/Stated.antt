@@ -27,6 +27,10 @@ module _ {L P : Type 0} (load_of : L → List ℕ → Loaded) (verdict_of : P �
   abbrev pub AreOf : List Stated → ℕ → SharedHooks L P → Type 0
   AreOf stated id asked = (h : Stated) → slice_get stated id ≡ Some h → stated_by asked ≡ h
 
+-- a cache of the opening has as many processors as its configuration names
+abbrev pub AreCounted : {L P : Type 0} → List CacheConfig → ℕ → SharedHooks L P → Type 0
+AreCounted configs id asked = (c : CacheConfig) → slice_get configs id ≡ Some c → length c.processors ≡ length asked.processors.items
+
 -- how many processors each cache has, and how many its configuration names
 abbrev pub processor_counts : {L P : Type 0} → List (SharedHooks L P) → List ℕ
 processor_counts shared = map (λ h. length h.processors.items) shared

@@ -16,7 +16,7 @@ use Rattle.jc_engine.specs.Recording.{Recording}
 use Rattle.jc_shared.specs.declared.fault.CallFault.{CallFault}
 use Rattle.jc_shared.specs.declared.fault.AnswerFault.{AnswerFault}
 use Rattle.jc_shared.specs.declared.fault.AnswerFault.TheVariants as answering
-use Rattle.jc_shared.specs.Finding.{fault_of, IsOpen}
+use Rattle.jc_shared.specs.Finding.{fault_of, IsOpenIn}
 
 -- the engine has taken this one event of a session, and answered it so
 pub record IsTenure (old new : Recording) (session : ℕ) (event : Event) (o : Outcome) : Type 0 where
@@ -37,9 +37,9 @@ pub record IsRefusedCall (lives : Lives) (event : Event) (fault : CallFault) : T
 -- why an answer brings the draft's call no further, which has been given these before
 abbrev pub Stops : Recording → Entry → List Answer → Answer → AnswerFault → Type 0
 Stops old draft answers a answering.WrongAnswer =
-    IsOpen (lives_of old.caches) old.transcript draft answers × IsRefusedFor (lives_of old.caches) (event.Answer draft.id a) causes.WrongAnswer
+    IsOpenIn old draft answers × IsRefusedFor (lives_of old.caches) (event.Answer draft.id a) causes.WrongAnswer
 Stops old draft answers a answering.OutOfMemory =
-    IsOpen (lives_of old.caches) old.transcript draft answers × IsRefusedFor (lives_of old.caches) (event.Answer draft.id a) causes.OutOfMemory
+    IsOpenIn old draft answers × IsRefusedFor (lives_of old.caches) (event.Answer draft.id a) causes.OutOfMemory
 Stops old draft answers a answering.Overtaken = ⊤
 
 -- the draft's call was given up, and has these notices then: those that were told, and those that are left

@@ -1,10 +1,10 @@
 //! Calls on caches without callbacks. They have their reply at once, so no entry is made before it.
-ghost use Rattle.std.specs.Prelude.{◌≡◌, Some, None, IfSome, IfOk, IfErr, length, slice_get};
+ghost use Rattle.std.specs.Prelude.{◌≡◌, None, IfSome, IfOk, IfErr};
 ghost use mathlib.Core.List.{IsPrefix};
 ghost use Rattle.jc_model.specs.declared.call.Reply.TheVariants.{Found};
-ghost use Rattle.jc_model.specs.declared.config.CacheConfig.{CacheConfig};
 ghost use Rattle.jc_model.specs.declared.event.End.TheVariants.{Replied};
 ghost use Rattle.jc_shared.specs.Calls.{Adds, Fails, Lacks, TellsLack};
+ghost use Rattle.jc_shared.specs.Stated.{AreCounted};
 
 use crate::fault::CallFault;
 use crate::hooks::SharedHooks;
@@ -36,11 +36,12 @@ impl<'a, N: Name, L: Loader, W: Writer, P: Processor, K: Hearer, J: Keeping> Ses
         now: u64,
         call: Call,
     ) -> Result<Reply, CallFault>
-        requires counted { (c : CacheConfig) → slice_get N.configs id ≡ Some c → length c.processors ≡ length asked.now.processors.items }
+        requires counted { AreCounted N.configs id asked.now }
         ensures number { self.new.number ≡ self.old.number }
-        ensures ok { IfOk result (λ reply. Adds N.configs N.stated self.old self.new id now call (Replied reply)) }
+        ensures ok { IfOk result (λ reply.
+            Adds N.configs N.stated self.old self.new id now call (Replied reply)) }
         ensures refused { Lacks N.configs id call → TellsLack result × (self.new ≡ self.old) }
-        ensures err { IfErr result (λ fault. Fails N.configs N.stated self.old self.new id now call fault) }
+        ensures err { IfErr result (Fails N.configs N.stated self.old self.new id now call) }
         ensures front { IsPrefix self.old.pass.images self.new.pass.images }
     {
         let manager = self.manager;
@@ -65,7 +66,8 @@ impl<'a, N: Name, L: Loader, W: Writer, P: Processor, K: Hearer, J: Keeping> Ses
         call: &Call,
     ) -> Option<Option<Value>>
         ensures number { self.new.number ≡ self.old.number }
-        ensures some { IfSome result (λ value. Adds N.configs N.stated self.old self.new id now call.now (Replied (Found value))) }
+        ensures some { IfSome result (λ value.
+            Adds N.configs N.stated self.old self.new id now call.now (Replied (Found value))) }
         ensures same { result ≡ None → self.new ≡ self.old }
         ensures front { IsPrefix self.old.pass.images self.new.pass.images }
     {
@@ -98,8 +100,9 @@ impl<'a, N: Name, L: Loader, W: Writer, P: Processor, K: Hearer, J: Keeping> Ses
         call: Call,
     ) -> Result<Reply, CallFault>
         ensures number { self.new.number ≡ self.old.number }
-        ensures ok { IfOk result (λ reply. Adds N.configs N.stated self.old self.new id now call (Replied reply)) }
-        ensures err { IfErr result (λ fault. Fails N.configs N.stated self.old self.new id now call fault) }
+        ensures ok { IfOk result (λ reply.
+            Adds N.configs N.stated self.old self.new id now call (Replied reply)) }
+        ensures err { IfErr result (Fails N.configs N.stated self.old self.new id now call) }
         ensures front { IsPrefix self.old.pass.images self.new.pass.images }
     {
         let manager = self.manager;

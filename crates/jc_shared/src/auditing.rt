@@ -75,7 +75,8 @@ fn are_below<S: Logged>(logs: &[S], given: u32) -> bool
 
 /// Whether each number below this one has one log.
 fn are_once<S: Logged>(logs: &[S], given: u32) -> bool
-    ensures { IsTrue result ↔ ((number : ℕ) → number < given → times number (map S.log logs.now) ≡ 1) }
+    ensures { IsTrue result ↔
+        ((number : ℕ) → number < given → times number (map S.log logs.now) ≡ 1) }
 {
     for number in 0..given {
         if count_of(logs, number) != 1 {
@@ -121,7 +122,8 @@ fn none_waits(entries: &[Entry]) -> bool
 
 /// What is left of a list where it begins with this entry.
 fn past<'a>(own: &'a [Entry], entry: &Entry) -> Option<&'a [Entry]>
-    ensures { MatchOption result (slice_get own.now 0 ≢ Some entry.now) (λ rest. own.now ≡ entry.now ∷ rest.now) }
+    ensures { MatchOption result (slice_get own.now 0 ≢ Some entry.now)
+        (λ rest. own.now ≡ entry.now ∷ rest.now) }
 {
     let (first, rest) = own.split_first()?;
     if first.same(entry) { Some(rest) } else { None }
@@ -129,7 +131,8 @@ fn past<'a>(own: &'a [Entry], entry: &Entry) -> Option<&'a [Entry]>
 
 /// The first place at which a session's entries and this list part.
 fn parting(entries: &[Entry], session: u32, own: &[Entry]) -> Option<usize>
-    ensures { MatchOption result (calls_of session entries.now ≡ own.now) (λ place. PartAt (calls_of session entries.now) own.now place) }
+    ensures { MatchOption result (calls_of session entries.now ≡ own.now)
+        (λ place. PartAt (calls_of session entries.now) own.now place) }
 {
     let mut left = entries;
     let mut rest = own;
@@ -151,7 +154,8 @@ fn parting(entries: &[Entry], session: u32, own: &[Entry]) -> Option<usize>
 
 /// The lesser of the least session so far and an entry's, where that is one from this number on.
 fn lesser(least: Option<u32>, session: u32, given: u32) -> Option<u32>
-    ensures { (done : List Entries) (e : Entries) → e.session ≡ session → IsLeastFrom given done least → IsLeastFrom given (done ++ e ∷ []) result }
+    ensures { (done : List Entries) (e : Entries) → e.session ≡ session →
+        IsLeastFrom given done least → IsLeastFrom given (done ++ e ∷ []) result }
 {
     if session < given {
         return least;
@@ -208,7 +212,8 @@ fn agree<S: Logged>(entries: &[Entry], logs: &[S], given: u32) -> bool
 /// The least session whose entries are not its list, and the first place where they part.
 fn first_difference<S: Logged>(entries: &[Entry], logs: &[S], given: u32) -> Option<(u32, usize)>
     requires { AreGiven given (map S.log logs.now) }
-    ensures { MatchOption result (AllAgree entries.now (map S.log logs.now)) (λ d. DiffersFirst entries.now (map S.log logs.now) d.0 d.1) }
+    ensures { MatchOption result (AllAgree entries.now (map S.log logs.now))
+        (λ d. DiffersFirst entries.now (map S.log logs.now) d.0 d.1) }
 {
     if agree(entries, logs, given) {
         return None;
@@ -229,7 +234,7 @@ fn first_difference<S: Logged>(entries: &[Entry], logs: &[S], given: u32) -> Opt
 /// `Missing`, `StillOpen`, `Differs`, in this order. It takes no memory.
 pub fn audit<S: Logged>(transcript: &Transcript, logs: &[S], given: u32) -> Result<(), CloseFault>
     ensures ok { OnOk result (Accounts given (map S.log logs.now) transcript.now.entries) }
-    ensures fault { IfErr result (λ f. IsFault given (map S.log logs.now) transcript.now.entries f) }
+    ensures fault { IfErr result (IsFault given (map S.log logs.now) transcript.now.entries) }
 {
     let entries = transcript.entries();
     if !are_below(logs, given) || !are_once(logs, given) {

@@ -40,7 +40,9 @@ fn hold_told(draft: &mut Entry, request: Request) -> Option<Request>
 
 /// Takes the notices of such a request out again.
 fn take_told(alloc: Global, draft: &mut Entry, held: Option<Request>) -> Request
-    ensures { (q : Requested) (told : List Told) → held ≡ unless_telling q → TellsOnce q told → draft.old.told ≡ told_behind q told → (result ≡ q) × (draft.new ≡ record draft.old { told = told }) }
+    ensures { (q : Requested) (told : List Told) → held ≡ unless_telling q → TellsOnce q told →
+        draft.old.told ≡ told_behind q told →
+        (result ≡ q) × (draft.new ≡ record draft.old { told = told }) }
 {
     match held {
         Some(request) => request,
@@ -93,7 +95,8 @@ impl<'a, N: Name, L: Loader, W: Writer, P: Processor, K: Hearer> Session<
         call: Call,
     ) -> Result<Progress<PendingCall<N>>, (CallFault, Call)>
         ensures number { self.new.number ≡ self.old.number }
-        ensures ok { IfOk result (λ progress. IsBroughtTo N.configs self.old self.new (blank self.old.number id now call) progress) }
+        ensures ok { IfOk result (λ progress.
+            IsBroughtTo N.configs self.old self.new (blank self.old.number id now call) progress) }
         ensures err { IfErr result (λ e. IsRefusedBegin N.configs id now call e.0) }
         ensures back { IfErr result (λ e. e.1 ≡ call) }
         ensures refused { OnErr result (self.new ≡ self.old) }
@@ -127,7 +130,8 @@ impl<'a, N: Name, L: Loader, W: Writer, P: Processor, K: Hearer> Session<
         answer: Answer,
     ) -> Result<Progress<PendingCall<N>>, (AnswerFault, PendingCall<N>, Answer)>
         ensures number { self.new.number ≡ self.old.number }
-        ensures ok { IfOk result (λ progress. IsBroughtTo N.configs self.old self.new (answered_entry pending answer) progress) }
+        ensures ok { IfOk result (λ progress.
+            IsBroughtTo N.configs self.old self.new (answered_entry pending answer) progress) }
         ensures err { IfErr result (λ e. IsRefusedAnswer N.configs pending.draft.id answer e.0) }
         ensures back { IfErr result (λ e. (e.1 ≡ pending) × (e.2 ≡ answer)) }
         ensures refused { OnErr result (self.new ≡ self.old) }
@@ -179,7 +183,8 @@ impl<'a, N: Name, L: Loader, W: Writer, P: Processor, K: Hearer> Session<
         pending: PendingCall<N>,
     ) -> Result<Sequence<Notice>, CallFault>
         ensures number { self.new.number ≡ self.old.number }
-        ensures ok { IfOk result (λ left. AddsEntry N.configs self.old self.new (given_up_entry pending left)) }
+        ensures ok { IfOk result (λ left.
+            AddsEntry N.configs self.old self.new (given_up_entry pending left)) }
         ensures err { IfErr result (λ fault. fault ≡ CallFault.Overtaken) }
         ensures refused { OnErr result (self.new ≡ self.old) }
         ensures front { IsPrefix self.old.pass.images self.new.pass.images }

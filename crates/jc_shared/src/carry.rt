@@ -5,6 +5,7 @@ ghost use Rattle.jc_model.specs.declared.call.Answer.{Answer as Given};
 ghost use Rattle.jc_model.specs.declared.event.End.TheVariants.{Waiting};
 ghost use Rattle.jc_model.specs.declared.event.Step.TheVariants.{Done, Need};
 ghost use Rattle.jc_model.specs.Run.{is_answer_to};
+ghost use Rattle.jc_model.specs.Legal.{with_answer};
 ghost use Rattle.jc_model.specs.Asking.{AsksOf};
 ghost use Rattle.jc_shared.specs.Calls.{IsSameCall, Stays, EndsFaulty};
 ghost use Rattle.jc_shared.specs.Serving.{Serves, TellsOn, TellsOnce, told_behind, TakesIn, WritesOn, StatesOn};
@@ -28,7 +29,7 @@ use std::sync::Wait;
 
 /// Adds an equal copy of the answer to the draft.
 pub(crate) fn note_answer(draft: &mut Entry, answer: &Answer) -> Result<(), OutOfMemory>
-    ensures ok { OnOk result (draft.new ≡ record draft.old { answers = draft.old.answers ++ answer.now ∷ [] }) }
+    ensures ok { OnOk result (draft.new ≡ with_answer answer.now draft.old) }
     ensures err { OnErr result (draft.new ≡ draft.old) }
 {
     let copy = answer.share()?;
@@ -37,8 +38,10 @@ pub(crate) fn note_answer(draft: &mut Entry, answer: &Answer) -> Result<(), OutO
 
 /// Takes the last answer back.
 pub(crate) fn take_back(draft: &mut Entry) -> Option<Answer>
-    ensures taken { (answers : List Given) (a : Given) → draft.old.answers ≡ answers ++ a ∷ [] → draft.new ≡ record draft.old { answers = answers } }
-    ensures answer { (answers : List Given) (a : Given) → draft.old.answers ≡ answers ++ a ∷ [] → result ≡ Some a }
+    ensures taken { (answers : List Given) (a : Given) → draft.old.answers ≡ answers ++ a ∷ [] →
+        draft.new ≡ record draft.old { answers = answers } }
+    ensures answer { (answers : List Given) (a : Given) → draft.old.answers ≡ answers ++ a ∷ [] →
+        result ≡ Some a }
 {
     draft.answers.pop()
 }
@@ -75,8 +78,8 @@ impl<N: Name, L: Loader, W: Writer, P: Processor, K: Hearer, J: Keeping> Manager
         requires asked { AreOf L.load_of P.verdict_of N.stated draft.now.id asked.now }
         requires asks { AsksOf draft.now.call request.now }
         ensures fits { IfOk result (λ a. IsTrue (is_answer_to request.now a)) }
-        ensures stated { IfOk result (λ a. IsStatedBy (slice_get N.stated draft.now.id) draft.now.call a) }
-        ensures served { IfOk result (λ a. Serves W.may K.state_after hooks.old hooks.new request.now a) }
+        ensures stated { IfOk result (IsStatedBy (slice_get N.stated draft.now.id) draft.now.call) }
+        ensures served { IfOk result (Serves W.may K.state_after hooks.old hooks.new request.now) }
         ensures untold { OnErr result (hooks.new.listeners ≡ hooks.old.listeners) }
     {
         let alloc = self.alloc;
@@ -117,9 +120,12 @@ impl<N: Name, L: Loader, W: Writer, P: Processor, K: Hearer, J: Keeping> Manager
         requires shared { AreOf L.load_of P.verdict_of N.stated draft.old.id asked.now }
         requires asked { Stays N.configs N.stated (Need request) draft.old pass.old }
         ensures same { IsSameCall draft.old draft.new }
-        ensures served { OnOk result (TakesIn W.may K.state_after hooks.old hooks.new request draft.old.answers draft.new.answers) }
+        ensures served { OnOk result (TakesIn W.may K.state_after hooks.old hooks.new
+            request draft.old.answers draft.new.answers) }
         ensures kept { OnErr result (draft.new.answers ≡ draft.old.answers) }
-        ensures brought { MatchResult result (λ step. Stays N.configs N.stated step draft.new pass.new) (λ fault. EndsFaulty N.configs N.stated fault draft.new pass.new) }
+        ensures brought { MatchResult result
+            (λ step. Stays N.configs N.stated step draft.new pass.new)
+            (λ fault. EndsFaulty N.configs N.stated fault draft.new pass.new) }
         ensures front { IsPrefix pass.old.images pass.new.images }
         ensures told { TellsOn K.state_after hooks.old hooks.new draft.old.told draft.new.told }
     {
@@ -163,10 +169,14 @@ impl<N: Name, L: Loader, W: Writer, P: Processor, K: Hearer, J: Keeping> Manager
         requires shared { AreOf L.load_of P.verdict_of N.stated draft.old.id asked.now }
         requires asked { Stays N.configs N.stated (Need request) draft.old pass.old }
         ensures same { IsSameCall draft.old draft.new }
-        ensures ends { MatchResult result (λ reply. Stays N.configs N.stated (Done reply) draft.new pass.new) (λ fault. EndsFaulty N.configs N.stated fault draft.new pass.new) }
+        ensures ends { MatchResult result
+            (λ reply. Stays N.configs N.stated (Done reply) draft.new pass.new)
+            (λ fault. EndsFaulty N.configs N.stated fault draft.new pass.new) }
         ensures front { IsPrefix pass.old.images pass.new.images }
         ensures told { TellsOn K.state_after hooks.old hooks.new draft.old.told draft.new.told }
-        ensures wrote { MatchResult result (λ _. WritesOn W.may hooks.old hooks.new draft.old.answers draft.new.answers) (λ _. StatesOn W.may hooks.old draft.old.answers draft.new.answers) }
+        ensures wrote { MatchResult result
+            (λ _. WritesOn W.may hooks.old hooks.new draft.old.answers draft.new.answers)
+            (λ _. StatesOn W.may hooks.old draft.old.answers draft.new.answers) }
     {
         let mut step = Step::Need(request);
         for _ in rt.forever() {
@@ -187,7 +197,8 @@ impl<N: Name, L: Loader, W: Writer, P: Processor, K: Hearer, J: Keeping> Manager
         pass: &mut TablePass<N>,
     ) -> CallFault
         requires waits { draft.old.end ≡ Waiting }
-        requires answered { AreStated (slice_get N.stated draft.old.id) draft.old.call draft.old.answers }
+        requires answered { AreStated (slice_get N.stated draft.old.id)
+            draft.old.call draft.old.answers }
         ensures same { IsSameCall draft.old draft.new }
         ensures kept { draft.new.answers ≡ draft.old.answers }
         ensures ends { EndsFaulty N.configs N.stated result draft.new pass.new }

@@ -60,7 +60,8 @@ impl<L, P> SharedHooks<L, P> {
     /// Whether the processor that a call names, if any, is there.
     fn has_processor(&self, call: &Call) -> bool
         ensures names { result ≡ false → IsSome (invoked_by call.now) }
-        ensures agrees { (c : Configured) → length c.processors ≡ length self.now.processors.items → result ≡ has_processor c call.now }
+        ensures agrees { (c : Configured) → length c.processors ≡ length self.now.processors.items →
+            result ≡ has_processor c call.now }
     {
         match call {
             Call::Invoke { processor, .. } | Call::InvokeAll { processor, .. } => {
@@ -72,7 +73,8 @@ impl<L, P> SharedHooks<L, P> {
 
     /// Refuses a call that names a processor which is not there.
     pub(crate) fn accept(&self, call: &Call) -> Result<(), CallFault>
-        ensures agrees { (c : Configured) → length c.processors ≡ length self.now.processors.items → result ≡ accepted (has_processor c call.now) }
+        ensures agrees { (c : Configured) → length c.processors ≡ length self.now.processors.items →
+            result ≡ accepted (has_processor c call.now) }
         ensures err { IfErr result (λ fault. fault ≡ CallFault.NoSuchProcessor) }
         ensures names { OnErr result (IsSome (invoked_by call.now)) }
     {

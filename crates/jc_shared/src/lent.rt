@@ -38,8 +38,9 @@ impl<'a, N: Name, L: Loader, W: Writer, P: Processor, K: Hearer> Session<
         responder: &mut A,
     ) -> Result<Reply, CallFault>
         ensures number { self.new.number ≡ self.old.number }
-        ensures ok { IfOk result (λ reply. AddsCall N.configs self.old self.new (blank self.old.number id now call) (Replied reply)) }
-        ensures err { IfErr result (λ fault. FailsBy N.configs self.old self.new id now call fault) }
+        ensures ok { IfOk result (λ reply. AddsCall N.configs self.old self.new
+            (blank self.old.number id now call) (Replied reply)) }
+        ensures err { IfErr result (FailsBy N.configs self.old self.new id now call) }
         ensures front { IsPrefix self.old.pass.images self.new.pass.images }
     {
         let manager = self.manager;
@@ -67,8 +68,9 @@ impl<'a, N: Name, L: Loader, W: Writer, P: Processor, K: Hearer> Session<
         responder: &mut A,
     ) -> Result<Reply, CallFault>
         ensures number { self.new.number ≡ self.old.number }
-        ensures ok { IfOk result (λ reply. AddsCall N.configs self.old self.new (blank self.old.number id now call) (Replied reply)) }
-        ensures err { IfErr result (λ fault. FailsBy N.configs self.old self.new id now call fault) }
+        ensures ok { IfOk result (λ reply. AddsCall N.configs self.old self.new
+            (blank self.old.number id now call) (Replied reply)) }
+        ensures err { IfErr result (FailsBy N.configs self.old self.new id now call) }
         ensures front { IsPrefix self.old.pass.images self.new.pass.images }
     {
         let manager = self.manager;
@@ -89,8 +91,9 @@ impl<'a, N: Name, L: Loader, W: Writer, P: Processor, K: Hearer> Session<
         responder: &mut A,
     ) -> Result<Reply, CallFault>
         ensures number { self.new.number ≡ self.old.number }
-        ensures ok { IfOk result (λ reply. AddsCall N.configs self.old self.new (blank self.old.number id now call) (Replied reply)) }
-        ensures err { IfErr result (λ fault. FailsBy N.configs self.old self.new id now call fault) }
+        ensures ok { IfOk result (λ reply. AddsCall N.configs self.old self.new
+            (blank self.old.number id now call) (Replied reply)) }
+        ensures err { IfErr result (FailsBy N.configs self.old self.new id now call) }
         ensures front { IsPrefix self.old.pass.images self.new.pass.images }
     {
         match self.begin(rt, id, now, call) {
@@ -108,8 +111,9 @@ impl<'a, N: Name, L: Loader, W: Writer, P: Processor, K: Hearer> Session<
         responder: &mut A,
     ) -> Result<Reply, CallFault>
         ensures number { self.new.number ≡ self.old.number }
-        ensures ok { IfOk result (λ reply. AddsCall N.configs self.old self.new pending.draft (Replied reply)) }
-        ensures err { IfErr result (λ fault. EndsBy N.configs self.old self.new pending.draft fault) }
+        ensures ok { IfOk result (λ reply.
+            AddsCall N.configs self.old self.new pending.draft (Replied reply)) }
+        ensures err { IfErr result (EndsBy N.configs self.old self.new pending.draft) }
         ensures front { IsPrefix self.old.pass.images self.new.pass.images }
     {
         let mut pending = pending;

@@ -5,22 +5,21 @@ ghost use mathlib.Core.List.{IsPrefix};
 ghost use Rattle.jc_model.specs.declared.call.Answer.{Answer as Given};
 ghost use Rattle.jc_model.specs.declared.call.Call.{Call as Called};
 ghost use Rattle.jc_model.specs.declared.event.Cause.TheVariants.{NoSuchCache};
-ghost use Rattle.jc_model.specs.declared.event.End.TheVariants.{Waiting, GivenUp, Replied as RepliedSo};
+ghost use Rattle.jc_model.specs.declared.event.End.TheVariants.{Waiting, GivenUp};
 ghost use Rattle.jc_model.specs.declared.event.Event.TheVariants.{Begin, Answer as Answered};
 ghost use Rattle.jc_model.specs.declared.event.Outcome.TheVariants.{Step as Stepped};
 ghost use Rattle.jc_model.specs.Places.{at_place};
 ghost use Rattle.jc_model.specs.Runs.{live_at};
-ghost use Rattle.jc_rows.specs.Images.{last_image};
-ghost use Rattle.jc_index.specs.Found.{found};
 ghost use Rattle.jc_engine.specs.Recording.{blank};
 ghost use Rattle.jc_engine.specs.Caches.{lives_of};
 ghost use Rattle.jc_engine.specs.Results.{reply_in};
 ghost use Rattle.jc_shared.specs.Admitting.{Admits};
-ghost use Rattle.jc_shared.specs.Calls.{Stands, GoesOn, IsBeginFault};
+ghost use Rattle.jc_shared.specs.Calls.{Stands, GoesOn, GoesOnTo, IsBeginFault};
 ghost use Rattle.jc_shared.specs.Living.{IsHeld, IsIdle, HasOpenCall, Refuses, has_live_row};
+ghost use Rattle.jc_shared.specs.Lookups.{Agrees};
 ghost use Rattle.jc_shared.specs.Pending.{IsRefusedAnswer};
-ghost use Rattle.jc_shared.specs.Sessions.{BeginsWith, Sees, SeesSome};
-ghost use Rattle.jc_shared.specs.Finding.{fault_of, answer_fault_of, ended_by, IsOfCall, IsOpen, IsReplied};
+ghost use Rattle.jc_shared.specs.Sessions.{BeginsWith, SeesEngine, SeesSome};
+ghost use Rattle.jc_shared.specs.Finding.{fault_of, answer_fault_of, ended_by, IsOfCall, IsOpenIn, IsReplied};
 ghost use Rattle.jc_shared.specs.Tenures.{IsTenure, IsRefusedCall, Stops, GivesUp};
 
 mod at_once;
@@ -144,7 +143,7 @@ impl<N: Name, J: Keeping> Locked<N, J> {
 
     /// Whether the open call of the draft's cache is the draft's, which has been given these answers.
     fn is_open(&self, draft: &Entry, answers: &[Answer]) -> bool
-        ensures { IsTrue result → IsOpen (lives_of self.now.recorded.caches) self.now.recorded.transcript draft.now answers.now }
+        ensures { IsTrue result → IsOpenIn self.now.recorded draft.now answers.now }
     {
         match self.recorded.open_entry(draft.id) {
             Some(entry) => is_of_call(entry, draft, answers),
@@ -154,9 +153,10 @@ impl<N: Name, J: Keeping> Locked<N, J> {
 
     /// The pass sees the table as it is now, or memory for the meeting was refused.
     pub(crate) fn refresh(&mut self, pass: &mut TablePass<N>) -> Result<(), OutOfMemory>
-        ensures same { (self.new.recorded ≡ self.old.recorded) × (self.new.given ≡ self.old.given) × (self.new.closed ≡ self.old.closed) }
+        ensures same { self.new.recorded ≡ self.old.recorded }
+        ensures kept { (self.new.given ≡ self.old.given) × (self.new.closed ≡ self.old.closed) }
         ensures front { IsPrefix pass.old.images pass.new.images }
-        ensures shows { Sees self.old.recorded.transcript (lives_of self.old.recorded.caches) pass.new }
+        ensures shows { SeesEngine self.old.recorded pass.new }
         ensures sees { SeesSome N.configs pass.new }
         ensures met { OnOk result (pass.new.met ≡ true) }
         ensures refused { OnErr result (pass.new.met ≡ false) }
@@ -166,18 +166,20 @@ impl<N: Name, J: Keeping> Locked<N, J> {
 
     /// The pass sees the table as it is now, where memory allows it.
     fn show(&mut self, pass: &mut TablePass<N>)
-        ensures same { (self.new.recorded ≡ self.old.recorded) × (self.new.given ≡ self.old.given) × (self.new.closed ≡ self.old.closed) }
+        ensures same { self.new.recorded ≡ self.old.recorded }
+        ensures kept { (self.new.given ≡ self.old.given) × (self.new.closed ≡ self.old.closed) }
         ensures front { IsPrefix pass.old.images pass.new.images }
-        ensures sees { Sees self.old.recorded.transcript (lives_of self.old.recorded.caches) pass.new }
+        ensures sees { SeesEngine self.old.recorded pass.new }
     {
         let _ = self.refresh(pass);
     }
 
     /// At a reply the pass sees the table as it is now, where memory allows it.
     fn show_reply(&mut self, step: &Step, pass: &mut TablePass<N>)
-        ensures same { (self.new.recorded ≡ self.old.recorded) × (self.new.given ≡ self.old.given) × (self.new.closed ≡ self.old.closed) }
+        ensures same { self.new.recorded ≡ self.old.recorded }
+        ensures kept { (self.new.given ≡ self.old.given) × (self.new.closed ≡ self.old.closed) }
         ensures front { IsPrefix pass.old.images pass.new.images }
-        ensures sees { IsReplied step.now → Sees self.old.recorded.transcript (lives_of self.old.recorded.caches) pass.new }
+        ensures sees { IsReplied step.now → SeesEngine self.old.recorded pass.new }
         ensures unseen { IsReplied step.now ⊎ (pass.new ≡ pass.old) }
     {
         match step {
@@ -195,14 +197,18 @@ impl<N: Name, J: Keeping> Locked<N, J> {
         call: Call,
         pass: &mut TablePass<N>,
     ) -> Result<(Step, Option<Reply>), CallFault>
-        ensures ok { IfOk result (λ it. GoesOn N.configs (blank session id now call) it.0 (ended_by it.1 (blank session id now call)) pass.new) }
+        ensures ok { IfOk result (λ it. GoesOnTo N.configs
+            (blank session id now call) it.0 it.1 pass.new) }
         ensures copy { IfOk result (λ it. it.1 ≡ reply_in it.0) }
         ensures unseen { IfOk result (λ it. IsReplied it.0 ⊎ (pass.new ≡ pass.old)) }
-        ensures tenure { IfOk result (λ it. IsTenure self.old.recorded self.new.recorded session (Begin id now call) (Stepped it.0)) }
+        ensures tenure { IfOk result (λ it. IsTenure self.old.recorded self.new.recorded
+            session (Begin id now call) (Stepped it.0)) }
         ensures front { IsPrefix pass.old.images pass.new.images }
-        ensures err { IfErr result (λ fault. IsBeginFault N.configs id now call fault) }
-        ensures refused { IfErr result (λ fault. IsRefusedCall (lives_of self.old.recorded.caches) (Begin id now call) fault) }
-        ensures same { OnErr result ((self.new.recorded ≡ self.old.recorded) × (pass.new ≡ pass.old)) }
+        ensures err { IfErr result (IsBeginFault N.configs id now call) }
+        ensures refused { IfErr result (IsRefusedCall
+            (lives_of self.old.recorded.caches) (Begin id now call)) }
+        ensures same { OnErr result
+            ((self.new.recorded ≡ self.old.recorded) × (pass.new ≡ pass.old)) }
         ensures kept { (self.new.given ≡ self.old.given) × (self.new.closed ≡ self.old.closed) }
     {
         match self.recorded.begin(session, id, now, call) {
@@ -224,11 +230,14 @@ impl<N: Name, J: Keeping> Locked<N, J> {
         requires { draft.old ≡ blank draft.old.session draft.old.id draft.old.at call }
         ensures ok { IfOk result (λ step. GoesOn N.configs draft.old step draft.new pass.new) }
         ensures unseen { IfOk result (λ step. IsReplied step ⊎ (pass.new ≡ pass.old)) }
-        ensures tenure { IfOk result (λ step. IsTenure self.old.recorded self.new.recorded draft.old.session (Begin draft.old.id draft.old.at call) (Stepped step)) }
+        ensures tenure { IfOk result (λ step. IsTenure self.old.recorded self.new.recorded
+            draft.old.session (Begin draft.old.id draft.old.at call) (Stepped step)) }
         ensures front { IsPrefix pass.old.images pass.new.images }
-        ensures err { IfErr result (λ fault. IsBeginFault N.configs draft.old.id draft.old.at call fault) }
-        ensures refused { IfErr result (λ fault. IsRefusedCall (lives_of self.old.recorded.caches) (Begin draft.old.id draft.old.at call) fault) }
-        ensures same { OnErr result ((self.new.recorded ≡ self.old.recorded) × (draft.new ≡ draft.old) × (pass.new ≡ pass.old)) }
+        ensures err { IfErr result (IsBeginFault N.configs draft.old.id draft.old.at call) }
+        ensures refused { IfErr result (IsRefusedCall
+            (lives_of self.old.recorded.caches) (Begin draft.old.id draft.old.at call)) }
+        ensures same { OnErr result ((self.new.recorded ≡ self.old.recorded)
+            × (draft.new ≡ draft.old) × (pass.new ≡ pass.old)) }
         ensures kept { (self.new.given ≡ self.old.given) × (self.new.closed ≡ self.old.closed) }
     {
         let (session, id, now) = (draft.session, draft.id, draft.at);
@@ -253,11 +262,15 @@ impl<N: Name, J: Keeping> Locked<N, J> {
         requires answered { (before : List Given) × (draft.old.answers ≡ before ++ answer ∷ []) }
         ensures ok { IfOk result (λ step. GoesOn N.configs draft.old step draft.new pass.new) }
         ensures unseen { IfOk result (λ step. IsReplied step ⊎ (pass.new ≡ pass.old)) }
-        ensures tenure { IfOk result (λ step. IsTenure self.old.recorded self.new.recorded draft.old.session (Answered draft.old.id answer) (Stepped step)) }
+        ensures tenure { IfOk result (λ step. IsTenure self.old.recorded self.new.recorded
+            draft.old.session (Answered draft.old.id answer) (Stepped step)) }
         ensures front { IsPrefix pass.old.images pass.new.images }
-        ensures err { IfErr result (λ fault. (before : List Given) → draft.old.answers ≡ before ++ answer ∷ [] → Stops self.old.recorded draft.old before answer fault) }
-        ensures same { OnErr result ((self.new.recorded ≡ self.old.recorded) × (draft.new ≡ draft.old) × (pass.new ≡ pass.old)) }
-        ensures refused { IfErr result (λ fault. IsRefusedAnswer N.configs draft.old.id answer fault) }
+        ensures err { IfErr result (λ fault. (before : List Given) →
+            draft.old.answers ≡ before ++ answer ∷ [] →
+            Stops self.old.recorded draft.old before answer fault) }
+        ensures same { OnErr result ((self.new.recorded ≡ self.old.recorded)
+            × (draft.new ≡ draft.old) × (pass.new ≡ pass.old)) }
+        ensures refused { IfErr result (IsRefusedAnswer N.configs draft.old.id answer) }
         ensures kept { (self.new.given ≡ self.old.given) × (self.new.closed ≡ self.old.closed) }
     {
         let Some((_, before)) = draft.answers.items().split_last() else {
@@ -285,11 +298,15 @@ impl<N: Name, J: Keeping> Locked<N, J> {
         pass: &mut TablePass<N>,
     ) -> Result<(), CallFault>
         requires { draft.old.end ≡ Waiting }
-        ensures ok { OnOk result ((draft.new ≡ record draft.old { told = draft.new.told; end = GivenUp }) × Stands N.configs draft.new pass.new) }
-        ensures given_up { OnOk result (GivesUp self.old.recorded self.new.recorded draft.old draft.new.told) }
+        ensures ok { OnOk result
+            ((draft.new ≡ record draft.old { told = draft.new.told; end = GivenUp })
+            × Stands N.configs draft.new pass.new) }
+        ensures given_up { OnOk result
+            (GivesUp self.old.recorded self.new.recorded draft.old draft.new.told) }
         ensures front { IsPrefix pass.old.images pass.new.images }
         ensures err { IfErr result (λ fault. fault ≡ CallFault.Overtaken) }
-        ensures same { OnErr result ((self.new.recorded ≡ self.old.recorded) × (draft.new ≡ draft.old) × (pass.new ≡ pass.old)) }
+        ensures same { OnErr result ((self.new.recorded ≡ self.old.recorded)
+            × (draft.new ≡ draft.old) × (pass.new ≡ pass.old)) }
         ensures told { (draft.old.told ≡ []) ⊎ (draft.new.told ≡ draft.old.told) }
         ensures kept { (self.new.given ≡ self.old.given) × (self.new.closed ≡ self.old.closed) }
     {
@@ -316,18 +333,21 @@ impl<N: Name, J: Keeping> Locked<N, J> {
     /// Whether a cache has this id. Where none has, the engine refuses a call there for that.
     pub(crate) fn is_live(&self, id: CacheId) -> bool
         ensures exact { result ≡ is_some (at_place self.now.recorded.caches id) }
-        ensures missing { result ≡ false → (at : ℕ) (call : Called) → Refuses N.configs (Begin id at call) NoSuchCache }
+        ensures missing { result ≡ false →
+            (at : ℕ) (call : Called) → Refuses N.configs (Begin id at call) NoSuchCache }
     {
         self.recorded.is_live(id)
     }
 
     /// Whether a cache has a live row of this key. The pass sees the table as it is now, where memory allows it.
     pub(crate) fn has(&mut self, id: CacheId, key: &Key, now: u64, pass: &mut TablePass<N>) -> bool
-        ensures same { (self.new.recorded ≡ self.old.recorded) × (self.new.given ≡ self.old.given) × (self.new.closed ≡ self.old.closed) }
+        ensures same { self.new.recorded ≡ self.old.recorded }
+        ensures kept { (self.new.given ≡ self.old.given) × (self.new.closed ≡ self.old.closed) }
         ensures front { IsPrefix pass.old.images pass.new.images }
-        ensures exact { result ≡ has_live_row now key.now (live_at (lives_of self.old.recorded.caches) id) }
+        ensures exact { result ≡
+            has_live_row now key.now (live_at (lives_of self.old.recorded.caches) id) }
         ensures held { IsHeld N.configs id key.now now pass.new result }
-        ensures agrees { pass.new.met ≡ true → (b : Bool) → found (last_image pass.new.images) id key.now now ≡ Some b → result ≡ b }
+        ensures agrees { Agrees pass.new id key.now now result }
     {
         self.show(pass);
         self.recorded.has(id, key, now)
@@ -336,7 +356,8 @@ impl<N: Name, J: Keeping> Locked<N, J> {
     /// Gives a session its number, where there is room for its list. Numbers go upward from 0.
     pub(crate) fn admit(&mut self, room: bool) -> Result<u32, SessionRefusal>
         ensures admits { Admits J.after self.old.closed self.old.given room result self.new.given }
-        ensures kept { (self.new.recorded ≡ self.old.recorded) × (self.new.closed ≡ self.old.closed) }
+        ensures kept { (self.new.recorded ≡ self.old.recorded)
+            × (self.new.closed ≡ self.old.closed) }
     {
         if self.closed {
             return Err(SessionRefusal::Closed);
@@ -355,10 +376,13 @@ impl<N: Name, J: Keeping> Locked<N, J> {
     /// Gives a session its number and a pass, where there is room for its list.
     pub(crate) fn enter(&mut self, room: bool) -> Result<(u32, TablePass<N>), SessionRefusal>
         ensures sees { IfOk result (λ s. SeesSome N.configs s.1 × (s.1.met ≡ true)) }
-        ensures shows { IfOk result (λ s. Sees self.old.recorded.transcript (lives_of self.old.recorded.caches) s.1) }
-        ensures admits { IfOk result (λ s. Admits J.after self.old.closed self.old.given room (Ok s.0) self.new.given) }
-        ensures refused { IfErr result (λ fault. (roomy : Bool) × Admits J.after self.old.closed self.old.given roomy (Err fault) self.new.given) }
-        ensures kept { (self.new.recorded ≡ self.old.recorded) × (self.new.closed ≡ self.old.closed) }
+        ensures shows { IfOk result (λ s. SeesEngine self.old.recorded s.1) }
+        ensures admits { IfOk result (λ s.
+            Admits J.after self.old.closed self.old.given room (Ok s.0) self.new.given) }
+        ensures refused { IfErr result (λ fault. (roomy : Bool)
+            × Admits J.after self.old.closed self.old.given roomy (Err fault) self.new.given) }
+        ensures kept { (self.new.recorded ≡ self.old.recorded)
+            × (self.new.closed ≡ self.old.closed) }
     {
         let pass = self.recorded.watch();
         let number = self.admit(room && pass.is_ok())?;

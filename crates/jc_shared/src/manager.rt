@@ -1,7 +1,6 @@
 //! The manager that threads share.
-ghost use Rattle.std.specs.Prelude.{◌≡◌, ◌⊎◌, ℕ, true, [], Ok, Err, Some, None, IfSome, IfOk, IfErr, OnOk, length, map, option_map, slice_get};
+ghost use Rattle.std.specs.Prelude.{◌≡◌, ◌⊎◌, ℕ, true, [], Ok, Err, Some, None, IfSome, IfOk, IfErr, OnOk, map, option_map, slice_get};
 ghost use Rattle.jc_model.specs.declared.call.Call.{Call as Called};
-ghost use Rattle.jc_model.specs.declared.config.CacheConfig.{CacheConfig};
 ghost use Rattle.jc_model.specs.declared.event.Cause.TheVariants.{NoSuchCache};
 ghost use Rattle.jc_model.specs.declared.event.Event.TheVariants.{Begin};
 ghost use Rattle.jc_model.specs.Legal.{IsLegal};
@@ -9,7 +8,7 @@ ghost use Rattle.jc_shared.specs.Accounts.{Accounts, IsCloseRefusal};
 ghost use Rattle.jc_shared.specs.Admitting.{IsAdmission};
 ghost use Rattle.jc_shared.specs.Living.{HasOpenCall, IsIdle, IsNamed, Refuses};
 ghost use Rattle.jc_shared.specs.Sessions.{BeginsWith, SeesSome, log_of};
-ghost use Rattle.jc_shared.specs.Stated.{stated_by, AreOf, processor_counts, wanted_counts};
+ghost use Rattle.jc_shared.specs.Stated.{stated_by, AreOf, AreCounted, processor_counts, wanted_counts};
 
 use crate::brief_lock::BriefLock;
 use crate::directory::{Directory, HooksLock};
@@ -76,7 +75,7 @@ impl<N: Name, L: Loader, W: Writer, P: Processor, K: Hearer, J: Keeping> Manager
     /// The loader and the processors of a cache of the opening, which stand beside all locks.
     pub(crate) fn opened(&self, id: CacheId) -> Option<&SharedHooks<L, P>>
         ensures stated { IfSome result (λ h. AreOf L.load_of P.verdict_of N.stated id h.now) }
-        ensures counted { IfSome result (λ h. (c : CacheConfig) → slice_get N.configs id ≡ Some c → length c.processors ≡ length h.now.processors.items) }
+        ensures counted { IfSome result (λ h. AreCounted N.configs id h.now) }
         ensures created { result ≡ None → slice_get N.configs id ≡ None }
     {
         let shared = shared_at(self.shared.as_slice(), id)?;
@@ -93,7 +92,8 @@ impl<N: Name, L: Loader, W: Writer, P: Processor, K: Hearer, J: Keeping> Manager
 
     /// What a call is told whose processor is lacking: that its cache is not there, where it is not.
     pub(crate) fn lacking<R: Wait>(&self, rt: &R, id: CacheId, fault: CallFault) -> CallFault
-        ensures { (result ≡ fault) ⊎ ((result ≡ CallFault.NoSuchCache) × ((at : ℕ) (call : Called) → Refuses N.configs (Begin id at call) NoSuchCache)) }
+        ensures { (result ≡ fault) ⊎ ((result ≡ CallFault.NoSuchCache)
+            × ((at : ℕ) (call : Called) → Refuses N.configs (Begin id at call) NoSuchCache)) }
     {
         if self.locked.lock(rt).is_live(id) {
             fault
@@ -118,7 +118,7 @@ impl<N: Name, L: Loader, W: Writer, P: Processor, K: Hearer, J: Keeping> Manager
         own: &'s SharedHooks<L, P>,
     ) -> &'s SharedHooks<L, P>
         ensures stated { AreOf L.load_of P.verdict_of N.stated id result.now }
-        ensures counted { (c : CacheConfig) → slice_get N.configs id ≡ Some c → length c.processors ≡ length result.now.processors.items }
+        ensures counted { AreCounted N.configs id result.now }
     {
         match shared_at(self.shared.as_slice(), id) {
             Some(shared) => shared,
@@ -140,8 +140,10 @@ impl<N: Name, L: Loader, W: Writer, P: Processor, K: Hearer> Manager<N, L, W, P,
     ) -> Result<Transcript, (CloseFault, Vec<Session<'a, N, L, W, P, K>>)>
         ensures legal { IfOk result (λ t. IsLegal t) }
         ensures begins { IfOk result (λ t. BeginsWith N.configs t) }
-        ensures accounts { IfOk result (λ t. (given : ℕ) × Accounts given (map log_of sessions.entry.items) t.entries) }
-        ensures refused { IfErr result (λ e. IsCloseRefusal N.configs (map log_of sessions.entry.items) e.0) }
+        ensures accounts { IfOk result (λ t.
+            (given : ℕ) × Accounts given (map log_of sessions.entry.items) t.entries) }
+        ensures refused { IfErr result (λ e.
+            IsCloseRefusal N.configs (map log_of sessions.entry.items) e.0) }
         ensures back { IfErr result (λ e. e.1.items ≡ sessions.entry.items) }
     {
         let finished = self.locked.lock(rt).finish(sessions.as_slice());

@@ -25,7 +25,15 @@ impl Name for Brand {
 
     ghost stated = { [] };
 
-    ghost index = { record { words = 0; slots = 0; views_name = 0; atom = 0; block = 0; offset = 0; slot_names = [] } };
+    ghost index = { record {
+      words = 0;
+      slots = 0;
+      views_name = 0;
+      atom = 0;
+      block = 0;
+      offset = 0;
+      slot_names = [];
+    } };
 }
 
 /// The index of a manager's name.

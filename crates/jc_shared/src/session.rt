@@ -1,21 +1,16 @@
 //! One caller's way to the caches of a manager.
-ghost use Rattle.std.specs.Prelude.{◌≡◌, ◌<◌, ◌≢◌, ◌⊎◌, suc, Bool, true, false, Some, None, IfOk, IfErr, OnOk, OnErr, Err, length, slice_get};
+ghost use Rattle.std.specs.Prelude.{◌≡◌, ◌<◌, ◌⊎◌, suc, Bool, true, false, Some, None, IfOk, IfErr, OnOk, OnErr, Err, slice_get};
 ghost use mathlib.Core.List.{IsPrefix};
-ghost use Rattle.jc_model.specs.declared.config.CacheConfig.{CacheConfig};
 ghost use Rattle.jc_model.specs.declared.event.End.TheVariants.{Replied};
 ghost use Rattle.jc_engine.specs.Recording.{blank};
 ghost use Rattle.jc_hooks.specs.Suits.{Suits};
-ghost use Rattle.jc_place.specs.Seeded.{seeded_place};
-ghost use Rattle.jc_rows.specs.Images.{last_image};
-ghost use Rattle.jc_stripes.specs.Stripes.{SomeOdd, Stayed, stripes_in};
-ghost use Rattle.jc_index.specs.Spelling.{buckets_of};
-ghost use Rattle.jc_index.specs.Found.{found};
-ghost use Rattle.jc_index.specs.Versions.{read_for};
+ghost use Rattle.jc_stripes.specs.Stripes.{Stayed};
 ghost use Rattle.jc_index.specs.declared.lookup.Lookup.TheVariants.{Sure, Unsure};
 ghost use Rattle.jc_shared.specs.Calls.{Adds, Fails, Lacks, TellsLack};
 ghost use Rattle.jc_shared.specs.Living.{IsCreated, IsCreateFault, IsDestroyRefusal, HasGone, IsHeld, IsSeen};
+ghost use Rattle.jc_shared.specs.Lookups.{found_by, Agrees, MayBeUnsure, ReadsStripes};
 ghost use Rattle.jc_shared.specs.Sessions.{SeesSome, log_of};
-ghost use Rattle.jc_shared.specs.Stated.{AreOf};
+ghost use Rattle.jc_shared.specs.Stated.{AreOf, AreCounted};
 
 use crate::auditing::Logged;
 use crate::fault::{CallFault, CreateFault, DestroyFault};
@@ -153,9 +148,10 @@ impl<'a, N: Name, L: Loader, W: Writer, P: Processor, K: Hearer, J: Keeping> Ses
         call: Call,
     ) -> Result<Reply, CallFault>
         ensures number { self.new.number ≡ self.old.number }
-        ensures ok { IfOk result (λ reply. Adds N.configs N.stated self.old self.new id now call (Replied reply)) }
+        ensures ok { IfOk result (λ reply.
+            Adds N.configs N.stated self.old self.new id now call (Replied reply)) }
         ensures refused { Lacks N.configs id call → TellsLack result × (self.new ≡ self.old) }
-        ensures err { IfErr result (λ fault. Fails N.configs N.stated self.old self.new id now call fault) }
+        ensures err { IfErr result (Fails N.configs N.stated self.old self.new id now call) }
         ensures front { IsPrefix self.old.pass.images self.new.pass.images }
     {
         let manager = self.manager;
@@ -183,9 +179,10 @@ impl<'a, N: Name, L: Loader, W: Writer, P: Processor, K: Hearer, J: Keeping> Ses
     ) -> Result<Reply, CallFault>
         requires created { slice_get N.configs id ≡ None }
         ensures number { self.new.number ≡ self.old.number }
-        ensures ok { IfOk result (λ reply. Adds N.configs N.stated self.old self.new id now call (Replied reply)) }
+        ensures ok { IfOk result (λ reply.
+            Adds N.configs N.stated self.old self.new id now call (Replied reply)) }
         ensures refused { Lacks N.configs id call → TellsLack result × (self.new ≡ self.old) }
-        ensures err { IfErr result (λ fault. Fails N.configs N.stated self.old self.new id now call fault) }
+        ensures err { IfErr result (Fails N.configs N.stated self.old self.new id now call) }
         ensures front { IsPrefix self.old.pass.images self.new.pass.images }
     {
         let manager = self.manager;
@@ -214,11 +211,12 @@ impl<'a, N: Name, L: Loader, W: Writer, P: Processor, K: Hearer, J: Keeping> Ses
         call: Call,
     ) -> Result<Reply, CallFault>
         requires stated { AreOf L.load_of P.verdict_of N.stated id asked.now }
-        requires counted { (c : CacheConfig) → slice_get N.configs id ≡ Some c → length c.processors ≡ length asked.now.processors.items }
+        requires counted { AreCounted N.configs id asked.now }
         ensures number { self.new.number ≡ self.old.number }
-        ensures ok { IfOk result (λ reply. Adds N.configs N.stated self.old self.new id now call (Replied reply)) }
+        ensures ok { IfOk result (λ reply.
+            Adds N.configs N.stated self.old self.new id now call (Replied reply)) }
         ensures refused { Lacks N.configs id call → TellsLack result × (self.new ≡ self.old) }
-        ensures err { IfErr result (λ fault. Fails N.configs N.stated self.old self.new id now call fault) }
+        ensures err { IfErr result (Fails N.configs N.stated self.old self.new id now call) }
         ensures front { IsPrefix self.old.pass.images self.new.pass.images }
     {
         let manager = self.manager;
@@ -265,7 +263,8 @@ impl<'a, N: Name, L: Loader, W: Writer, P: Processor, K: Hearer, J: Keeping> Ses
     ) -> Result<CacheId, (CreateFault, CacheConfig, CacheHooks<L, W, P, K>)>
         ensures created { IfOk result (λ id. IsCreated N.configs id config) }
         ensures suits { OnOk result (Suits P.wants config hooks) }
-        ensures refused { IfErr result (λ e. IsCreateFault N.configs config (Suits P.wants config hooks) e.0) }
+        ensures refused { IfErr result (λ e.
+            IsCreateFault N.configs config (Suits P.wants config hooks) e.0) }
         ensures back { IfErr result (λ e. (e.1 ≡ config) × (e.2 ≡ hooks)) }
     {
         let manager = self.manager;
@@ -341,12 +340,17 @@ impl<'a, N: Name, L: Loader, W: Writer, P: Processor, K: Hearer, J: Keeping> Ses
     /// Whether a cache has a live row of this key, without waiting: it takes no lock. It is sure only of the last image
     /// that the session has seen, which is no older than its own last call. An unknown cache has no rows.
     pub fn contains_key(&mut self, id: CacheId, key: &Key, now: u64) -> Lookup
-        ensures sure { (b : Bool) → result ≡ Sure b → found (last_image self.new.pass.images) id key.now now ≡ Some b }
-        ensures stays { (b : Bool) → result ≡ Sure b → Stayed self.new.pass.begun self.new.pass.checked }
-        ensures unmet { self.old.pass.met ≡ false → (result ≡ Unsure) × (self.new.pass ≡ self.old.pass) }
-        ensures unsure { result ≡ Unsure → (self.old.pass.met ≡ false) ⊎ ((SomeOdd self.new.pass.begun ⊎ (self.new.pass.begun ≢ self.new.pass.checked)) ⊎ (found (last_image self.new.pass.images) id key.now now ≡ None)) }
-        ensures stripes { self.old.pass.met ≡ true → (stripes_in self.new.pass.begun ≡ read_for (buckets_of (seeded_place self.old.pass.placer) self.old.pass.buckets (id, key.now))) × (stripes_in self.new.pass.checked ≡ stripes_in self.new.pass.begun) }
-        ensures counted { self.old.pass.met ≡ true → self.new.pass.lookups ≡ suc self.old.pass.lookups }
+        ensures sure { (b : Bool) → result ≡ Sure b →
+            found_by self.new.pass id key.now now ≡ Some b }
+        ensures stays { (b : Bool) → result ≡ Sure b →
+            Stayed self.new.pass.begun self.new.pass.checked }
+        ensures unmet { self.old.pass.met ≡ false →
+            (result ≡ Unsure) × (self.new.pass ≡ self.old.pass) }
+        ensures unsure { result ≡ Unsure → MayBeUnsure self.old.pass self.new.pass id key.now now }
+        ensures stripes { self.old.pass.met ≡ true →
+            ReadsStripes self.old.pass self.new.pass id key.now }
+        ensures counted { self.old.pass.met ≡ true →
+            self.new.pass.lookups ≡ suc self.old.pass.lookups }
         ensures front { IsPrefix self.old.pass.images self.new.pass.images }
         ensures met { self.new.pass.met ≡ self.old.pass.met }
         ensures same { log_of self.new ≡ log_of self.old }
@@ -357,9 +361,11 @@ impl<'a, N: Name, L: Loader, W: Writer, P: Processor, K: Hearer, J: Keeping> Ses
     /// Whether a cache has a live row of this key: by a lookup where that is sure, else under the lock. It is no use of
     /// the row, and the session keeps no entry of it.
     pub fn contains<R: Wait>(&mut self, rt: &R, id: CacheId, key: &Key, now: u64) -> bool
-        ensures told { IsSeen id key.now now self.new.pass result ⊎ IsHeld N.configs id key.now now self.new.pass result }
-        ensures unmet { self.old.pass.met ≡ false → IsHeld N.configs id key.now now self.new.pass result }
-        ensures agrees { self.new.pass.met ≡ true → (b : Bool) → found (last_image self.new.pass.images) id key.now now ≡ Some b → result ≡ b }
+        ensures told { IsSeen id key.now now self.new.pass result
+            ⊎ IsHeld N.configs id key.now now self.new.pass result }
+        ensures unmet { self.old.pass.met ≡ false →
+            IsHeld N.configs id key.now now self.new.pass result }
+        ensures agrees { Agrees self.new.pass id key.now now result }
         ensures front { IsPrefix self.old.pass.images self.new.pass.images }
         ensures same { log_of self.new ≡ log_of self.old }
     {

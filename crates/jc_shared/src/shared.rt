@@ -47,7 +47,11 @@ impl<L, W, P, K, J: Keeping> Model for Shared<L, W, P, K, J> {
 
     ghost Value = { Handed L P };
 
-    ghost view = { λ s. record { configs = s.configs.items; shared = s.hooks.shared.items; index = s.table } };
+    ghost view = { λ s. record {
+      configs = s.configs.items;
+      shared = s.hooks.shared.items;
+      index = s.table;
+    } };
 
     ghost invariant = { λ s. IsOpened s.configs.items s.recorded s.hooks.shared.items };
 }
@@ -115,7 +119,7 @@ impl<L: Loader, W: Writer, P: Processor, K: Hearer, J: Keeping> Shared<L, W, P, 
         ensures configs { IfOk result (λ s. s.configs ≡ configs.items) }
         ensures shared { IfOk result (λ s. s.shared ≡ map shared_of hooks.items) }
         ensures opens { OnOk result (CanOpen P.wants configs.items hooks.items) }
-        ensures refused { IfErr result (λ refusal. IsRefusal P.wants configs.items hooks.items refusal) }
+        ensures refused { IfErr result (IsRefusal P.wants configs.items hooks.items) }
     {
         if let Some(refusal) = open_refusal(alloc, configs.as_slice()) {
             return Err(SharedRefusal::Caches(refusal));

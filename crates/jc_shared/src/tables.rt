@@ -29,7 +29,8 @@ const BUCKETS: u32 = 16;
 /// A table without rows. The seed picks the places of its rows.
 pub fn table(alloc: Global, seed: u64) -> Result<Table, OutOfMemory>
     ensures empty { IfOk result (λ table. rows_in table.cells ≡ finite.empty) }
-    ensures slots { IfOk result (λ table. (table.cells ≡ replicate 64 None) × (table.buckets ≡ 16)) }
+    ensures slots { IfOk result (λ table.
+        (table.cells ≡ replicate 64 None) × (table.buckets ≡ 16)) }
     ensures placer { IfOk result (λ table. table.placer ≡ seed) }
 {
     match Cuckoo::new(alloc, SeededPlacer::new(seed), NoMirror, BUCKETS) {

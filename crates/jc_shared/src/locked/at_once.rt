@@ -6,8 +6,7 @@ ghost use Rattle.jc_model.specs.declared.event.Event.TheVariants.{Begin};
 ghost use Rattle.jc_model.specs.declared.event.Outcome.TheVariants.{Step as Stepped};
 ghost use Rattle.jc_model.specs.declared.event.Step.TheVariants.{Done};
 ghost use Rattle.jc_engine.specs.Recording.{blank};
-ghost use Rattle.jc_shared.specs.Calls.{GoesOn};
-ghost use Rattle.jc_shared.specs.Finding.{ended_by};
+ghost use Rattle.jc_shared.specs.Calls.{GoesOnTo};
 ghost use Rattle.jc_shared.specs.Tenures.{IsTenure};
 
 use super::Locked;
@@ -29,11 +28,14 @@ impl<N: Name, J: Keeping> Locked<N, J> {
         call: &Call,
         pass: &mut TablePass<N>,
     ) -> Option<(Option<Value>, Option<Value>)>
-        ensures some { IfSome result (λ it. GoesOn N.configs (blank session id now call.now) (Done (Found it.0)) (ended_by (Some (Found it.1)) (blank session id now call.now)) pass.new) }
+        ensures some { IfSome result (λ it. GoesOnTo N.configs
+            (blank session id now call.now) (Done (Found it.0)) (Some (Found it.1)) pass.new) }
         ensures copy { IfSome result (λ it. it.1 ≡ it.0) }
-        ensures tenure { IfSome result (λ it. IsTenure self.old.recorded self.new.recorded session (Begin id now call.now) (Stepped (Done (Found it.0)))) }
+        ensures tenure { IfSome result (λ it. IsTenure self.old.recorded self.new.recorded
+            session (Begin id now call.now) (Stepped (Done (Found it.0)))) }
         ensures front { IsPrefix pass.old.images pass.new.images }
-        ensures same { result ≡ None → (self.new.recorded ≡ self.old.recorded) × (pass.new ≡ pass.old) }
+        ensures same { result ≡ None →
+            (self.new.recorded ≡ self.old.recorded) × (pass.new ≡ pass.old) }
         ensures kept { (self.new.given ≡ self.old.given) × (self.new.closed ≡ self.old.closed) }
     {
         let found = self.recorded.get_at_once(session, id, now, call)?;

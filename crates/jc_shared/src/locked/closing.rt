@@ -16,10 +16,12 @@ impl<N: Name> Locked<N, AllCalls> {
     pub(crate) fn finish<S: Logged>(&mut self, logs: &[S]) -> Result<Transcript, CloseFault>
         ensures legal { IfOk result (λ t. IsLegal t) }
         ensures begins { IfOk result (λ t. BeginsWith N.configs t) }
-        ensures accounts { IfOk result (λ t. Accounts self.old.given (map S.log logs.now) t.entries) }
+        ensures accounts { IfOk result (λ t.
+            Accounts self.old.given (map S.log logs.now) t.entries) }
         ensures whole { IfOk result (λ t. t ≡ self.old.recorded.transcript) }
         ensures refused { IfErr result (λ f. IsCloseRefusal N.configs (map S.log logs.now) f) }
-        ensures fault { self.old.closed ≡ false → IfErr result (λ f. IsCloseFault self.old.given (map S.log logs.now) self.old.recorded.transcript.entries f) }
+        ensures fault { self.old.closed ≡ false → IfErr result (IsCloseFault
+            self.old.given (map S.log logs.now) self.old.recorded.transcript.entries) }
         ensures closed { OnOk result ((self.old.closed ≡ false) × (self.new.closed ≡ true)) }
         ensures kept { (self.new.recorded ≡ self.old.recorded) × (self.new.given ≡ self.old.given) }
         ensures again { self.old.closed ≡ true → result ≡ Err CloseFault.Missing }

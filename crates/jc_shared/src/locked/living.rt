@@ -20,7 +20,8 @@ use jc_model::key::Key;
 impl<N: Name, J: Keeping> Locked<N, J> {
     /// The id of the live cache with this name.
     pub(crate) fn cache(&self, name: &Key) -> Option<CacheId>
-        ensures exact { result ≡ named_from (λ k. k.config.name) name.now 0 (lives_of self.now.recorded.caches) }
+        ensures exact { result ≡
+            named_from (λ k. k.config.name) name.now 0 (lives_of self.now.recorded.caches) }
         ensures named { IsNamed N.configs name.now result }
     {
         self.recorded.cache(name)
@@ -34,9 +35,11 @@ impl<N: Name, J: Keeping> Locked<N, J> {
         room: bool,
     ) -> Result<CacheId, (CreateFault, CacheConfig)>
         ensures created { IfOk result (λ id. IsCreated N.configs id config) }
-        ensures tenure { IfOk result (λ id. (session : ℕ) → IsTenure self.old.recorded self.new.recorded session (Create config) (Created id)) }
+        ensures tenure { IfOk result (λ id. (session : ℕ) →
+            IsTenure self.old.recorded self.new.recorded session (Create config) (Created id)) }
         ensures refused { IfErr result (λ e. IsCreateFault N.configs config (suited ≡ true) e.0) }
-        ensures exact { IfErr result (λ e. IsRefusedConfig (lives_of self.old.recorded.caches) config suited e.0) }
+        ensures exact { IfErr result (λ e.
+            IsRefusedConfig (lives_of self.old.recorded.caches) config suited e.0) }
         ensures same { OnErr result (self.new.recorded ≡ self.old.recorded) }
         ensures kept { (self.new.given ≡ self.old.given) × (self.new.closed ≡ self.old.closed) }
         ensures may { OnOk result ((suited ≡ true) × (room ≡ true)) }
@@ -64,11 +67,13 @@ impl<N: Name, J: Keeping> Locked<N, J> {
         pass: &mut TablePass<N>,
     ) -> Result<(), DestroyFault>
         ensures gone { OnOk result (HasGone N.configs id pass.new) }
-        ensures tenure { OnOk result ((session : ℕ) → IsTenure self.old.recorded self.new.recorded session (Destroy id) Destroyed) }
+        ensures tenure { OnOk result ((session : ℕ) →
+            IsTenure self.old.recorded self.new.recorded session (Destroy id) Destroyed) }
         ensures front { IsPrefix pass.old.images pass.new.images }
         ensures refused { IfErr result (λ fault. IsDestroyFault N.configs id fault) }
-        ensures exact { IfErr result (λ fault. IsRefusedDestroy (lives_of self.old.recorded.caches) id fault) }
-        ensures same { OnErr result ((self.new.recorded ≡ self.old.recorded) × (pass.new ≡ pass.old)) }
+        ensures exact { IfErr result (IsRefusedDestroy (lives_of self.old.recorded.caches) id) }
+        ensures same { OnErr result
+            ((self.new.recorded ≡ self.old.recorded) × (pass.new ≡ pass.old)) }
         ensures kept { (self.new.given ≡ self.old.given) × (self.new.closed ≡ self.old.closed) }
     {
         match self.recorded.destroy(id) {

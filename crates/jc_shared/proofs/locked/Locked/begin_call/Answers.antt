@@ -30,7 +30,7 @@ returns-in-Ok-clause-ok g c =
 pub returns-in-Ok-clause-tenure : goal.returns-in-Ok-clause-tenure
 returns-in-Ok-clause-tenure g c =
     is_tenure c.args.self.now.recorded c.begin.new.self c.show_reply.new.self.recorded c.args.session (event.Begin c.args.id c.args.now c.args.call) c.in-Ok.pair.0
-    c.show_reply.ensures.same.0 c.in-Ok.ensures.outcome c.in-Ok.ensures.transcript c.in-Ok.ensures.lives
+    c.show_reply.ensures.same c.in-Ok.ensures.outcome c.in-Ok.ensures.transcript c.in-Ok.ensures.lives
 
 pub returns-clause-err : goal.returns-clause-err
 returns-clause-err g c =

@@ -12,7 +12,7 @@ invariant_of-self g c = record { begins = destroyed_begins g.N.Name.configs c.ar
 
 pub returns-in-Ok-clause-tenure : goal.returns-in-Ok-clause-tenure
 returns-in-Ok-clause-tenure g c = λ session.
-    subst (λ (r : Recording). IsTenure c.args.self.now.recorded r session (event.Destroy c.args.id) Destroyed) (sym c.show.ensures.same.0) (record { answered = c.in-Ok.ensures.outcome; transcript = c.in-Ok.ensures.transcript session; lives = c.in-Ok.ensures.lives })
+    subst (λ (r : Recording). IsTenure c.args.self.now.recorded r session (event.Destroy c.args.id) Destroyed) (sym c.show.ensures.same) (record { answered = c.in-Ok.ensures.outcome; transcript = c.in-Ok.ensures.transcript session; lives = c.in-Ok.ensures.lives })
 
 pub returns-in-Ok-clause-gone : goal.returns-in-Ok-clause-gone
 returns-in-Ok-clause-gone g c =

@@ -49,7 +49,7 @@ returns-clause-given_up g c =
     let draft = c.args.draft.now in
     record {
       left = c.in-Ok.left;
-      tenure = subst (λ (r : Recording). IsTenure old r draft.session (event.GiveUp draft.id) (outcome.GivenUp c.in-Ok.left)) (sym c.show.ensures.same.0)
+      tenure = subst (λ (r : Recording). IsTenure old r draft.session (event.GiveUp draft.id) (outcome.GivenUp c.in-Ok.left)) (sym c.show.ensures.same)
           (record { answered = c.in-Ok.ensures.outcome; transcript = c.in-Ok.ensures.transcript draft.session; lives = c.in-Ok.ensures.lives });
       notices = tells g c;
     }

@@ -30,7 +30,7 @@ pub returns-in-Ok-clause-tenure : goal.returns-in-Ok-clause-tenure
 returns-in-Ok-clause-tenure g c =
     let draft = c.args.draft.now in
     is_tenure c.args.self.now.recorded c.resume.new.self c.show_reply.new.self.recorded draft.session (event.Answer draft.id c.args.answer) c.in-Ok.pair.0
-    c.show_reply.ensures.same.0 c.in-Ok.ensures.outcome (c.in-Ok.ensures.transcript draft.session) c.in-Ok.ensures.lives
+    c.show_reply.ensures.same c.in-Ok.ensures.outcome (c.in-Ok.ensures.transcript draft.session) c.in-Ok.ensures.lives
 
 pub returns-clause-refused : goal.returns-clause-refused
 returns-clause-refused g c =
