@@ -3,7 +3,7 @@ use Rattle.std.specs.Prelude.{◌≡◌, ◌+◌, ◌≤◌, ℕ, Bool, List, le
 use Rattle.jc_model.specs.declared.call.Counts.{Counts}
 use Rattle.jc_model.specs.declared.call.Notice.{Notice}
 use Rattle.jc_model.specs.declared.config.CacheConfig.{CacheConfig}
-use Rattle.jc_model.specs.State.{Item, State, row_of}
+use Rattle.jc_model.specs.State.{Item, State, row_of, one_more}
 use Rattle.jc_model.specs.Changes.{Progress}
 use Rattle.jc_model.specs.Whole.{holds}
 use Rattle.jc_rows.specs.Rows.{RowMap}
@@ -30,6 +30,31 @@ state_of k = record { ring = items_of k.cells; counts = k.counts }
 
 abbrev pub progress_of : Kept → List Notice → Progress
 progress_of k told = record { state = state_of k; notices = told }
+
+-- with the notices of its call so far
+abbrev pub progress_at : Kept → Noted → Progress
+progress_at k s = progress_of k s.told
+
+-- the key's row, if it has one
+abbrev pub key_row : Kept → List ℕ → Option Item
+key_row k key = row_of key (items_of k.cells)
+
+-- The cache with one more counted.
+
+abbrev pub with_hit : Kept → Kept
+with_hit k = record k { counts = record k.counts { hits = one_more k.counts.hits } }
+
+abbrev pub with_miss : Kept → Kept
+with_miss k = record k { counts = record k.counts { misses = one_more k.counts.misses } }
+
+abbrev pub with_put : Kept → Kept
+with_put k = record k { counts = record k.counts { puts = one_more k.counts.puts } }
+
+abbrev pub with_removal : Kept → Kept
+with_removal k = record k { counts = record k.counts { removals = one_more k.counts.removals } }
+
+abbrev pub with_eviction : Kept → Kept
+with_eviction k = record k { counts = record k.counts { evictions = one_more k.counts.evictions } }
 
 -- the cache and the table say the same of its rows
 abbrev pub IsTied : RowMap → Kept → Type 0

@@ -1,5 +1,5 @@
 -- The notices of a call so far, and the places that are left for more.
-use Rattle.std.specs.Prelude.{◌≡◌, ℕ, ◌<◌, ◌≤◌, if◌then◌else◌, ltb, List, [], ◌∷◌, ◌++◌, Option, Some, None}
+use Rattle.std.specs.Prelude.{◌≡◌, ℕ, ◌<◌, ◌≤◌, if◌then◌else◌, ltb, List, [], ◌∷◌, ◌++◌, Option, Some, None, option_map}
 use Rattle.jc_model.specs.declared.call.Notice.{Notice}
 use Rattle.jc_model.specs.declared.config.CacheConfig.{CacheConfig}
 use Rattle.jc_state.specs.declared.stored.Stored.{Stored}
@@ -15,6 +15,10 @@ HasPlaces c n s = 0 < c.listeners → n ≤ s.spare
 -- without listeners no notices are made
 abbrev pub told_after : CacheConfig → Notice → List Notice → List Notice
 told_after c n told = if ltb 0 c.listeners then told ++ n ∷ [] else told
+
+-- the value of what is stored
+abbrev pub stored_value : Option Stored → Option (List ℕ)
+stored_value stored = option_map (λ s. s.value) stored
 
 -- listeners are told a value of its own
 abbrev pub IsTold : CacheConfig → Stored → Type 0

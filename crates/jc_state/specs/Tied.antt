@@ -1,5 +1,5 @@
 -- The tie between the rows of one cache and the table that all caches share.
-use Rattle.std.specs.Prelude.{◌≡◌, ℕ, false, eqb, List, [], ◌∷◌, Some, option_map}
+use Rattle.std.specs.Prelude.{◌≡◌, ℕ, false, eqb, List, [], ◌∷◌, Some, None, option_map}
 use Rattle.std.specs.FinMap as table
 use Rattle.jc_model.specs.declared.config.Expiry.{Expiry}
 use Rattle.jc_rows.specs.Rows.{RowMap}
@@ -24,3 +24,7 @@ pub record Tied (m : RowMap) (id : ℕ) (cs : List Cell) : Type 0 where
 -- what the table says of other caches stays
 abbrev pub SameElsewhere : ℕ → RowMap → RowMap → Type 0
 SameElsewhere id m n = (other : ℕ) (k : List ℕ) → eqb other id ≡ false → table.get n (other, k) ≡ table.get m (other, k)
+
+-- keys of this cache that have no row still have none
+abbrev pub StaysAbsent : ℕ → RowMap → RowMap → Type 0
+StaysAbsent id m n = (k : List ℕ) → table.get m (id, k) ≡ None → table.get n (id, k) ≡ None
