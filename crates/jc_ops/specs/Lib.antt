@@ -4,4 +4,5 @@ pub mod Verdicts
 pub mod Heard
 pub mod Supply
 pub mod Stepped
+pub mod At
 pub mod Invoked

@@ -8,9 +8,11 @@ use Rattle.jc_model.specs.declared.call.Reply.{Reply}
 use Rattle.jc_model.specs.declared.call.Request.{Request}
 use Rattle.jc_model.specs.declared.config.CacheConfig.{CacheConfig}
 use Rattle.jc_model.specs.Changes.{Progress}
-use Rattle.jc_model.specs.Run.{Run, ended, waiting}
+use Rattle.jc_model.specs.Run.{Run, ended, waiting, resume}
+use Rattle.jc_model.specs.Step.{step}
 use Rattle.jc_model.specs.Suspended.{KeyWait, key_run}
-use Rattle.jc_state.specs.Kept.{Kept, progress_of}
+use Rattle.jc_state.specs.Kept.{Kept, progress_of, progress_at}
+use Rattle.jc_state.specs.Noted.{Noted}
 use Rattle.jc_ops.specs.declared.step.Next.{Next}
 use Rattle.jc_ops.specs.declared.step.Next.TheVariants.{Ended, Waiting}
 
@@ -44,3 +46,25 @@ StepsTo c run (Waiting request w) k told = StepWaits c (progress_of k told) requ
 abbrev pub StaysAt : ℕ → KeyCall → Next KeyWait Reply → Type 0
 StaysAt now call (Ended reply) = Unit {0}
 StaysAt now call (Waiting request w) = (w.now ≡ now) × (w.call ≡ call)
+
+-- Over a cache and the notices of its call so far.
+
+-- the run of a step that begins
+abbrev pub step_run : Kept → Noted → ℕ → KeyCall → Run
+step_run k s now call = step k.config now call (progress_at k s)
+
+-- of a step that waits
+abbrev pub waiting_run : Kept → Noted → KeyWait → Run
+waiting_run k s w = key_run k.config (progress_at k s) w
+
+-- and of one that has its answer
+abbrev pub answer_run : Kept → Noted → KeyWait → Answer → Run
+answer_run k s w a = resume (waiting_run k s w) a
+
+-- the step waits
+abbrev pub WaitsIn : Kept → Noted → KeyWait → Type 0
+WaitsIn k s w = IsWaiting k.config (progress_at k s) w
+
+-- the step does as its run, from this cache to that one
+abbrev pub StepsFrom : Kept → Run → Next KeyWait Reply → Kept → Noted → Type 0
+StepsFrom old run next new s = StepsTo old.config run next new s.told

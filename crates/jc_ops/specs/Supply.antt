@@ -12,8 +12,9 @@ use Rattle.jc_model.specs.Suspended.{KeyWait}
 use Rattle.jc_ops.specs.declared.supply.Supply.{Supply}
 use Rattle.jc_ops.specs.Given.{loaded_in, verdict_in}
 use Rattle.jc_model.specs.Table.{value_of}
-use Rattle.jc_state.specs.Noted.{StoredIsTold}
-use Rattle.jc_ops.specs.Lines.{handed, shows, shows_loaded, creates, is_invoke}
+use Rattle.jc_state.specs.Kept.{Kept, items_of, has_live}
+use Rattle.jc_state.specs.Noted.{Noted, HasPlaces, StoredIsTold}
+use Rattle.jc_ops.specs.Lines.{handed, shows, shows_loaded, creates, is_invoke, most_told}
 use Rattle.jc_ops.specs.Verdicts.{stores_by, hands_by}
 
 -- The supply has the values for the step of this call, in a cache with these items.
@@ -68,3 +69,37 @@ adds_at there c w _ = false
 -- the table has room where a row is added
 abbrev pub HasRoom : Bool → ℕ → Type 0
 HasRoom adding spare = adding ≡ true → 0 < spare
+
+-- Of a step on a cache.
+
+-- the values for a step that begins
+abbrev pub CoversIn : Bool → Kept → KeyCall → Supply → Type 0
+CoversIn writer k call s = Covers writer k.config call (items_of k.cells) s
+
+-- and for the step that waits, at this answer
+abbrev pub CoversAnswerIn : Kept → KeyWait → Answer → Supply → Type 0
+CoversAnswerIn k w a s = CoversAnswer k.config w a (items_of k.cells) s
+
+-- the most notices that it may tell
+abbrev pub most_told_in : Kept → ℕ → KeyCall → ℕ
+most_told_in k now call = most_told (has_live now call.key k) call.op
+
+-- places for them
+abbrev pub HasPlacesFor : Kept → ℕ → KeyCall → Noted → Type 0
+HasPlacesFor k now call s = HasPlaces k.config (most_told_in k now call) s
+
+-- whether it adds a row as it begins
+abbrev pub adds_in : Kept → ℕ → KeyCall → Bool
+adds_in k now call = adds (has_live now call.key k) k.config.writer call.op
+
+-- and at this answer
+abbrev pub adds_at_in : Kept → KeyWait → Answer → Bool
+adds_at_in k w a = adds_at (has_live w.now w.call.key k) k.config w a
+
+-- where the loader gave a value, or none, this holds of it
+abbrev pub OnLoaded : Answer → (Option (List ℕ) → Type 0) → Type 0
+OnLoaded a P = (loaded : Option (List ℕ)) → loaded_by a ≡ Some loaded → P loaded
+
+-- where the processor gave a verdict
+abbrev pub OnVerdict : Answer → (Verdict → Type 0) → Type 0
+OnVerdict a P = (v : Verdict) → verdict_of a ≡ Some v → P v

@@ -9,8 +9,8 @@ ghost use Rattle.jc_model.specs.Run.{ended};
 ghost use Rattle.jc_model.specs.Step.{step as step_of};
 ghost use Rattle.jc_state.specs.Shelf.{has_row};
 ghost use Rattle.jc_model.specs.declared.call.Reply.TheVariants.{Found};
-ghost use Rattle.jc_model.specs.State.{one_more};
-ghost use Rattle.jc_state.specs.Kept.{progress_of, has_live, IsTied, IsUnmoved, Keeps, FoundRow};
+ghost use Rattle.jc_state.specs.Kept.{progress_of, has_live, with_miss};
+ghost use Rattle.jc_state.specs.Kept.{IsTied, IsUnmoved, Keeps, FoundRow};
 
 use jc_model::OutOfMemory;
 use jc_model::thrice::Thrice;
@@ -29,10 +29,15 @@ pub fn hit<R: Rows, G: Ring>(
 ) -> Result<Thrice<Value>, OutOfMemory>
     requires tied { IsTied (R.contents rows.old) state.old }
     requires there { has_row row state.old.cells ≡ true }
-    ensures keeps { Keeps 0 (R.contents rows.old) (R.spare rows.old) state.old (R.contents rows.new) (R.spare rows.new) state.new }
-    ensures ok { IfOk result (λ value. (key : List ℕ) (told : List Notice) → FoundRow key state.old (Some row) → has_live now key state.old ≡ true →
-        step_of state.old.config now (record { key = key; op = Get }) (progress_of state.old told) ≡ ended (progress_of state.new told) (Found (Some value))) }
-    ensures same { OnErr result (IsUnmoved (R.contents rows.old) state.old (R.contents rows.new) state.new) }
+    ensures keeps { Keeps 0
+        (R.contents rows.old) (R.spare rows.old) state.old
+        (R.contents rows.new) (R.spare rows.new) state.new }
+    ensures ok { IfOk result (λ value. (key : List ℕ) (told : List Notice) →
+        FoundRow key state.old (Some row) → has_live now key state.old ≡ true →
+        step_of state.old.config now (record { key = key; op = Get }) (progress_of state.old told)
+        ≡ ended (progress_of state.new told) (Found (Some value))) }
+    ensures same { OnErr result
+        (IsUnmoved (R.contents rows.old) state.old (R.contents rows.new) state.new) }
 {
     let value = Thrice::of(state.value(row).first())?;
     state.hit();
@@ -43,9 +48,10 @@ pub fn hit<R: Rows, G: Ring>(
 /// Gets nothing by a key without a row, where no loader is to be asked: a miss is counted.
 pub fn miss<G: Ring>(state: &mut CacheState<G>)
     requires unasked { state.old.config.loader ≡ false }
-    ensures counted { state.new ≡ record state.old { counts = record state.old.counts { misses = one_more state.old.counts.misses } } }
+    ensures counted { state.new ≡ with_miss state.old }
     ensures ended { (now : ℕ) (key : List ℕ) (told : List Notice) → FoundRow key state.old None →
-        step_of state.old.config now (record { key = key; op = Get }) (progress_of state.old told) ≡ ended (progress_of state.new told) (Found None) }
+        step_of state.old.config now (record { key = key; op = Get }) (progress_of state.old told)
+        ≡ ended (progress_of state.new told) (Found None) }
 {
     state.miss();
 }

@@ -8,15 +8,12 @@ pub mod reply;
 mod request;
 
 ghost use Rattle.std.specs.Prelude.{◌≡◌, option_map};
-ghost use Rattle.jc_model.specs.Step.{step as step_of};
-ghost use Rattle.jc_model.specs.Run.{resume};
-ghost use Rattle.jc_model.specs.Suspended.{key_run};
-ghost use Rattle.jc_state.specs.Noted.{HasPlaces};
-ghost use Rattle.jc_state.specs.Kept.{items_of, progress_of, has_live, IsTied, Stays, FoundRow};
+ghost use Rattle.jc_state.specs.Kept.{IsTied, Stays, FoundRow};
 ghost use Rattle.jc_ops.specs.Given.{loaded_in, verdict_in};
-ghost use Rattle.jc_ops.specs.Supply.{Covers, CoversAnswer, HasRoom, adds, adds_at};
-ghost use Rattle.jc_ops.specs.Lines.{most_told};
-ghost use Rattle.jc_ops.specs.Stepped.{StepsTo, StaysAt, IsWaiting, waits_first};
+ghost use Rattle.jc_ops.specs.Supply.{CoversIn, CoversAnswerIn, HasPlacesFor, HasRoom};
+ghost use Rattle.jc_ops.specs.Supply.{most_told_in, adds_in, adds_at_in};
+ghost use Rattle.jc_ops.specs.Stepped.{StepsFrom, StaysAt, WaitsIn};
+ghost use Rattle.jc_ops.specs.Stepped.{waits_first, step_run, answer_run};
 
 use crate::step::change::At;
 use crate::step::invoke::{Invocation, answer_invoke};
@@ -50,7 +47,8 @@ impl Model for KeyStep {
 
     ghost Value = { KeyWait };
 
-    ghost view = { λ s. record { now = s.now; call = s.call; given = given_by s.loaded s.verdict } };
+    ghost view = { λ s.
+        record { now = s.now; call = s.call; given = given_by s.loaded s.verdict } };
 
     ghost invariant = { λ s. is_invoke s.call.op ≡ false → given_by s.loaded s.verdict ≡ [] };
 }
@@ -123,11 +121,14 @@ impl KeyStep {
     ) -> Next<KeyStep>
         requires tied { IsTied (R.contents rows.old) state.old }
         requires row { FoundRow call.key state.old row }
-        requires places { HasPlaces state.old.config (most_told (has_live now call.key state.old) call.op) notices.old }
-        requires covered { Covers state.old.config.writer state.old.config call (items_of state.old.cells) supply }
-        requires room { HasRoom (adds (has_live now call.key state.old) state.old.config.writer call.op) (R.spare rows.old) }
-        ensures stays { Stays 1 (most_told (has_live now call.key state.old) call.op) (R.contents rows.old) (R.spare rows.old) state.old notices.old (R.contents rows.new) (R.spare rows.new) state.new notices.new }
-        ensures next { StepsTo state.old.config (step_of state.old.config now call (progress_of state.old notices.old.told)) result state.new notices.new.told }
+        requires places { HasPlacesFor state.old now call notices.old }
+        requires covered { CoversIn state.old.config.writer state.old call supply }
+        requires room { HasRoom (adds_in state.old now call) (R.spare rows.old) }
+        ensures stays { Stays 1 (most_told_in state.old now call)
+            (R.contents rows.old) (R.spare rows.old) state.old notices.old
+            (R.contents rows.new) (R.spare rows.new) state.new notices.new }
+        ensures next { StepsFrom state.old
+            (step_run state.old notices.old now call) result state.new notices.new }
         ensures call_stays { StaysAt now call result }
     {
         let row = state.purge(rows, notices, now, row);
@@ -153,12 +154,15 @@ impl KeyStep {
     ) -> Next<KeyStep>
         requires tied { IsTied (R.contents rows.old) state.old }
         requires row { FoundRow self.call.key state.old row }
-        requires places { HasPlaces state.old.config (most_told (has_live self.now self.call.key state.old) self.call.op) notices.old }
-        requires waits { IsWaiting state.old.config (progress_of state.old notices.old.told) self }
-        requires covered { CoversAnswer state.old.config self answer (items_of state.old.cells) supply }
-        requires room { HasRoom (adds_at (has_live self.now self.call.key state.old) state.old.config self answer) (R.spare rows.old) }
-        ensures stays { Stays 1 (most_told (has_live self.now self.call.key state.old) self.call.op) (R.contents rows.old) (R.spare rows.old) state.old notices.old (R.contents rows.new) (R.spare rows.new) state.new notices.new }
-        ensures next { StepsTo state.old.config (resume (key_run state.old.config (progress_of state.old notices.old.told) self) answer) result state.new notices.new.told }
+        requires places { HasPlacesFor state.old self.now self.call notices.old }
+        requires waits { WaitsIn state.old notices.old self }
+        requires covered { CoversAnswerIn state.old self answer supply }
+        requires room { HasRoom (adds_at_in state.old self answer) (R.spare rows.old) }
+        ensures stays { Stays 1 (most_told_in state.old self.now self.call)
+            (R.contents rows.old) (R.spare rows.old) state.old notices.old
+            (R.contents rows.new) (R.spare rows.new) state.new notices.new }
+        ensures next { StepsFrom state.old
+            (answer_run state.old notices.old self answer) result state.new notices.new }
         ensures call_stays { StaysAt self.now self.call result }
     {
         let KeyStep {

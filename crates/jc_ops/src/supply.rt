@@ -5,13 +5,14 @@
 //! while a call waits; room in the table may be used up by others meanwhile, and is made anew.
 mod needs;
 
-ghost use Rattle.std.specs.Prelude.{◌≡◌, ◌<◌, ◌≤◌, ◌+◌, ◌^◌, ℕ, List, true, false, Some, None, is_some, IfOk, OnOk, IsOk, option_map};
+ghost use Rattle.std.specs.Prelude.{◌≡◌, ◌<◌, ◌≤◌, ◌+◌, ◌^◌, true, Some, None, option_map};
+ghost use Rattle.std.specs.Prelude.{IfOk, OnOk, IsOk};
 ghost use Rattle.std.specs.FinMap as map;
-ghost use Rattle.jc_model.specs.State.{Item, row_of};
-ghost use Rattle.jc_state.specs.Kept.{items_of, has_live, FoundRow};
-ghost use Rattle.jc_state.specs.Noted.{HasPlaces};
-ghost use Rattle.jc_ops.specs.Lines.{most_told, takes_value};
-ghost use Rattle.jc_ops.specs.Supply.{Covers, CoversLoaded, CoversVerdict, CoversAnswer, HasRoom, adds, adds_at};
+ghost use Rattle.jc_model.specs.State.{Item};
+ghost use Rattle.jc_state.specs.Kept.{key_row, FoundRow};
+ghost use Rattle.jc_ops.specs.Lines.{takes_value};
+ghost use Rattle.jc_ops.specs.Supply.{CoversIn, CoversLoaded, CoversVerdict, CoversAnswerIn};
+ghost use Rattle.jc_ops.specs.Supply.{HasPlacesFor, HasRoom, adds_in, adds_at_in};
 
 use crate::step::KeyStep;
 use crate::supply::needs::{
@@ -51,7 +52,8 @@ pub fn make_room<R: Rows>(rows: &mut R, more: usize) -> Result<(), OutOfMemory>
     ensures kept { R.spare rows.old ≤ R.spare rows.new }
     ensures there { more ≤ R.spare rows.old → R.spare rows.new ≡ R.spare rows.old }
     ensures none { more ≡ 0 → IsOk result }
-    ensures stands { more ≤ R.spare rows.old → map.len (R.contents rows.old) + more < 2 ^ 64 → IsOk result }
+    ensures stands { more ≤ R.spare rows.old →
+        map.len (R.contents rows.old) + more < 2 ^ 64 → IsOk result }
 {
     if more == 0 {
         return Ok(());
@@ -96,7 +98,8 @@ fn value_if<'a, G: Ring>(
     wanted: bool,
 ) -> Option<&'a Value>
     requires row { wanted ≡ true → FoundRow key.now state.now row }
-    ensures { wanted ≡ true → (x : Item) → row_of key.now (items_of state.now.cells) ≡ Some x → option_map (λ v. v.now) result ≡ Some x.value }
+    ensures { wanted ≡ true → (x : Item) → key_row state.now key.now ≡ Some x →
+        option_map (λ v. v.now) result ≡ Some x.value }
 {
     if !wanted {
         return None;
@@ -131,7 +134,7 @@ impl Supply {
         writer: bool,
     ) -> Result<Supply, OutOfMemory>
         requires row { takes_value call.now.op ≡ true → FoundRow call.now.key state.now row }
-        ensures { IfOk result (λ s. Covers writer state.now.config call.now (items_of state.now.cells) s) }
+        ensures { IfOk result (λ s. CoversIn writer state.now call.now s) }
     {
         let shown = to_show(value_if(state, &call.key, row, shows(&call.op)))?;
         let entry = to_hand(value_if(state, &call.key, row, is_invoke(&call.op)))?;
@@ -157,10 +160,11 @@ impl Supply {
         requires row { FoundRow call.now.key state.now row }
         ensures same { R.contents rows.new ≡ R.contents rows.old }
         ensures told { notices.new.told ≡ notices.old.told }
-        ensures places { OnOk result (HasPlaces state.now.config (most_told (has_live now call.now.key state.now) call.now.op) notices.new) }
-        ensures room { OnOk result (HasRoom (adds (has_live now call.now.key state.now) state.now.config.writer call.now.op) (R.spare rows.new)) }
-        ensures asks { HasRoom (adds (has_live now call.now.key state.now) state.now.config.writer call.now.op) (R.spare rows.old) → R.spare rows.new ≡ R.spare rows.old }
-        ensures covers { IfOk result (λ s. Covers state.now.config.writer state.now.config call.now (items_of state.now.cells) s) }
+        ensures places { OnOk result (HasPlacesFor state.now now call.now notices.new) }
+        ensures room { OnOk result (HasRoom (adds_in state.now now call.now) (R.spare rows.new)) }
+        ensures asks { HasRoom (adds_in state.now now call.now) (R.spare rows.old) →
+            R.spare rows.new ≡ R.spare rows.old }
+        ensures covers { IfOk result (λ s. CoversIn state.now.config.writer state.now call.now s) }
     {
         let there = state.has_live(row, now);
         let writer = state.config().writer;
@@ -175,7 +179,8 @@ impl Supply {
         op: &Op,
         loaded: Option<&Value>,
     ) -> Result<Supply, OutOfMemory>
-        ensures { IfOk result (λ s. CoversLoaded config.now op.now (option_map (λ v. v.now) loaded.entry) s) }
+        ensures { IfOk result (λ s.
+            CoversLoaded config.now op.now (option_map (λ v. v.now) loaded.entry) s) }
     {
         if is_invoke(op) {
             let entry = to_hand(loaded)?;
@@ -205,7 +210,8 @@ impl Supply {
         verdict: &Verdict,
         writer: bool,
     ) -> Result<Supply, OutOfMemory>
-        ensures { IfOk result (λ s. CoversVerdict writer config.now (option_map (λ v. v.now) loaded.entry) verdict.now s) }
+        ensures { IfOk result (λ s.
+            CoversVerdict writer config.now (option_map (λ v. v.now) loaded.entry) verdict.now s) }
     {
         let stored = Stored::of_any(config, stored_by(&verdict.action, loaded, writer))?;
         let shown = to_show(verdict.answer.as_ref())?;
@@ -226,7 +232,7 @@ impl Supply {
         answer: &Answer,
     ) -> Result<Supply, OutOfMemory>
         requires row { FoundRow step.now.call.key state.now row }
-        ensures { IfOk result (λ s. CoversAnswer state.now.config step.entry.now answer.now (items_of state.now.cells) s) }
+        ensures { IfOk result (λ s. CoversAnswerIn state.now step.entry.now answer.now s) }
     {
         let config = state.config();
         match answer {
@@ -259,10 +265,13 @@ impl Supply {
         requires row { FoundRow step.now.call.key state.now row }
         ensures same { R.contents rows.new ≡ R.contents rows.old }
         ensures told { notices.new.told ≡ notices.old.told }
-        ensures places { OnOk result (HasPlaces state.now.config (most_told (has_live step.entry.now.now step.entry.now.call.key state.now) step.entry.now.call.op) notices.new) }
-        ensures room { OnOk result (HasRoom (adds_at (has_live step.entry.now.now step.entry.now.call.key state.now) state.now.config step.entry.now answer.now) (R.spare rows.new)) }
-        ensures asks { HasRoom (adds_at (has_live step.entry.now.now step.entry.now.call.key state.now) state.now.config step.entry.now answer.now) (R.spare rows.old) → R.spare rows.new ≡ R.spare rows.old }
-        ensures covers { IfOk result (λ s. CoversAnswer state.now.config step.entry.now answer.now (items_of state.now.cells) s) }
+        ensures places { OnOk result
+            (HasPlacesFor state.now step.entry.now.now step.entry.now.call notices.new) }
+        ensures room { OnOk result
+            (HasRoom (adds_at_in state.now step.entry.now answer.now) (R.spare rows.new)) }
+        ensures asks { HasRoom (adds_at_in state.now step.entry.now answer.now) (R.spare rows.old) →
+            R.spare rows.new ≡ R.spare rows.old }
+        ensures covers { IfOk result (λ s. CoversAnswerIn state.now step.entry.now answer.now s) }
     {
         let there = state.has_live(row, step.now());
         notices.reserve_for(state.config(), most_notices(&step.call().op, there))?;

@@ -1,13 +1,15 @@
 //! A line of the case table carried out.
-ghost use Rattle.std.specs.Prelude.{◌≡◌, ℕ, ◌<◌, true, false, List, Option, Some, None, is_some, option_map};
+ghost use Rattle.std.specs.Prelude.{◌≡◌, ℕ, ◌<◌, true, false, List, Option, Some, None, is_some};
 ghost use Rattle.jc_model.specs.declared.call.Notice.{Notice};
-ghost use Rattle.jc_model.specs.State.{Item, row_of};
+ghost use Rattle.jc_model.specs.State.{Item};
 ghost use Rattle.jc_model.specs.Changes.{create_by_put};
 ghost use Rattle.jc_model.specs.Run.{ended};
-ghost use Rattle.jc_model.specs.Step.{counted, changed, ended_by};
+ghost use Rattle.jc_model.specs.Step.{counted};
 ghost use Rattle.jc_state.specs.Shelf.{has_row};
 ghost use Rattle.jc_state.specs.Noted.{HasPlaces, IsTold, StoredIsTold};
-ghost use Rattle.jc_state.specs.Kept.{items_of, progress_of, IsTied, Stays, IsRow, FoundRow};
+ghost use Rattle.jc_state.specs.Kept.{key_row, progress_of, progress_at};
+ghost use Rattle.jc_state.specs.Kept.{IsTied, Stays, IsRow, FoundRow};
+ghost use Rattle.jc_ops.specs.At.{HasRoomToStore, told_at, changed_in, changed_at, line_run};
 ghost use Rattle.jc_ops.specs.Lines.{stores, told_of};
 
 use crate::step::reply::reply_of;
@@ -33,7 +35,8 @@ pub(crate) struct At {
 /// Counts a hit where the key has a row, else a miss, if the line counts.
 pub(crate) fn count<G: Ring>(state: &mut CacheState<G>, counts: bool, there: bool)
     ensures same { state.new ≡ record state.old { counts = state.new.counts } }
-    ensures progress { (row : Option Item) (told : List Notice) → is_some row ≡ there → progress_of state.new told ≡ counted counts row (progress_of state.old told) }
+    ensures progress { (row : Option Item) (told : List Notice) → is_some row ≡ there →
+        progress_of state.new told ≡ counted counts row (progress_of state.old told) }
 {
     if counts {
         if there {
@@ -58,9 +61,12 @@ fn change_live<R: Rows, G: Ring>(
     requires there { has_row row state.old.cells ≡ true }
     requires places { HasPlaces state.old.config (told_of true change) notices.old }
     requires told { StoredIsTold state.old.config stored }
-    ensures stays { Stays 0 (told_of true change) (R.contents rows.old) (R.spare rows.old) state.old notices.old (R.contents rows.new) (R.spare rows.new) state.new notices.new }
+    ensures stays { Stays 0 (told_of true change)
+        (R.contents rows.old) (R.spare rows.old) state.old notices.old
+        (R.contents rows.new) (R.spare rows.new) state.new notices.new }
     ensures progress { (key : List ℕ) (x : Item) → IsRow key state.old row x →
-        progress_of state.new notices.new.told ≡ changed state.old.config now key change (Some x) (option_map (λ s. s.value) stored) (progress_of state.old notices.old.told) }
+        progress_at state.new notices.new
+        ≡ changed_in state.old notices.old now key change (Some x) stored }
 {
     match change {
         Change::Keep => {}
@@ -93,12 +99,15 @@ fn put_absent<R: Rows, G: Ring>(
     stored: Stored,
 )
     requires tied { IsTied (R.contents rows.old) state.old }
-    requires absent { row_of key (items_of state.old.cells) ≡ None }
+    requires absent { key_row state.old key ≡ None }
     requires places { HasPlaces state.old.config 2 notices.old }
     requires told { IsTold state.old.config stored }
     requires room { 0 < R.spare rows.old }
-    ensures stays { Stays 1 2 (R.contents rows.old) (R.spare rows.old) state.old notices.old (R.contents rows.new) (R.spare rows.new) state.new notices.new }
-    ensures progress { progress_of state.new notices.new.told ≡ create_by_put state.old.config now key stored.value (progress_of state.old notices.old.told) }
+    ensures stays { Stays 1 2
+        (R.contents rows.old) (R.spare rows.old) state.old notices.old
+        (R.contents rows.new) (R.spare rows.new) state.new notices.new }
+    ensures progress { progress_at state.new notices.new
+        ≡ create_by_put state.old.config now key stored.value (progress_at state.old notices.old) }
 {
     if state.create(rows, notices, now, key, stored) {
         state.put();
@@ -116,12 +125,15 @@ fn change_absent<R: Rows, G: Ring>(
     stored: Option<Stored>,
 )
     requires tied { IsTied (R.contents rows.old) state.old }
-    requires absent { row_of key (items_of state.old.cells) ≡ None }
+    requires absent { key_row state.old key ≡ None }
     requires places { HasPlaces state.old.config (told_of false change) notices.old }
     requires told { StoredIsTold state.old.config stored }
     requires room { stores change ≡ true → is_some stored ≡ true → 0 < R.spare rows.old }
-    ensures stays { Stays 1 (told_of false change) (R.contents rows.old) (R.spare rows.old) state.old notices.old (R.contents rows.new) (R.spare rows.new) state.new notices.new }
-    ensures progress { progress_of state.new notices.new.told ≡ changed state.old.config now key change None (option_map (λ s. s.value) stored) (progress_of state.old notices.old.told) }
+    ensures stays { Stays 1 (told_of false change)
+        (R.contents rows.old) (R.spare rows.old) state.old notices.old
+        (R.contents rows.new) (R.spare rows.new) state.new notices.new }
+    ensures progress { progress_at state.new notices.new
+        ≡ changed_in state.old notices.old now key change None stored }
 {
     match change {
         Change::Keep => {}
@@ -151,11 +163,14 @@ fn change<R: Rows, G: Ring>(
 )
     requires tied { IsTied (R.contents rows.old) state.old }
     requires row { FoundRow at.now.key state.old at.now.row }
-    requires places { HasPlaces state.old.config (told_of (is_some at.now.row) change) notices.old }
+    requires places { HasPlaces state.old.config (told_at at.now change) notices.old }
     requires told { StoredIsTold state.old.config stored }
-    requires room { is_some at.now.row ≡ false → stores change ≡ true → is_some stored ≡ true → 0 < R.spare rows.old }
-    ensures stays { Stays 1 (told_of (is_some at.now.row) change) (R.contents rows.old) (R.spare rows.old) state.old notices.old (R.contents rows.new) (R.spare rows.new) state.new notices.new }
-    ensures progress { progress_of state.new notices.new.told ≡ changed state.old.config at.now.moment at.now.key change (row_of at.now.key (items_of state.old.cells)) (option_map (λ s. s.value) stored) (progress_of state.old notices.old.told) }
+    requires room { HasRoomToStore at.now change stored (R.spare rows.old) }
+    ensures stays { Stays 1 (told_at at.now change)
+        (R.contents rows.old) (R.spare rows.old) state.old notices.old
+        (R.contents rows.new) (R.spare rows.new) state.new notices.new }
+    ensures progress { progress_at state.new notices.new
+        ≡ changed_at state.old notices.old at.now change stored }
 {
     match at.row {
         Some(row) => change_live(state, rows, notices, at.moment, row, change, stored),
@@ -175,11 +190,14 @@ pub(crate) fn end<R: Rows, G: Ring>(
 ) -> Thrice<Reply>
     requires tied { IsTied (R.contents rows.old) state.old }
     requires row { FoundRow at.now.key state.old at.now.row }
-    requires places { HasPlaces state.old.config (told_of (is_some at.now.row) line.change) notices.old }
+    requires places { HasPlaces state.old.config (told_at at.now line.change) notices.old }
     requires told { StoredIsTold state.old.config stored }
-    requires room { is_some at.now.row ≡ false → stores line.change ≡ true → is_some stored ≡ true → 0 < R.spare rows.old }
-    ensures stays { Stays 1 (told_of (is_some at.now.row) line.change) (R.contents rows.old) (R.spare rows.old) state.old notices.old (R.contents rows.new) (R.spare rows.new) state.new notices.new }
-    ensures run { ended_by state.old.config at.now.moment at.now.key line (row_of at.now.key (items_of state.old.cells)) (option_map (λ s. s.value) stored) shown (progress_of state.old notices.old.told) ≡ ended (progress_of state.new notices.new.told) result }
+    requires room { HasRoomToStore at.now line.change stored (R.spare rows.old) }
+    ensures stays { Stays 1 (told_at at.now line.change)
+        (R.contents rows.old) (R.spare rows.old) state.old notices.old
+        (R.contents rows.new) (R.spare rows.new) state.new notices.new }
+    ensures run { line_run state.old notices.old at.now line stored shown
+        ≡ ended (progress_at state.new notices.new) result }
 {
     count(state, line.counts, at.row.is_some());
     change(state, rows, notices, at, line.change, stored);

@@ -1,20 +1,22 @@
 //! A step that hands its key's entry to a processor, at each answer.
-ghost use Rattle.std.specs.Prelude.{◌≡◌, List, ℕ, Option, true, false, Some, None, is_some, option_map};
+ghost use Rattle.std.specs.Prelude.{◌≡◌, List, true, false, Some, None};
 ghost use Rattle.jc_model.specs.declared.call.Notice.{Notice};
-ghost use Rattle.jc_model.specs.declared.call.Verdict.{Verdict};
 ghost use Rattle.jc_model.specs.declared.config.CacheConfig.{CacheConfig};
 ghost use Rattle.jc_model.specs.declared.table.Change.TheVariants.{Put};
-ghost use Rattle.jc_model.specs.Changes.{find_row};
 ghost use Rattle.jc_model.specs.Run.{ended, resume, is_written, loaded_by, verdict_of};
 ghost use Rattle.jc_model.specs.Suspended.{key_run};
-ghost use Rattle.jc_state.specs.Noted.{HasPlaces, StoredIsTold};
-ghost use Rattle.jc_state.specs.Kept.{items_of, progress_of, IsTied, Stays, FoundRow};
-ghost use Rattle.jc_ops.specs.Given.{given_by, value_in};
-ghost use Rattle.jc_ops.specs.Invoked.{part_of, wait_of};
-ghost use Rattle.jc_ops.specs.Lines.{asks_writer, told_of};
-ghost use Rattle.jc_ops.specs.Supply.{CoversVerdict, CoversAnswer, HasRoom, adds_by, adds_at};
-ghost use Rattle.jc_ops.specs.Stepped.{StepsTo, StaysAt, IsWaiting, invoked};
-ghost use Rattle.jc_ops.specs.Verdicts.{verdict_line, awaits_load, act_on, done_on, processed_on, loaded_on, agreed_on};
+ghost use Rattle.jc_state.specs.Noted.{HasPlaces};
+ghost use Rattle.jc_state.specs.Kept.{progress_of, progress_at, IsTied, Stays, FoundRow};
+ghost use Rattle.jc_ops.specs.At.{is_there, told_at, done_run};
+ghost use Rattle.jc_ops.specs.Given.{value_in};
+ghost use Rattle.jc_ops.specs.Invoked.{part_of, wait_of, wait_loaded, processor_request};
+ghost use Rattle.jc_ops.specs.Invoked.{CoversJudged, adds_judged};
+ghost use Rattle.jc_ops.specs.Invoked.{loaded_run, processed_run, judged_run, agreed_run};
+ghost use Rattle.jc_ops.specs.Supply.{CoversVerdict, CoversAnswerIn, OnLoaded, OnVerdict};
+ghost use Rattle.jc_ops.specs.Supply.{HasRoom, adds_by, adds_at};
+ghost use Rattle.jc_ops.specs.Stepped.{StepsTo, StepsFrom, StaysAt, WaitsIn};
+ghost use Rattle.jc_ops.specs.Stepped.{waiting_run, answer_run};
+ghost use Rattle.jc_ops.specs.Verdicts.{verdict_line, awaits_load};
 
 use crate::step::change::{At, count, end};
 use crate::step::line::is_written;
@@ -114,7 +116,8 @@ fn ask_processor(
     copy: Option<Value>,
 ) -> Next<KeyStep>
     requires { copy ≡ Some invocation.argument }
-    ensures { result ≡ Next.Waiting (Request.Process invocation.at.key invocation.processor entry invocation.argument) (invoked invocation.at.moment invocation.at.key invocation.processor invocation.argument (given_by (Some loaded) None)) }
+    ensures { result
+        ≡ Next.Waiting (processor_request invocation entry) (wait_loaded invocation loaded) }
 {
     match process(&invocation.at.key, invocation.processor, entry, copy) {
         Some(request) => {
@@ -136,12 +139,14 @@ fn answer_load<G: Ring>(
     supply: Supply,
 ) -> Next<KeyStep>
     requires first { invocation.loaded ≡ None }
-    requires entry { (loaded : Option (List ℕ)) → loaded_by answer ≡ Some loaded → supply.entry ≡ loaded }
-    requires copy { (loaded : Option (List ℕ)) → loaded_by answer ≡ Some loaded → supply.copy ≡ Some invocation.argument }
+    requires entry { OnLoaded answer (λ loaded. supply.entry ≡ loaded) }
+    requires copy { OnLoaded answer (λ loaded. supply.copy ≡ Some invocation.argument) }
     ensures same { state.new ≡ record state.old { counts = state.new.counts } }
     ensures next { (c : CacheConfig) (told : List Notice) →
-        resume (key_run c (progress_of state.old told) (wait_of invocation None)) answer ≡ loaded_on c invocation.at.moment invocation.at.key invocation.processor invocation.argument (progress_of state.old told) (loaded_by answer) →
-        StepsTo c (resume (key_run c (progress_of state.old told) (wait_of invocation None)) answer) result state.new told }
+        resume (key_run c (progress_of state.old told) (wait_of invocation None)) answer
+        ≡ loaded_run c invocation (progress_of state.old told) answer →
+        StepsTo c (resume (key_run c (progress_of state.old told) (wait_of invocation None)) answer)
+        result state.new told }
     ensures stays { StaysAt invocation.at.moment (part_of invocation) result }
 {
     let Supply { copy, entry, .. } = supply;
@@ -166,11 +171,16 @@ fn end_verdict<R: Rows, G: Ring>(
 ) -> Thrice<Reply>
     requires tied { IsTied (R.contents rows.old) state.old }
     requires row { FoundRow at.now.key state.old at.now.row }
-    requires places { HasPlaces state.old.config (told_of (is_some at.now.row) Put) notices.old }
-    requires covered { CoversVerdict false state.old.config (value_in loaded.now) verdict.now supply }
-    requires room { HasRoom (adds_by (is_some at.now.row) false (value_in loaded.now) verdict.now) (R.spare rows.old) }
-    ensures stays { Stays 1 (told_of (is_some at.now.row) Put) (R.contents rows.old) (R.spare rows.old) state.old notices.old (R.contents rows.new) (R.spare rows.new) state.new notices.new }
-    ensures run { done_on state.old.config at.now.moment at.now.key (find_row at.now.key (progress_of state.old notices.old.told)) (value_in loaded.now) (progress_of state.old notices.old.told) verdict.now ≡ ended (progress_of state.new notices.new.told) result }
+    requires places { HasPlaces state.old.config (told_at at.now Put) notices.old }
+    requires covered { CoversVerdict false state.old.config
+        (value_in loaded.now) verdict.now supply }
+    requires room { HasRoom
+        (adds_by (is_there at.now) false (value_in loaded.now) verdict.now) (R.spare rows.old) }
+    ensures stays { Stays 1 (told_at at.now Put)
+        (R.contents rows.old) (R.spare rows.old) state.old notices.old
+        (R.contents rows.new) (R.spare rows.new) state.new notices.new }
+    ensures run { done_run state.old notices.old at.now loaded.now verdict.now
+        ≡ ended (progress_at state.new notices.new) result }
 {
     // The clauses alone name what was loaded: the supply has it already.
     let _loaded = loaded.is_some();
@@ -189,12 +199,18 @@ fn act<R: Rows, G: Ring>(
 ) -> Next<KeyStep>
     requires tied { IsTied (R.contents rows.old) state.old }
     requires row { FoundRow invocation.at.key state.old invocation.at.row }
-    requires places { HasPlaces state.old.config (told_of (is_some invocation.at.row) Put) notices.old }
-    requires covered { CoversVerdict state.old.config.writer state.old.config (value_in invocation.loaded) verdict supply }
-    requires room { HasRoom (adds_by (is_some invocation.at.row) state.old.config.writer (value_in invocation.loaded) verdict) (R.spare rows.old) }
-    requires means { key_run state.old.config (progress_of state.old notices.old.told) (wait_of invocation (Some verdict)) ≡ act_on state.old.config invocation.at.moment invocation.at.key (find_row invocation.at.key (progress_of state.old notices.old.told)) (value_in invocation.loaded) (progress_of state.old notices.old.told) verdict }
-    ensures stays { Stays 1 (told_of (is_some invocation.at.row) Put) (R.contents rows.old) (R.spare rows.old) state.old notices.old (R.contents rows.new) (R.spare rows.new) state.new notices.new }
-    ensures next { StepsTo state.old.config (key_run state.old.config (progress_of state.old notices.old.told) (wait_of invocation (Some verdict))) result state.new notices.new.told }
+    requires places { HasPlaces state.old.config (told_at invocation.at Put) notices.old }
+    requires covered { CoversJudged state.old.config.writer state.old invocation verdict supply }
+    requires room { HasRoom
+        (adds_judged state.old.config.writer invocation verdict) (R.spare rows.old) }
+    requires means { waiting_run state.old notices.old (wait_of invocation (Some verdict))
+        ≡ judged_run state.old notices.old invocation verdict }
+    ensures stays { Stays 1 (told_at invocation.at Put)
+        (R.contents rows.old) (R.spare rows.old) state.old notices.old
+        (R.contents rows.new) (R.spare rows.new) state.new notices.new }
+    ensures next { StepsFrom state.old
+        (waiting_run state.old notices.old (wait_of invocation (Some verdict)))
+        result state.new notices.new }
     ensures call_stays { StaysAt invocation.at.moment (part_of invocation) result }
 {
     let line = verdict_line(&verdict.action, invocation.at.row.is_some());
@@ -231,12 +247,19 @@ fn answer_process<R: Rows, G: Ring>(
 ) -> Next<KeyStep>
     requires tied { IsTied (R.contents rows.old) state.old }
     requires row { FoundRow invocation.at.key state.old invocation.at.row }
-    requires places { HasPlaces state.old.config (told_of (is_some invocation.at.row) Put) notices.old }
-    requires covered { (v : Verdict) → verdict_of answer ≡ Some v → CoversVerdict state.old.config.writer state.old.config (value_in invocation.loaded) v supply }
-    requires room { (v : Verdict) → verdict_of answer ≡ Some v → HasRoom (adds_by (is_some invocation.at.row) state.old.config.writer (value_in invocation.loaded) v) (R.spare rows.old) }
-    requires means { key_run state.old.config (progress_of state.old notices.old.told) (wait_of invocation None) ≡ processed_on state.old.config invocation.at.moment invocation.at.key invocation.processor invocation.argument (find_row invocation.at.key (progress_of state.old notices.old.told)) (value_in invocation.loaded) (progress_of state.old notices.old.told) }
-    ensures stays { Stays 1 (told_of (is_some invocation.at.row) Put) (R.contents rows.old) (R.spare rows.old) state.old notices.old (R.contents rows.new) (R.spare rows.new) state.new notices.new }
-    ensures next { StepsTo state.old.config (resume (key_run state.old.config (progress_of state.old notices.old.told) (wait_of invocation None)) answer) result state.new notices.new.told }
+    requires places { HasPlaces state.old.config (told_at invocation.at Put) notices.old }
+    requires covered { OnVerdict answer (λ v.
+        CoversJudged state.old.config.writer state.old invocation v supply) }
+    requires room { OnVerdict answer (λ v.
+        HasRoom (adds_judged state.old.config.writer invocation v) (R.spare rows.old)) }
+    requires means { waiting_run state.old notices.old (wait_of invocation None)
+        ≡ processed_run state.old notices.old invocation }
+    ensures stays { Stays 1 (told_at invocation.at Put)
+        (R.contents rows.old) (R.spare rows.old) state.old notices.old
+        (R.contents rows.new) (R.spare rows.new) state.new notices.new }
+    ensures next { StepsFrom state.old
+        (answer_run state.old notices.old (wait_of invocation None) answer)
+        result state.new notices.new }
     ensures call_stays { StaysAt invocation.at.moment (part_of invocation) result }
 {
     match verdict_of(answer) {
@@ -260,11 +283,17 @@ fn answer_verdict<R: Rows, G: Ring>(
 ) -> Next<KeyStep>
     requires tied { IsTied (R.contents rows.old) state.old }
     requires row { FoundRow invocation.now.at.key state.old invocation.now.at.row }
-    requires places { HasPlaces state.old.config (told_of (is_some invocation.now.at.row) Put) notices.old }
-    requires covered { is_written answer.now ≡ true → CoversVerdict false state.old.config (value_in invocation.now.loaded) verdict.now supply }
-    requires room { is_written answer.now ≡ true → HasRoom (adds_by (is_some invocation.now.at.row) false (value_in invocation.now.loaded) verdict.now) (R.spare rows.old) }
-    ensures stays { Stays 1 (told_of (is_some invocation.now.at.row) Put) (R.contents rows.old) (R.spare rows.old) state.old notices.old (R.contents rows.new) (R.spare rows.new) state.new notices.new }
-    ensures next { StepsTo state.old.config (agreed_on state.old.config invocation.now.at.moment invocation.now.at.key (find_row invocation.now.at.key (progress_of state.old notices.old.told)) (value_in invocation.now.loaded) (progress_of state.old notices.old.told) verdict.now (is_written answer.now)) result state.new notices.new.told }
+    requires places { HasPlaces state.old.config (told_at invocation.now.at Put) notices.old }
+    requires covered { is_written answer.now ≡ true →
+        CoversJudged false state.old invocation.now verdict.now supply }
+    requires room { is_written answer.now ≡ true →
+        HasRoom (adds_judged false invocation.now verdict.now) (R.spare rows.old) }
+    ensures stays { Stays 1 (told_at invocation.now.at Put)
+        (R.contents rows.old) (R.spare rows.old) state.old notices.old
+        (R.contents rows.new) (R.spare rows.new) state.new notices.new }
+    ensures next { StepsFrom state.old
+        (agreed_run state.old notices.old invocation.now verdict.now (is_written answer.now))
+        result state.new notices.new }
     ensures call_stays { StaysAt invocation.now.at.moment (part_of invocation.now) result }
 {
     if !is_written(answer) {
@@ -287,12 +316,18 @@ pub(super) fn answer_invoke<R: Rows, G: Ring>(
 ) -> Next<KeyStep>
     requires tied { IsTied (R.contents rows.old) state.old }
     requires row { FoundRow invocation.at.key state.old invocation.at.row }
-    requires places { HasPlaces state.old.config (told_of (is_some invocation.at.row) Put) notices.old }
-    requires covered { CoversAnswer state.old.config (wait_of invocation verdict) answer (items_of state.old.cells) supply }
-    requires room { HasRoom (adds_at (is_some invocation.at.row) state.old.config (wait_of invocation verdict) answer) (R.spare rows.old) }
-    requires waits { IsWaiting state.old.config (progress_of state.old notices.old.told) (wait_of invocation verdict) }
-    ensures stays { Stays 1 (told_of (is_some invocation.at.row) Put) (R.contents rows.old) (R.spare rows.old) state.old notices.old (R.contents rows.new) (R.spare rows.new) state.new notices.new }
-    ensures next { StepsTo state.old.config (resume (key_run state.old.config (progress_of state.old notices.old.told) (wait_of invocation verdict)) answer) result state.new notices.new.told }
+    requires places { HasPlaces state.old.config (told_at invocation.at Put) notices.old }
+    requires covered { CoversAnswerIn state.old (wait_of invocation verdict) answer supply }
+    requires room { HasRoom
+        (adds_at (is_there invocation.at) state.old.config (wait_of invocation verdict) answer)
+        (R.spare rows.old) }
+    requires waits { WaitsIn state.old notices.old (wait_of invocation verdict) }
+    ensures stays { Stays 1 (told_at invocation.at Put)
+        (R.contents rows.old) (R.spare rows.old) state.old notices.old
+        (R.contents rows.new) (R.spare rows.new) state.new notices.new }
+    ensures next { StepsFrom state.old
+        (answer_run state.old notices.old (wait_of invocation verdict) answer)
+        result state.new notices.new }
     ensures call_stays { StaysAt invocation.at.moment (part_of invocation) result }
 {
     match verdict {

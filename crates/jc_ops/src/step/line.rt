@@ -1,18 +1,14 @@
 //! A step of a line of the case table: as it begins, and at the answer of its writer or loader.
-ghost use Rattle.std.specs.Prelude.{◌≡◌, ◌<◌, ℕ, List, Option, true, false, Some, None, is_some, option_map};
-ghost use Rattle.jc_model.specs.Run.{resume, is_written, loaded_by};
-ghost use Rattle.jc_model.specs.State.{row_of};
-ghost use Rattle.jc_model.specs.Changes.{find_row, purge};
-ghost use Rattle.jc_model.specs.Step.{step as step_of, live_in, on_row, ended_by};
-ghost use Rattle.jc_model.specs.Suspended.{key_run};
-ghost use Rattle.jc_state.specs.Noted.{HasPlaces, StoredIsTold};
-ghost use Rattle.jc_state.specs.Shelf.{has_row};
-ghost use Rattle.jc_state.specs.Kept.{items_of, progress_of, IsTied, Stays, FoundRow};
+ghost use Rattle.std.specs.Prelude.{◌≡◌, ◌<◌, ℕ, List, true, false, Some, None, option_map};
 ghost use Rattle.jc_model.specs.declared.call.KeyCall.{KeyCall};
-ghost use Rattle.jc_ops.specs.Heard.{heard};
-ghost use Rattle.jc_ops.specs.Lines.{is_invoke, is_load, is_shown, line_at, told_of, told_on};
-ghost use Rattle.jc_ops.specs.Supply.{Covers, CoversAnswer, HasRoom, adds, adds_at};
-ghost use Rattle.jc_ops.specs.Stepped.{StepsTo, StaysAt, IsWaiting, waits_first};
+ghost use Rattle.jc_model.specs.Run.{is_written, loaded_by};
+ghost use Rattle.jc_model.specs.Step.{live_in};
+ghost use Rattle.jc_state.specs.Noted.{HasPlaces, StoredIsTold, stored_value};
+ghost use Rattle.jc_state.specs.Kept.{key_row, IsTied, Stays, FoundRow};
+ghost use Rattle.jc_ops.specs.At.{is_there, IsPurged, call_at, wait_at, told_at, heard_run};
+ghost use Rattle.jc_ops.specs.Lines.{is_invoke, is_load, is_shown, line_at, told_on};
+ghost use Rattle.jc_ops.specs.Supply.{CoversIn, CoversAnswerIn, OnLoaded, HasRoom, adds, adds_at};
+ghost use Rattle.jc_ops.specs.Stepped.{StepsFrom, StaysAt, WaitsIn, step_run, answer_run};
 
 use crate::step::change::{At, count, end};
 use crate::step::reply::fault;
@@ -50,7 +46,7 @@ fn line_at(op: &Op, live: Option<&Value>) -> Line
 /// The value of the key's row.
 pub(crate) fn live_at<'a, G: Ring>(state: &'a CacheState<G>, at: &At) -> Option<&'a Value>
     requires row { FoundRow at.now.key state.now at.now.row }
-    ensures { option_map (λ v. v.now) result ≡ live_in (row_of at.now.key (items_of state.now.cells)) }
+    ensures { option_map (λ v. v.now) result ≡ live_in (key_row state.now at.now.key) }
 {
     match at.row {
         Some(row) => Some(state.value(row).first()),
@@ -94,13 +90,17 @@ pub(super) fn begin<R: Rows, G: Ring>(
 ) -> Next<KeyStep>
     requires tied { IsTied (R.contents rows.old) state.old }
     requires row { FoundRow at.now.key state.old at.now.row }
-    requires places { HasPlaces state.old.config (told_on (is_some at.now.row) op) notices.old }
-    requires covered { Covers state.old.config.writer state.old.config (record { key = at.now.key; op = op }) (items_of state.old.cells) supply }
-    requires room { HasRoom (adds (is_some at.now.row) state.old.config.writer op) (R.spare rows.old) }
-    requires purged { purge state.old.config at.now.moment at.now.key (progress_of state.old notices.old.told) ≡ progress_of state.old notices.old.told }
-    ensures stays { Stays 1 (told_on (is_some at.now.row) op) (R.contents rows.old) (R.spare rows.old) state.old notices.old (R.contents rows.new) (R.spare rows.new) state.new notices.new }
-    ensures next { StepsTo state.old.config (step_of state.old.config at.now.moment (record { key = at.now.key; op = op }) (progress_of state.old notices.old.told)) result state.new notices.new.told }
-    ensures call_stays { StaysAt at.now.moment (record { key = at.now.key; op = op }) result }
+    requires places { HasPlaces state.old.config (told_on (is_there at.now) op) notices.old }
+    requires covered { CoversIn state.old.config.writer state.old (call_at at.now op) supply }
+    requires room { HasRoom (adds (is_there at.now) state.old.config.writer op) (R.spare rows.old) }
+    requires purged { IsPurged state.old notices.old at.now }
+    ensures stays { Stays 1 (told_on (is_there at.now) op)
+        (R.contents rows.old) (R.spare rows.old) state.old notices.old
+        (R.contents rows.new) (R.spare rows.new) state.new notices.new }
+    ensures next { StepsFrom state.old
+        (step_run state.old notices.old at.now.moment (call_at at.now op))
+        result state.new notices.new }
+    ensures call_stays { StaysAt at.now.moment (call_at at.now op) result }
 {
     let Supply {
         stored,
@@ -135,13 +135,18 @@ fn answer_loaded<R: Rows, G: Ring>(
 ) -> Next<KeyStep>
     requires tied { IsTied (R.contents rows.old) state.old }
     requires row { FoundRow at.now.key state.old at.now.row }
-    requires places { HasPlaces state.old.config (told_of (is_some at.now.row) line.change) notices.old }
+    requires places { HasPlaces state.old.config (told_at at.now line.change) notices.old }
     requires told { StoredIsTold state.old.config supply.stored }
-    requires stored { (v : Option (List ℕ)) → loaded_by answer.now ≡ Some v → option_map (λ s. s.value) supply.stored ≡ v }
-    requires shown { (v : Option (List ℕ)) → loaded_by answer.now ≡ Some v → is_shown line.reply ≡ true → supply.shown ≡ v }
-    requires room { is_some at.now.row ≡ false → (v : List ℕ) → loaded_by answer.now ≡ Some (Some v) → 0 < R.spare rows.old }
-    ensures stays { Stays 1 (told_of (is_some at.now.row) line.change) (R.contents rows.old) (R.spare rows.old) state.old notices.old (R.contents rows.new) (R.spare rows.new) state.new notices.new }
-    ensures next { StepsTo state.old.config (heard state.old.config at.now.moment at.now.key line (row_of at.now.key (items_of state.old.cells)) (progress_of state.old notices.old.told) (loaded_by answer.now)) result state.new notices.new.told }
+    requires stored { OnLoaded answer.now (λ v. stored_value supply.stored ≡ v) }
+    requires shown { OnLoaded answer.now (λ v. is_shown line.reply ≡ true → supply.shown ≡ v) }
+    requires room { is_there at.now ≡ false →
+        (v : List ℕ) → loaded_by answer.now ≡ Some (Some v) → 0 < R.spare rows.old }
+    ensures stays { Stays 1 (told_at at.now line.change)
+        (R.contents rows.old) (R.spare rows.old) state.old notices.old
+        (R.contents rows.new) (R.spare rows.new) state.new notices.new }
+    ensures next { StepsFrom state.old
+        (heard_run state.old notices.old at.now line answer.now)
+        result state.new notices.new }
     ensures call_stays { (call : KeyCall) → StaysAt at.now.moment call result }
 {
     match answer {
@@ -168,14 +173,20 @@ pub(super) fn answer_line<R: Rows, G: Ring>(
 ) -> Next<KeyStep>
     requires tied { IsTied (R.contents rows.old) state.old }
     requires row { FoundRow at.now.key state.old at.now.row }
-    requires places { HasPlaces state.old.config (told_on (is_some at.now.row) op.now) notices.old }
+    requires places { HasPlaces state.old.config (told_on (is_there at.now) op.now) notices.old }
     requires invoke { is_invoke op.now ≡ false }
-    requires covered { CoversAnswer state.old.config (waits_first at.now.moment (record { key = at.now.key; op = op.now })) answer.now (items_of state.old.cells) supply }
-    requires room { HasRoom (adds_at (is_some at.now.row) state.old.config (waits_first at.now.moment (record { key = at.now.key; op = op.now })) answer.now) (R.spare rows.old) }
-    requires waits { IsWaiting state.old.config (progress_of state.old notices.old.told) (waits_first at.now.moment (record { key = at.now.key; op = op.now })) }
-    ensures stays { Stays 1 (told_on (is_some at.now.row) op.now) (R.contents rows.old) (R.spare rows.old) state.old notices.old (R.contents rows.new) (R.spare rows.new) state.new notices.new }
-    ensures next { StepsTo state.old.config (resume (key_run state.old.config (progress_of state.old notices.old.told) (waits_first at.now.moment (record { key = at.now.key; op = op.now }))) answer.now) result state.new notices.new.told }
-    ensures call_stays { StaysAt at.now.moment (record { key = at.now.key; op = op.now }) result }
+    requires covered { CoversAnswerIn state.old (wait_at at.now op.now) answer.now supply }
+    requires room { HasRoom
+        (adds_at (is_there at.now) state.old.config (wait_at at.now op.now) answer.now)
+        (R.spare rows.old) }
+    requires waits { WaitsIn state.old notices.old (wait_at at.now op.now) }
+    ensures stays { Stays 1 (told_on (is_there at.now) op.now)
+        (R.contents rows.old) (R.spare rows.old) state.old notices.old
+        (R.contents rows.new) (R.spare rows.new) state.new notices.new }
+    ensures next { StepsFrom state.old
+        (answer_run state.old notices.old (wait_at at.now op.now) answer.now)
+        result state.new notices.new }
+    ensures call_stays { StaysAt at.now.moment (call_at at.now op.now) result }
 {
     let line = line_at(op, live_at(state, at));
     if is_load(line.asks) {

@@ -1,6 +1,7 @@
 //! What a step asks its hooks.
 ghost use Rattle.std.specs.Prelude.{◌≡◌, ℕ, List, true, Some};
-ghost use Rattle.jc_ops.specs.Lines.{handed, loads_for, asks_writer, asks_loader, asks_hook, asks_processor, first_request};
+ghost use Rattle.jc_ops.specs.Lines.{handed, loads_for, asks_writer, asks_loader, asks_hook};
+ghost use Rattle.jc_ops.specs.Lines.{asks_processor, first_request};
 
 use jc_model::call::{Op, Request};
 use jc_model::config::CacheConfig;
@@ -58,7 +59,8 @@ pub(crate) fn process(
     value: Option<Value>,
     argument: Option<Value>,
 ) -> Option<Request>
-    ensures { (v : List ℕ) → argument ≡ Some v → result ≡ Some (Request.Process key.now processor value v) }
+    ensures { (v : List ℕ) → argument ≡ Some v →
+        result ≡ Some (Request.Process key.now processor value v) }
 {
     match argument {
         Some(argument) => Some(Request::Process {
@@ -79,7 +81,8 @@ fn ask_processor(
     live: Option<Value>,
     argument: Option<Value>,
 ) -> Option<Request>
-    ensures { (v : List ℕ) → argument ≡ Some v → result ≡ Some (asks_processor config.now key.now processor v live) }
+    ensures { (v : List ℕ) → argument ≡ Some v →
+        result ≡ Some (asks_processor config.now key.now processor v live) }
 {
     match live {
         Some(live) => process(key, processor, Some(live), argument),

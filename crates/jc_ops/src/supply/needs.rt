@@ -1,7 +1,8 @@
 //! Which values an operation or a verdict stores, replies and hands to its hooks.
 ghost use Rattle.std.specs.Prelude.{◌≡◌, if◌then◌else◌, None, option_map};
 ghost use Rattle.jc_model.specs.Table.{value_of};
-ghost use Rattle.jc_ops.specs.Lines.{is_shown, stores, handed, shows, shows_loaded, takes_value, creates, is_invoke, told_of, told_by, most_told};
+ghost use Rattle.jc_ops.specs.Lines.{is_shown, stores, handed, shows, shows_loaded, takes_value};
+ghost use Rattle.jc_ops.specs.Lines.{creates, is_invoke, told_of, told_by, most_told};
 ghost use Rattle.jc_ops.specs.Verdicts.{stores_by, hands_by};
 ghost use Rattle.jc_ops.specs.Supply.{adds, adds_loaded, adds_by, adds_at};
 
@@ -160,7 +161,8 @@ pub(super) fn stored_by<'a>(
     loaded: Option<&'a Value>,
     writer: bool,
 ) -> Option<&'a Value>
-    ensures { option_map (λ v. v.now) result ≡ stores_by writer (option_map (λ v. v.now) loaded.entry) action.now }
+    ensures { option_map (λ v. v.now) result
+        ≡ stores_by writer (option_map (λ v. v.now) loaded.entry) action.now }
 {
     match action {
         Action::Keep => loaded,
