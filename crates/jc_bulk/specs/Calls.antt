@@ -1,13 +1,18 @@
 -- What a call has come to.
-use Rattle.std.specs.Prelude.{◌≡◌, List}
+use Rattle.std.specs.Prelude.{◌≡◌, ℕ, List}
 use Rattle.jc_model.specs.declared.call.Answer.{Answer}
+use Rattle.jc_model.specs.declared.call.Call.{Call}
+use Rattle.jc_model.specs.declared.call.KeyCall.{KeyCall}
 use Rattle.jc_model.specs.declared.call.Reply.{Reply}
 use Rattle.jc_model.specs.declared.call.Request.{Request}
 use Rattle.jc_model.specs.declared.config.CacheConfig.{CacheConfig}
-use Rattle.jc_model.specs.Changes.{Progress}
-use Rattle.jc_model.specs.Run.{Run, ended, waiting, awaited_by}
+use Rattle.jc_model.specs.Bulk.{Sum, empty_sum}
+use Rattle.jc_model.specs.Changes.{Progress, begun}
+use Rattle.jc_model.specs.Run.{Run, ended, waiting, resume, awaited_by}
+use Rattle.jc_model.specs.Step.{step}
 use Rattle.jc_model.specs.Suspended.{Wait, one, many, telling, key_run, bulk_run}
-use Rattle.jc_state.specs.Kept.{Kept, progress_of}
+use Rattle.jc_model.specs.Whole.{Plan, plan, steps_in, gathers, each, carried_out}
+use Rattle.jc_state.specs.Kept.{Kept, state_of, progress_of}
 use Rattle.jc_state.specs.Noted.{Noted}
 use Rattle.jc_ops.specs.declared.step.Next.{Next}
 use Rattle.jc_ops.specs.declared.step.Next.TheVariants.{Ended, Waiting}
@@ -47,3 +52,41 @@ pub record IsSuspended (c : CacheConfig) (p : Progress) (s : Waits) : Type 0 whe
 abbrev pub ComesTo : CacheConfig → Run → Next Waits (Reply × Noted) → Kept → Type 0
 ComesTo c run (Ended e) k = run ≡ ended (progress_of k e.1.told) e.0
 ComesTo c run (Waiting request s) k = WaitsOn c (progress_of k s.notices) request s run
+
+-- the same, from this cache to that one
+abbrev pub ComesFrom : Kept → Run → Next Waits (Reply × Noted) → Kept → Type 0
+ComesFrom old run next new = ComesTo old.config run next new
+
+-- A call that begins on a cache.
+
+abbrev pub plan_in : Kept → ℕ → Call → Plan
+plan_in k now call = plan k.config now call (begun (state_of k))
+
+-- its steps on many keys
+abbrev pub steps_for : Kept → ℕ → Call → List KeyCall
+steps_for k now call = steps_in (plan_in k now call)
+
+-- what is gathered before the first of them
+abbrev pub first_sum : Kept → ℕ → Call → Sum
+first_sum k now call = empty_sum (gathers (plan_in k now call))
+
+-- the run of a call on one key
+abbrev pub one_run : Kept → ℕ → KeyCall → Run
+one_run k now call = step k.config now call (begun (state_of k))
+
+-- of one on many
+abbrev pub many_run : Kept → ℕ → Call → Run
+many_run k now call = each k.config now (steps_for k now call) (first_sum k now call) (begun (state_of k))
+
+-- and of any
+abbrev pub call_run : Kept → ℕ → Call → Run
+call_run k now call = carried_out k.config now (plan_in k now call) (begun (state_of k))
+
+-- A suspended call, on a cache.
+
+abbrev pub IsSuspendedIn : Kept → Waits → Type 0
+IsSuspendedIn k s = IsSuspended k.config (progress_of k s.notices) s
+
+-- its run with the answer
+abbrev pub answered_run : Kept → Waits → Answer → Run
+answered_run k s a = resume (wait_run k.config (progress_of k s.notices) s.wait) a

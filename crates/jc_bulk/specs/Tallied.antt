@@ -1,5 +1,5 @@
 -- What a call on many keys has gathered, as the code has it.
-use Rattle.std.specs.Prelude.{ℕ, ◌≤◌, List, [], ◌∷◌, ◌++◌, Option, Some, None, Result, Ok, Err}
+use Rattle.std.specs.Prelude.{ℕ, ◌+◌, ◌≤◌, List, [], ◌∷◌, ◌++◌, Option, Some, None, Result, Ok, Err}
 use Rattle.jc_model.specs.declared.call.ProcessorFault.{ProcessorFault}
 use Rattle.jc_model.specs.declared.call.Reply.{Reply}
 use Rattle.jc_model.specs.declared.call.Reply.TheVariants.{Found, Fault}
@@ -21,6 +21,10 @@ abbrev pub HasRoomFor : ℕ → Collected → Type 0
 HasRoomFor n Nothing = Unit {0}
 HasRoomFor n (Pairs l) = n ≤ l.spare
 HasRoomFor n (Results l) = n ≤ l.spare
+
+-- what one key takes of that room
+abbrev pub UsesOne : Collected → Collected → Type 0
+UsesOne old new = (n : ℕ) → HasRoomFor (n + 1) old → HasRoomFor n new
 
 -- the value that was found
 abbrev pub found_in : Reply → Option (List ℕ)

@@ -3,12 +3,12 @@
 //! All that they need was made before the first of them, so none is refused. Where one waits for an answer, those after
 //! it keep their values: no other step changes the value of its key.
 ghost use Rattle.std.specs.Prelude.{◌≡◌, ◌≤◌, ◌∷◌, ℕ, true, List, [], length};
-ghost use Rattle.jc_model.specs.Whole.{after_key, each};
-ghost use Rattle.jc_state.specs.Kept.{items_of, progress_of, IsTied, Remains};
+ghost use Rattle.jc_state.specs.Kept.{IsTied, Remains};
 ghost use Rattle.jc_state.specs.Noted.{HasPlaces};
-ghost use Rattle.jc_bulk.specs.Calls.{ComesTo};
-ghost use Rattle.jc_bulk.specs.Provided.{calls_in, keys_in, places_for, AreCovered, IsAhead, IsReady};
-ghost use Rattle.jc_bulk.specs.Tallied.{sum_of};
+ghost use Rattle.jc_bulk.specs.Ahead.{IsAheadOf, AreCoveredIn, AreReady};
+ghost use Rattle.jc_bulk.specs.Ahead.{places_ahead, ahead_run, behind_run};
+ghost use Rattle.jc_bulk.specs.Calls.{ComesFrom};
+ghost use Rattle.jc_bulk.specs.Provided.{IsAhead};
 
 use crate::call::CallNext;
 use crate::tally::{Tally, ends_call};
@@ -78,16 +78,21 @@ impl Ahead {
 }
 
 impl Model for BulkStep {
-    ghost use Rattle.std.specs.Prelude.{◌∷◌};
-    ghost use Rattle.jc_bulk.specs.Provided.{calls_in, keys_in, IsAhead};
+    ghost use Rattle.jc_bulk.specs.Ahead.{IsAheadOf};
     ghost use Rattle.jc_bulk.specs.Tallied.{sum_of};
     ghost use Rattle.jc_bulk.specs.Waits.{Bulk};
 
     ghost Value = { Bulk };
 
-    ghost view = { λ b. record { key = b.step; rest = b.ahead.rest.items; needs = b.ahead.needs; sum = sum_of b.ahead.sum; alone = b.alone } };
+    ghost view = { λ b. record {
+      key = b.step;
+      rest = b.ahead.rest.items;
+      needs = b.ahead.needs;
+      sum = sum_of b.ahead.sum;
+      alone = b.alone;
+    } };
 
-    ghost invariant = { λ b. IsAhead (b.step.call.key ∷ keys_in (calls_in b.ahead.rest.items)) (calls_in b.ahead.rest.items) b.ahead.sum b.ahead.needs };
+    ghost invariant = { λ b. IsAheadOf b.step.call.key b.ahead };
 }
 
 /// Goes on with the steps that are left, until one waits or fails.
@@ -99,9 +104,9 @@ pub(crate) fn go_on<R: Rows, G: Ring>(
     mut ahead: Ahead,
 ) -> CallNext
     requires tied { IsTied (R.contents rows.old) state.old }
-    requires ready { IsReady state.old.config (items_of state.old.cells) notices (R.spare rows.old) ahead.rest.items ahead.sum ahead.needs }
+    requires ready { AreReady state.old notices (R.spare rows.old) ahead }
     ensures remains { Remains (R.contents rows.old) state.old (R.contents rows.new) state.new }
-    ensures moved { ComesTo state.old.config (each state.old.config now (calls_in ahead.rest.items) (sum_of ahead.sum) (progress_of state.old notices.told)) result state.new }
+    ensures moved { ComesFrom state.old (ahead_run state.old notices now ahead) result state.new }
 {
     'steps: while let Some(Provided { call, supply }) = ahead.rest.pop_front() {
         let key = call.key;
@@ -139,12 +144,13 @@ pub(crate) fn go_on_after<R: Rows, G: Ring>(
     mut ahead: Ahead,
 ) -> CallNext
     requires tied { IsTied (R.contents rows.old) state.old }
-    requires ahead { IsAhead (key ∷ keys_in (calls_in ahead.rest.items)) (calls_in ahead.rest.items) ahead.sum ahead.needs }
-    requires covered { AreCovered state.old.config (items_of state.old.cells) ahead.rest.items }
-    requires places { HasPlaces state.old.config (places_for ahead.needs.tells (length ahead.rest.items)) notices }
+    requires ahead { IsAheadOf key ahead }
+    requires covered { AreCoveredIn state.old ahead.rest.items }
+    requires places { HasPlaces state.old.config (places_ahead ahead) notices }
     requires room { ahead.needs.adds ≡ true → length ahead.rest.items ≤ R.spare rows.old }
     ensures remains { Remains (R.contents rows.old) state.old (R.contents rows.new) state.new }
-    ensures moved { ComesTo state.old.config (after_key key (λ next q. each state.old.config now (calls_in ahead.rest.items) next q) (sum_of ahead.sum) (progress_of state.old notices.told) reply) result state.new }
+    ensures moved { ComesFrom state.old
+        (behind_run state.old notices now key reply ahead) result state.new }
 {
     match ends_call(reply.first()) {
         Some(by) => {

@@ -5,13 +5,12 @@
 ghost use Rattle.std.specs.Prelude.{◌≡◌, true, false, IfOk, IfErr, OnErr, IsOk};
 ghost use Rattle.jc_model.specs.declared.config.CacheConfig.{CacheConfig};
 ghost use Rattle.jc_model.specs.Changes.{begun};
-ghost use Rattle.jc_model.specs.Run.{Run, ended, resume, fits};
-ghost use Rattle.jc_model.specs.Step.{step as step_of};
-ghost use Rattle.jc_model.specs.Bulk.{empty_sum};
-ghost use Rattle.jc_model.specs.Whole.{plan, steps_in, gathers, is_at_once, each, carried_out, is_free};
-ghost use Rattle.jc_state.specs.Kept.{Kept, state_of, progress_of, IsTied, FoundRow, Remains, IsUnmoved};
+ghost use Rattle.jc_model.specs.Run.{Run, ended, fits};
+ghost use Rattle.jc_model.specs.Whole.{is_at_once, is_free};
+ghost use Rattle.jc_state.specs.Kept.{Kept, state_of, IsTied, FoundRow, Remains, IsUnmoved};
 ghost use Rattle.jc_ops.specs.Stepped.{StepsTo};
-ghost use Rattle.jc_bulk.specs.Calls.{ComesTo, IsSuspended, wait_run};
+ghost use Rattle.jc_bulk.specs.Calls.{ComesTo, ComesFrom, IsSuspendedIn, plan_in};
+ghost use Rattle.jc_bulk.specs.Calls.{one_run, many_run, call_run, answered_run};
 
 use crate::bulk::{Ahead, BulkStep, go_on, go_on_after};
 use crate::entries::entries;
@@ -47,14 +46,16 @@ fn counted(counts: Counts) -> Thrice<Reply>
 
 /// A call that told nothing.
 fn ended(alloc: Global, reply: Thrice<Reply>) -> CallNext
-    ensures { (c : CacheConfig) → (run : Run) → (k : Kept) → run ≡ ended (begun (state_of k)) reply → ComesTo c run result k }
+    ensures { (c : CacheConfig) → (run : Run) → (k : Kept) →
+        run ≡ ended (begun (state_of k)) reply → ComesTo c run result k }
 {
     Next::Ended((reply, Notices::none(alloc)))
 }
 
 /// A call on one key, by what its step has come to.
 fn on_one_key(alloc: Global, next: Next<KeyStep>, notices: Notices) -> CallNext
-    ensures { (c : CacheConfig) → (run : Run) → (k : Kept) → StepsTo c run next k notices.told → ComesTo c run result k }
+    ensures { (c : CacheConfig) → (run : Run) → (k : Kept) →
+        StepsTo c run next k notices.told → ComesTo c run result k }
 {
     match next {
         Next::Ended(reply) => Next::Ended((reply, notices)),
@@ -82,8 +83,9 @@ fn start_key<R: Rows, G: Ring>(
     requires tied { IsTied (R.contents rows.old) state.old }
     requires row { FoundRow step.key state.old row }
     ensures remains { Remains (R.contents rows.old) state.old (R.contents rows.new) state.new }
-    ensures ok { IfOk result (λ m. ComesTo state.old.config (step_of state.old.config now step (begun (state_of state.old))) m state.new) }
-    ensures same { OnErr result (IsUnmoved (R.contents rows.old) state.old (R.contents rows.new) state.new) }
+    ensures ok { IfOk result (λ m. ComesFrom state.old (one_run state.old now step) m state.new) }
+    ensures same { OnErr result
+        (IsUnmoved (R.contents rows.old) state.old (R.contents rows.new) state.new) }
 {
     let mut notices = Notices::none(alloc);
     let supply = Supply::for_step(state, rows, &mut notices, now, row, &step)?;
@@ -101,8 +103,10 @@ fn start_many<R: Rows, G: Ring>(
 ) -> Result<CallNext, OutOfMemory>
     requires tied { IsTied (R.contents rows.old) state.old }
     ensures remains { Remains (R.contents rows.old) state.old (R.contents rows.new) state.new }
-    ensures ok { let todo = plan state.old.config now call.now (begun (state_of state.old)) in IfOk result (λ m. ComesTo state.old.config (each state.old.config now (steps_in todo) (empty_sum (gathers todo)) (begun (state_of state.old))) m state.new) }
-    ensures same { OnErr result (IsUnmoved (R.contents rows.old) state.old (R.contents rows.new) state.new) }
+    ensures ok { IfOk result (λ m.
+        ComesFrom state.old (many_run state.old now call.now) m state.new) }
+    ensures same { OnErr result
+        (IsUnmoved (R.contents rows.old) state.old (R.contents rows.new) state.new) }
 {
     let mut notices = Notices::none(alloc);
     let ahead = prepare(alloc, state, rows, &mut notices, now, call)?;
@@ -118,10 +122,12 @@ fn start_steps<R: Rows, G: Ring>(
     call: &Call,
 ) -> Result<CallNext, OutOfMemory>
     requires tied { IsTied (R.contents rows.old) state.old }
-    requires steps { is_at_once (plan state.old.config now call.now (begun (state_of state.old))) ≡ false }
+    requires steps { is_at_once (plan_in state.old now call.now) ≡ false }
     ensures remains { Remains (R.contents rows.old) state.old (R.contents rows.new) state.new }
-    ensures ok { IfOk result (λ m. ComesTo state.old.config (carried_out state.old.config now (plan state.old.config now call.now (begun (state_of state.old))) (begun (state_of state.old))) m state.new) }
-    ensures same { OnErr result (IsUnmoved (R.contents rows.old) state.old (R.contents rows.new) state.new) }
+    ensures ok { IfOk result (λ m.
+        ComesFrom state.old (call_run state.old now call.now) m state.new) }
+    ensures same { OnErr result
+        (IsUnmoved (R.contents rows.old) state.old (R.contents rows.new) state.new) }
 {
     match key_step(call)? {
         Some(step) => {
@@ -142,8 +148,10 @@ pub fn start_call<R: Rows, G: Ring>(
 ) -> Result<CallNext, OutOfMemory>
     requires tied { IsTied (R.contents rows.old) state.old }
     ensures remains { Remains (R.contents rows.old) state.old (R.contents rows.new) state.new }
-    ensures ok { IfOk result (λ m. ComesTo state.old.config (carried_out state.old.config now (plan state.old.config now call.now (begun (state_of state.old))) (begun (state_of state.old))) m state.new) }
-    ensures same { OnErr result (IsUnmoved (R.contents rows.old) state.old (R.contents rows.new) state.new) }
+    ensures ok { IfOk result (λ m.
+        ComesFrom state.old (call_run state.old now call.now) m state.new) }
+    ensures same { OnErr result
+        (IsUnmoved (R.contents rows.old) state.old (R.contents rows.new) state.new) }
     ensures free { is_free call.now ≡ true → IsOk result }
 {
     match call {
@@ -174,11 +182,13 @@ pub fn answer_call<R: Rows, G: Ring>(
 ) -> Result<CallNext, (Suspended, Answer)>
     requires tied { IsTied (R.contents rows.old) state.old }
     requires awaited { fits suspended.awaits answer ≡ true }
-    requires waits { IsSuspended state.old.config (progress_of state.old suspended.notices) suspended }
+    requires waits { IsSuspendedIn state.old suspended }
     ensures remains { Remains (R.contents rows.old) state.old (R.contents rows.new) state.new }
-    ensures ok { IfOk result (λ m. ComesTo state.old.config (resume (wait_run state.old.config (progress_of state.old suspended.notices) suspended.wait) answer) m state.new) }
+    ensures ok { IfOk result (λ m.
+        ComesFrom state.old (answered_run state.old suspended answer) m state.new) }
     ensures back { IfErr result (λ back. back ≡ (suspended, answer)) }
-    ensures same { OnErr result (IsUnmoved (R.contents rows.old) state.old (R.contents rows.new) state.new) }
+    ensures same { OnErr result
+        (IsUnmoved (R.contents rows.old) state.old (R.contents rows.new) state.new) }
 {
     let Suspended {
         bulk,

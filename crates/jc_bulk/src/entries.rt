@@ -1,10 +1,9 @@
 //! All entries of a cache at once.
-ghost use Rattle.std.specs.Prelude.{◌≡◌, ◌+◌, ◌<◌, ◌≤◌, [], ◌∷◌, Some, map, option_map, IfOk, OnOk, OnErr};
-ghost use Rattle.jc_model.specs.Changes.{begun};
-ghost use Rattle.jc_model.specs.State.{Item, row_of};
-ghost use Rattle.jc_model.specs.Whole.{touch_each, contents};
-ghost use Rattle.jc_state.specs.Kept.{items_of, state_of, IsTied, Remains, IsUnmoved};
-ghost use Rattle.jc_bulk.specs.Entries.{live_value};
+ghost use Rattle.std.specs.Prelude.{◌≡◌, ◌+◌, ◌<◌, ◌≤◌, [], ◌∷◌, Some, map, option_map};
+ghost use Rattle.std.specs.Prelude.{IfOk, OnOk, OnErr};
+ghost use Rattle.jc_model.specs.State.{Item};
+ghost use Rattle.jc_state.specs.Kept.{items_of, key_row, IsTied, Remains, IsUnmoved};
+ghost use Rattle.jc_bulk.specs.Entries.{live_value, live_pairs, TouchesEach};
 ghost use Rattle.jc_bulk.specs.Tallied.{pushed};
 
 use crate::lists::Lists;
@@ -43,7 +42,8 @@ fn live_value<'a, R: Rows, G: Ring>(
 /// Adds a key with its value, where it has one.
 fn list(pairs: &mut Lists<(Key, Value)>, key: Key, value: Option<&Value>) -> Result<(), OutOfMemory>
     requires room { 0 < pairs.old.spare }
-    ensures items { OnOk result (pairs.new.items ≡ pushed pairs.old.items key (option_map (λ v. v.now) value.entry)) }
+    ensures items { OnOk result
+        (pairs.new.items ≡ pushed pairs.old.items key (option_map (λ v. v.now) value.entry)) }
     ensures spare { pairs.old.spare ≤ pairs.new.spare + 1 }
 {
     if let Some(value) = value {
@@ -63,7 +63,7 @@ fn contents<R: Rows, G: Ring>(
 ) -> Result<Lists<(Key, Value)>, OutOfMemory>
     requires tied { IsTied (R.contents rows.now) state.now }
     requires keys { keys.now ≡ map (λ x. x.key) (items_of state.now.cells) }
-    ensures { IfOk result (λ lists. lists.items ≡ contents state.now.config now (items_of state.now.cells)) }
+    ensures { IfOk result (λ lists. lists.items ≡ live_pairs state.now now) }
 {
     let mut pairs = Lists::with_room(alloc, keys.len())?;
     for key in keys {
@@ -76,7 +76,8 @@ fn contents<R: Rows, G: Ring>(
 fn touch<R: Rows, G: Ring>(state: &mut CacheState<G>, rows: &mut R, now: u64, key: &Key)
     requires tied { IsTied (R.contents rows.old) state.old }
     ensures remains { Remains (R.contents rows.old) state.old (R.contents rows.new) state.new }
-    ensures progress { (x : Item) → row_of key.now (items_of state.old.cells) ≡ Some x → begun (state_of state.new) ≡ touch_each state.old.config now (x ∷ []) (begun (state_of state.old)) }
+    ensures progress { (x : Item) → key_row state.old key.now ≡ Some x →
+        TouchesEach state.old now (x ∷ []) state.new }
 {
     if let Some(row) = state.find(rows, key) {
         if state.is_live(row, now) {
@@ -91,7 +92,7 @@ fn touch_each<R: Rows, G: Ring>(state: &mut CacheState<G>, rows: &mut R, now: u6
     requires tied { IsTied (R.contents rows.old) state.old }
     requires keys { keys.now ≡ map (λ x. x.key) (items_of state.old.cells) }
     ensures remains { Remains (R.contents rows.old) state.old (R.contents rows.new) state.new }
-    ensures progress { begun (state_of state.new) ≡ touch_each state.old.config now (items_of state.old.cells) (begun (state_of state.old)) }
+    ensures progress { TouchesEach state.old now (items_of state.old.cells) state.new }
 {
     for key in keys {
         touch(state, rows, now, key);
@@ -107,9 +108,11 @@ pub(crate) fn entries<R: Rows, G: Ring>(
 ) -> Result<Thrice<Sequence<(Key, Value)>>, OutOfMemory>
     requires tied { IsTied (R.contents rows.old) state.old }
     ensures remains { Remains (R.contents rows.old) state.old (R.contents rows.new) state.new }
-    ensures listed { IfOk result (λ pairs. pairs ≡ contents state.old.config now (items_of state.old.cells)) }
-    ensures progress { IfOk result (λ _. begun (state_of state.new) ≡ touch_each state.old.config now (items_of state.old.cells) (begun (state_of state.old))) }
-    ensures same { OnErr result (IsUnmoved (R.contents rows.old) state.old (R.contents rows.new) state.new) }
+    ensures listed { IfOk result (λ pairs. pairs ≡ live_pairs state.old now) }
+    ensures progress { IfOk result (λ _.
+        TouchesEach state.old now (items_of state.old.cells) state.new) }
+    ensures same { OnErr result
+        (IsUnmoved (R.contents rows.old) state.old (R.contents rows.new) state.new) }
 {
     let keys = state.keys(alloc)?;
     let pairs = contents(alloc, state, rows, now, keys.as_slice())?;

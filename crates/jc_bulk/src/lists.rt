@@ -22,7 +22,11 @@ impl<T> Model for Lists<T> {
 
     ghost Value = { Listing T };
 
-    ghost view = { λ l. record { items = l.first.items; spare = min (vec_capacity l.first) (min (vec_capacity l.second) (vec_capacity l.third)) - vec_len l.first } };
+    ghost view = { λ l. record {
+      items = l.first.items;
+      spare = min (vec_capacity l.first) (min (vec_capacity l.second) (vec_capacity l.third))
+          - vec_len l.first;
+    } };
 
     ghost invariant = { λ l. (l.second.items ≡ l.first.items) × (l.third.items ≡ l.first.items) };
 }

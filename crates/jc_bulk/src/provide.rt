@@ -1,14 +1,17 @@
 //! What all steps of a call may need, made before the first of them.
-ghost use Rattle.std.specs.Prelude.{◌≡◌, ℕ, ◌+◌, ◌≤◌, true, length, IfOk, OnOk};
+ghost use Rattle.std.specs.Prelude.{◌≡◌, ℕ, ◌+◌, true, IfOk, OnOk};
 ghost use Rattle.jc_model.specs.Bulk.{empty_sum};
 ghost use Rattle.jc_model.specs.declared.config.CacheConfig.{CacheConfig};
-ghost use Rattle.jc_model.specs.Changes.{Progress, begun};
-ghost use Rattle.jc_model.specs.Whole.{plan, steps_in, gathers};
-ghost use Rattle.jc_state.specs.Kept.{items_of, state_of, has_live, IsTied, FoundRow};
+ghost use Rattle.jc_model.specs.Changes.{Progress};
+ghost use Rattle.jc_model.specs.Whole.{plan, gathers};
+ghost use Rattle.jc_state.specs.Kept.{IsTied, FoundRow};
 ghost use Rattle.jc_state.specs.Noted.{HasPlaces};
-ghost use Rattle.jc_ops.specs.Lines.{most_told, takes_value};
-ghost use Rattle.jc_ops.specs.Supply.{CoversAnswer, HasRoom, adds_at};
-ghost use Rattle.jc_bulk.specs.Provided.{calls_in, any_creates, any_tells, places_for, AreCovered, IsReady};
+ghost use Rattle.jc_ops.specs.Lines.{takes_value};
+ghost use Rattle.jc_ops.specs.Supply.{CoversAnswerIn, HasRoom, adds_at_in};
+ghost use Rattle.jc_bulk.specs.Ahead.{calls_ahead, AreCoveredIn, AreReady, HasRoomForSteps};
+ghost use Rattle.jc_bulk.specs.Ahead.{HasPlacesFrom, HasRoomFrom};
+ghost use Rattle.jc_bulk.specs.Calls.{steps_for, first_sum};
+ghost use Rattle.jc_bulk.specs.Provided.{calls_in, any_creates, any_tells, places_for};
 ghost use Rattle.jc_bulk.specs.Tallied.{HasRoomFor, sum_of};
 
 use crate::bulk::{Ahead, BulkStep, Needs, Provided};
@@ -48,7 +51,8 @@ fn make_places<G: Ring>(
     more: usize,
 ) -> Result<(), OutOfMemory>
     ensures told { notices.new.told ≡ notices.old.told }
-    ensures places { OnOk result (HasPlaces state.now.config (places_for needs.tells steps + more) notices.new) }
+    ensures places { OnOk result
+        (HasPlaces state.now.config (places_for needs.tells steps + more) notices.new) }
 {
     let each = if needs.tells { 3 } else { 1 };
     match steps.checked_mul(each) {
@@ -81,7 +85,7 @@ fn with_values<R: Rows, G: Ring>(
 ) -> Result<VecDeque<Provided>, OutOfMemory>
     requires tied { IsTied (R.contents rows.now) state.now }
     ensures calls { IfOk result (λ rest. calls_in rest.items ≡ calls.items) }
-    ensures covered { IfOk result (λ rest. AreCovered state.now.config (items_of state.now.cells) rest.items) }
+    ensures covered { IfOk result (λ rest. AreCoveredIn state.now rest.items) }
 {
     let mut rest = VecDeque::with_capacity(alloc, calls.len())?;
     for call in calls {
@@ -94,7 +98,8 @@ fn with_values<R: Rows, G: Ring>(
 
 /// Room for what a call on so many keys gathers.
 fn tally_for(alloc: Global, call: &Call, keys: usize) -> Result<Tally, OutOfMemory>
-    ensures sum { (c : CacheConfig) (now : ℕ) (p : Progress) → IfOk result (λ t. sum_of t ≡ empty_sum (gathers (plan c now call.now p))) }
+    ensures sum { (c : CacheConfig) (now : ℕ) (p : Progress) →
+        IfOk result (λ t. sum_of t ≡ empty_sum (gathers (plan c now call.now p))) }
     ensures room { IfOk result (λ t. HasRoomFor keys t.collected) }
 {
     match call {
@@ -116,10 +121,11 @@ pub fn prepare<R: Rows, G: Ring>(
     requires tied { IsTied (R.contents rows.old) state.now }
     ensures same { R.contents rows.new ≡ R.contents rows.old }
     ensures told { notices.new.told ≡ notices.old.told }
-    ensures asks { (any_creates (steps_in (plan state.now.config now call.now (begun (state_of state.now)))) ≡ true → length (steps_in (plan state.now.config now call.now (begun (state_of state.now)))) ≤ R.spare rows.old) → R.spare rows.new ≡ R.spare rows.old }
-    ensures steps { IfOk result (λ ahead. calls_in ahead.rest.items ≡ steps_in (plan state.now.config now call.now (begun (state_of state.now)))) }
-    ensures sum { IfOk result (λ ahead. sum_of ahead.sum ≡ empty_sum (gathers (plan state.now.config now call.now (begun (state_of state.now))))) }
-    ensures ready { IfOk result (λ ahead. IsReady state.now.config (items_of state.now.cells) notices.new (R.spare rows.new) ahead.rest.items ahead.sum ahead.needs) }
+    ensures asks { HasRoomForSteps (steps_for state.now now call.now) (R.spare rows.old) →
+        R.spare rows.new ≡ R.spare rows.old }
+    ensures steps { IfOk result (λ ahead. calls_ahead ahead ≡ steps_for state.now now call.now) }
+    ensures sum { IfOk result (λ ahead. sum_of ahead.sum ≡ first_sum state.now now call.now) }
+    ensures ready { IfOk result (λ ahead. AreReady state.now notices.new (R.spare rows.new) ahead) }
 {
     let calls = steps_of(alloc, state, rows, now, call)?;
     let count = calls.len();
@@ -147,11 +153,13 @@ pub fn prepare_answer<R: Rows, G: Ring>(
     requires row { FoundRow bulk.now.key.call.key state.now row }
     ensures same { R.contents rows.new ≡ R.contents rows.old }
     ensures told { notices.new.told ≡ notices.old.told }
-    ensures places { OnOk result (HasPlaces state.now.config (places_for bulk.entry.now.needs.tells (length bulk.entry.now.rest) + most_told (has_live bulk.entry.now.key.now bulk.entry.now.key.call.key state.now) bulk.entry.now.key.call.op) notices.new) }
-    ensures room { OnOk result (HasRoom (adds_at (has_live bulk.entry.now.key.now bulk.entry.now.key.call.key state.now) state.now.config bulk.entry.now.key answer.now) (R.spare rows.new)) }
-    ensures asks { HasRoom (adds_at (has_live bulk.entry.now.key.now bulk.entry.now.key.call.key state.now) state.now.config bulk.entry.now.key answer.now) (R.spare rows.old) → (bulk.entry.now.needs.adds ≡ true → length bulk.entry.now.rest + 1 ≤ R.spare rows.old) → R.spare rows.new ≡ R.spare rows.old }
-    ensures rest_room { OnOk result (bulk.entry.now.needs.adds ≡ true → length bulk.entry.now.rest + 1 ≤ R.spare rows.new) }
-    ensures covers { IfOk result (λ s. CoversAnswer state.now.config bulk.entry.now.key answer.now (items_of state.now.cells) s) }
+    ensures places { OnOk result (HasPlacesFrom state.now bulk.entry.now notices.new) }
+    ensures room { OnOk result
+        (HasRoom (adds_at_in state.now bulk.entry.now.key answer.now) (R.spare rows.new)) }
+    ensures asks { HasRoom (adds_at_in state.now bulk.entry.now.key answer.now) (R.spare rows.old) →
+        HasRoomFrom bulk.entry.now (R.spare rows.old) → R.spare rows.new ≡ R.spare rows.old }
+    ensures rest_room { OnOk result (HasRoomFrom bulk.entry.now (R.spare rows.new)) }
+    ensures covers { IfOk result (λ s. CoversAnswerIn state.now bulk.entry.now.key answer.now s) }
 {
     let supply = Supply::for_answer(state, rows, notices, row, &bulk.step, answer)?;
     let steps = bulk.ahead.rest.len() + 1;

@@ -1,9 +1,8 @@
 //! The steps of a call on many keys, in their order.
 ghost use Rattle.std.specs.Prelude.{◌≡◌, ◌<◌, ◌^◌, if◌then◌else◌, length, IfOk};
 ghost use Rattle.jc_model.specs.Bulk.{same_op, put_each, remove_each};
-ghost use Rattle.jc_model.specs.Changes.{begun};
-ghost use Rattle.jc_model.specs.Whole.{plan, steps_in};
-ghost use Rattle.jc_state.specs.Kept.{items_of, state_of, IsTied};
+ghost use Rattle.jc_state.specs.Kept.{items_of, IsTied};
+ghost use Rattle.jc_bulk.specs.Calls.{steps_for};
 ghost use Rattle.jc_bulk.specs.Each.{op_on_each};
 ghost use Rattle.jc_bulk.specs.Provided.{keys_in, AreApart};
 
@@ -103,7 +102,7 @@ pub fn steps_of<R: Rows, G: Ring>(
     call: &Call,
 ) -> Result<Vec<KeyCall>, OutOfMemory>
     requires tied { IsTied (R.contents rows.now) state.now }
-    ensures steps { IfOk result (λ calls. calls.items ≡ steps_in (plan state.now.config now call.now (begun (state_of state.now)))) }
+    ensures steps { IfOk result (λ calls. calls.items ≡ steps_for state.now now call.now) }
     ensures apart { IfOk result (λ calls. AreApart (keys_in calls.items)) }
     ensures few { IfOk result (λ calls. length calls.items < 2 ^ 32) }
 {
