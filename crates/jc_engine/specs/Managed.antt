@@ -1,6 +1,6 @@
 -- What the fields of one cache stand for, and how it moves.
 use Rattle.std.specs.Prelude.{◌≡◌, ◌≤◌, length, ℕ, Bool, true, false, List, [], Result, Ok, Err}
-use Rattle.std.specs.Prelude.{Option, Some, None}
+use Rattle.std.specs.Prelude.{Option, Some, None, MatchOption}
 use Rattle.jc_model.specs.declared.call.Notice.{Notice}
 use Rattle.jc_model.specs.declared.call.Request.TheVariants.{Tell}
 use Rattle.jc_model.specs.declared.config.CacheConfig.{CacheConfig}
@@ -13,7 +13,7 @@ use Rattle.jc_model.specs.declared.event.Outcome.TheVariants as outcome
 use Rattle.jc_model.specs.Run.{Run, and_then, Awaited, for_tell, told_by}
 use Rattle.jc_model.specs.Everywhere.{AtEach}
 use Rattle.jc_model.specs.Whole.{told_first}
-use Rattle.jc_model.specs.Runs.{Said, shown, standing_of, reply_of, moved}
+use Rattle.jc_model.specs.Runs.{Said, shown, standing_of, reply_of, refuse_last, for_memory, moved}
 use Rattle.jc_model.specs.Suspended.{Wait, one, many, telling, standing_by}
 use Rattle.jc_rows.specs.Rows.{RowMap}
 use Rattle.jc_state.specs.Noted.{Noted}
@@ -90,15 +90,27 @@ pub record Settled (c : CacheConfig) (run : Run) (k : Kept) (turn : Turn) (advan
   pub waits : WaitsThere c k turn
   pub fits : NeverTells run → FitsTurn advance (turn_in turn)
 
+-- what a cache answers to an event that it hears, where memory suffices
+abbrev pub reply_to : Cache → Said → Outcome
+reply_to k said = reply_of k.config (status_of k).standing said
+
 -- a cache has heard an event and moved as it is to
 pub record Moves (k : Cache) (said : Said) (advance : Advance) (k' : Cache) : Type 0 where
-  pub shows : outcome.Step (step_of advance) ≡ reply_of k.config (status_of k).standing said
+  pub shows : outcome.Step (step_of advance) ≡ reply_to k said
   pub moves : status_of k' ≡ moved (status_of k) said
   pub fits : FitsTurn advance k'.turn
 
 abbrev pub is_step : Outcome → Bool
 is_step (outcome.Step s) = true
 is_step _ = false
+
+-- why it gets no step where memory suffices: this cause, or none where it gets one
+abbrev pub IsRefusalTo : Cache → Said → Option Cause → Type 0
+IsRefusalTo k said refusal = MatchOption refusal (is_step (reply_to k said) ≡ true) (λ cause. reply_to k said ≡ outcome.Refused cause)
+
+-- it is refused for this cause, which may be memory
+abbrev pub IsRefusedFor : Cache → Said → Cause → Type 0
+IsRefusedFor k said cause = outcome.Refused cause ≡ refuse_last (for_memory (outcome.Refused cause)) (reply_to k said)
 
 -- the notices that are left of an open call: none while they are being told
 abbrev pub LeavesNotices : Cache → Option Noted → Type 0

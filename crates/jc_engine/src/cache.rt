@@ -1,11 +1,12 @@
 //! One cache under the manager: its configuration, its rows and counters, and its open call.
-ghost use Rattle.std.specs.Prelude.{◌≡◌, ℕ, ◌<◌, true, List, Some, None, IsOk, IfSome, IfOk, IfErr, OnErr, MatchOption, is_some, length};
+ghost use Rattle.std.specs.Prelude.{◌≡◌, ℕ, ◌<◌, true, List, Some, None, is_some, length};
+ghost use Rattle.std.specs.Prelude.{IsOk, IfSome, IfOk, IfErr, OnErr, MatchOption};
 ghost use Rattle.jc_model.specs.declared.call.Reply.TheVariants.{Found};
 ghost use Rattle.jc_model.specs.declared.config.CacheConfig.{CacheConfig};
 ghost use Rattle.jc_model.specs.declared.event.Outcome.TheVariants.{Refused, Destroyed};
 ghost use Rattle.jc_model.specs.Run.{Run, fits, for_tell};
 ghost use Rattle.jc_model.specs.Whole.{is_free};
-ghost use Rattle.jc_model.specs.Runs.{begins, answers, reply_of, destroyed_by, refuse_last, for_memory};
+ghost use Rattle.jc_model.specs.Runs.{begins, answers, destroyed_by};
 ghost use Rattle.jc_state.specs.Kept.{Kept};
 ghost use Rattle.jc_state.specs.Tied.{SameElsewhere};
 ghost use Rattle.jc_bulk.specs.Calls.{ComesTo};
@@ -15,7 +16,9 @@ ghost use Rattle.jc_engine.specs.Sound.{IsAt};
 ghost use Rattle.jc_engine.specs.declared.cache.Advance.TheVariants.{Replied};
 ghost use Rattle.jc_engine.specs.declared.cache.Turn.TheVariants.{Idle};
 ghost use Rattle.jc_engine.specs.Journals.{is_replied};
-ghost use Rattle.jc_engine.specs.Managed.{cache_in, turn_in, step_of, is_step, IsManaged, Moves, Settled, Abandons};
+ghost use Rattle.jc_engine.specs.Managed.{cache_in, turn_in, step_of, is_step, reply_to};
+ghost use Rattle.jc_engine.specs.Managed.{IsManaged, IsRefusalTo, IsRefusedFor};
+ghost use Rattle.jc_engine.specs.Managed.{Moves, Settled, Abandons};
 
 use jc_bulk::call::{CallNext, answer_call, start_call};
 use jc_bulk::waits::Suspended;
@@ -88,7 +91,7 @@ impl<G: Ring> Managed<G> {
 
     /// Why a call can't begin now, where memory suffices.
     pub(crate) fn begin_refusal(&self, call: &Call) -> Option<Cause>
-        ensures { (now : ℕ) → let reply = reply_of self.now.state.config (status_of (cache_in self.now)).standing (begins now call.now) in MatchOption result (is_step reply ≡ true) (λ cause. reply ≡ Refused cause) }
+        ensures { (now : ℕ) → IsRefusalTo (cache_in self.now) (begins now call.now) result }
     {
         match self.turn {
             Turn::Idle => {
@@ -104,7 +107,7 @@ impl<G: Ring> Managed<G> {
 
     /// Why an answer is refused now, where memory suffices.
     pub(crate) fn resume_refusal(&self, answer: &Answer) -> Option<Cause>
-        ensures { let reply = reply_of self.now.state.config (status_of (cache_in self.now)).standing (answers answer.now) in MatchOption result (is_step reply ≡ true) (λ cause. reply ≡ Refused cause) }
+        ensures { IsRefusalTo (cache_in self.now) (answers answer.now) result }
     {
         let awaited = match &self.turn {
             Turn::Idle => return Some(Cause::NoTurn),
@@ -129,7 +132,8 @@ impl<G: Ring> Managed<G> {
     fn settle(&mut self, next: CallNext) -> Advance
         requires idle { self.old.turn ≡ Idle }
         ensures state { self.new.state ≡ self.old.state }
-        ensures settled { (c : CacheConfig) (run : Run) (k : Kept) → ComesTo c run next k → Settled c run k self.new.turn result }
+        ensures settled { (c : CacheConfig) (run : Run) (k : Kept) →
+            ComesTo c run next k → Settled c run k self.new.turn result }
     {
         match next {
             Next::Ended((reply, notices)) => {
@@ -158,8 +162,10 @@ impl<G: Ring> Managed<G> {
         requires managed { IsManaged (R.contents rows.old) self.old.state.id self.old }
         ensures config { self.new.state.config ≡ self.old.state.config }
         ensures managed_after { IsManaged (R.contents rows.new) self.old.state.id self.new }
-        ensures elsewhere { SameElsewhere self.old.state.id (R.contents rows.old) (R.contents rows.new) }
-        ensures at_once { IfSome result (λ value. Moves (cache_in self.old) (begins now call.now) (Replied (Found value)) (cache_in self.new)) }
+        ensures elsewhere { SameElsewhere self.old.state.id
+            (R.contents rows.old) (R.contents rows.new) }
+        ensures at_once { IfSome result (λ value. Moves (cache_in self.old)
+            (begins now call.now) (Replied (Found value)) (cache_in self.new)) }
         ensures same { result ≡ None → self.new ≡ self.old }
         ensures table { result ≡ None → R.contents rows.new ≡ R.contents rows.old }
     {
@@ -198,11 +204,13 @@ impl<G: Ring> Managed<G> {
         call: &Call,
     ) -> Result<Advance, Cause>
         requires managed { IsManaged (R.contents rows.old) self.old.state.id self.old }
-        requires allowed { is_step (reply_of self.old.state.config (status_of (cache_in self.old)).standing (begins now call.now)) ≡ true }
+        requires allowed { is_step (reply_to (cache_in self.old) (begins now call.now)) ≡ true }
         ensures config { self.new.state.config ≡ self.old.state.config }
         ensures managed_after { IsManaged (R.contents rows.new) self.old.state.id self.new }
-        ensures elsewhere { SameElsewhere self.old.state.id (R.contents rows.old) (R.contents rows.new) }
-        ensures ok { IfOk result (λ advance. Moves (cache_in self.old) (begins now call.now) advance (cache_in self.new)) }
+        ensures elsewhere { SameElsewhere self.old.state.id
+            (R.contents rows.old) (R.contents rows.new) }
+        ensures ok { IfOk result (λ advance.
+            Moves (cache_in self.old) (begins now call.now) advance (cache_in self.new)) }
         ensures err { IfErr result (λ cause. cause ≡ Cause.OutOfMemory) }
         ensures free { is_free call.now ≡ true → IsOk result }
         ensures same { OnErr result (self.new ≡ self.old) }
@@ -225,10 +233,13 @@ impl<G: Ring> Managed<G> {
         requires managed { IsManaged (R.contents rows.old) self.old.state.id self.old }
         ensures config { self.new.state.config ≡ self.old.state.config }
         ensures managed_after { IsManaged (R.contents rows.new) self.old.state.id self.new }
-        ensures elsewhere { SameElsewhere self.old.state.id (R.contents rows.old) (R.contents rows.new) }
-        ensures ok { IfOk result (λ advance. Moves (cache_in self.old) (begins now call.now) advance (cache_in self.new)) }
-        ensures err { IfErr result (λ cause. Refused cause ≡ refuse_last (for_memory (Refused cause)) (reply_of self.old.state.config (status_of (cache_in self.old)).standing (begins now call.now))) }
-        ensures free { is_free call.now ≡ true → of_start result ≡ reply_of self.old.state.config (status_of (cache_in self.old)).standing (begins now call.now) }
+        ensures elsewhere { SameElsewhere self.old.state.id
+            (R.contents rows.old) (R.contents rows.new) }
+        ensures ok { IfOk result (λ advance.
+            Moves (cache_in self.old) (begins now call.now) advance (cache_in self.new)) }
+        ensures err { IfErr result (IsRefusedFor (cache_in self.old) (begins now call.now)) }
+        ensures free { is_free call.now ≡ true →
+            of_start result ≡ reply_to (cache_in self.old) (begins now call.now) }
         ensures same { OnErr result (self.new ≡ self.old) }
         ensures table { OnErr result (R.contents rows.new ≡ R.contents rows.old) }
     {
@@ -241,11 +252,13 @@ impl<G: Ring> Managed<G> {
     /// Goes on with the open call. Only memory can refuse it, before any change.
     pub(crate) fn go_on<R: Rows>(&mut self, rows: &mut R, answer: Answer) -> Result<Advance, Answer>
         requires managed { IsManaged (R.contents rows.old) self.old.state.id self.old }
-        requires allowed { is_step (reply_of self.old.state.config (status_of (cache_in self.old)).standing (answers answer)) ≡ true }
+        requires allowed { is_step (reply_to (cache_in self.old) (answers answer)) ≡ true }
         ensures config { self.new.state.config ≡ self.old.state.config }
         ensures managed_after { IsManaged (R.contents rows.new) self.old.state.id self.new }
-        ensures elsewhere { SameElsewhere self.old.state.id (R.contents rows.old) (R.contents rows.new) }
-        ensures ok { IfOk result (λ advance. Moves (cache_in self.old) (answers answer) advance (cache_in self.new)) }
+        ensures elsewhere { SameElsewhere self.old.state.id
+            (R.contents rows.old) (R.contents rows.new) }
+        ensures ok { IfOk result (λ advance.
+            Moves (cache_in self.old) (answers answer) advance (cache_in self.new)) }
         ensures back { IfErr result (λ back. back ≡ answer) }
         ensures told { fits for_tell answer ≡ true → IsOk result }
         ensures same { OnErr result (self.new ≡ self.old) }
@@ -268,7 +281,8 @@ impl<G: Ring> Managed<G> {
 
     /// Why it can't be destroyed now.
     pub(crate) fn destroy_refusal(&self) -> Option<Cause>
-        ensures { let reply = destroyed_by (status_of (cache_in self.now)).standing in MatchOption result (reply ≡ Destroyed) (λ cause. reply ≡ Refused cause) }
+        ensures { let reply = destroyed_by (status_of (cache_in self.now)).standing in
+            MatchOption result (reply ≡ Destroyed) (λ cause. reply ≡ Refused cause) }
     {
         match self.turn {
             Turn::Idle => None,
@@ -280,7 +294,8 @@ impl<G: Ring> Managed<G> {
     pub(crate) fn leave<R: Rows>(&mut self, rows: &mut R)
         requires { IsManaged (R.contents rows.old) self.old.state.id self.old }
         ensures gone { IsAt {G = G} (R.contents rows.new) self.old.state.id None }
-        ensures elsewhere { SameElsewhere self.old.state.id (R.contents rows.old) (R.contents rows.new) }
+        ensures elsewhere { SameElsewhere self.old.state.id
+            (R.contents rows.old) (R.contents rows.new) }
     {
         self.state.clear(rows);
     }
