@@ -1,5 +1,6 @@
 -- The notices of a call so far, and the places that are left for more.
 use Rattle.std.specs.Prelude.{◌≡◌, ℕ, ◌<◌, ◌≤◌, if◌then◌else◌, ltb, List, [], ◌∷◌, ◌++◌, Option, Some, None, option_map}
+use Rattle.jc_model.specs.declared.call.Kind.{Kind}
 use Rattle.jc_model.specs.declared.call.Notice.{Notice}
 use Rattle.jc_model.specs.declared.config.CacheConfig.{CacheConfig}
 use Rattle.jc_state.specs.declared.stored.Stored.{Stored}
@@ -11,6 +12,10 @@ pub record Noted : Type 0 where
 -- where there are listeners, there are n places
 abbrev pub HasPlaces : CacheConfig → ℕ → Noted → Type 0
 HasPlaces c n s = 0 < c.listeners → n ≤ s.spare
+
+-- a notice of this kind, with the value after and before
+abbrev pub notice_of : Kind → List ℕ → Option (List ℕ) → Option (List ℕ) → Notice
+notice_of kind key value before = record { kind = kind; key = key; value = value; before = before }
 
 -- without listeners no notices are made
 abbrev pub told_after : CacheConfig → Notice → List Notice → List Notice

@@ -11,6 +11,10 @@ pub record Cell : Type 0 where
   pub held : Record
   pub bit : Bool
 
+-- a new row: its bit is clear
+abbrev pub new_cell : ℕ → Record → Cell
+new_cell row held = record { row = row; held = held; bit = false }
+
 -- the rows from the hand on, and how many there may be
 pub record Shelved : Type 0 where
   pub cells : List Cell

@@ -1,6 +1,6 @@
 //! The notices of one call, in places that were made before any change.
-ghost use Rattle.std.specs.Prelude.{◌≡◌, ◌+◌, ◌<◌, ◌≤◌, ◌∷◌, ◌++◌, [], length, eqb, IfOk, OnOk, IsOk};
-ghost use Rattle.jc_state.specs.Noted.{HasPlaces, told_after};
+ghost use Rattle.std.specs.Prelude.{◌≡◌, ◌+◌, ◌<◌, ◌≤◌, ◌∷◌, ◌++◌, [], length, eqb, OnOk, IsOk};
+ghost use Rattle.jc_state.specs.Noted.{HasPlaces, notice_of, told_after};
 
 use jc_model::OutOfMemory;
 use jc_model::call::{Kind, Notice};
@@ -26,7 +26,10 @@ impl Model for Notices {
 
     ghost Value = { Noted };
 
-    ghost view = { λ n. record { told = n.told.items; spare = min (vec_capacity n.told) (vec_capacity n.kept) - vec_len n.told } };
+    ghost view = { λ n. record {
+      told = n.told.items;
+      spare = min (vec_capacity n.told) (vec_capacity n.kept) - vec_len n.told;
+    } };
 
     ghost invariant = { λ n. n.kept.items ≡ n.told.items };
 }
@@ -81,7 +84,7 @@ impl Notices {
         before: Option<Thrice<Value>>,
     )
         requires { 0 < self.old.spare }
-        ensures told { self.new.told ≡ self.old.told ++ record { kind = kind; key = key; value = value; before = before } ∷ [] }
+        ensures told { self.new.told ≡ self.old.told ++ notice_of kind key value before ∷ [] }
         ensures spare { self.new.spare + 1 ≡ self.old.spare }
     {
         let (value, kept_value) = two(value);
@@ -111,7 +114,8 @@ impl Notices {
         before: Option<Thrice<Value>>,
     )
         requires { HasPlaces config.now 1 self.old }
-        ensures told { self.new.told ≡ told_after config.now (record { kind = kind; key = key; value = value; before = before }) self.old.told }
+        ensures told { self.new.told
+            ≡ told_after config.now (notice_of kind key value before) self.old.told }
         ensures spare { self.old.spare ≤ self.new.spare + 1 }
     {
         if config.listeners > 0 {

@@ -1,10 +1,12 @@
 //! The rows of one cache in the order of its ring: records and ring as one list.
-ghost use Rattle.std.specs.Prelude.{◌≡◌, ◌==◌, ℕ, ◌+◌, ◌<◌, List, [], ◌∷◌, ◌++◌, length, true, false, Some, option_map, IfOk};
+ghost use Rattle.std.specs.Prelude.{◌≡◌, ◌==◌, ℕ, ◌+◌, ◌<◌, [], ◌∷◌, ◌++◌, length, true, false};
+ghost use Rattle.std.specs.Prelude.{Some, option_map, IfOk};
 ghost use Rattle.jc_model.specs.State.{turned};
 ghost use Rattle.jc_ring.specs.Ring.{first};
 ghost use Rattle.jc_rows.specs.Rows.{RowMap};
 ghost use Rattle.jc_state.specs.declared.slots.Record.{Record};
-ghost use Rattle.jc_state.specs.Shelf.{seek, has_row, row_after, without_row, turned_cells, stored, with_expiry_of};
+ghost use Rattle.jc_state.specs.Shelf.{seek, has_row, row_after, without_row, turned_cells};
+ghost use Rattle.jc_state.specs.Shelf.{new_cell, stored, with_expiry_of};
 ghost use Rattle.jc_state.specs.Tied.{Tied};
 ghost use Rattle.jc_state.specs.Kept.{items_of};
 
@@ -28,7 +30,10 @@ impl<G: Ring> Model for Shelf<G> {
 
     ghost Value = { Shelved };
 
-    ghost view = { λ s. record { cells = cells_of s.slots (G.list s.ring); limit = G.limit s.ring } };
+    ghost view = { λ s. record {
+      cells = cells_of s.slots (G.list s.ring);
+      limit = G.limit s.ring;
+    } };
 
     ghost invariant = { λ s. IsShelf s.slots (G.list s.ring) (G.limit s.ring) };
 }
@@ -96,7 +101,7 @@ impl<G: Ring> Shelf<G> {
     pub fn push(&mut self, new: Record) -> u32
         requires { length self.old.cells < self.old.limit }
         ensures fresh { has_row result self.old.cells ≡ false }
-        ensures pushed { self.new.cells ≡ self.old.cells ++ record { row = result; held = new; bit = false } ∷ [] }
+        ensures pushed { self.new.cells ≡ self.old.cells ++ new_cell result new ∷ [] }
         ensures limit { self.new.limit ≡ self.old.limit }
     {
         let row = self.slots.fill(new);
@@ -130,7 +135,8 @@ impl<G: Ring> Shelf<G> {
     /// Changes a row's expiry and sets its bit.
     pub fn renew(&mut self, row: u32, expiry: Expiry)
         requires { has_row row self.old.cells ≡ true }
-        ensures stored { (it : Record) → seek row self.old.cells ≡ Some it → self.new.cells ≡ stored row (with_expiry_of expiry it) self.old.cells }
+        ensures stored { (it : Record) → seek row self.old.cells ≡ Some it →
+            self.new.cells ≡ stored row (with_expiry_of expiry it) self.old.cells }
         ensures limit { self.new.limit ≡ self.old.limit }
     {
         self.ring.touch(row);

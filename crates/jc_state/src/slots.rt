@@ -1,6 +1,8 @@
 //! Records by row number, in places that are made once.
 ghost use Rattle.jc_state.specs.Shelf.{renewed};
-ghost use Rattle.std.specs.Prelude.{◌≡◌, ◌==◌, ℕ, ◌+◌, ◌<◌, ◌≤◌, List, length, Option, Some, None, IsSome, is_some, count_by, slice_index_or, slice_set, IfOk, replicate};
+ghost use Rattle.std.specs.Prelude.{◌≡◌, ◌==◌, ℕ, ◌+◌, ◌<◌, ◌≤◌, List, length, replicate};
+ghost use Rattle.std.specs.Prelude.{Option, Some, None, IsSome, is_some, IfOk};
+ghost use Rattle.std.specs.Prelude.{count_by, slice_index_or, slice_set};
 
 use jc_model::OutOfMemory;
 use jc_model::config::Expiry;
@@ -123,7 +125,8 @@ impl Slots {
     /// Changes the expiry of a filled row.
     pub fn set_expiry(&mut self, row: u32, expiry: Expiry)
         requires { IsSome (slice_index_or self.old row None) }
-        ensures { self.new ≡ slice_set self.old row (renewed expiry (slice_index_or self.old row None)) }
+        ensures { self.new
+            ≡ slice_set self.old row (renewed expiry (slice_index_or self.old row None)) }
     {
         match &mut self.records[row as usize] {
             Some(record) => record.expiry = expiry,

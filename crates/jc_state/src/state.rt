@@ -11,11 +11,12 @@ mod rows;
 mod walk;
 
 ghost use Rattle.std.specs.Prelude.{◌≡◌, ℕ, ◌≤◌, List, [], length, true, Some, IfOk, IfErr};
-ghost use Rattle.jc_model.specs.State.{zeros, one_more, live};
+ghost use Rattle.jc_model.specs.State.{zeros, live};
 ghost use Rattle.jc_model.specs.Whole.{holds};
 ghost use Rattle.jc_state.specs.declared.slots.Record.{Record};
 ghost use Rattle.jc_state.specs.Shelf.{seek, has_row};
 ghost use Rattle.jc_state.specs.Kept.{state_of, has_live, IsTied, FoundRow};
+ghost use Rattle.jc_state.specs.Kept.{with_hit, with_miss, with_put, with_removal};
 
 use crate::shelf::Shelf;
 use jc_expiry::counters::{with_hit, with_miss, with_put, with_removal};
@@ -46,7 +47,12 @@ impl<G: Ring> Model for CacheState<G> {
 
     ghost Value = { Kept };
 
-    ghost view = { λ s. record { config = s.config; id = s.id; cells = s.shelf.cells; counts = s.counts } };
+    ghost view = { λ s. record {
+      config = s.config;
+      id = s.id;
+      cells = s.shelf.cells;
+      counts = s.counts;
+    } };
 
     ghost invariant = { λ s. (s.shelf.limit ≡ s.config.capacity) × (1 ≤ s.config.capacity) };
 }
@@ -69,7 +75,8 @@ impl<G: Ring> CacheState<G> {
     /// the configuration comes back.
     pub fn empty(alloc: Global, id: CacheId, config: CacheConfig) -> Result<Self, CacheConfig>
         requires { 1 ≤ config.capacity }
-        ensures made { IfOk result (λ s. s ≡ record { config = config; id = id; cells = []; counts = zeros }) }
+        ensures made { IfOk result (λ s.
+            s ≡ record { config = config; id = id; cells = []; counts = zeros }) }
         ensures back { IfErr result (λ back. back ≡ config) }
     {
         match Shelf::with_capacity(alloc, config.capacity) {
@@ -134,7 +141,8 @@ impl<G: Ring> CacheState<G> {
     /// Whether a row is live.
     pub fn is_live(&self, row: u32, now: u64) -> bool
         requires { has_row row self.now.cells ≡ true }
-        ensures { (held : Record) → seek row self.now.cells ≡ Some held → result ≡ live now held.expiry }
+        ensures { (held : Record) → seek row self.now.cells ≡ Some held →
+            result ≡ live now held.expiry }
     {
         live(now, self.record(row).expiry)
     }
@@ -163,28 +171,28 @@ impl<G: Ring> CacheState<G> {
 
     /// Counts a hit.
     pub fn hit(&mut self)
-        ensures { self.new ≡ record self.old { counts = record self.old.counts { hits = one_more self.old.counts.hits } } }
+        ensures { self.new ≡ with_hit self.old }
     {
         self.counts = with_hit(self.counts);
     }
 
     /// Counts a miss.
     pub fn miss(&mut self)
-        ensures { self.new ≡ record self.old { counts = record self.old.counts { misses = one_more self.old.counts.misses } } }
+        ensures { self.new ≡ with_miss self.old }
     {
         self.counts = with_miss(self.counts);
     }
 
     /// Counts a put.
     pub fn put(&mut self)
-        ensures { self.new ≡ record self.old { counts = record self.old.counts { puts = one_more self.old.counts.puts } } }
+        ensures { self.new ≡ with_put self.old }
     {
         self.counts = with_put(self.counts);
     }
 
     /// Counts a removal.
     pub fn removal(&mut self)
-        ensures { self.new ≡ record self.old { counts = record self.old.counts { removals = one_more self.old.counts.removals } } }
+        ensures { self.new ≡ with_removal self.old }
     {
         self.counts = with_removal(self.counts);
     }

@@ -1,6 +1,6 @@
 //! A value with the copies that its storing takes.
 ghost use Rattle.std.specs.Prelude.{◌≡◌, ◌<◌, Some, None, IfOk, option_map};
-ghost use Rattle.jc_state.specs.Noted.{IsTold, StoredIsTold};
+ghost use Rattle.jc_state.specs.Noted.{IsTold, StoredIsTold, stored_value};
 
 use jc_model::OutOfMemory;
 use jc_model::config::CacheConfig;
@@ -40,7 +40,7 @@ impl Stored {
         config: &CacheConfig,
         value: Option<&Value>,
     ) -> Result<Option<Stored>, OutOfMemory>
-        ensures value { IfOk result (λ s. option_map (λ t. t.value) s ≡ option_map (λ v. v.now) value.entry) }
+        ensures value { IfOk result (λ s. stored_value s ≡ option_map (λ v. v.now) value.entry) }
         ensures told { IfOk result (λ s. StoredIsTold config.now s) }
     {
         match value {

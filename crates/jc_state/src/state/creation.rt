@@ -1,9 +1,9 @@
 //! New rows.
 ghost use Rattle.std.specs.Prelude.{◌≡◌, ℕ, ◌<◌, None, is_some};
-ghost use Rattle.jc_model.specs.State.{after_create, row_of};
+ghost use Rattle.jc_model.specs.State.{after_create};
 ghost use Rattle.jc_model.specs.Changes.{create};
 ghost use Rattle.jc_state.specs.Noted.{HasPlaces, IsTold};
-ghost use Rattle.jc_state.specs.Kept.{items_of, progress_of, IsTied, Stays};
+ghost use Rattle.jc_state.specs.Kept.{key_row, progress_at, IsTied, Stays};
 
 use super::CacheState;
 use crate::notices::Notices;
@@ -28,13 +28,16 @@ impl<G: Ring> CacheState<G> {
         stored: Stored,
     ) -> bool
         requires tied { IsTied (R.contents rows.old) self.old }
-        requires absent { row_of key (items_of self.old.cells) ≡ None }
+        requires absent { key_row self.old key ≡ None }
         requires room { 0 < R.spare rows.old }
         requires places { HasPlaces self.old.config 2 notices.old }
         requires told { IsTold self.old.config stored }
-        ensures stays { Stays 1 2 (R.contents rows.old) (R.spare rows.old) self.old notices.old (R.contents rows.new) (R.spare rows.new) self.new notices.new }
+        ensures stays { Stays 1 2
+            (R.contents rows.old) (R.spare rows.old) self.old notices.old
+            (R.contents rows.new) (R.spare rows.new) self.new notices.new }
         ensures stored { result ≡ is_some (after_create self.old.config.policy now) }
-        ensures progress { progress_of self.new notices.new.told ≡ create self.old.config now key stored.value (progress_of self.old notices.old.told) }
+        ensures progress { progress_at self.new notices.new
+            ≡ create self.old.config now key stored.value (progress_at self.old notices.old) }
     {
         match after_create(self.config().policy, now) {
             None => false,

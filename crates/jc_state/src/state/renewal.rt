@@ -5,7 +5,7 @@ ghost use Rattle.jc_model.specs.State.{Item};
 ghost use Rattle.jc_model.specs.Changes.{access, update};
 ghost use Rattle.jc_state.specs.Shelf.{has_row};
 ghost use Rattle.jc_state.specs.Noted.{HasPlaces, IsTold};
-ghost use Rattle.jc_state.specs.Kept.{progress_of, IsTied, Keeps, Stays, IsRow};
+ghost use Rattle.jc_state.specs.Kept.{progress_of, progress_at, IsTied, Keeps, Stays, IsRow};
 
 use super::CacheState;
 use crate::notices::Notices;
@@ -21,8 +21,11 @@ impl<G: Ring> CacheState<G> {
     pub fn access<R: Rows>(&mut self, rows: &mut R, now: u64, row: u32)
         requires tied { IsTied (R.contents rows.old) self.old }
         requires there { has_row row self.old.cells ≡ true }
-        ensures keeps { Keeps 0 (R.contents rows.old) (R.spare rows.old) self.old (R.contents rows.new) (R.spare rows.new) self.new }
-        ensures progress { (key : List ℕ) (x : Item) (told : List Notice) → IsRow key self.old row x →
+        ensures keeps { Keeps 0
+            (R.contents rows.old) (R.spare rows.old) self.old
+            (R.contents rows.new) (R.spare rows.new) self.new }
+        ensures progress { (key : List ℕ) (x : Item) (told : List Notice) →
+            IsRow key self.old row x →
             progress_of self.new told ≡ access self.old.config now x (progress_of self.old told) }
     {
         let expiry = after_access(self.config().policy, self.record(row).expiry, now);
@@ -43,9 +46,12 @@ impl<G: Ring> CacheState<G> {
         requires there { has_row row self.old.cells ≡ true }
         requires places { HasPlaces self.old.config 1 notices.old }
         requires told { IsTold self.old.config stored }
-        ensures stays { Stays 0 1 (R.contents rows.old) (R.spare rows.old) self.old notices.old (R.contents rows.new) (R.spare rows.new) self.new notices.new }
+        ensures stays { Stays 0 1
+            (R.contents rows.old) (R.spare rows.old) self.old notices.old
+            (R.contents rows.new) (R.spare rows.new) self.new notices.new }
         ensures progress { (key : List ℕ) (x : Item) → IsRow key self.old row x →
-            progress_of self.new notices.new.told ≡ update self.old.config now x stored.value (progress_of self.old notices.old.told) }
+            progress_at self.new notices.new
+            ≡ update self.old.config now x stored.value (progress_at self.old notices.old) }
     {
         let Stored { value, told } = stored;
         let held = self.record(row);

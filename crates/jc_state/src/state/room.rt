@@ -1,9 +1,9 @@
 //! Room for a new row, by CLOCK.
-ghost use Rattle.std.specs.Prelude.{◌≡◌, ℕ, ◌+◌, ◌<◌, List, length, None};
-ghost use Rattle.std.specs.FinMap as map;
+ghost use Rattle.std.specs.Prelude.{◌≡◌, ◌+◌, ◌<◌, length};
 ghost use Rattle.jc_model.specs.Changes.{make_room, with_room};
 ghost use Rattle.jc_state.specs.Noted.{HasPlaces};
-ghost use Rattle.jc_state.specs.Kept.{progress_of, IsTied, Stays};
+ghost use Rattle.jc_state.specs.Kept.{progress_at, IsTied, Stays};
+ghost use Rattle.jc_state.specs.Tied.{StaysAbsent};
 
 use super::CacheState;
 use crate::notices::Notices;
@@ -18,10 +18,14 @@ impl<G: Ring> CacheState<G> {
         requires tied { IsTied (R.contents rows.old) self.old }
         requires some { 0 < length self.old.cells }
         requires places { HasPlaces self.old.config 1 notices.old }
-        ensures stays { Stays 0 1 (R.contents rows.old) (R.spare rows.old) self.old notices.old (R.contents rows.new) (R.spare rows.new) self.new notices.new }
-        ensures still_absent { (k : List ℕ) → map.get (R.contents rows.old) (self.old.id, k) ≡ None → map.get (R.contents rows.new) (self.old.id, k) ≡ None }
+        ensures stays { Stays 0 1
+            (R.contents rows.old) (R.spare rows.old) self.old notices.old
+            (R.contents rows.new) (R.spare rows.new) self.new notices.new }
+        ensures still_absent { StaysAbsent self.old.id
+            (R.contents rows.old) (R.contents rows.new) }
         ensures one { length self.new.cells + 1 ≡ length self.old.cells }
-        ensures progress { progress_of self.new notices.new.told ≡ make_room self.old.config now (progress_of self.old notices.old.told) }
+        ensures progress { progress_at self.new notices.new
+            ≡ make_room self.old.config now (progress_at self.old notices.old) }
     {
         let row = self.turn_hand(now);
         if live(now, self.record(row).expiry) {
@@ -36,10 +40,14 @@ impl<G: Ring> CacheState<G> {
     pub(super) fn ensure_room<R: Rows>(&mut self, rows: &mut R, notices: &mut Notices, now: u64)
         requires tied { IsTied (R.contents rows.old) self.old }
         requires places { HasPlaces self.old.config 1 notices.old }
-        ensures stays { Stays 0 1 (R.contents rows.old) (R.spare rows.old) self.old notices.old (R.contents rows.new) (R.spare rows.new) self.new notices.new }
-        ensures still_absent { (k : List ℕ) → map.get (R.contents rows.old) (self.old.id, k) ≡ None → map.get (R.contents rows.new) (self.old.id, k) ≡ None }
+        ensures stays { Stays 0 1
+            (R.contents rows.old) (R.spare rows.old) self.old notices.old
+            (R.contents rows.new) (R.spare rows.new) self.new notices.new }
+        ensures still_absent { StaysAbsent self.old.id
+            (R.contents rows.old) (R.contents rows.new) }
         ensures below { length self.new.cells < self.new.config.capacity }
-        ensures progress { progress_of self.new notices.new.told ≡ with_room self.old.config now (progress_of self.old notices.old.told) }
+        ensures progress { progress_at self.new notices.new
+            ≡ with_room self.old.config now (progress_at self.old notices.old) }
     {
         if self.is_full() {
             self.make_room(rows, notices, now);

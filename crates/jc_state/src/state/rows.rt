@@ -1,13 +1,15 @@
 //! A row in both of its places: the cache's shelf and the shared table.
-ghost use Rattle.std.specs.Prelude.{◌≡◌, ℕ, ◌+◌, ◌<◌, ◌≤◌, List, [], ◌∷◌, ◌++◌, length, true, false, Some, None, option_map};
+ghost use Rattle.std.specs.Prelude.{◌≡◌, ℕ, ◌+◌, ◌<◌, ◌≤◌, [], ◌∷◌, ◌++◌, length, true, false};
+ghost use Rattle.std.specs.Prelude.{Some, None, option_map};
 ghost use Rattle.std.specs.FinMap as map;
-ghost use Rattle.jc_model.specs.State.{turned, one_more};
+ghost use Rattle.jc_model.specs.State.{turned};
 ghost use Rattle.jc_ring.specs.Ring.{first};
 ghost use Rattle.jc_rows.specs.Rows.{RowMap, with_expiry};
 ghost use Rattle.jc_state.specs.declared.slots.Record.{Record};
-ghost use Rattle.jc_state.specs.Shelf.{seek, has_row, without_row, stored, with_expiry_of};
-ghost use Rattle.jc_state.specs.Tied.{Tied};
-ghost use Rattle.jc_state.specs.Kept.{items_of, IsTied, Keeps};
+ghost use Rattle.jc_state.specs.Shelf.{seek, has_row, new_cell, without_row};
+ghost use Rattle.jc_state.specs.Shelf.{stored, with_expiry_of};
+ghost use Rattle.jc_state.specs.Tied.{Tied, StaysAbsent};
+ghost use Rattle.jc_state.specs.Kept.{items_of, with_eviction, IsTied, Keeps};
 
 use super::CacheState;
 use crate::slots::Record;
@@ -55,9 +57,12 @@ impl<G: Ring> CacheState<G> {
         requires tied { IsTied (R.contents rows.old) self.old }
         requires there { has_row row self.old.cells ≡ true }
         ensures was { seek row self.old.cells ≡ Some result }
-        ensures keeps { Keeps 0 (R.contents rows.old) (R.spare rows.old) self.old (R.contents rows.new) (R.spare rows.new) self.new }
+        ensures keeps { Keeps 0
+            (R.contents rows.old) (R.spare rows.old) self.old
+            (R.contents rows.new) (R.spare rows.new) self.new }
         ensures gone { map.get (R.contents rows.new) (self.old.id, result.key) ≡ None }
-        ensures still_absent { (k : List ℕ) → map.get (R.contents rows.old) (self.old.id, k) ≡ None → map.get (R.contents rows.new) (self.old.id, k) ≡ None }
+        ensures still_absent { StaysAbsent self.old.id
+            (R.contents rows.old) (R.contents rows.new) }
         ensures kept { self.new ≡ record self.old { cells = without_row row self.old.cells } }
         ensures one { length self.new.cells + 1 ≡ length self.old.cells }
     {
@@ -72,8 +77,11 @@ impl<G: Ring> CacheState<G> {
         requires absent { map.get (R.contents rows.old) (self.old.id, new.key) ≡ None }
         requires within { length self.old.cells < self.old.config.capacity }
         requires room { 0 < R.spare rows.old }
-        ensures keeps { Keeps 1 (R.contents rows.old) (R.spare rows.old) self.old (R.contents rows.new) (R.spare rows.new) self.new }
-        ensures kept { self.new ≡ record self.old { cells = self.old.cells ++ record { row = result; held = new; bit = false } ∷ [] } }
+        ensures keeps { Keeps 1
+            (R.contents rows.old) (R.spare rows.old) self.old
+            (R.contents rows.new) (R.spare rows.new) self.new }
+        ensures kept { self.new
+            ≡ record self.old { cells = self.old.cells ++ new_cell result new ∷ [] } }
     {
         let key = new.key;
         let expiry = new.expiry;
@@ -88,7 +96,9 @@ impl<G: Ring> CacheState<G> {
         requires there { has_row row self.old.cells ≡ true }
         requires key { option_map (λ held. held.key) (seek row self.old.cells) ≡ Some new.key }
         ensures was { seek row self.old.cells ≡ Some result }
-        ensures keeps { Keeps 0 (R.contents rows.old) (R.spare rows.old) self.old (R.contents rows.new) (R.spare rows.new) self.new }
+        ensures keeps { Keeps 0
+            (R.contents rows.old) (R.spare rows.old) self.old
+            (R.contents rows.new) (R.spare rows.new) self.new }
         ensures kept { self.new ≡ record self.old { cells = stored row new self.old.cells } }
     {
         let key = new.key;
@@ -102,8 +112,11 @@ impl<G: Ring> CacheState<G> {
     pub(super) fn renew_row<R: Rows>(&mut self, rows: &mut R, row: u32, expiry: Expiry)
         requires tied { IsTied (R.contents rows.old) self.old }
         requires there { has_row row self.old.cells ≡ true }
-        ensures keeps { Keeps 0 (R.contents rows.old) (R.spare rows.old) self.old (R.contents rows.new) (R.spare rows.new) self.new }
-        ensures kept { (held : Record) → seek row self.old.cells ≡ Some held → self.new ≡ record self.old { cells = stored row (with_expiry_of expiry held) self.old.cells } }
+        ensures keeps { Keeps 0
+            (R.contents rows.old) (R.spare rows.old) self.old
+            (R.contents rows.new) (R.spare rows.new) self.new }
+        ensures kept { (held : Record) → seek row self.old.cells ≡ Some held → self.new
+            ≡ record self.old { cells = stored row (with_expiry_of expiry held) self.old.cells } }
     {
         let held = self.shelf.record(row);
         let key = held.key;
@@ -126,7 +139,7 @@ impl<G: Ring> CacheState<G> {
 
     /// Counts an eviction.
     pub(super) fn count_eviction(&mut self)
-        ensures { self.new ≡ record self.old { counts = record self.old.counts { evictions = one_more self.old.counts.evictions } } }
+        ensures { self.new ≡ with_eviction self.old }
     {
         self.counts = with_eviction(self.counts);
     }

@@ -14,7 +14,8 @@ impl<G: Ring> CacheState<G> {
     /// The keys of all rows, expired ones among them, in the order of the ring.
     pub fn keys(&self, alloc: Global) -> Result<Vec<Key>, OutOfMemory>
         requires distinct { Distinct self.now.cells }
-        ensures keys { IfOk result (λ keys. keys.items ≡ map (λ x. x.key) (items_of self.now.cells)) }
+        ensures keys { IfOk result (λ keys.
+            keys.items ≡ map (λ x. x.key) (items_of self.now.cells)) }
         ensures few { IfOk result (λ keys. length keys.items < 2 ^ 32) }
     {
         let rows = self.shelf.len();
@@ -30,7 +31,9 @@ impl<G: Ring> CacheState<G> {
     /// Drops all rows. No one is told, and nothing is counted.
     pub fn clear<R: Rows>(&mut self, rows: &mut R)
         requires tied { IsTied (R.contents rows.old) self.old }
-        ensures keeps { Keeps 0 (R.contents rows.old) (R.spare rows.old) self.old (R.contents rows.new) (R.spare rows.new) self.new }
+        ensures keeps { Keeps 0
+            (R.contents rows.old) (R.spare rows.old) self.old
+            (R.contents rows.new) (R.spare rows.new) self.new }
         ensures cleared { self.new ≡ record self.old { cells = [] } }
     {
         'rows: while let Some(row) = self.shelf.first() {
