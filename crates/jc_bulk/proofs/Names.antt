@@ -15,9 +15,9 @@ pub use Rattle.jc_model.specs.Step.{step}
 pub use Rattle.jc_model.specs.Suspended.{KeyWait, key_run, bulk_run}
 pub use Rattle.jc_model.specs.Whole.{after_key, each, touch_each, holds, contents, plan}
 pub use Rattle.jc_state.specs.Noted.{Noted, HasPlaces}
-pub use Rattle.jc_state.specs.Kept.{Kept, items_of, state_of, progress_of, record_of, has_live, Remains, IsRow}
+pub use Rattle.jc_state.specs.Kept.{Kept, items_of, state_of, progress_of, record_of, Remains, IsRow}
 pub use Rattle.jc_ops.specs.Stepped.{StepsTo, StepWaits, IsWaiting}
-pub use Rattle.jc_ops.specs.Supply.{Covers, HasRoom, adds, adds_at}
+pub use Rattle.jc_ops.specs.Supply.{Covers, HasRoom, adds, adds_at_in}
 pub use Rattle.jc_ops.specs.Lines.{most_told}
 pub use Rattle.jc_bulk.specs.declared.bulk.Needs.{Needs}
 pub use Rattle.jc_bulk.specs.declared.bulk.Provided.{Provided}

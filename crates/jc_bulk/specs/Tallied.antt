@@ -23,8 +23,8 @@ HasRoomFor n (Pairs l) = n ≤ l.spare
 HasRoomFor n (Results l) = n ≤ l.spare
 
 -- what one key takes of that room
-abbrev pub UsesOne : Collected → Collected → Type 0
-UsesOne old new = (n : ℕ) → HasRoomFor (n + 1) old → HasRoomFor n new
+abbrev pub UsesRoomForOne : Collected → Collected → Type 0
+UsesRoomForOne old new = (n : ℕ) → HasRoomFor (n + 1) old → HasRoomFor n new
 
 -- the value that was found
 abbrev pub found_in : Reply → Option (List ℕ)

@@ -3,7 +3,7 @@ ghost use Rattle.std.specs.Prelude.{◌≡◌, ℕ, ◌+◌, ◌<◌, ◌≤◌,
 ghost use Rattle.jc_model.specs.Bulk.{nothing, pairs, results, empty_sum, gather, with_key};
 ghost use Rattle.jc_model.specs.Bulk.{gathered_reply, ends_call};
 ghost use Rattle.jc_bulk.specs.Tallied.{gathered_in, sum_of, found_in, result_in, pushed};
-ghost use Rattle.jc_bulk.specs.Tallied.{HasRoomFor, UsesOne};
+ghost use Rattle.jc_bulk.specs.Tallied.{HasRoomFor, UsesRoomForOne};
 
 use crate::lists::Lists;
 use jc_model::OutOfMemory;
@@ -86,7 +86,7 @@ impl Collected {
     fn add(&mut self, key: Key, reply: Thrice<Reply>)
         requires room { HasRoomFor 1 self.old }
         ensures gathered { gathered_in self.new ≡ gather key reply (gathered_in self.old) }
-        ensures room { UsesOne self.old self.new }
+        ensures room { UsesRoomForOne self.old self.new }
     {
         let (first, second, third) = reply.into_three();
         match self {
@@ -177,7 +177,7 @@ impl Tally {
         requires few { self.old.done + 1 < 2 ^ 32 }
         ensures sum { sum_of self.new ≡ with_key key reply (sum_of self.old) }
         ensures done { self.new.done ≡ self.old.done + 1 }
-        ensures room { UsesOne self.old.collected self.new.collected }
+        ensures room { UsesRoomForOne self.old.collected self.new.collected }
     {
         self.done += 1;
         self.collected.add(key, reply);

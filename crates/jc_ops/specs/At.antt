@@ -21,13 +21,13 @@ use Rattle.jc_ops.specs.Lines.{stores, told_of}
 use Rattle.jc_ops.specs.Stepped.{waits_first}
 use Rattle.jc_ops.specs.Verdicts.{done_on}
 
--- the key has a row
+-- whether the key has a row
 abbrev pub is_there : At → Bool
 is_there at = is_some at.row
 
--- the key has no expired row
-abbrev pub IsPurged : Kept → Noted → At → Type 0
-IsPurged k s at = purge k.config at.moment at.key (progress_at k s) ≡ progress_at k s
+-- the key has no expired row, and so nothing is purged
+abbrev pub PurgesNothing : Kept → Noted → At → Type 0
+PurgesNothing k s at = purge k.config at.moment at.key (progress_at k s) ≡ progress_at k s
 
 -- the call of an operation on the key
 abbrev pub call_at : At → Op → KeyCall
@@ -37,7 +37,7 @@ call_at at op = record { key = at.key; op = op }
 abbrev pub wait_at : At → Op → KeyWait
 wait_at at op = waits_first at.moment (call_at at op)
 
--- the notices that a change may tell
+-- how many notices a change may tell
 abbrev pub told_at : At → Change → ℕ
 told_at at change = told_of (is_there at) change
 

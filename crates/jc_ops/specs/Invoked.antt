@@ -34,13 +34,13 @@ processor_request i entry = Process i.at.key i.processor entry i.argument
 abbrev pub wait_loaded : Invocation → Option (List ℕ) → KeyWait
 wait_loaded i loaded = invoked i.at.moment i.at.key i.processor i.argument (given_by (Some loaded) None)
 
--- the values for a verdict
-abbrev pub CoversJudged : Bool → Kept → Invocation → Verdict → Supply → Type 0
-CoversJudged writer k i v s = CoversVerdict writer k.config (value_in i.loaded) v s
+-- the supply has the values for a verdict
+abbrev pub CoversVerdictOf : Bool → Kept → Invocation → Verdict → Supply → Type 0
+CoversVerdictOf writer k i v s = CoversVerdict writer k.config (value_in i.loaded) v s
 
 -- whether a verdict adds a row
-abbrev pub adds_judged : Bool → Invocation → Verdict → Bool
-adds_judged writer i v = adds_by (is_there i.at) writer (value_in i.loaded) v
+abbrev pub verdict_adds : Bool → Invocation → Verdict → Bool
+verdict_adds writer i v = adds_by (is_there i.at) writer (value_in i.loaded) v
 
 -- What it does, over a cache and the notices of its call so far.
 

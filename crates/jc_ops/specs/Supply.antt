@@ -70,13 +70,21 @@ adds_at there c w _ = false
 abbrev pub HasRoom : Bool → ℕ → Type 0
 HasRoom adding spare = adding ≡ true → 0 < spare
 
--- Of a step on a cache.
+-- where the loader has answered and gave a value, or none, this holds of it
+abbrev pub OnLoaded : Answer → (Option (List ℕ) → Type 0) → Type 0
+OnLoaded a P = (loaded : Option (List ℕ)) → loaded_by a ≡ Some loaded → P loaded
 
--- the values for a step that begins
+-- where the processor has given a verdict
+abbrev pub OnVerdict : Answer → (Verdict → Type 0) → Type 0
+OnVerdict a P = (v : Verdict) → verdict_of a ≡ Some v → P v
+
+-- The same of a step on a cache, as the cache is.
+
+-- the supply has the values for a step that begins
 abbrev pub CoversIn : Bool → Kept → KeyCall → Supply → Type 0
 CoversIn writer k call s = Covers writer k.config call (items_of k.cells) s
 
--- and for the step that waits, at this answer
+-- and for one that waits, at this answer
 abbrev pub CoversAnswerIn : Kept → KeyWait → Answer → Supply → Type 0
 CoversAnswerIn k w a s = CoversAnswer k.config w a (items_of k.cells) s
 
@@ -84,7 +92,7 @@ CoversAnswerIn k w a s = CoversAnswer k.config w a (items_of k.cells) s
 abbrev pub most_told_in : Kept → ℕ → KeyCall → ℕ
 most_told_in k now call = most_told (has_live now call.key k) call.op
 
--- places for them
+-- there are places for them
 abbrev pub HasPlacesFor : Kept → ℕ → KeyCall → Noted → Type 0
 HasPlacesFor k now call s = HasPlaces k.config (most_told_in k now call) s
 
@@ -95,11 +103,3 @@ adds_in k now call = adds (has_live now call.key k) k.config.writer call.op
 -- and at this answer
 abbrev pub adds_at_in : Kept → KeyWait → Answer → Bool
 adds_at_in k w a = adds_at (has_live w.now w.call.key k) k.config w a
-
--- where the loader gave a value, or none, this holds of it
-abbrev pub OnLoaded : Answer → (Option (List ℕ) → Type 0) → Type 0
-OnLoaded a P = (loaded : Option (List ℕ)) → loaded_by a ≡ Some loaded → P loaded
-
--- where the processor gave a verdict
-abbrev pub OnVerdict : Answer → (Verdict → Type 0) → Type 0
-OnVerdict a P = (v : Verdict) → verdict_of a ≡ Some v → P v

@@ -10,7 +10,7 @@ ghost use Rattle.jc_state.specs.Kept.{progress_of, progress_at, IsTied, Stays, F
 ghost use Rattle.jc_ops.specs.At.{is_there, told_at, done_run};
 ghost use Rattle.jc_ops.specs.Given.{value_in};
 ghost use Rattle.jc_ops.specs.Invoked.{part_of, wait_of, wait_loaded, processor_request};
-ghost use Rattle.jc_ops.specs.Invoked.{CoversJudged, adds_judged};
+ghost use Rattle.jc_ops.specs.Invoked.{CoversVerdictOf, verdict_adds};
 ghost use Rattle.jc_ops.specs.Invoked.{loaded_run, processed_run, judged_run, agreed_run};
 ghost use Rattle.jc_ops.specs.Supply.{CoversVerdict, CoversAnswerIn, OnLoaded, OnVerdict};
 ghost use Rattle.jc_ops.specs.Supply.{HasRoom, adds_by, adds_at};
@@ -200,9 +200,9 @@ fn act<R: Rows, G: Ring>(
     requires tied { IsTied (R.contents rows.old) state.old }
     requires row { FoundRow invocation.at.key state.old invocation.at.row }
     requires places { HasPlaces state.old.config (told_at invocation.at Put) notices.old }
-    requires covered { CoversJudged state.old.config.writer state.old invocation verdict supply }
+    requires covered { CoversVerdictOf state.old.config.writer state.old invocation verdict supply }
     requires room { HasRoom
-        (adds_judged state.old.config.writer invocation verdict) (R.spare rows.old) }
+        (verdict_adds state.old.config.writer invocation verdict) (R.spare rows.old) }
     requires means { waiting_run state.old notices.old (wait_of invocation (Some verdict))
         ≡ judged_run state.old notices.old invocation verdict }
     ensures stays { Stays 1 (told_at invocation.at Put)
@@ -249,9 +249,9 @@ fn answer_process<R: Rows, G: Ring>(
     requires row { FoundRow invocation.at.key state.old invocation.at.row }
     requires places { HasPlaces state.old.config (told_at invocation.at Put) notices.old }
     requires covered { OnVerdict answer (λ v.
-        CoversJudged state.old.config.writer state.old invocation v supply) }
+        CoversVerdictOf state.old.config.writer state.old invocation v supply) }
     requires room { OnVerdict answer (λ v.
-        HasRoom (adds_judged state.old.config.writer invocation v) (R.spare rows.old)) }
+        HasRoom (verdict_adds state.old.config.writer invocation v) (R.spare rows.old)) }
     requires means { waiting_run state.old notices.old (wait_of invocation None)
         ≡ processed_run state.old notices.old invocation }
     ensures stays { Stays 1 (told_at invocation.at Put)
@@ -285,9 +285,9 @@ fn answer_verdict<R: Rows, G: Ring>(
     requires row { FoundRow invocation.now.at.key state.old invocation.now.at.row }
     requires places { HasPlaces state.old.config (told_at invocation.now.at Put) notices.old }
     requires covered { is_written answer.now ≡ true →
-        CoversJudged false state.old invocation.now verdict.now supply }
+        CoversVerdictOf false state.old invocation.now verdict.now supply }
     requires room { is_written answer.now ≡ true →
-        HasRoom (adds_judged false invocation.now verdict.now) (R.spare rows.old) }
+        HasRoom (verdict_adds false invocation.now verdict.now) (R.spare rows.old) }
     ensures stays { Stays 1 (told_at invocation.now.at Put)
         (R.contents rows.old) (R.spare rows.old) state.old notices.old
         (R.contents rows.new) (R.spare rows.new) state.new notices.new }

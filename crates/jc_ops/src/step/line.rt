@@ -5,7 +5,7 @@ ghost use Rattle.jc_model.specs.Run.{is_written, loaded_by};
 ghost use Rattle.jc_model.specs.Step.{live_in};
 ghost use Rattle.jc_state.specs.Noted.{HasPlaces, StoredIsTold, stored_value};
 ghost use Rattle.jc_state.specs.Kept.{key_row, IsTied, Stays, FoundRow};
-ghost use Rattle.jc_ops.specs.At.{is_there, IsPurged, call_at, wait_at, told_at, heard_run};
+ghost use Rattle.jc_ops.specs.At.{is_there, PurgesNothing, call_at, wait_at, told_at, heard_run};
 ghost use Rattle.jc_ops.specs.Lines.{is_invoke, is_load, is_shown, line_at, told_on};
 ghost use Rattle.jc_ops.specs.Supply.{CoversIn, CoversAnswerIn, OnLoaded, HasRoom, adds, adds_at};
 ghost use Rattle.jc_ops.specs.Stepped.{StepsFrom, StaysAt, WaitsIn, step_run, answer_run};
@@ -93,7 +93,7 @@ pub(super) fn begin<R: Rows, G: Ring>(
     requires places { HasPlaces state.old.config (told_on (is_there at.now) op) notices.old }
     requires covered { CoversIn state.old.config.writer state.old (call_at at.now op) supply }
     requires room { HasRoom (adds (is_there at.now) state.old.config.writer op) (R.spare rows.old) }
-    requires purged { IsPurged state.old notices.old at.now }
+    requires purged { PurgesNothing state.old notices.old at.now }
     ensures stays { Stays 1 (told_on (is_there at.now) op)
         (R.contents rows.old) (R.spare rows.old) state.old notices.old
         (R.contents rows.new) (R.spare rows.new) state.new notices.new }

@@ -1,11 +1,11 @@
 use Rattle.std.proofs.Common.{◌≡◌, ◌≤◌, ◌+◌, ℕ, true, length, sym, ◌∙◌, subst, arith}
-use Rattle.jc_bulk.proofs.Names.{Answer, Kept, has_live, HasRoom, adds_at, Bulk}
+use Rattle.jc_bulk.proofs.Names.{Answer, Kept, HasRoom, adds_at_in, Bulk}
 use Rattle.jc_bulk.proofs.provide.prepare_answer.Goals.{then-needs, else-needs}
 use Rattle.jc_bulk.proofs.provide.prepare_answer.Goals as goal
 
 -- room for the row that the step may add at this answer
 abbrev HasOwnRoom : Kept → Answer → ℕ → Bulk → Type 0
-HasOwnRoom k a spare b = HasRoom (adds_at (has_live b.key.now b.key.call.key k) k.config b.key a) spare
+HasOwnRoom k a spare b = HasRoom (adds_at_in k b.key a) spare
 
 pub returns-in_err-make_places-clause-asks : goal.returns-in_err-make_places-clause-asks
 returns-in_err-make_places-clause-asks g c = λ own rest.
