@@ -1,10 +1,11 @@
 -- How one key's step stands to its run.
-use Rattle.std.specs.Prelude.{◌≡◌, ℕ, List, []}
+use Rattle.std.specs.Prelude.{◌≡◌, ℕ, List, [], Option}
 use Rattle.jc_model.specs.declared.call.Answer.{Answer}
 use Rattle.jc_model.specs.declared.call.KeyCall.{KeyCall}
 use Rattle.jc_model.specs.declared.call.Notice.{Notice}
-use Rattle.jc_model.specs.declared.call.Op.TheVariants.{Invoke}
+use Rattle.jc_model.specs.declared.call.Op.TheVariants.{Get, Invoke}
 use Rattle.jc_model.specs.declared.call.Reply.{Reply}
+use Rattle.jc_model.specs.declared.call.Reply.TheVariants.{Found}
 use Rattle.jc_model.specs.declared.call.Request.{Request}
 use Rattle.jc_model.specs.declared.config.CacheConfig.{CacheConfig}
 use Rattle.jc_model.specs.Changes.{Progress}
@@ -68,3 +69,8 @@ WaitsIn k s w = IsWaiting k.config (progress_at k s) w
 -- the step does as its run, from this cache to that one
 abbrev pub StepsFrom : Kept → Run → Next KeyWait Reply → Kept → Noted → Type 0
 StepsFrom old run next new s = StepsTo old.config run next new s.told
+
+-- a get of this key ends with this value, from this cache to that one
+abbrev pub GetFinds : Kept → List Notice → ℕ → List ℕ → Option (List ℕ) → Kept → Type 0
+GetFinds old told now key value new =
+    step old.config now (record { key = key; op = Get }) (progress_of old told) ≡ ended (progress_of new told) (Found value)

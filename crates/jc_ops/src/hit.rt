@@ -4,13 +4,10 @@
 //! the means of those that ask and tell.
 ghost use Rattle.std.specs.Prelude.{◌≡◌, ℕ, List, true, false, Some, None, IfOk, OnErr};
 ghost use Rattle.jc_model.specs.declared.call.Notice.{Notice};
-ghost use Rattle.jc_model.specs.declared.call.Op.TheVariants.{Get};
-ghost use Rattle.jc_model.specs.Run.{ended};
-ghost use Rattle.jc_model.specs.Step.{step as step_of};
 ghost use Rattle.jc_state.specs.Shelf.{has_row};
-ghost use Rattle.jc_model.specs.declared.call.Reply.TheVariants.{Found};
-ghost use Rattle.jc_state.specs.Kept.{progress_of, has_live, with_miss};
+ghost use Rattle.jc_state.specs.Kept.{has_live, with_miss};
 ghost use Rattle.jc_state.specs.Kept.{IsTied, IsUnmoved, Keeps, FoundRow};
+ghost use Rattle.jc_ops.specs.Stepped.{GetFinds};
 
 use jc_model::OutOfMemory;
 use jc_model::thrice::Thrice;
@@ -34,8 +31,7 @@ pub fn hit<R: Rows, G: Ring>(
         (R.contents rows.new) (R.spare rows.new) state.new }
     ensures ok { IfOk result (λ value. (key : List ℕ) (told : List Notice) →
         FoundRow key state.old (Some row) → has_live now key state.old ≡ true →
-        step_of state.old.config now (record { key = key; op = Get }) (progress_of state.old told)
-        ≡ ended (progress_of state.new told) (Found (Some value))) }
+        GetFinds state.old told now key (Some value) state.new) }
     ensures same { OnErr result
         (IsUnmoved (R.contents rows.old) state.old (R.contents rows.new) state.new) }
 {
@@ -50,8 +46,7 @@ pub fn miss<G: Ring>(state: &mut CacheState<G>)
     requires unasked { state.old.config.loader ≡ false }
     ensures counted { state.new ≡ with_miss state.old }
     ensures ended { (now : ℕ) (key : List ℕ) (told : List Notice) → FoundRow key state.old None →
-        step_of state.old.config now (record { key = key; op = Get }) (progress_of state.old told)
-        ≡ ended (progress_of state.new told) (Found None) }
+        GetFinds state.old told now key None state.new }
 {
     state.miss();
 }
