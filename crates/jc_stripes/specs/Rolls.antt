@@ -4,6 +4,7 @@ use mathlib.Core.Option.{some}
 use mathlib.Core.List.{IsPrefix}
 use lib.ListN.{get_elem?}
 use Rattle.atomic_table.specs.Table.{State, Me, Step}
+use Rattle.atomic_table.specs.declared.shared.Seat.{Seat}
 use Rattle.jc_stripes.specs.declared.roll.Known.{Known}
 
 module _ {T : Type 0} where
@@ -33,3 +34,7 @@ pub record Kept {T : Type 0} (s : State T (Known T)) : Type 0 where
   pub items : List T
   pub keeper : ℕ
   pub each_seat : (j : ℕ) (v : Known T) → get_elem? s.views j ≡ some v → Knows items keeper j v
+
+-- two seats know the same items of one list
+abbrev pub KnowsSameItems : {T : Type 0} → Seat T (Known T) → Seat T (Known T) → Type 0
+KnowsSameItems old new = (new.table_id ≡ old.table_id) × (new.me.0.items ≡ old.me.0.items)

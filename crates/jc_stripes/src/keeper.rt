@@ -1,6 +1,7 @@
 //! The one that adds to a roll, and those that know a beginning of it.
 ghost use Rattle.std.specs.Prelude.{◌≡◌, ◌<◌, true, [], ◌∷◌, ◌++◌, IfOk};
 ghost use mathlib.Core.List.{IsPrefix};
+ghost use Rattle.jc_stripes.specs.Rolls.{KnowsSameItems};
 
 use crate::roll::{Add, Hear, Recall, Roll, RollSeat, Share};
 use std::alloc::{AllocError, Global};
@@ -43,8 +44,8 @@ impl<T: Drop> Keeper<T> {
 
     /// A follower that knows all of the list.
     pub fn follower(&mut self) -> Follower<T>
-        ensures same { (self.new.seat.table_id ≡ self.old.seat.table_id) × (self.new.seat.me.0.items ≡ self.old.seat.me.0.items) }
-        ensures follower { (result.seat.table_id ≡ self.old.seat.table_id) × (result.seat.me.0.items ≡ self.old.seat.me.0.items) }
+        ensures same { KnowsSameItems self.old.seat self.new.seat }
+        ensures follower { KnowsSameItems self.old.seat result.seat }
     {
         let roll = &self.roll;
         let seat = roll.shared.split_seat::<Share>(&mut self.seat);
@@ -54,7 +55,7 @@ impl<T: Drop> Keeper<T> {
     /// Takes in a follower: what it knows is a beginning of the list.
     pub fn hear(&mut self, follower: Follower<T>)
         requires { follower.seat.table_id ≡ self.old.seat.table_id }
-        ensures same { (self.new.seat.table_id ≡ self.old.seat.table_id) × (self.new.seat.me.0.items ≡ self.old.seat.me.0.items) }
+        ensures same { KnowsSameItems self.old.seat self.new.seat }
         ensures seen { IsPrefix follower.seat.me.0.items self.old.seat.me.0.items }
     {
         let Follower { seat } = follower;

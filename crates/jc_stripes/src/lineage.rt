@@ -1,9 +1,11 @@
 //! Tables of words that follow one another. Readers move on to the newest.
-ghost use Rattle.std.specs.Prelude.{◌≡◌, ◌+◌, ◌%◌, ◌^◌, ◌<◌, [], ◌∷◌, ◌++◌, length, map, Some, IfOk, IfErr, All, slice_get, ℕ, List};
+ghost use Rattle.std.specs.Prelude.{◌≡◌, ◌%◌, ◌^◌, ◌<◌, [], ◌∷◌, ◌++◌, length, Some, IfOk, IfErr, All, slice_get};
 ghost use mathlib.Core.List.{IsPrefix};
-ghost use Rattle.jc_stripes.specs.Layout.{content_of, version_count, versions_at};
-ghost use Rattle.jc_stripes.specs.Stripes.{last_of, desk_of, set_all, Covered, Changes, IsCommitted, shared};
-ghost use Rattle.jc_stripes.specs.Lineages.{tables, outgrown, IsEarlier};
+ghost use Rattle.jc_stripes.specs.Layout.{content_of, version_count, versions_at, HasVersionsAt};
+ghost use Rattle.jc_stripes.specs.Stripes.{Covered, Front};
+ghost use Rattle.jc_stripes.specs.Lineages.{tables, outgrown, outgrown_tables, AreEarlier};
+ghost use Rattle.jc_stripes.specs.Seats.{AdmitsWrites, CommitsVersions, CommitsWrites, ExtendsFront, FrontIsPrefix, HasMet, HasPlaces, HasSameTable, HasSameTableAndLaw, IsSameButTold, IsShared, KnowsSame, StartsFront, versions_of};
+ghost use Rattle.jc_stripes.specs.Members.{IsMemberOf};
 
 use crate::board::{Law, StripesSeat};
 use crate::keeper::Keeper;
@@ -19,14 +21,14 @@ pub struct Lineage<L: Law + Drop> {
     pub keeper: Keeper<StripesSeat<L>>,
     pub retired: Vec<Retired<L>>,
     pub writer: Writer<L>,
-    pub ghost listed: { tables keeper.seat.me.0.items ≡ map (λ p. p.0) (outgrown retired.items) ++ writer.seat.table_id ∷ [] },
-    pub ghost earlier: { All (IsEarlier writer.seat.me.0.front) (outgrown retired.items) },
+    pub ghost listed: { tables keeper.seat.me.0.items ≡ outgrown_tables retired.items ++ writer.seat.table_id ∷ [] },
+    pub ghost earlier: { AreEarlier writer.seat.me.0.front retired.items },
 }
 
 fn hear_at<L: Law + Drop>(writers: &mut Vec<Retired<L>>, generation: usize, reader: Reader<L>)
-    requires { slice_get (map (λ p. p.0) (outgrown writers.old.items)) generation ≡ Some reader.seat.table_id }
+    requires { slice_get (outgrown_tables writers.old.items) generation ≡ Some reader.seat.table_id }
     ensures same { outgrown writers.new.items ≡ outgrown writers.old.items }
-    ensures seen { (front : List (List ℕ)) → All (IsEarlier front) (outgrown writers.old.items) → IsPrefix reader.seat.me.0.front front }
+    ensures seen { (front : Front) → AreEarlier front writers.old.items → IsPrefix reader.seat.me.0.front front }
 {
     let writer = &mut writers[generation];
     writer.hear(reader);
@@ -42,11 +44,11 @@ impl<L: Law + Drop> Lineage<L> {
         start: u64,
     ) -> Result<Lineage<L>, AllocError>
         requires even { start % 2 ≡ 0 }
-        requires versions { words.now.items ≡ versions_at start ++ content_of words.now.items }
+        requires versions { HasVersionsAt start words.now.items }
         requires sized { length words.now.items < 2 ^ 63 }
         requires lawful { L.admits law.now (content_of words.now.items) }
-        ensures lineage { IfOk result (λ l. (l.writer.seat.me.0.law ≡ Some law.now) × (l.writer.seat.me.0.front ≡ content_of words.now.items ∷ [])) }
-        ensures versions { IfOk result (λ l. (desk_of l.writer.seat.me.0).versions ≡ versions_at start) }
+        ensures lineage { IfOk result (λ l. StartsFront law.now words.now.items l.writer.seat) }
+        ensures versions { IfOk result (λ l. versions_of l.writer.seat ≡ versions_at start) }
     {
         let mut keeper = Keeper::new(alloc.clone()?)?;
         let writer = Writer::starting_at(alloc.clone()?, law, words, start)?;
@@ -60,13 +62,13 @@ impl<L: Law + Drop> Lineage<L> {
 
     /// A new table with these words follows, whose versions all begin at 0. The old one is retired.
     pub fn follow(&mut self, alloc: Global, law: &L, words: &Vec<u64>) -> Result<(), AllocError>
-        requires versions { words.now.items ≡ versions_at 0 ++ content_of words.now.items }
+        requires versions { HasVersionsAt 0 words.now.items }
         requires sized { length words.now.items < 2 ^ 63 }
         requires lawful { L.admits law.now (content_of words.now.items) }
         ensures name { self.new.keeper.seat.table_id ≡ self.old.keeper.seat.table_id }
-        ensures ok { IfOk result (λ _. (self.new.writer.seat.me.0.law ≡ Some law.now) × (self.new.writer.seat.me.0.front ≡ self.old.writer.seat.me.0.front ++ content_of words.now.items ∷ [])) }
-        ensures versions { IfOk result (λ _. (desk_of self.new.writer.seat.me.0).versions ≡ versions_at 0) }
-        ensures refused { IfErr result (λ _. (self.new.writer.seat.me.0 ≡ self.old.writer.seat.me.0) × (self.new.writer.seat.table_id ≡ self.old.writer.seat.table_id)) }
+        ensures ok { IfOk result (λ _. ExtendsFront law.now words.now.items self.old.writer.seat self.new.writer.seat) }
+        ensures versions { IfOk result (λ _. versions_of self.new.writer.seat ≡ versions_at 0) }
+        ensures refused { IfErr result (λ _. KnowsSame self.old.writer.seat self.new.writer.seat) }
     {
         self.retired.reserve(1)?;
         let writer = self.writer.follow(alloc, law, words)?;
@@ -79,14 +81,14 @@ impl<L: Law + Drop> Lineage<L> {
     /// Sets words of the newest table as one commit, under the versions of these stripes.
     pub fn commit(&mut self, stripes: &[usize], writes: &[(usize, u64)])
         requires some { 0 < length writes.now }
-        requires inside { All (λ w. version_count + w.0 < self.old.writer.seat.table_id.words) writes.now }
+        requires inside { HasPlaces writes.now self.old.writer.seat }
         requires few { All (λ j. j < version_count) stripes.now }
         requires covered { Covered L.group stripes.now writes.now }
-        requires lawful { (l : L) × (self.old.writer.seat.me.0.law ≡ Some l) × L.admits l (set_all (last_of self.old.writer.seat.me.0.front) writes.now) }
+        requires lawful { AdmitsWrites L.admits self.old.writer.seat writes.now }
         ensures name { self.new.keeper.seat.table_id ≡ self.old.keeper.seat.table_id }
-        ensures same { (self.new.writer.seat.table_id ≡ self.old.writer.seat.table_id) × (self.new.writer.seat.me.0.law ≡ self.old.writer.seat.me.0.law) }
-        ensures versions { Changes IsCommitted stripes.now (desk_of self.old.writer.seat.me.0).versions (desk_of self.new.writer.seat.me.0).versions }
-        ensures front { self.new.writer.seat.me.0.front ≡ self.old.writer.seat.me.0.front ++ set_all (last_of self.old.writer.seat.me.0.front) writes.now ∷ [] }
+        ensures same { HasSameTableAndLaw self.old.writer.seat self.new.writer.seat }
+        ensures versions { CommitsVersions stripes.now self.old.writer.seat self.new.writer.seat }
+        ensures front { CommitsWrites writes.now self.old.writer.seat self.new.writer.seat }
     {
         self.writer.commit(stripes, writes);
     }
@@ -94,8 +96,8 @@ impl<L: Law + Drop> Lineage<L> {
     /// A reader at the newest table.
     pub fn member(&mut self) -> Result<Member<L>, AllocError>
         ensures name { self.new.keeper.seat.table_id ≡ self.old.keeper.seat.table_id }
-        ensures same { (self.new.writer.seat.me.0 ≡ self.old.writer.seat.me.0) × (self.new.writer.seat.table_id ≡ self.old.writer.seat.table_id) }
-        ensures member { IfOk result (λ m. (m.follower.seat.table_id ≡ self.old.keeper.seat.table_id) × (m.reader.seat.me.0 ≡ shared self.old.writer.seat.me.0) × (m.reader.seat.table_id ≡ self.old.writer.seat.table_id)) }
+        ensures same { KnowsSame self.old.writer.seat self.new.writer.seat }
+        ensures member { IfOk result (λ m. IsMemberOf self.old.keeper self.old.writer m) }
     {
         let reader = self.writer.reader()?;
         let follower = self.keeper.follower();
@@ -110,11 +112,11 @@ impl<L: Law + Drop> Lineage<L> {
     /// The reader goes on at the newest table, with the writer's front. Where it is refused, it stays as it was.
     pub fn meet(&mut self, member: &mut Member<L>) -> Result<(), AllocError>
         requires { member.old.follower.seat.table_id ≡ self.old.keeper.seat.table_id }
-        ensures name { (self.new.keeper.seat.table_id ≡ self.old.keeper.seat.table_id) × (member.new.follower.seat.table_id ≡ member.old.follower.seat.table_id) }
-        ensures writer { (self.new.writer.seat.me.0 ≡ record self.old.writer.seat.me.0 { told = self.new.writer.seat.me.0.told }) × (self.new.writer.seat.table_id ≡ self.old.writer.seat.table_id) }
-        ensures front { IsPrefix member.old.reader.seat.me.0.front member.new.reader.seat.me.0.front }
-        ensures met { IfOk result (λ _. (member.new.reader.seat.me.0 ≡ shared self.old.writer.seat.me.0) × (member.new.reader.seat.table_id ≡ self.old.writer.seat.table_id)) }
-        ensures refused { IfErr result (λ _. (member.new.reader.seat.me.0 ≡ member.old.reader.seat.me.0) × (member.new.reader.seat.table_id ≡ member.old.reader.seat.table_id)) }
+        ensures name { HasSameTable self.old.keeper.seat self.new.keeper.seat × HasSameTable member.old.follower.seat member.new.follower.seat }
+        ensures writer { IsSameButTold self.old.writer.seat self.new.writer.seat }
+        ensures front { FrontIsPrefix member.old.reader.seat member.new.reader.seat }
+        ensures met { IfOk result (λ _. HasMet self.old.writer.seat member.new.reader.seat) }
+        ensures refused { IfErr result (λ _. KnowsSame member.old.reader.seat member.new.reader.seat) }
     {
         let newest = self.retired.len();
         if member.generation < newest {
@@ -133,9 +135,9 @@ impl<L: Law + Drop> Lineage<L> {
         ensures table { self.new.writer.seat.table_id ≡ self.old.writer.seat.table_id }
         ensures view { self.new.writer.seat.me.0 ≡ self.old.writer.seat.me.0 }
         ensures follower { member.new.follower.seat.table_id ≡ member.old.follower.seat.table_id }
-        ensures seen { IfOk result (λ _. IsPrefix member.old.reader.seat.me.0.front self.old.writer.seat.me.0.front) }
-        ensures met { IfOk result (λ _. member.new.reader.seat.me.0 ≡ shared self.old.writer.seat.me.0) }
-        ensures moved { IfOk result (λ _. member.new.reader.seat.table_id ≡ self.old.writer.seat.table_id) }
+        ensures seen { IfOk result (λ _. FrontIsPrefix member.old.reader.seat self.old.writer.seat) }
+        ensures met { IfOk result (λ _. IsShared self.old.writer.seat member.new.reader.seat) }
+        ensures moved { IfOk result (λ _. HasSameTable self.old.writer.seat member.new.reader.seat) }
         ensures refused { IfErr result (λ _. member.new.reader ≡ member.old.reader) }
     {
         let reader = self.writer.reader()?;

@@ -1,9 +1,10 @@
 //! A reader of the words. It never waits.
-ghost use Rattle.std.specs.Prelude.{◌≡◌, ◌≢◌, ◌⊎◌, suc, ◌+◌, ◌%◌, ◌<◌, ◌≤◌, ◌^◌, true, false, [], ◌∷◌, length, All, Some};
+ghost use Rattle.std.specs.Prelude.{◌≡◌, ◌≢◌, ◌⊎◌, ◌+◌, ◌%◌, ◌<◌, ◌≤◌, ◌^◌, true, false, [], length, All};
 ghost use Rattle.std.specs.Arc.{arc_value};
-ghost use mathlib.Core.List.{IsPrefix};
 ghost use Rattle.jc_stripes.specs.Layout.{version_count};
-ghost use Rattle.jc_stripes.specs.Stripes.{IsReader, ReadsIn, Shows, SomeOdd, Stayed, begun_view, glance, glance_of, last_of, stacked, stripes_in};
+ghost use Rattle.jc_stripes.specs.Stripes.{IsReader, stacked};
+ghost use Rattle.jc_stripes.specs.Seats.{AdmitsLast, FrontIsPrefix, HasLaw, HasSameFront, glance_at, last_words};
+ghost use Rattle.jc_stripes.specs.Steps.{AddsCheck, AddsNote, BeginsLookup, CheckShows, ChecksSameStripes, HasChecks, NotesStand, VersionsDiffer, VersionsStayed, BeginsStripe};
 
 use crate::board::{Begin, Board, Check, Law, Note, StripesSeat, VERSION_COUNT};
 use std::alloc::Global;
@@ -36,7 +37,7 @@ impl<L: Law> Reader<L> {
     fn begin_one(&mut self, stripe: usize) -> u64
         requires { stripe < version_count }
         ensures same { self.new.seat.table_id ≡ self.old.seat.table_id }
-        ensures view { self.new.seat.me.0 ≡ begun_view stripe result self.old.seat.me.0 (glance_of self.old.seat.me.0) }
+        ensures view { BeginsStripe stripe result self.old.seat self.new.seat }
     {
         self.board.shared.load::<Begin>(&mut self.seat, stripe)
     }
@@ -45,11 +46,11 @@ impl<L: Law> Reader<L> {
     fn check_one(&mut self, stripe: usize) -> u64
         requires { stripe < version_count }
         ensures same { self.new.seat.table_id ≡ self.old.seat.table_id }
-        ensures view { self.new.seat.me.0 ≡ record self.old.seat.me.0 { role = glance (glance_of self.old.seat.me.0).begun ((stripe, result) ∷ (glance_of self.old.seat.me.0).checked) (glance_of self.old.seat.me.0).notes true; front = self.new.seat.me.0.front } }
-        ensures front { IsPrefix self.old.seat.me.0.front self.new.seat.me.0.front }
-        ensures later { (glance_of self.old.seat.me.0).settled ≡ true → self.new.seat.me.0.front ≡ self.old.seat.me.0.front }
-        ensures shows { Shows L.group stripe result (last_of self.new.seat.me.0.front) (glance_of self.old.seat.me.0).notes (glance_of self.old.seat.me.0).begun }
-        ensures lawful { (l : L) → self.old.seat.me.0.law ≡ Some l → (glance_of self.old.seat.me.0).settled ≡ false → L.admits l (last_of self.new.seat.me.0.front) }
+        ensures view { AddsCheck stripe result self.old.seat self.new.seat }
+        ensures front { FrontIsPrefix self.old.seat self.new.seat }
+        ensures later { (glance_at self.old.seat).settled ≡ true → HasSameFront self.old.seat self.new.seat }
+        ensures shows { CheckShows L.group stripe result self.old.seat self.new.seat }
+        ensures lawful { (l : L) → HasLaw l self.old.seat → (glance_at self.old.seat).settled ≡ false → L.admits l (last_words self.new.seat) }
     {
         self.board.shared.load::<Check<L>>(&mut self.seat, stripe)
     }
@@ -59,10 +60,10 @@ impl<L: Law> Reader<L> {
         requires some { 0 < length stripes.now }
         requires alike { length versions.old ≡ length stripes.now }
         requires few { All (λ j. j < version_count) stripes.now }
-        requires rests { (glance_of self.old.seat.me.0).settled ≡ true }
+        requires rests { (glance_at self.old.seat).settled ≡ true }
         ensures same { self.new.seat.table_id ≡ self.old.seat.table_id }
         ensures alike { length versions.new ≡ length versions.old }
-        ensures view { self.new.seat.me.0 ≡ record self.old.seat.me.0 { role = glance (stacked stripes.now versions.new []) [] [] false; lookups = suc self.old.seat.me.0.lookups } }
+        ensures view { BeginsLookup (stacked stripes.now versions.new []) self.old.seat self.new.seat }
     {
         versions[0] = self.begin_one(stripes[0]);
         for i in 1..stripes.len() {
@@ -73,9 +74,9 @@ impl<L: Law> Reader<L> {
     /// Reads the word at a place.
     pub fn note(&mut self, place: usize) -> u64
         requires inside { version_count + place < self.old.seat.table_id.words }
-        requires young { (glance_of self.old.seat.me.0).settled ≡ false }
+        requires young { (glance_at self.old.seat).settled ≡ false }
         ensures same { self.new.seat.table_id ≡ self.old.seat.table_id }
-        ensures view { self.new.seat.me.0 ≡ record self.old.seat.me.0 { role = glance (glance_of self.old.seat.me.0).begun (glance_of self.old.seat.me.0).checked ((place, result) ∷ (glance_of self.old.seat.me.0).notes) false } }
+        ensures view { AddsNote place result self.old.seat self.new.seat }
     {
         self.board
             .shared
@@ -88,17 +89,17 @@ impl<L: Law> Reader<L> {
         requires some { 0 < length stripes.now }
         requires alike { length versions.now ≡ length stripes.now }
         requires few { All (λ j. j < version_count) stripes.now }
-        requires begun { (glance_of self.old.seat.me.0).begun ≡ stacked stripes.now versions.now [] }
-        requires fresh { (glance_of self.old.seat.me.0).checked ≡ [] }
-        requires young { (glance_of self.old.seat.me.0).settled ≡ false }
+        requires begun { (glance_at self.old.seat).begun ≡ stacked stripes.now versions.now [] }
+        requires fresh { (glance_at self.old.seat).checked ≡ [] }
+        requires young { (glance_at self.old.seat).settled ≡ false }
         ensures same { self.new.seat.table_id ≡ self.old.seat.table_id }
-        ensures view { self.new.seat.me.0 ≡ record self.old.seat.me.0 { role = glance (glance_of self.old.seat.me.0).begun (glance_of self.new.seat.me.0).checked (glance_of self.old.seat.me.0).notes true; front = self.new.seat.me.0.front } }
-        ensures again { stripes_in (glance_of self.new.seat.me.0).checked ≡ stripes_in (glance_of self.old.seat.me.0).begun }
-        ensures front { IsPrefix self.old.seat.me.0.front self.new.seat.me.0.front }
-        ensures lawful { (l : L) → self.old.seat.me.0.law ≡ Some l → L.admits l (last_of self.new.seat.me.0.front) }
-        ensures read { result ≡ true → ReadsIn L.group stripes.now (last_of self.new.seat.me.0.front) (glance_of self.old.seat.me.0).notes }
-        ensures stays { result ≡ true → Stayed (glance_of self.old.seat.me.0).begun (glance_of self.new.seat.me.0).checked }
-        ensures differ { result ≡ false → SomeOdd (glance_of self.old.seat.me.0).begun ⊎ ((glance_of self.old.seat.me.0).begun ≢ (glance_of self.new.seat.me.0).checked) }
+        ensures view { HasChecks (glance_at self.new.seat).checked self.old.seat self.new.seat }
+        ensures again { ChecksSameStripes self.old.seat self.new.seat }
+        ensures front { FrontIsPrefix self.old.seat self.new.seat }
+        ensures lawful { AdmitsLast L.admits self.old.seat self.new.seat }
+        ensures read { result ≡ true → NotesStand L.group stripes.now self.old.seat self.new.seat }
+        ensures stays { result ≡ true → VersionsStayed self.old.seat self.new.seat }
+        ensures differ { result ≡ false → VersionsDiffer self.old.seat self.new.seat }
     {
         let again = self.check_one(stripes[0]);
         let mut same = rested(versions[0], again);

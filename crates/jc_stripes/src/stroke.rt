@@ -1,7 +1,9 @@
 //! What the writer does to the shared words: it opens versions, sets words under them, and shuts them.
-ghost use Rattle.std.specs.Prelude.{◌≡◌, ◌≢◌, ◌+◌, ◌%◌, ◌^◌, ◌<◌, ◌≤◌, [], ◌∷◌, ◌++◌, slice_index, slice_set, All, Some, ℕ};
+ghost use Rattle.std.specs.Prelude.{◌≡◌, ◌^◌, ◌<◌, slice_index, slice_set, All};
 ghost use Rattle.jc_stripes.specs.Layout.{version_count, versions_at};
-ghost use Rattle.jc_stripes.specs.Stripes.{IsWriter, IsOpened, IsShut, Changes, desk, desk_of, last_of, set_all};
+ghost use Rattle.jc_stripes.specs.Stripes.{IsWriter, IsOpened, IsShut, Changes, desk, set_all};
+ghost use Rattle.jc_stripes.specs.Seats.{AdmitsWords, HasPlace, HasPlaces, HasVersions, IsSameSeat, IsSeated, StripeIsOpen, last_words, words_of};
+ghost use Rattle.jc_stripes.specs.Steps.{HasSameOthers, SealsWords, SetsDesk, SetsVersions, SetsWords};
 
 use crate::board::{Board, Law, Seal, Set, StripesSeat, Turn, VERSION_COUNT};
 
@@ -14,10 +16,10 @@ pub(crate) fn versions_at(start: u64) -> [u64; VERSION_COUNT]
 
 /// Sets a word.
 fn set<L: Law>(board: &Board<L>, seat: &mut StripesSeat<L>, place: usize, value: u64)
-    requires own { (seat.old.table_id ≡ board.now.shared.table_id) × (version_count + place < seat.old.table_id.words) × (seat.old.table_id.words < 2 ^ 63) }
-    requires is_open { IsWriter seat.old.me.0 × (slice_index (desk_of seat.old.me.0).versions (L.group place) % 2 ≡ 1) }
-    ensures same { (seat.new.table_id ≡ seat.old.table_id) × (seat.new.id ≡ seat.old.id) }
-    ensures view { seat.new.me ≡ (record seat.old.me.0 { role = desk (desk_of seat.old.me.0).versions (slice_set (desk_of seat.old.me.0).words place value) }, seat.old.me.1) }
+    requires own { HasPlace place board.now.shared.table_id seat.old }
+    requires is_open { IsWriter seat.old.me.0 × StripeIsOpen (L.group place) seat.old }
+    ensures same { IsSameSeat seat.old seat.new }
+    ensures view { SetsWords (slice_set (words_of seat.old) place value) seat.old seat.new }
 {
     board
         .shared
@@ -26,11 +28,11 @@ fn set<L: Law>(board: &Board<L>, seat: &mut StripesSeat<L>, place: usize, value:
 
 /// Sets the last word of a commit: the words are then the next of the front.
 pub(crate) fn seal<L: Law>(board: &Board<L>, seat: &mut StripesSeat<L>, place: usize, value: u64)
-    requires own { (seat.old.table_id ≡ board.now.shared.table_id) × (version_count + place < seat.old.table_id.words) × (seat.old.table_id.words < 2 ^ 63) }
-    requires is_open { IsWriter seat.old.me.0 × (slice_index (desk_of seat.old.me.0).versions (L.group place) % 2 ≡ 1) }
-    requires lawful { (l : L) × (seat.old.me.0.law ≡ Some l) × L.admits l (slice_set (desk_of seat.old.me.0).words place value) }
-    ensures same { (seat.new.table_id ≡ seat.old.table_id) × (seat.new.id ≡ seat.old.id) }
-    ensures view { seat.new.me ≡ (record seat.old.me.0 { role = desk (desk_of seat.old.me.0).versions (slice_set (desk_of seat.old.me.0).words place value); front = seat.old.me.0.front ++ slice_set (desk_of seat.old.me.0).words place value ∷ [] }, seat.old.me.1) }
+    requires own { HasPlace place board.now.shared.table_id seat.old }
+    requires is_open { IsWriter seat.old.me.0 × StripeIsOpen (L.group place) seat.old }
+    requires lawful { AdmitsWords L.admits seat.old (slice_set (words_of seat.old) place value) }
+    ensures same { IsSameSeat seat.old seat.new }
+    ensures view { SealsWords (slice_set (words_of seat.old) place value) seat.old seat.new }
 {
     board
         .shared
@@ -44,13 +46,13 @@ pub(crate) fn open_one<L: Law>(
     versions: &mut [u64; VERSION_COUNT],
     stripe: usize,
 )
-    requires own { (seat.old.table_id ≡ board.now.shared.table_id) × (version_count ≤ seat.old.table_id.words) }
-    requires known { seat.old.me.0.role ≡ desk versions.old (desk_of seat.old.me.0).words }
+    requires own { HasVersions board.now.shared.table_id seat.old }
+    requires known { seat.old.me.0.role ≡ desk versions.old (words_of seat.old) }
     requires few { stripe < version_count }
-    ensures same { (seat.new.table_id ≡ seat.old.table_id) × (seat.new.id ≡ seat.old.id) }
-    ensures view { seat.new.me ≡ (record seat.old.me.0 { role = desk versions.new (desk_of seat.old.me.0).words }, seat.old.me.1) }
+    ensures same { IsSameSeat seat.old seat.new }
+    ensures view { SetsVersions versions.new seat.old seat.new }
     ensures one { IsOpened (slice_index versions.old stripe) (slice_index versions.new stripe) }
-    ensures others { (j : ℕ) → j ≢ stripe → slice_index versions.new j ≡ slice_index versions.old j }
+    ensures others { HasSameOthers stripe versions.old versions.new }
 {
     let version = versions[stripe];
     if version % 2 == 1 {
@@ -67,13 +69,13 @@ fn shut_one<L: Law>(
     versions: &mut [u64; VERSION_COUNT],
     stripe: usize,
 )
-    requires own { (seat.old.table_id ≡ board.now.shared.table_id) × (version_count ≤ seat.old.table_id.words) }
-    requires known { seat.old.me.0.role ≡ desk versions.old (last_of seat.old.me.0.front) }
+    requires own { HasVersions board.now.shared.table_id seat.old }
+    requires known { seat.old.me.0.role ≡ desk versions.old (last_words seat.old) }
     requires few { stripe < version_count }
-    ensures same { (seat.new.table_id ≡ seat.old.table_id) × (seat.new.id ≡ seat.old.id) }
-    ensures view { seat.new.me ≡ (record seat.old.me.0 { role = desk versions.new (last_of seat.old.me.0.front) }, seat.old.me.1) }
+    ensures same { IsSameSeat seat.old seat.new }
+    ensures view { SetsDesk versions.new (last_words seat.old) seat.old seat.new }
     ensures one { IsShut (slice_index versions.old stripe) (slice_index versions.new stripe) }
-    ensures others { (j : ℕ) → j ≢ stripe → slice_index versions.new j ≡ slice_index versions.old j }
+    ensures others { HasSameOthers stripe versions.old versions.new }
 {
     let version = versions[stripe];
     if version % 2 == 0 || version == u64::MAX {
@@ -91,11 +93,11 @@ pub(crate) fn open_all<L: Law>(
     versions: &mut [u64; VERSION_COUNT],
     stripes: &[usize],
 )
-    requires own { (seat.old.table_id ≡ board.now.shared.table_id) × (version_count ≤ seat.old.table_id.words) }
-    requires known { seat.old.me.0.role ≡ desk versions.old (desk_of seat.old.me.0).words }
+    requires own { HasVersions board.now.shared.table_id seat.old }
+    requires known { seat.old.me.0.role ≡ desk versions.old (words_of seat.old) }
     requires few { All (λ j. j < version_count) stripes.now }
-    ensures same { (seat.new.table_id ≡ seat.old.table_id) × (seat.new.id ≡ seat.old.id) }
-    ensures view { seat.new.me ≡ (record seat.old.me.0 { role = desk versions.new (desk_of seat.old.me.0).words }, seat.old.me.1) }
+    ensures same { IsSameSeat seat.old seat.new }
+    ensures view { SetsVersions versions.new seat.old seat.new }
     ensures changes { Changes IsOpened stripes.now versions.old versions.new }
 {
     for i in 0..stripes.len() {
@@ -110,11 +112,11 @@ pub(crate) fn shut_all<L: Law>(
     versions: &mut [u64; VERSION_COUNT],
     stripes: &[usize],
 )
-    requires own { (seat.old.table_id ≡ board.now.shared.table_id) × (version_count ≤ seat.old.table_id.words) }
-    requires known { seat.old.me.0.role ≡ desk versions.old (last_of seat.old.me.0.front) }
+    requires own { HasVersions board.now.shared.table_id seat.old }
+    requires known { seat.old.me.0.role ≡ desk versions.old (last_words seat.old) }
     requires few { All (λ j. j < version_count) stripes.now }
-    ensures same { (seat.new.table_id ≡ seat.old.table_id) × (seat.new.id ≡ seat.old.id) }
-    ensures view { seat.new.me ≡ (record seat.old.me.0 { role = desk versions.new (last_of seat.old.me.0.front) }, seat.old.me.1) }
+    ensures same { IsSameSeat seat.old seat.new }
+    ensures view { SetsDesk versions.new (last_words seat.old) seat.old seat.new }
     ensures changes { Changes IsShut stripes.now versions.old versions.new }
 {
     for i in 0..stripes.len() {
@@ -124,12 +126,12 @@ pub(crate) fn shut_all<L: Law>(
 
 /// Sets these words one by one.
 pub(crate) fn fill<L: Law>(board: &Board<L>, seat: &mut StripesSeat<L>, writes: &[(usize, u64)])
-    requires own { (seat.old.table_id ≡ board.now.shared.table_id) × (seat.old.table_id.words < 2 ^ 63) }
-    requires inside { All (λ w. version_count + w.0 < seat.old.table_id.words) writes.now }
+    requires own { IsSeated board.now.shared.table_id seat.old × (seat.old.table_id.words < 2 ^ 63) }
+    requires inside { HasPlaces writes.now seat.old }
     requires known { IsWriter seat.old.me.0 }
-    requires is_open { All (λ w. slice_index (desk_of seat.old.me.0).versions (L.group w.0) % 2 ≡ 1) writes.now }
-    ensures same { (seat.new.table_id ≡ seat.old.table_id) × (seat.new.id ≡ seat.old.id) }
-    ensures view { seat.new.me ≡ (record seat.old.me.0 { role = desk (desk_of seat.old.me.0).versions (set_all (desk_of seat.old.me.0).words writes.now) }, seat.old.me.1) }
+    requires is_open { All (λ w. StripeIsOpen (L.group w.0) seat.old) writes.now }
+    ensures same { IsSameSeat seat.old seat.new }
+    ensures view { SetsWords (set_all (words_of seat.old) writes.now) seat.old seat.new }
 {
     for i in 0..writes.len() {
         let (place, value) = writes[i];

@@ -1,9 +1,9 @@
 //! The writer of the words, and what is left of it when its table is outgrown.
-ghost use Rattle.std.specs.Prelude.{◌≡◌, ◌+◌, ◌%◌, ◌^◌, ◌<◌, [], ◌∷◌, ◌++◌, length, slice_index, All, IfOk, Some, ℕ};
+ghost use Rattle.std.specs.Prelude.{◌≡◌, ◌+◌, ◌%◌, ◌^◌, ◌<◌, [], length, slice_index, All, IfOk, ℕ};
 ghost use Rattle.std.specs.Arc.{arc_value};
-ghost use mathlib.Core.List.{IsPrefix};
-ghost use Rattle.jc_stripes.specs.Layout.{common, content_of, version_count, versions_at};
-ghost use Rattle.jc_stripes.specs.Stripes.{IsWriter, IsCommitted, Changes, Covered, desk, desk_of, heard, last_of, opening_view, shared, set_all};
+ghost use Rattle.jc_stripes.specs.Layout.{common, content_of, version_count, versions_at, HasVersionsAt};
+ghost use Rattle.jc_stripes.specs.Stripes.{IsWriter, Covered, desk, heard, last_of, opening_view};
+ghost use Rattle.jc_stripes.specs.Seats.{AdmitsWrites, CommitsVersions, CommitsWrites, ExtendsFront, FrontIsPrefix, HasPlaces, HasSameTable, HasSameTableAndFront, HasSameTableAndLaw, HasSameView, IsSeated, IsShared, StartsFront, StripeIsOpen, versions_of};
 
 use crate::board::{Board, COMMON, Hear, Law, Origin, Recall, Share, StripesSeat, VERSION_COUNT};
 use crate::reader::Reader;
@@ -32,7 +32,7 @@ impl<L: Law> Writer<L> {
         requires words { origin.words.value ≡ words.now }
         requires lawful { L.admits origin.law.value (content_of words.now.items) }
         requires even { origin.start % 2 ≡ 0 }
-        requires versions { words.now.items ≡ versions_at origin.start ++ content_of words.now.items }
+        requires versions { HasVersionsAt origin.start words.now.items }
         requires sized { length words.now.items < 2 ^ 63 }
         ensures { IfOk result (λ w. w.seat.me.0 ≡ opening_view origin) }
     {
@@ -53,11 +53,11 @@ impl<L: Law> Writer<L> {
         start: u64,
     ) -> Result<Writer<L>, AllocError>
         requires even { start % 2 ≡ 0 }
-        requires versions { words.now.items ≡ versions_at start ++ content_of words.now.items }
+        requires versions { HasVersionsAt start words.now.items }
         requires sized { length words.now.items < 2 ^ 63 }
         requires lawful { L.admits law.now (content_of words.now.items) }
-        ensures writer { IfOk result (λ w. (w.seat.me.0.law ≡ Some law.now) × (w.seat.me.0.front ≡ content_of words.now.items ∷ [])) }
-        ensures versions { IfOk result (λ w. (desk_of w.seat.me.0).versions ≡ versions_at start) }
+        ensures writer { IfOk result (λ w. StartsFront law.now words.now.items w.seat) }
+        ensures versions { IfOk result (λ w. versions_of w.seat ≡ versions_at start) }
     {
         let origin = Origin {
             law: Snapshot::of(law),
@@ -70,11 +70,11 @@ impl<L: Law> Writer<L> {
 
     /// A writer of other words, which are the next of the front. All its versions begin at 0.
     pub fn follow(&self, alloc: Global, law: &L, words: &Vec<u64>) -> Result<Writer<L>, AllocError>
-        requires versions { words.now.items ≡ versions_at 0 ++ content_of words.now.items }
+        requires versions { HasVersionsAt 0 words.now.items }
         requires sized { length words.now.items < 2 ^ 63 }
         requires lawful { L.admits law.now (content_of words.now.items) }
-        ensures writer { IfOk result (λ w. (w.seat.me.0.law ≡ Some law.now) × (w.seat.me.0.front ≡ self.now.seat.me.0.front ++ content_of words.now.items ∷ [])) }
-        ensures versions { IfOk result (λ w. (desk_of w.seat.me.0).versions ≡ versions_at 0) }
+        ensures writer { IfOk result (λ w. ExtendsFront law.now words.now.items self.now.seat w.seat) }
+        ensures versions { IfOk result (λ w. versions_of w.seat ≡ versions_at 0) }
     {
         let origin = Origin {
             law: Snapshot::of(law),
@@ -89,13 +89,13 @@ impl<L: Law> Writer<L> {
     /// greatest even number is opened and never shut.
     pub fn commit(&mut self, stripes: &[usize], writes: &[(usize, u64)])
         requires some { 0 < length writes.now }
-        requires inside { All (λ w. version_count + w.0 < self.old.seat.table_id.words) writes.now }
+        requires inside { HasPlaces writes.now self.old.seat }
         requires few { All (λ j. j < version_count) stripes.now }
         requires covered { Covered L.group stripes.now writes.now }
-        requires lawful { (l : L) × (self.old.seat.me.0.law ≡ Some l) × L.admits l (set_all (last_of self.old.seat.me.0.front) writes.now) }
-        ensures same { (self.new.seat.table_id ≡ self.old.seat.table_id) × (self.new.seat.me.0.law ≡ self.old.seat.me.0.law) }
-        ensures versions { Changes IsCommitted stripes.now (desk_of self.old.seat.me.0).versions (desk_of self.new.seat.me.0).versions }
-        ensures front { self.new.seat.me.0.front ≡ self.old.seat.me.0.front ++ set_all (last_of self.old.seat.me.0.front) writes.now ∷ [] }
+        requires lawful { AdmitsWrites L.admits self.old.seat writes.now }
+        ensures same { HasSameTableAndLaw self.old.seat self.new.seat }
+        ensures versions { CommitsVersions stripes.now self.old.seat self.new.seat }
+        ensures front { CommitsWrites writes.now self.old.seat self.new.seat }
     {
         let last = writes.len() - 1;
         let (place, value) = writes[last];
@@ -107,8 +107,8 @@ impl<L: Law> Writer<L> {
 
     /// A reader that has seen the front. It is refused where the count of owners is full.
     pub fn reader(&mut self) -> Result<Reader<L>, AllocError>
-        ensures same { (self.new.seat.table_id ≡ self.old.seat.table_id) × (self.new.seat.me.0 ≡ self.old.seat.me.0) }
-        ensures reader { IfOk result (λ r. (r.seat.table_id ≡ self.old.seat.table_id) × (r.seat.me.0 ≡ shared self.old.seat.me.0)) }
+        ensures same { HasSameTable self.old.seat self.new.seat × HasSameView self.old.seat self.new.seat }
+        ensures reader { IfOk result (λ r. HasSameTable self.old.seat r.seat × IsShared self.old.seat r.seat) }
     {
         let board = Arc::try_clone(&self.board)?;
         let seat = self.board.shared.split_seat::<Share>(&mut self.seat);
@@ -122,8 +122,8 @@ impl<L: Law> Writer<L> {
         ensures same { self.new.seat.table_id ≡ self.old.seat.table_id }
         ensures view { self.new.seat.me.0 ≡ heard self.old.seat.me.0 reader.old.seat.me.0 }
         ensures table { reader.new.seat.table_id ≡ reader.old.seat.table_id }
-        ensures reader { reader.new.seat.me.0 ≡ shared self.old.seat.me.0 }
-        ensures seen { IsPrefix reader.old.seat.me.0.front self.old.seat.me.0.front }
+        ensures reader { IsShared self.old.seat reader.new.seat }
+        ensures seen { FrontIsPrefix reader.old.seat self.old.seat }
     {
         let seat = self.board.shared.split_seat::<Share>(&mut self.seat);
         let old = replace(&mut reader.seat, seat);
@@ -132,7 +132,7 @@ impl<L: Law> Writer<L> {
 
     /// Opens the common version for good.
     pub fn retire(self) -> Retired<L>
-        ensures { (result.seat.table_id ≡ self.seat.table_id) × (result.seat.me.0.front ≡ self.seat.me.0.front) }
+        ensures { HasSameTableAndFront self.seat result.seat }
     {
         let Writer {
             board,
@@ -146,13 +146,13 @@ impl<L: Law> Writer<L> {
 
 /// Joins a reader's seat to the writer's: what it has seen is a beginning of the writer's front.
 fn take_in<L: Law>(board: &Board<L>, seat: &mut StripesSeat<L>, theirs: StripesSeat<L>)
-    requires own { (seat.old.table_id ≡ board.now.shared.table_id) × (0 < seat.old.table_id.words) }
+    requires own { IsSeated board.now.shared.table_id seat.old × (0 < seat.old.table_id.words) }
     requires empty { (seat.old.me.1 ≡ []) × (theirs.me.1 ≡ []) }
     requires writes { IsWriter seat.old.me.0 }
     requires theirs { theirs.table_id ≡ seat.old.table_id }
     ensures same { seat.new.table_id ≡ seat.old.table_id }
     ensures view { seat.new.me ≡ (heard seat.old.me.0 theirs.me.0, []) }
-    ensures seen { IsPrefix theirs.me.0.front seat.old.me.0.front }
+    ensures seen { FrontIsPrefix theirs seat.old }
 {
     board.shared.join_seat::<Hear>(seat, theirs);
     board.shared.load::<Recall>(seat, 0);
@@ -167,15 +167,15 @@ pub struct Retired<L: Law> {
     pub ghost sized: { 0 < seat.table_id.words },
     pub ghost empty: { seat.me.1 ≡ [] },
     pub ghost writes: { IsWriter seat.me.0 },
-    pub ghost odd: { slice_index (desk_of seat.me.0).versions common % 2 ≡ 1 },
+    pub ghost odd: { StripeIsOpen common seat },
 }
 
 impl<L: Law> Retired<L> {
     /// Takes in a reader: what it has seen is a beginning of the front.
     pub fn hear(&mut self, reader: Reader<L>)
         requires { reader.seat.table_id ≡ self.old.seat.table_id }
-        ensures same { (self.new.seat.table_id ≡ self.old.seat.table_id) × (self.new.seat.me.0.front ≡ self.old.seat.me.0.front) }
-        ensures seen { IsPrefix reader.seat.me.0.front self.old.seat.me.0.front }
+        ensures same { HasSameTableAndFront self.old.seat self.new.seat }
+        ensures seen { FrontIsPrefix reader.seat self.old.seat }
     {
         let Reader { board, seat } = reader;
         drop(board);
