@@ -39,6 +39,10 @@ abbrev pub found_or : {A : Type 0} → A → (Data → Option A) → ℕ → Mem
 found_or a f n m None = Ok a
 found_or a f n m (Some d) = ok_or (f d) (Bad n m)
 
+-- the expiry, which is eternal where it is missing
+abbrev pub expiry_or_eternal : ℕ → Data → Result ExpiryKind ScriptFault
+expiry_or_eternal n d = found_or Eternal expiry n members.Expiry (get (member_name members.Expiry) d)
+
 -- a member that must not be there
 abbrev pub missing_by : ℕ → Member → Option Data → Result (Unit {0}) ScriptFault
 missing_by n m None = Ok tt
@@ -57,7 +61,7 @@ policy_by Touched n d = needed whole n members.Duration d >>= (λ t. Ok (policie
 
 unfoldable pub policy_of : ℕ → Data → Result Policy ScriptFault
 policy_of n d = do
-  kind ← found_or Eternal expiry n members.Expiry (get (member_name members.Expiry) d)
+  kind ← expiry_or_eternal n d
   policy_by kind n d
 
 -- such a cache has no callbacks

@@ -4,6 +4,7 @@ pub mod Calls
 pub mod Managing
 pub mod Member
 pub mod Tree
+pub mod Reading
 pub mod Creating
 pub mod Operation
 pub mod Line

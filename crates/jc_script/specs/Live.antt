@@ -17,11 +17,19 @@ manages (Call l) = false
 manages (Create session c) = true
 manages (Destroy session id) = true
 
+-- the caches after one is created, or is refused
+abbrev pub after_creating : Lives → CacheConfig → Lives
+after_creating lives c = lives_by lives (creates c) (answer_in lives (creates c) false)
+
+-- the caches after one is destroyed, or is refused
+abbrev pub after_destroying : Lives → ℕ → Lives
+after_destroying lives id = lives_by lives (destroys id) (answer_in lives (destroys id) false)
+
 -- the caches after a line
 abbrev pub after_line : Lives → Line → Lives
 after_line lives (Call l) = lives
-after_line lives (Create session c) = lives_by lives (creates c) (answer_in lives (creates c) false)
-after_line lives (Destroy session id) = lives_by lives (destroys id) (answer_in lives (destroys id) false)
+after_line lives (Create session c) = after_creating lives c
+after_line lives (Destroy session id) = after_destroying lives id
 
 -- the id of the live cache of that name
 abbrev pub id_of : Lives → List ℕ → Option ℕ
@@ -38,6 +46,10 @@ processors_at lives id = processors_of (live_at lives id)
 -- as a reader keeps them: by id, the configurations of those that are live
 abbrev pub lives_in : List (Option CacheConfig) → Lives
 lives_in caches = map (option_map opened) caches
+
+-- these are live after a line
+abbrev pub AreAfter : List (Option CacheConfig) → Line → List (Option CacheConfig) → Type 0
+AreAfter before line caches = lives_in caches ≡ after_line (lives_in before) line
 
 abbrev pub HaveFewProcessors : List (Option CacheConfig) → Type 0
 HaveFewProcessors [] = ⊤

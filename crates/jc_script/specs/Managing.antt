@@ -1,5 +1,5 @@
 -- What a script's lines come to that create and destroy caches, memory sufficing.
-use Rattle.std.specs.Prelude.{ℕ, List, [], ◌∷◌, ◌++◌, length}
+use Rattle.std.specs.Prelude.{◌≡◌, ℕ, List, [], ◌∷◌, ◌++◌, length}
 use Rattle.std.specs.Prelude.{Option, Some, None}
 use Rattle.jc_model.specs.declared.config.CacheConfig.{CacheConfig}
 use Rattle.jc_model.specs.declared.event.CreateRefusal.{CreateRefusal}
@@ -10,7 +10,7 @@ use Rattle.jc_script.specs.declared.line.Line.{Line}
 use Rattle.jc_script.specs.declared.line.Line.TheVariants.{Call, Create, Destroy}
 use Rattle.jc_script.specs.declared.managed.ManageOp.TheVariants as op
 use Rattle.jc_script.specs.declared.managed.Managed.{Managed}
-use Rattle.jc_script.specs.Live.{after_line}
+use Rattle.jc_script.specs.Live.{after_line, lives_in}
 
 abbrev pub name_of_live : Option Status → List ℕ
 name_of_live None = []
@@ -47,3 +47,11 @@ lives_of caches lines = numbered 0 caches ++ begun_from (opened_from 0 caches) l
 
 abbrev pub managed_of : List CacheConfig → List Line → List Managed
 managed_of caches lines = managed_from (opened_from 0 caches) lines
+
+-- where these caches are live, the life that a line begins comes behind the lives before
+abbrev pub AddsLives : List (Option CacheConfig) → Line → List Life → List Life → Type 0
+AddsLives caches line old new = new ≡ old ++ begun_by (lives_in caches) line
+
+-- and its answer behind the answers before
+abbrev pub AddsManaged : List (Option CacheConfig) → Line → List Managed → List Managed → Type 0
+AddsManaged caches line old new = new ≡ old ++ managed_by (lives_in caches) line

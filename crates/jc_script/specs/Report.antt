@@ -1,5 +1,5 @@
 -- The text of a report.
-use Rattle.std.specs.Prelude.{ℕ, List, [], ◌∷◌, ◌++◌, map, true, false, Option, Some, None, Result, Ok, Err, Vec, if◌then◌else◌, codes, decimal}
+use Rattle.std.specs.Prelude.{◌≡◌, ℕ, List, [], ◌∷◌, ◌++◌, map, true, false, Option, Some, None, Result, Ok, Err, Vec, if◌then◌else◌, codes, decimal, string_bytes, String}
 use Rattle.std.specs.Borrow.{Bor}
 use Rattle.std.specs.List.{flat_map}
 use Rattle.std.specs.Str.{is_utf8}
@@ -26,6 +26,10 @@ use Rattle.jc_script.specs.declared.managed.ManageOp.{ManageOp}
 use Rattle.jc_script.specs.declared.managed.ManageOp.TheVariants as op
 use Rattle.jc_script.specs.declared.managed.Managed.{Managed}
 use Rattle.jc_script.specs.Operation.{name_of}
+
+-- a text comes behind what was there
+abbrev pub Appends : {Z : Type 0} → List ℕ → String Z → String Z → Type 0
+Appends text old new = string_bytes new ≡ string_bytes old ++ text
 
 -- a key or a value as a JSON string, and as hexadecimal digits where it is no text
 unfoldable pub bytes_text : List ℕ → List ℕ
@@ -108,6 +112,10 @@ group (Some entries) = map (λ e. e.now) entries.items
 
 abbrev pub header : List ℕ → List ℕ
 header name = codes "cache " ++ name ++ codes "\n"
+
+-- a life of this name with its entries
+abbrev pub life_text : List ℕ → List Entry → List ℕ
+life_text name entries = header name ++ flat_map entry_text entries
 
 -- each life with its entries
 abbrev pub lives_text : List Life → List Entry → List ℕ

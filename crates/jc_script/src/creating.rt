@@ -1,12 +1,9 @@
 //! The members of a line that creates a cache, by the rules of a configuration's.
 ghost use Rattle.std.specs.Prelude.{◌≡◌};
-ghost use Rattle.serde_json.specs.Find.{get};
-ghost use Rattle.jc_config.specs.declared.members.ExpiryKind.TheVariants.{Eternal};
 ghost use Rattle.jc_script.specs.declared.fault.Member.TheVariants as members;
-ghost use Rattle.jc_script.specs.Faults.{Gives};
-ghost use Rattle.jc_script.specs.Member.{needed, whole, member_name};
-ghost use Rattle.jc_script.specs.Creating.{asks_to_create, cache_name, capacity, expiry, found_or, missing, policy_of, creating};
-ghost use Rattle.jc_script.specs.Tree.{data_in};
+ghost use Rattle.jc_script.specs.Member.{whole};
+ghost use Rattle.jc_script.specs.Creating.{asks_to_create, cache_name, capacity, missing, policy_of, creating, expiry_or_eternal};
+ghost use Rattle.jc_script.specs.Reading.{Reads, ReadsMember, object_in};
 
 use crate::fault::{Member, ScriptFault};
 use crate::line::Line;
@@ -19,7 +16,7 @@ use jc_model::key::Key;
 impl<'o, 'a> Reader<'o, 'a> {
     /// Whether the line creates a cache.
     pub fn asks_to_create(&self) -> bool
-        ensures { result ≡ asks_to_create (data_in self.now.object.now) }
+        ensures { result ≡ asks_to_create (object_in self.now) }
     {
         match self.member(Member::Op).and_then(text_in) {
             Some(op) => op == "create",
@@ -29,7 +26,7 @@ impl<'o, 'a> Reader<'o, 'a> {
 
     /// The name of a cache to be created.
     fn cache_name(&self) -> Result<Key, ScriptFault>
-        ensures { Gives (λ x. x) result (needed cache_name self.now.line members.Cache (data_in self.now.object.now)) }
+        ensures { ReadsMember cache_name members.Cache self.now result }
     {
         let member = Member::Cache;
         match self.member(member).and_then(text_in) {
@@ -43,7 +40,7 @@ impl<'o, 'a> Reader<'o, 'a> {
 
     /// How many rows it may have.
     fn capacity(&self) -> Result<u32, ScriptFault>
-        ensures { Gives (λ x. x) result (needed capacity self.now.line members.Capacity (data_in self.now.object.now)) }
+        ensures { ReadsMember capacity members.Capacity self.now result }
     {
         let member = Member::Capacity;
         match self.member(member).and_then(whole_in) {
@@ -56,7 +53,7 @@ impl<'o, 'a> Reader<'o, 'a> {
     }
 
     fn expiry(&self) -> Result<ExpiryKind, ScriptFault>
-        ensures { Gives (λ x. x) result (found_or Eternal expiry self.now.line members.Expiry (get (member_name members.Expiry) (data_in self.now.object.now))) }
+        ensures { Reads expiry_or_eternal self.now result }
     {
         let member = Member::Expiry;
         match self.member(member) {
@@ -69,7 +66,7 @@ impl<'o, 'a> Reader<'o, 'a> {
     }
 
     fn duration(&self) -> Result<u64, ScriptFault>
-        ensures { Gives (λ x. x) result (needed whole self.now.line members.Duration (data_in self.now.object.now)) }
+        ensures { ReadsMember whole members.Duration self.now result }
     {
         let member = Member::Duration;
         match self.member(member).and_then(whole_in) {
@@ -79,7 +76,7 @@ impl<'o, 'a> Reader<'o, 'a> {
     }
 
     fn no_duration(&self) -> Result<(), ScriptFault>
-        ensures { Gives (λ x. x) result (missing self.now.line members.Duration (data_in self.now.object.now)) }
+        ensures { Reads (λ n. missing n members.Duration) self.now result }
     {
         let member = Member::Duration;
         match self.member(member) {
@@ -91,7 +88,7 @@ impl<'o, 'a> Reader<'o, 'a> {
     /// The members `expiry` and `duration`.
     #[tactic(auto, unfolding(crate::specs::Creating::policy_of))]
     fn policy(&self) -> Result<Policy, ScriptFault>
-        ensures { Gives (λ x. x) result (policy_of self.now.line (data_in self.now.object.now)) }
+        ensures { Reads policy_of self.now result }
     {
         let kind = self.expiry()?;
         if kind == ExpiryKind::Eternal {
@@ -106,7 +103,7 @@ impl<'o, 'a> Reader<'o, 'a> {
 /// The line of a session that creates a cache.
 #[tactic(auto, unfolding(crate::specs::Creating::creating))]
 pub fn read_create(reader: &Reader<'_, '_>, session: u32) -> Result<Line, ScriptFault>
-    ensures { Gives (λ x. x) result (creating session reader.now.line (data_in reader.now.object.now)) }
+    ensures { Reads (creating session) reader.now result }
 {
     let name = reader.cache_name()?;
     // Each line has a moment; a creation has no other use of it.

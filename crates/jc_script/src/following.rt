@@ -1,11 +1,11 @@
 //! What becomes of a script's lines that create and destroy caches.
-ghost use Rattle.std.specs.Prelude.{◌≡◌, ◌++◌, IfOk, OnOk};
+ghost use Rattle.std.specs.Prelude.{◌≡◌, IfOk, OnOk};
 ghost use Rattle.std.specs.Bool.{Decides};
 ghost use Rattle.jc_model.specs.Legal.{numbered};
 ghost use Rattle.jc_model.specs.Runs.{opened_from};
 ghost use Rattle.jc_script.specs.declared.line.Line.TheVariants as lines;
-ghost use Rattle.jc_script.specs.Live.{after_line, lives_in};
-ghost use Rattle.jc_script.specs.Managing.{managed_by, begun_by, lives_of, managed_of};
+ghost use Rattle.jc_script.specs.Live.{lives_in, AreAfter};
+ghost use Rattle.jc_script.specs.Managing.{lives_of, managed_of, AddsLives, AddsManaged};
 ghost use Rattle.jc_script.specs.Named.{Names, AllName, IsLive};
 
 use crate::line::Line;
@@ -51,9 +51,9 @@ fn follow_create(
     lives: &mut Vec<Life>,
     managed: &mut Vec<Managed>,
 ) -> Result<Live, OutOfMemory>
-    ensures live { IfOk result (λ l. lives_in l ≡ after_line (lives_in live) (lines.Create session config.now)) }
-    ensures lives { OnOk result (lives.new.items ≡ lives.old.items ++ begun_by (lives_in live) (lines.Create session config.now)) }
-    ensures managed { OnOk result (managed.new.items ≡ managed.old.items ++ managed_by (lives_in live) (lines.Create session config.now)) }
+    ensures live { IfOk result (AreAfter live (lines.Create session config.now)) }
+    ensures lives { OnOk result (AddsLives live (lines.Create session config.now) lives.old.items lives.new.items) }
+    ensures managed { OnOk result (AddsManaged live (lines.Create session config.now) managed.old.items managed.new.items) }
 {
     let refusal = live.refusal(config);
     if refusal.is_none() {
@@ -80,8 +80,8 @@ fn follow_destroy(
     managed: &mut Vec<Managed>,
 ) -> Result<Live, OutOfMemory>
     requires { IsLive (lives_in live) id }
-    ensures live { IfOk result (λ l. lives_in l ≡ after_line (lives_in live) (lines.Destroy session id)) }
-    ensures managed { OnOk result (managed.new.items ≡ managed.old.items ++ managed_by (lives_in live) (lines.Destroy session id)) }
+    ensures live { IfOk result (AreAfter live (lines.Destroy session id)) }
+    ensures managed { OnOk result (AddsManaged live (lines.Destroy session id) managed.old.items managed.new.items) }
 {
     let Some(name) = live.name(id) else {
         unreachable!()
@@ -102,9 +102,9 @@ fn follow_line(
     managed: &mut Vec<Managed>,
 ) -> Result<Live, OutOfMemory>
     requires { Names (lives_in live) line.now }
-    ensures live { IfOk result (λ l. lives_in l ≡ after_line (lives_in live) line.now) }
-    ensures lives { OnOk result (lives.new.items ≡ lives.old.items ++ begun_by (lives_in live) line.now) }
-    ensures managed { OnOk result (managed.new.items ≡ managed.old.items ++ managed_by (lives_in live) line.now) }
+    ensures live { IfOk result (AreAfter live line.now) }
+    ensures lives { OnOk result (AddsLives live line.now lives.old.items lives.new.items) }
+    ensures managed { OnOk result (AddsManaged live line.now managed.old.items managed.new.items) }
 {
     match line {
         Line::Call(_) => Ok(live),

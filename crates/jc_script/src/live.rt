@@ -1,13 +1,12 @@
 //! The caches that are live at a line.
-ghost use Rattle.std.specs.Prelude.{◌≡◌, ◌≤◌, false, length, None, IfOk, option_map, slice_set};
+ghost use Rattle.std.specs.Prelude.{◌≡◌, ◌≤◌, length, None, IfOk, option_map, slice_set};
 ghost use Rattle.jc_model.specs.Places.{at_place};
 ghost use Rattle.jc_model.specs.Limits.{most_processors};
-ghost use Rattle.jc_model.specs.Runs.{opened_from, creates, destroys, answer_in, lives_by, live_at, create_refusal};
+ghost use Rattle.jc_model.specs.Runs.{opened_from, live_at, create_refusal};
 ghost use Rattle.jc_script.specs.declared.fault.Member.TheVariants as members;
-ghost use Rattle.jc_script.specs.Faults.{Gives};
-ghost use Rattle.jc_script.specs.Live.{after_line, id_of, processors_at, lives_in};
-ghost use Rattle.jc_script.specs.Member.{needed, cache};
-ghost use Rattle.jc_script.specs.Tree.{data_in};
+ghost use Rattle.jc_script.specs.Live.{id_of, processors_at, lives_in, after_creating, after_destroying, AreAfter};
+ghost use Rattle.jc_script.specs.Member.{cache};
+ghost use Rattle.jc_script.specs.Reading.{ReadsMember};
 
 use crate::fault::{Member, ScriptFault};
 use crate::item::key_in;
@@ -120,7 +119,7 @@ impl Live {
 
     /// Adds a cache under the next id. Where the manager would refuse it, nothing changes, and that is no error here.
     pub fn create(self, config: &CacheConfig) -> Result<Live, OutOfMemory>
-        ensures { IfOk result (λ live. lives_in live ≡ lives_by (lives_in self) (creates config.now) (answer_in (lives_in self) (creates config.now) false)) }
+        ensures { IfOk result (λ live. lives_in live ≡ after_creating (lives_in self) config.now) }
     {
         if self.roster.refusal(config).is_some() {
             return Ok(self);
@@ -136,7 +135,7 @@ impl Live {
 
     /// Frees the cache's name and capacity, and never its id. Where no cache is live at the id, nothing changes.
     pub fn destroy(self, id: CacheId) -> Live
-        ensures { lives_in result ≡ lives_by (lives_in self) (destroys id) (answer_in (lives_in self) (destroys id) false) }
+        ensures { lives_in result ≡ after_destroying (lives_in self) id }
     {
         if live_in(&self.caches, id.number()).is_none() {
             return self;
@@ -152,7 +151,7 @@ impl Live {
 
     /// The caches that are live after a line.
     pub fn after(self, line: &Line) -> Result<Live, OutOfMemory>
-        ensures { IfOk result (λ live. lives_in live ≡ after_line (lives_in self) line.now) }
+        ensures { IfOk result (AreAfter self line.now) }
     {
         match line {
             Line::Call(_) => Ok(self),
@@ -164,7 +163,7 @@ impl Live {
 
 /// The id of the live cache that a line names.
 pub fn read_cache(live: &Live, reader: &Reader<'_, '_>) -> Result<u32, ScriptFault>
-    ensures { Gives (λ x. x) result (needed (cache (lives_in live.now)) reader.now.line members.Cache (data_in reader.now.object.now)) }
+    ensures { ReadsMember (cache (lives_in live.now)) members.Cache reader.now result }
 {
     let member = Member::Cache;
     match reader.member(member).and_then(key_in) {

@@ -1,7 +1,7 @@
 //! The manager's part of a report.
-ghost use Rattle.std.specs.Prelude.{◌≡◌, ◌++◌, OnOk, string_bytes};
+ghost use Rattle.std.specs.Prelude.{◌≡◌, OnOk};
 ghost use Rattle.std.specs.List.{flat_map};
-ghost use Rattle.jc_script.specs.Report.{op_text, answer_text, managed_line, managed_text};
+ghost use Rattle.jc_script.specs.Report.{op_text, answer_text, managed_line, managed_text, Appends};
 
 use crate::managed::{ManageOp, Managed};
 use crate::reply::push_spaced;
@@ -34,7 +34,7 @@ fn text_of_answer(refusal: Option<CreateRefusal>) -> &'static str
 }
 
 fn push_line(alloc: Global, report: &mut String, line: &Managed) -> Result<(), AllocError>
-    ensures { OnOk result (string_bytes report.new ≡ string_bytes report.old ++ managed_line line.now) }
+    ensures { OnOk result (Appends (managed_line line.now) report.old report.new) }
 {
     push_spaced(alloc, report, line.session as u64)?;
     report.push_str(name_of_op(line.op))?;
@@ -46,7 +46,7 @@ fn push_line(alloc: Global, report: &mut String, line: &Managed) -> Result<(), A
 }
 
 fn push_lines(alloc: Global, report: &mut String, lines: &[Managed]) -> Result<(), AllocError>
-    ensures { OnOk result (string_bytes report.new ≡ string_bytes report.old ++ flat_map managed_line lines.now) }
+    ensures { OnOk result (Appends (flat_map managed_line lines.now) report.old report.new) }
 {
     for line in lines {
         push_line(alloc, report, line)?;
@@ -60,7 +60,7 @@ pub fn push_managed(
     report: &mut String,
     managed: &[Managed],
 ) -> Result<(), AllocError>
-    ensures { OnOk result (string_bytes report.new ≡ string_bytes report.old ++ managed_text managed.now) }
+    ensures { OnOk result (Appends (managed_text managed.now) report.old report.new) }
 {
     if managed.is_empty() {
         return Ok(());

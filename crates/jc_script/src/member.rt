@@ -7,6 +7,7 @@ ghost use Rattle.jc_script.specs.declared.fault.ScriptFault.TheVariants.{Bad};
 ghost use Rattle.jc_script.specs.Faults.{Gives};
 ghost use Rattle.jc_script.specs.Member.{member_name, needed, whole, whole_below, key, keys, pairs, value};
 ghost use Rattle.jc_script.specs.Tree.{data_in};
+ghost use Rattle.jc_script.specs.Reading.{ReadsMember, object_in};
 
 use crate::fault::{Member, ScriptFault};
 use crate::item::{Item, key_in};
@@ -39,14 +40,14 @@ impl<'o, 'a> Reader<'o, 'a> {
 
     /// The line's member, if it is there.
     pub fn member(&self, member: Member) -> Option<&'o Value<'a>>
-        ensures { option_map (λ v. data_in v.now) result ≡ get (member_name member) (data_in self.now.object.now) }
+        ensures { option_map (λ v. data_in v.now) result ≡ get (member_name member) (object_in self.now) }
     {
         member_of(self.object, member.name())
     }
 
     /// The session's number, 0 to 63.
     pub fn session(&self) -> Result<u32, ScriptFault>
-        ensures { Gives (λ x. x) result (needed (whole_below sessions) self.now.line members.Session (data_in self.now.object.now)) }
+        ensures { ReadsMember (whole_below sessions) members.Session self.now result }
     {
         let member = Member::Session;
         match self.member(member).and_then(whole_in) {
@@ -57,7 +58,7 @@ impl<'o, 'a> Reader<'o, 'a> {
 
     /// The moment, in milliseconds.
     pub fn moment(&self) -> Result<u64, ScriptFault>
-        ensures { Gives (λ x. x) result (needed whole self.now.line members.At (data_in self.now.object.now)) }
+        ensures { ReadsMember whole members.At self.now result }
     {
         let member = Member::At;
         match self.member(member).and_then(whole_in) {
@@ -68,7 +69,7 @@ impl<'o, 'a> Reader<'o, 'a> {
 
     /// The name of what the line asks for.
     pub fn op(&self) -> Result<&'a str, ScriptFault>
-        ensures { Gives (λ name. name.now) result (needed as_str self.now.line members.Op (data_in self.now.object.now)) }
+        ensures { Gives (λ name. name.now) result (needed as_str self.now.line members.Op (object_in self.now)) }
     {
         let member = Member::Op;
         match self.member(member).and_then(text_in) {
@@ -79,7 +80,7 @@ impl<'o, 'a> Reader<'o, 'a> {
 
     /// A key.
     pub fn key(&self) -> Result<Key, ScriptFault>
-        ensures { Gives (λ x. x) result (needed key self.now.line members.Key (data_in self.now.object.now)) }
+        ensures { ReadsMember key members.Key self.now result }
     {
         let member = Member::Key;
         match self.member(member).and_then(key_in) {
@@ -91,7 +92,7 @@ impl<'o, 'a> Reader<'o, 'a> {
     /// The place of a processor among so many.
     pub fn processor(&self, processors: usize) -> Result<u8, ScriptFault>
         requires { processors ≤ most_processors }
-        ensures { Gives (λ x. x) result (needed (whole_below processors) self.now.line members.Processor (data_in self.now.object.now)) }
+        ensures { ReadsMember (whole_below processors) members.Processor self.now result }
     {
         let member = Member::Processor;
         match self.member(member).and_then(whole_in) {
@@ -102,7 +103,7 @@ impl<'o, 'a> Reader<'o, 'a> {
 
     /// Whether keys that have a row are loaded too.
     pub fn replace(&self) -> Result<bool, ScriptFault>
-        ensures { Gives (λ x. x) result (needed as_bool self.now.line members.Replace (data_in self.now.object.now)) }
+        ensures { ReadsMember as_bool members.Replace self.now result }
     {
         let member = Member::Replace;
         match self.member(member).and_then(truth_in) {
@@ -112,7 +113,7 @@ impl<'o, 'a> Reader<'o, 'a> {
     }
 
     fn item<T: Item>(&self, member: Member) -> Result<T, ScriptFault>
-        ensures { Gives (λ x. x) result (needed T.reading self.now.line member (data_in self.now.object.now)) }
+        ensures { ReadsMember T.reading member self.now result }
     {
         let Some(item) = self.member(member) else {
             return Err(self.bad(member));
@@ -125,35 +126,35 @@ impl<'o, 'a> Reader<'o, 'a> {
 
     /// The value that is stored.
     pub fn value(&self) -> Result<value::Value, ScriptFault>
-        ensures { Gives (λ x. x) result (needed value self.now.line members.Value (data_in self.now.object.now)) }
+        ensures { ReadsMember value members.Value self.now result }
     {
         self.item(Member::Value)
     }
 
     /// The value that is expected.
     pub fn expected(&self) -> Result<value::Value, ScriptFault>
-        ensures { Gives (λ x. x) result (needed value self.now.line members.Expect (data_in self.now.object.now)) }
+        ensures { ReadsMember value members.Expect self.now result }
     {
         self.item(Member::Expect)
     }
 
     /// The argument of a processor.
     pub fn argument(&self) -> Result<value::Value, ScriptFault>
-        ensures { Gives (λ x. x) result (needed value self.now.line members.Argument (data_in self.now.object.now)) }
+        ensures { ReadsMember value members.Argument self.now result }
     {
         self.item(Member::Argument)
     }
 
     /// The keys of a call on many.
     pub fn keys(&self) -> Result<Keys, ScriptFault>
-        ensures { Gives (λ x. x) result (needed keys self.now.line members.Keys (data_in self.now.object.now)) }
+        ensures { ReadsMember keys members.Keys self.now result }
     {
         self.item(Member::Keys)
     }
 
     /// The keys of a call on many, each with a value.
     pub fn pairs(&self) -> Result<Pairs, ScriptFault>
-        ensures { Gives (λ x. x) result (needed pairs self.now.line members.Pairs (data_in self.now.object.now)) }
+        ensures { ReadsMember pairs members.Pairs self.now result }
     {
         self.item(Member::Pairs)
     }

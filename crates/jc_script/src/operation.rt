@@ -1,9 +1,8 @@
 //! The ops of a script, each in two tables: the name of a call, and the call of a name.
 ghost use Rattle.std.specs.Prelude.{◌≡◌, ◌≤◌, codes};
 ghost use Rattle.jc_model.specs.Limits.{most_processors};
-ghost use Rattle.jc_script.specs.Faults.{Gives};
 ghost use Rattle.jc_script.specs.Operation.{name_of, chosen, on_many, call_of};
-ghost use Rattle.jc_script.specs.Tree.{data_in};
+ghost use Rattle.jc_script.specs.Reading.{Reads};
 
 use crate::fault::{Member, ScriptFault};
 use crate::member::Reader;
@@ -47,7 +46,7 @@ pub fn read_call(
     name: &str,
 ) -> Result<Call, ScriptFault>
     requires { processors ≤ most_processors }
-    ensures { Gives (λ x. x) result (call_of name.now processors reader.now.line (data_in reader.now.object.now)) }
+    ensures { Reads (call_of name.now processors) reader.now result }
 {
     Ok(match name {
         "get" => Call::Get(reader.key()?),
@@ -85,7 +84,7 @@ fn read_call_on_many(
     name: &str,
 ) -> Result<Call, ScriptFault>
     requires { processors ≤ most_processors }
-    ensures { Gives (λ x. x) result (chosen on_many name.now processors reader.now.line (data_in reader.now.object.now)) }
+    ensures { Reads (chosen on_many name.now processors) reader.now result }
 {
     Ok(match name {
         "get_all" => Call::GetAll(reader.keys()?),

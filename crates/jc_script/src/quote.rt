@@ -1,7 +1,7 @@
 //! Keys and values as text.
-ghost use Rattle.std.specs.Prelude.{◌≡◌, ◌++◌, IfOk, OnOk, string_bytes};
+ghost use Rattle.std.specs.Prelude.{◌≡◌, IfOk, OnOk, string_bytes};
 ghost use Rattle.json.specs.Print.{quoted};
-ghost use Rattle.jc_script.specs.Report.{bytes_text};
+ghost use Rattle.jc_script.specs.Report.{bytes_text, Appends};
 
 use serde_json::Value;
 use std::alloc::{AllocError, Global};
@@ -29,7 +29,7 @@ fn show(alloc: Global, bytes: &[u8]) -> Result<String, AllocError>
 
 /// Adds the text of a key or a value.
 pub fn push_bytes(alloc: Global, text: &mut String, bytes: &[u8]) -> Result<(), AllocError>
-    ensures { OnOk result (string_bytes text.new ≡ string_bytes text.old ++ bytes_text bytes.now) }
+    ensures { OnOk result (Appends (bytes_text bytes.now) text.old text.new) }
 {
     text.push_str(show(alloc, bytes)?.as_str())
 }

@@ -1,7 +1,7 @@
 //! Replies as text.
 ghost use Rattle.std.specs.Prelude.{◌≡◌, ◌++◌, IfOk, OnOk, string_bytes, decimal, codes};
 ghost use Rattle.std.specs.List.{flat_map};
-ghost use Rattle.jc_script.specs.Report.{found_text, key_text, pair_text, answered_text, result_text, spaced, counts_text, by_text, done_text, reply_text};
+ghost use Rattle.jc_script.specs.Report.{found_text, key_text, pair_text, answered_text, result_text, spaced, counts_text, by_text, done_text, reply_text, Appends};
 
 use crate::quote::push_bytes;
 use jc_model::call::{By, Counts, ProcessorFault, Reply};
@@ -11,13 +11,13 @@ use std::alloc::{AllocError, Global};
 
 /// Adds a number in decimal digits.
 pub fn push_number(alloc: Global, text: &mut String, number: u64) -> Result<(), AllocError>
-    ensures { OnOk result (string_bytes text.new ≡ string_bytes text.old ++ decimal number) }
+    ensures { OnOk result (Appends (decimal number) text.old text.new) }
 {
     text.push_str(number.to_string(alloc)?.as_str())
 }
 
 fn push_found(alloc: Global, text: &mut String, found: &Option<Value>) -> Result<(), AllocError>
-    ensures { OnOk result (string_bytes text.new ≡ string_bytes text.old ++ found_text found.now) }
+    ensures { OnOk result (Appends (found_text found.now) text.old text.new) }
 {
     match found {
         None => text.push_str("none"),
@@ -29,7 +29,7 @@ fn push_found(alloc: Global, text: &mut String, found: &Option<Value>) -> Result
 }
 
 fn push_key(alloc: Global, text: &mut String, key: &Key) -> Result<(), AllocError>
-    ensures { OnOk result (string_bytes text.new ≡ string_bytes text.old ++ key_text key.now) }
+    ensures { OnOk result (Appends (key_text key.now) text.old text.new) }
 {
     text.push_str(" ")?;
     push_bytes(alloc, text, key.text().as_bytes())?;
@@ -37,14 +37,14 @@ fn push_key(alloc: Global, text: &mut String, key: &Key) -> Result<(), AllocErro
 }
 
 fn push_pair(alloc: Global, text: &mut String, pair: &(Key, Value)) -> Result<(), AllocError>
-    ensures { OnOk result (string_bytes text.new ≡ string_bytes text.old ++ pair_text pair.now) }
+    ensures { OnOk result (Appends (pair_text pair.now) text.old text.new) }
 {
     push_key(alloc, text, &pair.0)?;
     push_bytes(alloc, text, pair.1.bytes())
 }
 
 fn push_pairs(alloc: Global, text: &mut String, pairs: &[(Key, Value)]) -> Result<(), AllocError>
-    ensures { OnOk result (string_bytes text.new ≡ string_bytes text.old ++ (codes "pairs" ++ flat_map pair_text pairs.now)) }
+    ensures { OnOk result (Appends (codes "pairs" ++ flat_map pair_text pairs.now) text.old text.new) }
 {
     text.push_str("pairs")?;
     for pair in pairs {
@@ -58,7 +58,7 @@ fn push_answered(
     text: &mut String,
     answered: &Result<Value, ProcessorFault>,
 ) -> Result<(), AllocError>
-    ensures { OnOk result (string_bytes text.new ≡ string_bytes text.old ++ answered_text answered.now) }
+    ensures { OnOk result (Appends (answered_text answered.now) text.old text.new) }
 {
     match answered {
         Ok(value) => {
@@ -74,7 +74,7 @@ fn push_result(
     text: &mut String,
     of_key: &(Key, Result<Value, ProcessorFault>),
 ) -> Result<(), AllocError>
-    ensures { OnOk result (string_bytes text.new ≡ string_bytes text.old ++ result_text of_key.now) }
+    ensures { OnOk result (Appends (result_text of_key.now) text.old text.new) }
 {
     push_key(alloc, text, &of_key.0)?;
     push_answered(alloc, text, &of_key.1)
@@ -85,7 +85,7 @@ fn push_results(
     text: &mut String,
     results: &[(Key, Result<Value, ProcessorFault>)],
 ) -> Result<(), AllocError>
-    ensures { OnOk result (string_bytes text.new ≡ string_bytes text.old ++ (codes "results" ++ flat_map result_text results.now)) }
+    ensures { OnOk result (Appends (codes "results" ++ flat_map result_text results.now) text.old text.new) }
 {
     text.push_str("results")?;
     for of_key in results {
@@ -96,14 +96,14 @@ fn push_results(
 
 /// Adds a number and a space.
 pub fn push_spaced(alloc: Global, text: &mut String, number: u64) -> Result<(), AllocError>
-    ensures { OnOk result (string_bytes text.new ≡ string_bytes text.old ++ spaced number) }
+    ensures { OnOk result (Appends (spaced number) text.old text.new) }
 {
     push_number(alloc, text, number)?;
     text.push_str(" ")
 }
 
 fn push_counts(alloc: Global, text: &mut String, counts: &Counts) -> Result<(), AllocError>
-    ensures { OnOk result (string_bytes text.new ≡ string_bytes text.old ++ counts_text counts.now) }
+    ensures { OnOk result (Appends (counts_text counts.now) text.old text.new) }
 {
     push_spaced(alloc, text, counts.hits)?;
     push_spaced(alloc, text, counts.misses)?;
@@ -123,7 +123,7 @@ fn name_of_hook(by: &By) -> &'static str
 }
 
 fn push_done(alloc: Global, text: &mut String, done: Option<u32>) -> Result<(), AllocError>
-    ensures { OnOk result (string_bytes text.new ≡ string_bytes text.old ++ done_text done) }
+    ensures { OnOk result (Appends (done_text done) text.old text.new) }
 {
     match done {
         None => Ok(()),
@@ -136,7 +136,7 @@ fn push_done(alloc: Global, text: &mut String, done: Option<u32>) -> Result<(), 
 
 /// Adds the text of a reply.
 pub fn push_reply(alloc: Global, text: &mut String, reply: &Reply) -> Result<(), AllocError>
-    ensures { OnOk result (string_bytes text.new ≡ string_bytes text.old ++ reply_text reply.now) }
+    ensures { OnOk result (Appends (reply_text reply.now) text.old text.new) }
 {
     match reply {
         Reply::Done => text.push_str("ok"),

@@ -1,7 +1,7 @@
 //! The whole report.
-ghost use Rattle.std.specs.Prelude.{◌≡◌, ◌++◌, IfOk, OnOk, map, nat_eq, string_bytes, option_copied};
+ghost use Rattle.std.specs.Prelude.{◌≡◌, IfOk, OnOk, map, nat_eq, string_bytes, option_copied};
 ghost use Rattle.std.specs.List.{flat_map};
-ghost use Rattle.jc_script.specs.Report.{kind_text, event_text, end_text, call_text, entry_text, group, header, lives_text, text};
+ghost use Rattle.jc_script.specs.Report.{kind_text, event_text, end_text, call_text, entry_text, group, header, life_text, lives_text, text, Appends};
 ghost use Rattle.indexmap.specs.IndexMap.{get};
 
 use crate::groups::grouped;
@@ -33,7 +33,7 @@ fn push_event(
     session: u32,
     notice: &Notice,
 ) -> Result<(), AllocError>
-    ensures { OnOk result (string_bytes report.new ≡ string_bytes report.old ++ event_text session notice.now) }
+    ensures { OnOk result (Appends (event_text session notice.now) report.old report.new) }
 {
     push_number(alloc, report, session as u64)?;
     report.push_str(" event ")?;
@@ -49,7 +49,7 @@ fn push_events(
     session: u32,
     told: &[Notice],
 ) -> Result<(), AllocError>
-    ensures { OnOk result (string_bytes report.new ≡ string_bytes report.old ++ flat_map (event_text session) told.now) }
+    ensures { OnOk result (Appends (flat_map (event_text session) told.now) report.old report.new) }
 {
     for notice in told {
         push_event(alloc, report, session, notice)?;
@@ -58,7 +58,7 @@ fn push_events(
 }
 
 fn push_end(alloc: Global, report: &mut String, end: &End) -> Result<(), AllocError>
-    ensures { OnOk result (string_bytes report.new ≡ string_bytes report.old ++ end_text end.now) }
+    ensures { OnOk result (Appends (end_text end.now) report.old report.new) }
 {
     match end {
         End::Waiting => report.push_str("waiting"),
@@ -68,7 +68,7 @@ fn push_end(alloc: Global, report: &mut String, end: &End) -> Result<(), AllocEr
 }
 
 fn push_call(alloc: Global, report: &mut String, entry: &Entry) -> Result<(), AllocError>
-    ensures { OnOk result (string_bytes report.new ≡ string_bytes report.old ++ call_text entry.now) }
+    ensures { OnOk result (Appends (call_text entry.now) report.old report.new) }
 {
     push_spaced(alloc, report, entry.session as u64)?;
     report.push_str(name_of(&entry.call))?;
@@ -78,14 +78,14 @@ fn push_call(alloc: Global, report: &mut String, entry: &Entry) -> Result<(), Al
 }
 
 fn push_entry(alloc: Global, report: &mut String, entry: &Entry) -> Result<(), AllocError>
-    ensures { OnOk result (string_bytes report.new ≡ string_bytes report.old ++ entry_text entry.now) }
+    ensures { OnOk result (Appends (entry_text entry.now) report.old report.new) }
 {
     push_events(alloc, report, entry.session, entry.told.items())?;
     push_call(alloc, report, entry)
 }
 
 fn push_group(alloc: Global, report: &mut String, group: &[&Entry]) -> Result<(), AllocError>
-    ensures { OnOk result (string_bytes report.new ≡ string_bytes report.old ++ flat_map entry_text (map (λ e. e.now) group.now)) }
+    ensures { OnOk result (Appends (flat_map entry_text (map (λ e. e.now) group.now)) report.old report.new) }
 {
     for entry in group {
         push_entry(alloc, report, entry)?;
@@ -94,7 +94,7 @@ fn push_group(alloc: Global, report: &mut String, group: &[&Entry]) -> Result<()
 }
 
 fn push_header(report: &mut String, name: &str) -> Result<(), AllocError>
-    ensures { OnOk result (string_bytes report.new ≡ string_bytes report.old ++ header name.now) }
+    ensures { OnOk result (Appends (header name.now) report.old report.new) }
 {
     report.push_str("cache ")?;
     report.push_str(name)?;
@@ -107,7 +107,7 @@ fn push_cache(
     name: &str,
     entries: Option<&Vec<&Entry>>,
 ) -> Result<(), AllocError>
-    ensures { OnOk result (string_bytes report.new ≡ string_bytes report.old ++ (header name.now ++ flat_map entry_text (group (option_copied entries.entry)))) }
+    ensures { OnOk result (Appends (life_text name.now (group (option_copied entries.entry))) report.old report.new) }
 {
     push_header(report, name)?;
     match entries {
@@ -122,7 +122,7 @@ fn push_life(
     life: &Life,
     groups: &IndexMap<usize, Vec<&Entry>>,
 ) -> Result<(), AllocError>
-    ensures { OnOk result (string_bytes report.new ≡ string_bytes report.old ++ (header life.now.config.name ++ flat_map entry_text (group (get nat_eq groups.now life.now.id)))) }
+    ensures { OnOk result (Appends (life_text life.now.config.name (group (get nat_eq groups.now life.now.id))) report.old report.new) }
 {
     let id = life.id.number() as usize;
     push_cache(alloc, report, life.config.name.text(), groups.get(&id))
@@ -134,7 +134,7 @@ fn push_lives(
     lives: &[Life],
     entries: &[Entry],
 ) -> Result<(), AllocError>
-    ensures { OnOk result (string_bytes report.new ≡ string_bytes report.old ++ lives_text lives.now entries.now) }
+    ensures { OnOk result (Appends (lives_text lives.now entries.now) report.old report.new) }
 {
     let groups = grouped(alloc, entries)?;
     for life in lives {

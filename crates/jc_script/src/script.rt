@@ -7,7 +7,7 @@ ghost use Rattle.jc_script.specs.Line.{line_of, on_cache};
 ghost use Rattle.jc_script.specs.Live.{lives_in};
 ghost use Rattle.jc_script.specs.Named.{AllName};
 ghost use Rattle.jc_script.specs.Script.{is_feed, is_blank, pieces_after, piece_of, lines};
-ghost use Rattle.jc_script.specs.Tree.{data_in};
+ghost use Rattle.jc_script.specs.Reading.{Reads};
 
 use crate::creating::read_create;
 use crate::fault::ScriptFault;
@@ -26,7 +26,7 @@ use std::alloc::Global;
 /// The line of a session that names a live cache.
 #[tactic(auto, unfolding(crate::specs::Line::on_cache, crate::specs::Line::calling))]
 fn read_on_cache(live: &Live, reader: &Reader<'_, '_>, session: u32) -> Result<Line, ScriptFault>
-    ensures { Gives (λ x. x) result (on_cache (lives_in live.now) session reader.now.line (data_in reader.now.object.now)) }
+    ensures { Reads (on_cache (lives_in live.now) session) reader.now result }
 {
     let number = read_cache(live, reader)?;
     let id = CacheId::new(number);
@@ -46,7 +46,7 @@ fn read_on_cache(live: &Live, reader: &Reader<'_, '_>, session: u32) -> Result<L
 
 #[tactic(auto, unfolding(crate::specs::Line::line_of))]
 fn read_line(live: &Live, reader: &Reader<'_, '_>) -> Result<Line, ScriptFault>
-    ensures { Gives (λ x. x) result (line_of (lives_in live.now) reader.now.line (data_in reader.now.object.now)) }
+    ensures { Reads (line_of (lives_in live.now)) reader.now result }
 {
     let session = reader.session()?;
     if reader.asks_to_create() {
