@@ -16,7 +16,8 @@ use Rattle.jc_engine.specs.Free.{takes_none}
 use Rattle.jc_engine.specs.Sound.{NoneFrom, places_of}
 use Rattle.jc_engine.proofs.Numbered.{Puts, put_here, put_other, places_put, places_more}
 use Rattle.jc_engine.proofs.Places.{place_of}
-use Rattle.jc_seat.specs.Seated.{Seated, HaveSlots, Does, shown_by}
+use Rattle.jc_seat.specs.Seated.{HaveSlots, Does, shown_by}
+pub use Rattle.jc_seat.specs.Seated.{seen}
 
 pub some_map : {A B : Type 0} (h : A → B) (o : Option A) → is_some (option_map h o) ≡ is_some o
 some_map h None = refl
@@ -62,10 +63,6 @@ moved_length lives id said (Some k) = same_length lives id (Some (moved k said))
 pub same_places : {A : Type 0} (f g : ℕ → Option A) (n : ℕ) → ((i : ℕ) → g i ≡ f i) → places_of g n ≡ places_of f n
 same_places f g zero same = refl
 same_places f g (suc n) same = ap₂ (λ xs x. xs ++ x ∷ []) (same_places f g n same) (same n)
-
--- what is seen of the fields
-abbrev pub seen : List (Option Cache) → (ℕ → Option Outcome) → Seated
-seen caches f = record { caches = caches; shown = places_of f (length caches) }
 
 -- An event of one cache was accepted.
 module _ (caches caches' : List (Option Cache)) (f g : ℕ → Option Outcome) (id : ℕ) (said : Said) (o : Outcome) (slots : HaveSlots caches f)

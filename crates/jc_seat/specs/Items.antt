@@ -30,6 +30,9 @@ pub record Item : Type 0 where
 abbrev pub bare : Item
 bare = record { key = None; value = None; before = None; argument = None }
 
+abbrev pub of_key : List ℕ → Item
+of_key k = record bare { key = Some k }
+
 abbrev pub of_pair : List ℕ × List ℕ → Item
 of_pair p = record bare { key = Some p.0; value = Some p.1 }
 
@@ -51,9 +54,9 @@ in_reply (reply.Results results) = map of_result results
 in_reply _ = []
 
 abbrev pub in_request : Request → List Item
-in_request (request.Load k) = record bare { key = Some k } ∷ []
+in_request (request.Load k) = of_key k ∷ []
 in_request (request.Write k v) = record bare { key = Some k; value = Some v } ∷ []
-in_request (request.Delete k) = record bare { key = Some k } ∷ []
+in_request (request.Delete k) = of_key k ∷ []
 in_request (request.Process k processor v a) = record { key = Some k; value = v; before = None; argument = Some a } ∷ []
 in_request (request.Tell notices) = map of_notice notices
 

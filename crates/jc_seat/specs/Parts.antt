@@ -21,14 +21,18 @@ abbrev pub part_in : Part → Option Item → Bytes
 part_in p None = None
 part_in p (Some x) = part_of p x
 
+-- of the item at a place
+abbrev pub part_at : Part → ℕ → Outcome → Bytes
+part_at p place outcome = part_in p (slice_get (items_of outcome) place)
+
 -- of a cache that may be none
 abbrev pub part_shown : Part → ℕ → Option Outcome → Bytes
 part_shown p place None = None
-part_shown p place (Some outcome) = part_in p (slice_get (items_of outcome) place)
+part_shown p place (Some outcome) = part_at p place outcome
 
 abbrev pub part_status : Part → ℕ → ℕ → Option Outcome → Status
 part_status p place room None = NoSuchCache
-part_status p place room (Some outcome) = copied (part_in p (slice_get (items_of outcome) place)) room
+part_status p place room (Some outcome) = copied (part_at p place outcome) room
 
 abbrev pub count_shown : ℕ → Option Outcome → ℕ
 count_shown before None = before

@@ -1,6 +1,7 @@
 -- What bytes say.
-use Rattle.std.specs.Prelude.{◌≡◌, ℕ, ◌+◌, ◌&&◌, not, ltb, nat_eq, if◌then◌else◌, ◌⊎◌, Result, Ok, Err, List, [], ◌∷◌, map, length, take, drop, Bool}
+use Rattle.std.specs.Prelude.{◌≡◌, ℕ, ◌+◌, ◌&&◌, not, ltb, nat_eq, if◌then◌else◌, ◌⊎◌, Result, Ok, Err, MatchResult, List, [], ◌∷◌, map, length, take, drop, Bool, Vec}
 use Rattle.std.specs.Str.{is_utf8}
+use Rattle.std.specs.declared.alloc.Global.{Global}
 use Rattle.jc_model.specs.Limits.{key_bytes, value_bytes, most_keys}
 use Rattle.jc_model.specs.Lists.{distinct}
 use Rattle.jc_model.specs.declared.config.CacheConfig.{CacheConfig}
@@ -26,6 +27,10 @@ IsFault what fault = (fault ≡ OutOfMemory) ⊎ (what ≡ Err fault)
 abbrev pub IsRead : {A : Type 0} → Result A Fault → Result A Fault → Type 0
 IsRead what (Ok x) = what ≡ Ok x
 IsRead what (Err fault) = IsFault what fault
+
+-- the same of a list
+abbrev pub IsListRead : {A : Type 0} → Result (List A) Fault → Result (Vec A Global) Fault → Type 0
+IsListRead what read = MatchResult read (λ xs. what ≡ Ok xs.items) (IsFault what)
 
 abbrev pub key_of : List ℕ → Result (List ℕ) Fault
 key_of bytes = if is_utf8 bytes && ltb 0 (length bytes) && not (ltb key_bytes (length bytes)) then Ok bytes else Err BadKey

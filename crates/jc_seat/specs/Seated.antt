@@ -1,6 +1,8 @@
 -- A manager with what was shown last of each cache, and what it does at an event.
-use Rattle.std.specs.Prelude.{◌≡◌, ℕ, true, false, is_some, if◌then◌else◌, ◌⊎◌, Result, Ok, Err, List, [], ◌∷◌, ◌++◌, slice_set}
+use Rattle.std.specs.Prelude.{◌≡◌, ℕ, true, false, is_some, if◌then◌else◌, ◌⊎◌, Result, Ok, Err, List, [], ◌∷◌, ◌++◌, slice_set, length}
 use Rattle.std.specs.Prelude.{Option, Some, None}
+use Rattle.jc_model.specs.declared.call.Answer.{Answer as SomeAnswer}
+use Rattle.jc_model.specs.declared.call.Call.{Call}
 use Rattle.jc_model.specs.declared.event.Event.{Event}
 use Rattle.jc_model.specs.declared.event.Event.TheVariants.{Begin, Answer, GiveUp, Create, Destroy}
 use Rattle.jc_model.specs.declared.config.CacheConfig.{CacheConfig}
@@ -10,6 +12,7 @@ use Rattle.jc_model.specs.Places.{at_place}
 use Rattle.jc_model.specs.Runs.{answer_to, lives_after, for_memory, is_refused}
 use Rattle.jc_engine.specs.Caches.{Cache, lives_of}
 use Rattle.jc_engine.specs.Free.{takes_none}
+use Rattle.jc_engine.specs.Sound.{places_of}
 use Rattle.jc_seat.specs.declared.status.Fault.{Fault}
 use Rattle.jc_seat.specs.declared.status.Status.{Status}
 use Rattle.jc_seat.specs.declared.status.Status.TheVariants.{OutOfMemory}
@@ -19,6 +22,14 @@ use Rattle.jc_seat.specs.Status.{of_fault, status_of}
 pub record Seated : Type 0 where
   pub caches : List (Option Cache)
   pub shown : List (Option Outcome)
+
+-- what is seen of the fields
+abbrev pub seen : List (Option Cache) → (ℕ → Option Outcome) → Seated
+seen caches f = record { caches = caches; shown = places_of f (length caches) }
+
+-- what was shown last of a cache
+abbrev pub shown_of : ℕ → Seated → Option Outcome
+shown_of id s = at_place s.shown id
 
 -- what is shown of a cache has a place exactly where a cache is live
 abbrev pub HaveSlots : List (Option Cache) → (ℕ → Option Outcome) → Type 0
@@ -58,6 +69,20 @@ Called old event (Err fault) status new = (status ≡ of_fault fault) × (new �
 -- the same, or memory was wanting before the manager was asked
 abbrev pub CalledOr : {A : Type 0} → Seated → (A → Event) → Result A Fault → Status → Seated → Type 0
 CalledOr old event said status new = Called old event said status new ⊎ ((status ≡ OutOfMemory) × (new ≡ old))
+
+-- a cache begins the call that bytes say
+abbrev pub BeginsCall : Seated → ℕ → ℕ → Result Call Fault → Status → Seated → Type 0
+BeginsCall old id now said status new = Called old (λ call. Begin id now call) said status new
+
+abbrev pub BeginsCallOr : Seated → ℕ → ℕ → Result Call Fault → Status → Seated → Type 0
+BeginsCallOr old id now said status new = CalledOr old (λ call. Begin id now call) said status new
+
+-- its open call gets the answer that bytes say
+abbrev pub ResumesCall : Seated → ℕ → Result SomeAnswer Fault → Status → Seated → Type 0
+ResumesCall old id said status new = Called old (λ answer. Answer id answer) said status new
+
+abbrev pub ResumesCallOr : Seated → ℕ → Result SomeAnswer Fault → Status → Seated → Type 0
+ResumesCallOr old id said status new = CalledOr old (λ answer. Answer id answer) said status new
 
 -- a cache was created with this id, or the id stays as it was
 abbrev pub given : Outcome → ℕ → ℕ

@@ -3,13 +3,11 @@ ghost use Rattle.std.specs.Prelude.{◌≡◌, Result, length};
 ghost use Rattle.jc_model.specs.declared.call.Answer.{Answer as SomeAnswer};
 ghost use Rattle.jc_model.specs.declared.call.Call.{Call as SomeCall};
 ghost use Rattle.jc_model.specs.declared.config.CacheConfig.{CacheConfig as SomeConfig};
-ghost use Rattle.jc_model.specs.declared.event.Event.TheVariants.{Begin, Answer as Answers};
-ghost use Rattle.jc_model.specs.Places.{at_place};
 ghost use Rattle.jc_seat.specs.declared.status.Fault.{Fault as SomeFault};
 ghost use Rattle.jc_seat.specs.Items.{filled, length_told};
 ghost use Rattle.jc_seat.specs.Parts.{part_shown, part_status, count_shown, count_status, or_before, number_shown, number_status, found, find_status};
 ghost use Rattle.jc_seat.specs.Reading.{IsRead, key_of};
-ghost use Rattle.jc_seat.specs.Seated.{Called, CalledOr, Creates, CreatesOr};
+ghost use Rattle.jc_seat.specs.Seated.{BeginsCall, BeginsCallOr, Creates, CreatesOr, ResumesCall, ResumesCallOr, shown_of};
 
 use crate::items::{self, Part};
 use crate::reading::read_key;
@@ -22,8 +20,9 @@ use jc_model::event::CacheId;
 impl Seat {
     /// Begins the call that bytes say, if they say one.
     pub fn call(&mut self, id: u32, now: u64, said: Result<Call, Fault>) -> Status
-        ensures called { Called self.old (λ call. Begin id now call) said result self.new }
-        ensures or_memory { (what : Result SomeCall SomeFault) → IsRead what said → CalledOr self.old (λ call. Begin id now call) what result self.new }
+        ensures called { BeginsCall self.old id now said result self.new }
+        ensures or_memory { (what : Result SomeCall SomeFault) → IsRead what said
+            → BeginsCallOr self.old id now what result self.new }
     {
         match said {
             Ok(call) => self.begin(CacheId::new(id), now, call),
@@ -33,8 +32,9 @@ impl Seat {
 
     /// Answers the open call's request as bytes say, if they say an answer.
     pub fn answer(&mut self, id: u32, said: Result<Answer, Fault>) -> Status
-        ensures called { Called self.old (λ answer. Answers id answer) said result self.new }
-        ensures or_memory { (what : Result SomeAnswer SomeFault) → IsRead what said → CalledOr self.old (λ answer. Answers id answer) what result self.new }
+        ensures called { ResumesCall self.old id said result self.new }
+        ensures or_memory { (what : Result SomeAnswer SomeFault) → IsRead what said
+            → ResumesCallOr self.old id what result self.new }
     {
         match said {
             Ok(answer) => self.resume(CacheId::new(id), answer),
@@ -45,7 +45,8 @@ impl Seat {
     /// Creates the cache that bytes say, if they say one, and tells its id.
     pub fn create_cache(&mut self, said: Result<CacheConfig, Fault>, id: &mut u32) -> Status
         ensures called { Creates self.old said result id.old id.new self.new }
-        ensures or_memory { (what : Result SomeConfig SomeFault) → IsRead what said → CreatesOr self.old what result id.old id.new self.new }
+        ensures or_memory { (what : Result SomeConfig SomeFault) → IsRead what said
+            → CreatesOr self.old what result id.old id.new self.new }
     {
         match said {
             Ok(config) => match self.create(config) {
@@ -78,8 +79,8 @@ impl Seat {
 
     /// Tells how many items a cache shows.
     pub fn count_items(&self, id: u32, count: &mut usize) -> Status
-        ensures status { result ≡ count_status (at_place self.now.shown id) }
-        ensures count { count.new ≡ count_shown count.old (at_place self.now.shown id) }
+        ensures status { result ≡ count_status (shown_of id self.now) }
+        ensures count { count.new ≡ count_shown count.old (shown_of id self.now) }
     {
         match self.shown(CacheId::new(id)) {
             Some(outcome) => {
@@ -99,9 +100,9 @@ impl Seat {
         out: &mut [u8],
         len: &mut usize,
     ) -> Status
-        ensures status { result ≡ part_status part place (length out.old) (at_place self.now.shown id) }
-        ensures out { out.new ≡ filled (part_shown part place (at_place self.now.shown id)) out.old }
-        ensures len { len.new ≡ length_told (part_shown part place (at_place self.now.shown id)) len.old }
+        ensures status { result ≡ part_status part place (length out.old) (shown_of id self.now) }
+        ensures out { out.new ≡ filled (part_shown part place (shown_of id self.now)) out.old }
+        ensures len { len.new ≡ length_told (part_shown part place (shown_of id self.now)) len.old }
     {
         match self.shown(CacheId::new(id)) {
             Some(outcome) => items::copy(items::part_at(outcome, place, part), out, len),
@@ -111,8 +112,9 @@ impl Seat {
 
     /// Tells a number that a cache shows.
     pub fn tell_number(&self, id: u32, place: usize, number: &mut u64) -> Status
-        ensures status { result ≡ number_status place (at_place self.now.shown id) }
-        ensures number { number.new ≡ or_before number.old (number_shown place (at_place self.now.shown id)) }
+        ensures status { result ≡ number_status place (shown_of id self.now) }
+        ensures number { number.new
+            ≡ or_before number.old (number_shown place (shown_of id self.now)) }
     {
         let Some(outcome) = self.shown(CacheId::new(id)) else {
             return Status::NoSuchCache;

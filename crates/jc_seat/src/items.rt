@@ -1,8 +1,8 @@
 //! What an outcome shows: items with a key, a value, the value before and a processor's argument, and numbers.
 ghost use Rattle.std.specs.Prelude.{◌≡◌, length, option_map, slice_get};
-ghost use Rattle.jc_seat.specs.Items.{items_of, in_reply, in_request, of_pair, of_result, of_notice, numbers_of, of_kind, of_counts, filled, length_told, copied};
+ghost use Rattle.jc_seat.specs.Items.{items_of, in_reply, in_request, of_key, of_pair, of_result, of_notice, numbers_of, of_kind, of_counts, filled, length_told, copied};
 ghost use Rattle.jc_seat.specs.Lent.{item_lent};
-ghost use Rattle.jc_seat.specs.Parts.{part_in};
+ghost use Rattle.jc_seat.specs.Parts.{part_at};
 
 use crate::status::Status;
 use jc_model::call::{Counts, Kind, Notice, ProcessorFault, Reply, Request};
@@ -32,7 +32,7 @@ pub enum Part {
 }
 
 fn of_key(key: &Key) -> Item<'_>
-    ensures { item_lent result ≡ record { key = Some key.now; value = None; before = None; argument = None } }
+    ensures { item_lent result ≡ of_key key.now }
 {
     Item {
         key: Some(key.text().as_bytes()),
@@ -160,7 +160,7 @@ pub fn item_at(outcome: &Outcome, place: usize) -> Option<Item<'_>>
 
 /// A part of the item at a place, if both are there.
 pub fn part_at(outcome: &Outcome, place: usize, part: Part) -> Option<&[u8]>
-    ensures { option_map (λ bytes. bytes.now) result ≡ part_in part (slice_get (items_of outcome.now) place) }
+    ensures { option_map (λ bytes. bytes.now) result ≡ part_at part place outcome.now }
 {
     let item = item_at(outcome, place)?;
     match part {

@@ -1,6 +1,6 @@
 //! Keys, values and lists of them, out of bytes.
-ghost use Rattle.std.specs.Prelude.{◌≡◌, MatchResult};
-ghost use Rattle.jc_seat.specs.Reading.{IsRead, IsFault, key_of, value_of, keys_in, keys_of, pairs_in, pairs_of, list_fault};
+ghost use Rattle.std.specs.Prelude.{◌≡◌};
+ghost use Rattle.jc_seat.specs.Reading.{IsRead, IsListRead, key_of, value_of, keys_in, keys_of, pairs_in, pairs_of, list_fault};
 
 use crate::status::Fault;
 use jc_model::key::Key;
@@ -48,7 +48,7 @@ pub fn read_value(alloc: Global, bytes: &[u8]) -> Result<Value, Fault>
 
 /// The keys that stand in these bytes, one after the other.
 fn keys_in(alloc: Global, lengths: &[u32], bytes: &[u8]) -> Result<Vec<Key>, Fault>
-    ensures { MatchResult result (λ keys. keys_in lengths.now bytes.now ≡ Ok keys.items) (IsFault (keys_in lengths.now bytes.now)) }
+    ensures { IsListRead (keys_in lengths.now bytes.now) result }
 {
     let mut keys = Vec::new(alloc);
     let mut left = bytes;
@@ -76,7 +76,7 @@ fn pairs_in(
     lengths: &[PairLengths],
     bytes: &[u8],
 ) -> Result<Vec<(Key, Value)>, Fault>
-    ensures { MatchResult result (λ pairs. pairs_in lengths.now bytes.now ≡ Ok pairs.items) (IsFault (pairs_in lengths.now bytes.now)) }
+    ensures { IsListRead (pairs_in lengths.now bytes.now) result }
 {
     let mut pairs = Vec::new(alloc);
     let mut left = bytes;

@@ -2,9 +2,8 @@
 ghost use Rattle.std.specs.Prelude.{◌≡◌, ℕ, [], IfSome, MatchResult, option_map};
 ghost use Rattle.jc_model.specs.declared.event.Event.TheVariants.{Begin, Answer as Answers, GiveUp, Create, Destroy};
 ghost use Rattle.jc_model.specs.declared.event.Outcome.TheVariants.{Created};
-ghost use Rattle.jc_model.specs.Places.{at_place};
 ghost use Rattle.jc_engine.specs.Caches.{id_of};
-ghost use Rattle.jc_seat.specs.Seated.{Does, Answered, Creates};
+ghost use Rattle.jc_seat.specs.Seated.{Does, Answered, Creates, shown_of};
 
 use crate::shown::{hide, show, show_first};
 use crate::status::Status;
@@ -33,14 +32,13 @@ pub struct Seat {
 }
 
 impl Model for Seat {
-    ghost use Rattle.std.specs.Prelude.{nat_eq, length};
+    ghost use Rattle.std.specs.Prelude.{nat_eq};
     ghost use Rattle.std.specs.HashMap.{get};
-    ghost use Rattle.jc_engine.specs.Sound.{places_of};
-    ghost use Rattle.jc_seat.specs.Seated.{Seated, HaveSlots};
+    ghost use Rattle.jc_seat.specs.Seated.{Seated, HaveSlots, seen};
 
     ghost Value = { Seated };
 
-    ghost view = { λ s. record { caches = s.engine; shown = places_of (get nat_eq s.shown) (length s.engine) } };
+    ghost view = { λ s. seen s.engine (get nat_eq s.shown) };
 
     ghost invariant = { λ s. HaveSlots s.engine (get nat_eq s.shown) };
 }
@@ -68,7 +66,7 @@ impl Seat {
 
     /// What was shown last of a cache.
     pub fn shown(&self, id: CacheId) -> Option<&Outcome>
-        ensures { option_map (λ outcome. outcome.now) result ≡ at_place self.now.shown id }
+        ensures { option_map (λ outcome. outcome.now) result ≡ shown_of id self.now }
     {
         let number = id.number();
         self.shown.get(&number)
@@ -76,7 +74,8 @@ impl Seat {
 
     /// Creates a cache of a configuration. Memory may be wanting before the manager is asked.
     pub fn create(&mut self, config: CacheConfig) -> Result<CacheId, Status>
-        ensures { MatchResult result (λ id. Does self.old (Create config) (Created id) self.new) (λ status. (id : ℕ) → Creates self.old (Ok config) status id id self.new) }
+        ensures { MatchResult result (λ id. Does self.old (Create config) (Created id) self.new)
+            (λ status. (id : ℕ) → Creates self.old (Ok config) status id id self.new) }
     {
         if self.shown.reserve(1).is_err() {
             return Err(Status::OutOfMemory);

@@ -1,6 +1,7 @@
 //! What was shown last, by cache.
-ghost use Rattle.std.specs.Prelude.{◌≡◌, ◌≤◌, ℕ, Some, None, IsSome, nat_eq, if◌then◌else◌};
+ghost use Rattle.std.specs.Prelude.{◌≡◌, ◌≤◌, Some, None, IsSome, nat_eq};
 ghost use Rattle.std.specs.HashMap.{get, spare};
+ghost use Rattle.jc_engine.specs.Journals.{Puts};
 ghost use Rattle.jc_seat.specs.Status.{status_of};
 
 use crate::status::Status;
@@ -12,7 +13,7 @@ use std::mem::replace;
 pub(crate) fn show(shown: &mut HashMap<u32, Outcome>, id: CacheId, outcome: Outcome) -> Status
     requires { IsSome (get nat_eq shown.old id) }
     ensures status { result ≡ status_of outcome }
-    ensures shown { (other : ℕ) → get nat_eq shown.new other ≡ (if nat_eq id other then Some outcome else get nat_eq shown.old other) }
+    ensures shown { Puts (get nat_eq shown.old) id (Some outcome) (get nat_eq shown.new) }
 {
     let status = Status::of_outcome(&outcome);
     let number = id.number();
@@ -26,7 +27,7 @@ pub(crate) fn show(shown: &mut HashMap<u32, Outcome>, id: CacheId, outcome: Outc
 /// Shows the first outcome of a cache, for which there is room.
 pub(crate) fn show_first(shown: &mut HashMap<u32, Outcome>, id: CacheId, outcome: Outcome)
     requires { 1 ≤ spare shown.old }
-    ensures { (other : ℕ) → get nat_eq shown.new other ≡ (if nat_eq id other then Some outcome else get nat_eq shown.old other) }
+    ensures { Puts (get nat_eq shown.old) id (Some outcome) (get nat_eq shown.new) }
 {
     let number = id.number();
     match shown.insert(number, outcome) {
@@ -37,7 +38,7 @@ pub(crate) fn show_first(shown: &mut HashMap<u32, Outcome>, id: CacheId, outcome
 
 /// Shows nothing of a cache from now on.
 pub(crate) fn hide(shown: &mut HashMap<u32, Outcome>, id: CacheId)
-    ensures { (other : ℕ) → get nat_eq shown.new other ≡ (if nat_eq id other then None else get nat_eq shown.old other) }
+    ensures { Puts (get nat_eq shown.old) id None (get nat_eq shown.new) }
 {
     let number = id.number();
     drop(shown.remove(&number));
