@@ -1,13 +1,21 @@
 -- What a call from C does to a handle.
-use Rattle.std.specs.Prelude.{◌≡◌, ℕ, List, []}
+use Rattle.std.specs.Prelude.{◌≡◌, ℕ, List, [], Result}
 use Rattle.std.specs.Prelude.{Option, Some, None}
+use Rattle.jc_model.specs.declared.call.Answer.{Answer}
+use Rattle.jc_model.specs.declared.call.Call.{Call}
+use Rattle.jc_model.specs.declared.config.CacheConfig.{CacheConfig}
+use Rattle.jc_model.specs.declared.event.Event.{Event}
 use Rattle.jc_model.specs.declared.event.Outcome.{Outcome}
-use Rattle.jc_model.specs.Places.{at_place}
 use Rattle.jc_engine.specs.Caches.{Cache}
+use Rattle.jc_seat.specs.declared.items.Part.{Part}
+use Rattle.jc_seat.specs.declared.status.Fault.{Fault}
 use Rattle.jc_seat.specs.declared.status.Status.{Status}
 use Rattle.jc_seat.specs.declared.status.Status.TheVariants.{Closed, Done, InUse, OutOfMemory}
 use Rattle.jc_seat.specs.Status.{number_of}
-use Rattle.jc_seat.specs.Seated.{Seated}
+use Rattle.jc_seat.specs.Items.{Bytes}
+use Rattle.jc_seat.specs.Parts.{number_shown, part_shown, part_status}
+use Rattle.jc_seat.specs.Seated.{Seated, Answered, BeginsCall, BeginsCallOr, CreatesOr, ResumesCall, ResumesCallOr, shown_of}
+use Rattle.jc_c.specs.declared.handle.Handle.{Handle}
 
 -- the number is that of a status with which the manager does this
 pub record Tells (does : Status → Seated → Type 0) (number : ℕ) (new : Seated) : Type 0 where
@@ -20,6 +28,46 @@ abbrev pub OnSeat : Option Seated → (Seated → Status → Seated → Type 0) 
 OnSeat None does number held = (number ≡ number_of Closed) × (held ≡ None)
 OnSeat (Some old) does number None = ⊥
 OnSeat (Some old) does number (Some new) = Tells (does old) number new
+
+-- What the manager behind a handle does.
+
+-- it begins the call that bytes say
+abbrev pub SeatBegins : ℕ → ℕ → Result Call Fault → Handle → ℕ → Handle → Type 0
+SeatBegins id now said h number h' = OnSeat h.held (λ old status new. BeginsCall old id now said status new) number h'.held
+
+-- the same, or memory was wanting before it was asked
+abbrev pub SeatBeginsOr : ℕ → ℕ → Result Call Fault → Handle → ℕ → Handle → Type 0
+SeatBeginsOr id now said h number h' = OnSeat h.held (λ old status new. BeginsCallOr old id now said status new) number h'.held
+
+-- its open call gets the answer that bytes say
+abbrev pub SeatResumes : ℕ → Result Answer Fault → Handle → ℕ → Handle → Type 0
+SeatResumes id said h number h' = OnSeat h.held (λ old status new. ResumesCall old id said status new) number h'.held
+
+-- the same, or memory was wanting
+abbrev pub SeatResumesOr : ℕ → Result Answer Fault → Handle → ℕ → Handle → Type 0
+SeatResumesOr id said h number h' = OnSeat h.held (λ old status new. ResumesCallOr old id said status new) number h'.held
+
+-- it does what the model says at this event
+abbrev pub SeatAnswers : Event → Handle → ℕ → Handle → Type 0
+SeatAnswers event h number h' = OnSeat h.held (λ old status new. Answered old event status new) number h'.held
+
+-- it creates the cache that bytes say, or memory was wanting
+abbrev pub SeatCreatesOr : Result CacheConfig Fault → ℕ → ℕ → Handle → ℕ → Handle → Type 0
+SeatCreatesOr said id id' h number h' = OnSeat h.held (λ old status new. CreatesOr old said status id id' new) number h'.held
+
+-- it tells this status, by what it is
+abbrev pub SeatTells : (Seated → Status) → Handle → ℕ → Handle → Type 0
+SeatTells told h number h' = OnSeat h.held (λ old status new. status ≡ told old) number h'.held
+
+-- and this, by what was shown last of a cache
+abbrev pub SeatTellsOf : ℕ → (Option Outcome → Status) → Handle → ℕ → Handle → Type 0
+SeatTellsOf id told h number h' = SeatTells (λ old. told (shown_of id old)) h number h'
+
+-- and whether a part of an item of it is there, for which there is so much room
+abbrev pub SeatTellsPart : Part → ℕ → ℕ → ℕ → Handle → ℕ → Handle → Type 0
+SeatTellsPart part item id room h number h' = SeatTellsOf id (part_status part item room) h number h'
+
+-- Handles that are opened and closed, and what is seen of them.
 
 -- a manager without caches is made behind a handle without one, unless memory is wanting; a handle with one keeps it
 abbrev pub Opens : Option Seated → ℕ → Option Seated → Type 0
@@ -39,4 +87,12 @@ caches_in (Some s) = s.caches
 -- what was shown last of a cache
 abbrev pub shown_in : ℕ → Option Seated → Option Outcome
 shown_in id None = None
-shown_in id (Some s) = at_place s.shown id
+shown_in id (Some s) = shown_of id s
+
+-- a part of an item of it
+abbrev pub part_shown_in : Part → ℕ → ℕ → Option Seated → Bytes
+part_shown_in part item id held = part_shown part item (shown_in id held)
+
+-- a number of it
+abbrev pub number_shown_in : ℕ → ℕ → Option Seated → Option ℕ
+number_shown_in place id held = number_shown place (shown_in id held)

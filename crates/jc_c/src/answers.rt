@@ -1,12 +1,11 @@
 //! Answers to the open call's request, and giving it up.
-ghost use Rattle.std.specs.Prelude.{◌≡◌, Result, Ok, Err, None};
+ghost use Rattle.std.specs.Prelude.{Result, Ok, Err, None};
 ghost use Rattle.jc_model.specs.declared.call.Answer.{Answer as SomeAnswer};
-ghost use Rattle.jc_model.specs.declared.event.Event.TheVariants.{Answer as Answers, GiveUp};
+ghost use Rattle.jc_model.specs.declared.event.Event.TheVariants.{GiveUp};
 ghost use Rattle.jc_seat.specs.declared.status.Fault.{Fault as SomeFault};
 ghost use Rattle.jc_seat.specs.Calls.{loaded, processed};
 ghost use Rattle.jc_seat.specs.Reading.{IsRead};
-ghost use Rattle.jc_seat.specs.Seated.{Answered, Called, CalledOr};
-ghost use Rattle.jc_c.specs.Held.{OnSeat};
+ghost use Rattle.jc_c.specs.Held.{SeatAnswers, SeatResumes, SeatResumesOr};
 
 use crate::handle::Handle;
 use jc_model::call::{Answer, ProcessorFault};
@@ -17,8 +16,9 @@ use std::alloc::Global;
 
 /// Takes the manager out, answers as the bytes say, and puts it back.
 fn answer_call(alloc: Global, h: &mut Handle, id: u32, said: Result<Answer, Fault>) -> u32
-    ensures called { OnSeat h.old.held (λ old status new. Called old (λ answer. Answers id answer) said status new) result h.new.held }
-    ensures or_memory { (what : Result SomeAnswer SomeFault) → IsRead what said → OnSeat h.old.held (λ old status new. CalledOr old (λ answer. Answers id answer) what status new) result h.new.held }
+    ensures called { SeatResumes id said h.old result h.new }
+    ensures or_memory { (what : Result SomeAnswer SomeFault) → IsRead what said
+        → SeatResumesOr id what h.old result h.new }
 {
     let Some(mut seat) = h.take(alloc) else {
         drop(said);
@@ -31,35 +31,35 @@ fn answer_call(alloc: Global, h: &mut Handle, id: u32, said: Result<Answer, Faul
 
 #[unsafe(no_mangle)]
 pub extern "C" fn jc_loaded(alloc: Global, h: &mut Handle, id: u32, value: &[u8]) -> u32
-    ensures { OnSeat h.old.held (λ old status new. CalledOr old (λ answer. Answers id answer) (loaded value.now) status new) result h.new.held }
+    ensures { SeatResumesOr id (loaded value.now) h.old result h.new }
 {
     answer_call(alloc, h, id, calls::loaded(alloc, value))
 }
 
 #[unsafe(no_mangle)]
 pub extern "C" fn jc_loaded_nothing(alloc: Global, h: &mut Handle, id: u32) -> u32
-    ensures { OnSeat h.old.held (λ old status new. Called old (λ answer. Answers id answer) (Ok (Answer.Loaded None)) status new) result h.new.held }
+    ensures { SeatResumes id (Ok (Answer.Loaded None)) h.old result h.new }
 {
     answer_call(alloc, h, id, Ok(Answer::Loaded(None)))
 }
 
 #[unsafe(no_mangle)]
 pub extern "C" fn jc_load_failed(alloc: Global, h: &mut Handle, id: u32) -> u32
-    ensures { OnSeat h.old.held (λ old status new. Called old (λ answer. Answers id answer) (Ok Answer.LoadFailed) status new) result h.new.held }
+    ensures { SeatResumes id (Ok Answer.LoadFailed) h.old result h.new }
 {
     answer_call(alloc, h, id, Ok(Answer::LoadFailed))
 }
 
 #[unsafe(no_mangle)]
 pub extern "C" fn jc_written(alloc: Global, h: &mut Handle, id: u32) -> u32
-    ensures { OnSeat h.old.held (λ old status new. Called old (λ answer. Answers id answer) (Ok Answer.Written) status new) result h.new.held }
+    ensures { SeatResumes id (Ok Answer.Written) h.old result h.new }
 {
     answer_call(alloc, h, id, Ok(Answer::Written))
 }
 
 #[unsafe(no_mangle)]
 pub extern "C" fn jc_write_failed(alloc: Global, h: &mut Handle, id: u32) -> u32
-    ensures { OnSeat h.old.held (λ old status new. Called old (λ answer. Answers id answer) (Ok Answer.WriteFailed) status new) result h.new.held }
+    ensures { SeatResumes id (Ok Answer.WriteFailed) h.old result h.new }
 {
     answer_call(alloc, h, id, Ok(Answer::WriteFailed))
 }
@@ -74,7 +74,7 @@ pub extern "C" fn jc_processed(
     answers: u32,
     answer: &[u8],
 ) -> u32
-    ensures { OnSeat h.old.held (λ old status new. CalledOr old (λ answer. Answers id answer) (processed action value.now answers answer.now) status new) result h.new.held }
+    ensures { SeatResumesOr id (processed action value.now answers answer.now) h.old result h.new }
 {
     answer_call(
         alloc,
@@ -86,21 +86,21 @@ pub extern "C" fn jc_processed(
 
 #[unsafe(no_mangle)]
 pub extern "C" fn jc_process_failed(alloc: Global, h: &mut Handle, id: u32) -> u32
-    ensures { OnSeat h.old.held (λ old status new. Called old (λ answer. Answers id answer) (Ok (Answer.Processed (Err (record {})))) status new) result h.new.held }
+    ensures { SeatResumes id (Ok (Answer.Processed (Err (record {})))) h.old result h.new }
 {
     answer_call(alloc, h, id, Ok(Answer::Processed(Err(ProcessorFault {}))))
 }
 
 #[unsafe(no_mangle)]
 pub extern "C" fn jc_told(alloc: Global, h: &mut Handle, id: u32) -> u32
-    ensures { OnSeat h.old.held (λ old status new. Called old (λ answer. Answers id answer) (Ok Answer.Told) status new) result h.new.held }
+    ensures { SeatResumes id (Ok Answer.Told) h.old result h.new }
 {
     answer_call(alloc, h, id, Ok(Answer::Told))
 }
 
 #[unsafe(no_mangle)]
 pub extern "C" fn jc_give_up(alloc: Global, h: &mut Handle, id: u32) -> u32
-    ensures { OnSeat h.old.held (λ old status new. Answered old (GiveUp id) status new) result h.new.held }
+    ensures { SeatAnswers (GiveUp id) h.old result h.new }
 {
     let Some(mut seat) = h.take(alloc) else {
         return Status::Closed.number();

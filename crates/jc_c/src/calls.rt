@@ -1,12 +1,10 @@
 //! Calls on one key.
-ghost use Rattle.std.specs.Prelude.{◌≡◌, Result};
+ghost use Rattle.std.specs.Prelude.{Result};
 ghost use Rattle.jc_model.specs.declared.call.Call.{Call as SomeCall};
-ghost use Rattle.jc_model.specs.declared.event.Event.TheVariants.{Begin};
 ghost use Rattle.jc_seat.specs.declared.status.Fault.{Fault as SomeFault};
 ghost use Rattle.jc_seat.specs.Calls.{with_key, with_value, replace_if, remove_if, invoke};
 ghost use Rattle.jc_seat.specs.Reading.{IsRead};
-ghost use Rattle.jc_seat.specs.Seated.{Called, CalledOr};
-ghost use Rattle.jc_c.specs.Held.{OnSeat};
+ghost use Rattle.jc_c.specs.Held.{SeatBegins, SeatBeginsOr};
 
 use crate::handle::Handle;
 use jc_model::call::Call;
@@ -22,8 +20,9 @@ pub(crate) fn begin(
     now: u64,
     said: Result<Call, Fault>,
 ) -> u32
-    ensures called { OnSeat h.old.held (λ old status new. Called old (λ call. Begin id now call) said status new) result h.new.held }
-    ensures or_memory { (what : Result SomeCall SomeFault) → IsRead what said → OnSeat h.old.held (λ old status new. CalledOr old (λ call. Begin id now call) what status new) result h.new.held }
+    ensures called { SeatBegins id now said h.old result h.new }
+    ensures or_memory { (what : Result SomeCall SomeFault) → IsRead what said
+        → SeatBeginsOr id now what h.old result h.new }
 {
     let Some(mut seat) = h.take(alloc) else {
         drop(said);
@@ -36,14 +35,14 @@ pub(crate) fn begin(
 
 #[unsafe(no_mangle)]
 pub extern "C" fn jc_get(alloc: Global, h: &mut Handle, id: u32, now: u64, key: &[u8]) -> u32
-    ensures { OnSeat h.old.held (λ old status new. Called old (λ call. Begin id now call) (with_key Call.Get key.now) status new) result h.new.held }
+    ensures { SeatBegins id now (with_key Call.Get key.now) h.old result h.new }
 {
     begin(alloc, h, id, now, calls::get(key))
 }
 
 #[unsafe(no_mangle)]
 pub extern "C" fn jc_contains(alloc: Global, h: &mut Handle, id: u32, now: u64, key: &[u8]) -> u32
-    ensures { OnSeat h.old.held (λ old status new. Called old (λ call. Begin id now call) (with_key Call.Contains key.now) status new) result h.new.held }
+    ensures { SeatBegins id now (with_key Call.Contains key.now) h.old result h.new }
 {
     begin(alloc, h, id, now, calls::contains(key))
 }
@@ -57,7 +56,7 @@ pub extern "C" fn jc_put(
     key: &[u8],
     value: &[u8],
 ) -> u32
-    ensures { OnSeat h.old.held (λ old status new. CalledOr old (λ call. Begin id now call) (with_value Call.Put key.now value.now) status new) result h.new.held }
+    ensures { SeatBeginsOr id now (with_value Call.Put key.now value.now) h.old result h.new }
 {
     begin(alloc, h, id, now, calls::put(alloc, key, value))
 }
@@ -71,7 +70,7 @@ pub extern "C" fn jc_get_and_put(
     key: &[u8],
     value: &[u8],
 ) -> u32
-    ensures { OnSeat h.old.held (λ old status new. CalledOr old (λ call. Begin id now call) (with_value Call.GetAndPut key.now value.now) status new) result h.new.held }
+    ensures { SeatBeginsOr id now (with_value Call.GetAndPut key.now value.now) h.old result h.new }
 {
     begin(alloc, h, id, now, calls::get_and_put(alloc, key, value))
 }
@@ -85,7 +84,8 @@ pub extern "C" fn jc_put_if_absent(
     key: &[u8],
     value: &[u8],
 ) -> u32
-    ensures { OnSeat h.old.held (λ old status new. CalledOr old (λ call. Begin id now call) (with_value Call.PutIfAbsent key.now value.now) status new) result h.new.held }
+    ensures { SeatBeginsOr id now (with_value Call.PutIfAbsent key.now value.now)
+        h.old result h.new }
 {
     begin(alloc, h, id, now, calls::put_if_absent(alloc, key, value))
 }
@@ -99,7 +99,7 @@ pub extern "C" fn jc_replace(
     key: &[u8],
     value: &[u8],
 ) -> u32
-    ensures { OnSeat h.old.held (λ old status new. CalledOr old (λ call. Begin id now call) (with_value Call.Replace key.now value.now) status new) result h.new.held }
+    ensures { SeatBeginsOr id now (with_value Call.Replace key.now value.now) h.old result h.new }
 {
     begin(alloc, h, id, now, calls::replace(alloc, key, value))
 }
@@ -114,7 +114,7 @@ pub extern "C" fn jc_replace_if(
     expected: &[u8],
     value: &[u8],
 ) -> u32
-    ensures { OnSeat h.old.held (λ old status new. CalledOr old (λ call. Begin id now call) (replace_if key.now expected.now value.now) status new) result h.new.held }
+    ensures { SeatBeginsOr id now (replace_if key.now expected.now value.now) h.old result h.new }
 {
     begin(
         alloc,
@@ -134,14 +134,15 @@ pub extern "C" fn jc_get_and_replace(
     key: &[u8],
     value: &[u8],
 ) -> u32
-    ensures { OnSeat h.old.held (λ old status new. CalledOr old (λ call. Begin id now call) (with_value Call.GetAndReplace key.now value.now) status new) result h.new.held }
+    ensures { SeatBeginsOr id now (with_value Call.GetAndReplace key.now value.now)
+        h.old result h.new }
 {
     begin(alloc, h, id, now, calls::get_and_replace(alloc, key, value))
 }
 
 #[unsafe(no_mangle)]
 pub extern "C" fn jc_remove(alloc: Global, h: &mut Handle, id: u32, now: u64, key: &[u8]) -> u32
-    ensures { OnSeat h.old.held (λ old status new. Called old (λ call. Begin id now call) (with_key Call.Remove key.now) status new) result h.new.held }
+    ensures { SeatBegins id now (with_key Call.Remove key.now) h.old result h.new }
 {
     begin(alloc, h, id, now, calls::remove(key))
 }
@@ -155,7 +156,7 @@ pub extern "C" fn jc_remove_if(
     key: &[u8],
     expected: &[u8],
 ) -> u32
-    ensures { OnSeat h.old.held (λ old status new. CalledOr old (λ call. Begin id now call) (remove_if key.now expected.now) status new) result h.new.held }
+    ensures { SeatBeginsOr id now (remove_if key.now expected.now) h.old result h.new }
 {
     begin(alloc, h, id, now, calls::remove_if(alloc, key, expected))
 }
@@ -168,7 +169,7 @@ pub extern "C" fn jc_get_and_remove(
     now: u64,
     key: &[u8],
 ) -> u32
-    ensures { OnSeat h.old.held (λ old status new. Called old (λ call. Begin id now call) (with_key Call.GetAndRemove key.now) status new) result h.new.held }
+    ensures { SeatBegins id now (with_key Call.GetAndRemove key.now) h.old result h.new }
 {
     begin(alloc, h, id, now, calls::get_and_remove(key))
 }
@@ -183,7 +184,7 @@ pub extern "C" fn jc_invoke(
     processor: u8,
     argument: &[u8],
 ) -> u32
-    ensures { OnSeat h.old.held (λ old status new. CalledOr old (λ call. Begin id now call) (invoke key.now processor argument.now) status new) result h.new.held }
+    ensures { SeatBeginsOr id now (invoke key.now processor argument.now) h.old result h.new }
 {
     begin(
         alloc,

@@ -80,7 +80,8 @@ impl Handle {
     /// Takes the manager out, if there is one; the handle is empty then.
     pub fn take(&mut self, alloc: Global) -> Option<Box<Seat>>
         ensures after { self.new.held ≡ None }
-        ensures had { MatchOption result (self.old.held ≡ None) (λ b. self.old.held ≡ Some b.value) }
+        ensures had { MatchOption result (self.old.held ≡ None)
+            (λ b. self.old.held ≡ Some b.value) }
     {
         match replace(self, Handle::empty(alloc)).into_parts() {
             Some(parts) => Some(parts.into_box()),

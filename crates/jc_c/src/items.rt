@@ -1,9 +1,8 @@
 //! What was shown last of a cache, copied into the caller's places.
 ghost use Rattle.std.specs.Prelude.{◌≡◌, length};
-ghost use Rattle.jc_model.specs.Places.{at_place};
 ghost use Rattle.jc_seat.specs.Items.{filled, length_told};
-ghost use Rattle.jc_seat.specs.Parts.{part_shown, part_status, count_shown, count_status, or_before, number_shown, number_status};
-ghost use Rattle.jc_c.specs.Held.{OnSeat, shown_in};
+ghost use Rattle.jc_seat.specs.Parts.{count_shown, count_status, or_before, number_status};
+ghost use Rattle.jc_c.specs.Held.{SeatTellsOf, SeatTellsPart, number_shown_in, part_shown_in, shown_in};
 
 use crate::handle::Handle;
 use jc_seat::items::Part;
@@ -13,7 +12,7 @@ use std::alloc::Global;
 #[unsafe(no_mangle)]
 pub extern "C" fn jc_items(alloc: Global, h: &mut Handle, id: u32, count: &mut usize) -> u32
     ensures same { h.new.held ≡ h.old.held }
-    ensures status { OnSeat h.old.held (λ old status new. status ≡ count_status (at_place old.shown id)) result h.new.held }
+    ensures status { SeatTellsOf id count_status h.old result h.new }
     ensures count { count.new ≡ count_shown count.old (shown_in id h.old.held) }
 {
     let Some(seat) = h.take(alloc) else {
@@ -33,8 +32,8 @@ pub extern "C" fn jc_number(
     number: &mut u64,
 ) -> u32
     ensures same { h.new.held ≡ h.old.held }
-    ensures status { OnSeat h.old.held (λ old status new. status ≡ number_status place (at_place old.shown id)) result h.new.held }
-    ensures number { number.new ≡ or_before number.old (number_shown place (shown_in id h.old.held)) }
+    ensures status { SeatTellsOf id (number_status place) h.old result h.new }
+    ensures number { number.new ≡ or_before number.old (number_shown_in place id h.old.held) }
 {
     let Some(seat) = h.take(alloc) else {
         return Status::Closed.number();
@@ -55,9 +54,9 @@ fn copy(
     len: &mut usize,
 ) -> u32
     ensures same { h.new.held ≡ h.old.held }
-    ensures status { OnSeat h.old.held (λ old status new. status ≡ part_status part item (length out.old) (at_place old.shown id)) result h.new.held }
-    ensures out { out.new ≡ filled (part_shown part item (shown_in id h.old.held)) out.old }
-    ensures len { len.new ≡ length_told (part_shown part item (shown_in id h.old.held)) len.old }
+    ensures status { SeatTellsPart part item id (length out.old) h.old result h.new }
+    ensures out { out.new ≡ filled (part_shown_in part item id h.old.held) out.old }
+    ensures len { len.new ≡ length_told (part_shown_in part item id h.old.held) len.old }
 {
     let Some(seat) = h.take(alloc) else {
         return Status::Closed.number();
@@ -77,9 +76,9 @@ pub extern "C" fn jc_key(
     len: &mut usize,
 ) -> u32
     ensures same { h.new.held ≡ h.old.held }
-    ensures status { OnSeat h.old.held (λ old status new. status ≡ part_status Part.Key item (length out.old) (at_place old.shown id)) result h.new.held }
-    ensures out { out.new ≡ filled (part_shown Part.Key item (shown_in id h.old.held)) out.old }
-    ensures len { len.new ≡ length_told (part_shown Part.Key item (shown_in id h.old.held)) len.old }
+    ensures status { SeatTellsPart Part.Key item id (length out.old) h.old result h.new }
+    ensures out { out.new ≡ filled (part_shown_in Part.Key item id h.old.held) out.old }
+    ensures len { len.new ≡ length_told (part_shown_in Part.Key item id h.old.held) len.old }
 {
     copy(alloc, h, id, item, Part::Key, out, len)
 }
@@ -94,9 +93,9 @@ pub extern "C" fn jc_value(
     len: &mut usize,
 ) -> u32
     ensures same { h.new.held ≡ h.old.held }
-    ensures status { OnSeat h.old.held (λ old status new. status ≡ part_status Part.Value item (length out.old) (at_place old.shown id)) result h.new.held }
-    ensures out { out.new ≡ filled (part_shown Part.Value item (shown_in id h.old.held)) out.old }
-    ensures len { len.new ≡ length_told (part_shown Part.Value item (shown_in id h.old.held)) len.old }
+    ensures status { SeatTellsPart Part.Value item id (length out.old) h.old result h.new }
+    ensures out { out.new ≡ filled (part_shown_in Part.Value item id h.old.held) out.old }
+    ensures len { len.new ≡ length_told (part_shown_in Part.Value item id h.old.held) len.old }
 {
     copy(alloc, h, id, item, Part::Value, out, len)
 }
@@ -111,9 +110,9 @@ pub extern "C" fn jc_before(
     len: &mut usize,
 ) -> u32
     ensures same { h.new.held ≡ h.old.held }
-    ensures status { OnSeat h.old.held (λ old status new. status ≡ part_status Part.Before item (length out.old) (at_place old.shown id)) result h.new.held }
-    ensures out { out.new ≡ filled (part_shown Part.Before item (shown_in id h.old.held)) out.old }
-    ensures len { len.new ≡ length_told (part_shown Part.Before item (shown_in id h.old.held)) len.old }
+    ensures status { SeatTellsPart Part.Before item id (length out.old) h.old result h.new }
+    ensures out { out.new ≡ filled (part_shown_in Part.Before item id h.old.held) out.old }
+    ensures len { len.new ≡ length_told (part_shown_in Part.Before item id h.old.held) len.old }
 {
     copy(alloc, h, id, item, Part::Before, out, len)
 }
@@ -128,9 +127,9 @@ pub extern "C" fn jc_argument(
     len: &mut usize,
 ) -> u32
     ensures same { h.new.held ≡ h.old.held }
-    ensures status { OnSeat h.old.held (λ old status new. status ≡ part_status Part.Argument item (length out.old) (at_place old.shown id)) result h.new.held }
-    ensures out { out.new ≡ filled (part_shown Part.Argument item (shown_in id h.old.held)) out.old }
-    ensures len { len.new ≡ length_told (part_shown Part.Argument item (shown_in id h.old.held)) len.old }
+    ensures status { SeatTellsPart Part.Argument item id (length out.old) h.old result h.new }
+    ensures out { out.new ≡ filled (part_shown_in Part.Argument item id h.old.held) out.old }
+    ensures len { len.new ≡ length_told (part_shown_in Part.Argument item id h.old.held) len.old }
 {
     copy(alloc, h, id, item, Part::Argument, out, len)
 }

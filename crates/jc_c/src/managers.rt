@@ -1,11 +1,10 @@
 //! Managers, and caches that are created and destroyed.
 ghost use Rattle.std.specs.Prelude.{◌≡◌, None};
-ghost use Rattle.jc_model.specs.declared.event.Event.TheVariants.{Create, Destroy};
+ghost use Rattle.jc_model.specs.declared.event.Event.TheVariants.{Destroy};
 ghost use Rattle.jc_seat.specs.Parts.{or_before, find_status, found};
 ghost use Rattle.jc_seat.specs.Reading.{key_of, config_of};
-ghost use Rattle.jc_seat.specs.Seated.{Answered, CreatesOr};
 ghost use Rattle.jc_seat.specs.Status.{number_of};
-ghost use Rattle.jc_c.specs.Held.{OnSeat, Opens, caches_in, closing};
+ghost use Rattle.jc_c.specs.Held.{Opens, SeatAnswers, SeatCreatesOr, SeatTells, caches_in, closing};
 
 use crate::handle::Handle;
 use jc_model::event::CacheId;
@@ -57,7 +56,8 @@ pub extern "C" fn jc_create(
     wants: &[u8],
     id: &mut u32,
 ) -> u32
-    ensures created { OnSeat h.old.held (λ old status new. CreatesOr old (config_of name.now settings.now wants.now) status id.old id.new new) result h.new.held }
+    ensures created { SeatCreatesOr (config_of name.now settings.now wants.now) id.old id.new
+        h.old result h.new }
     ensures closed { h.old.held ≡ None → id.new ≡ id.old }
 {
     let Some(mut seat) = h.take(alloc) else {
@@ -70,7 +70,7 @@ pub extern "C" fn jc_create(
 
 #[unsafe(no_mangle)]
 pub extern "C" fn jc_destroy(alloc: Global, h: &mut Handle, id: u32) -> u32
-    ensures { OnSeat h.old.held (λ old status new. Answered old (Destroy id) status new) result h.new.held }
+    ensures { SeatAnswers (Destroy id) h.old result h.new }
 {
     let Some(mut seat) = h.take(alloc) else {
         return Status::Closed.number();
@@ -83,7 +83,8 @@ pub extern "C" fn jc_destroy(alloc: Global, h: &mut Handle, id: u32) -> u32
 #[unsafe(no_mangle)]
 pub extern "C" fn jc_find(alloc: Global, h: &mut Handle, name: &[u8], id: &mut u32) -> u32
     ensures same { h.new.held ≡ h.old.held }
-    ensures status { OnSeat h.old.held (λ old status new. status ≡ find_status (key_of name.now) old.caches) result h.new.held }
+    ensures status { SeatTells (λ old. find_status (key_of name.now) old.caches)
+        h.old result h.new }
     ensures id { id.new ≡ or_before id.old (found (key_of name.now) (caches_in h.old.held)) }
 {
     let Some(seat) = h.take(alloc) else {

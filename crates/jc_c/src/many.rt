@@ -1,9 +1,7 @@
 //! Calls on many keys, and on a whole cache.
-ghost use Rattle.std.specs.Prelude.{◌≡◌, Ok};
-ghost use Rattle.jc_model.specs.declared.event.Event.TheVariants.{Begin};
+ghost use Rattle.std.specs.Prelude.{Ok};
 ghost use Rattle.jc_seat.specs.Calls.{with_keys, put_all, load_all, invoke_all};
-ghost use Rattle.jc_seat.specs.Seated.{Called, CalledOr};
-ghost use Rattle.jc_c.specs.Held.{OnSeat};
+ghost use Rattle.jc_c.specs.Held.{SeatBegins, SeatBeginsOr};
 
 use crate::calls::begin;
 use crate::handle::Handle;
@@ -21,7 +19,7 @@ pub extern "C" fn jc_get_all(
     lengths: &[u32],
     keys: &[u8],
 ) -> u32
-    ensures { OnSeat h.old.held (λ old status new. CalledOr old (λ call. Begin id now call) (with_keys Call.GetAll lengths.now keys.now) status new) result h.new.held }
+    ensures { SeatBeginsOr id now (with_keys Call.GetAll lengths.now keys.now) h.old result h.new }
 {
     begin(alloc, h, id, now, calls::get_all(alloc, lengths, keys))
 }
@@ -35,7 +33,7 @@ pub extern "C" fn jc_put_all(
     lengths: &[PairLengths],
     pairs: &[u8],
 ) -> u32
-    ensures { OnSeat h.old.held (λ old status new. CalledOr old (λ call. Begin id now call) (put_all lengths.now pairs.now) status new) result h.new.held }
+    ensures { SeatBeginsOr id now (put_all lengths.now pairs.now) h.old result h.new }
 {
     begin(alloc, h, id, now, calls::put_all(alloc, lengths, pairs))
 }
@@ -49,7 +47,8 @@ pub extern "C" fn jc_remove_keys(
     lengths: &[u32],
     keys: &[u8],
 ) -> u32
-    ensures { OnSeat h.old.held (λ old status new. CalledOr old (λ call. Begin id now call) (with_keys Call.RemoveKeys lengths.now keys.now) status new) result h.new.held }
+    ensures { SeatBeginsOr id now (with_keys Call.RemoveKeys lengths.now keys.now)
+        h.old result h.new }
 {
     begin(alloc, h, id, now, calls::remove_keys(alloc, lengths, keys))
 }
@@ -64,7 +63,7 @@ pub extern "C" fn jc_load_all(
     keys: &[u8],
     replace: u32,
 ) -> u32
-    ensures { OnSeat h.old.held (λ old status new. CalledOr old (λ call. Begin id now call) (load_all lengths.now keys.now replace) status new) result h.new.held }
+    ensures { SeatBeginsOr id now (load_all lengths.now keys.now replace) h.old result h.new }
 {
     begin(
         alloc,
@@ -86,7 +85,8 @@ pub extern "C" fn jc_invoke_all(
     processor: u8,
     argument: &[u8],
 ) -> u32
-    ensures { OnSeat h.old.held (λ old status new. CalledOr old (λ call. Begin id now call) (invoke_all lengths.now keys.now processor argument.now) status new) result h.new.held }
+    ensures { SeatBeginsOr id now (invoke_all lengths.now keys.now processor argument.now)
+        h.old result h.new }
 {
     begin(
         alloc,
@@ -99,35 +99,35 @@ pub extern "C" fn jc_invoke_all(
 
 #[unsafe(no_mangle)]
 pub extern "C" fn jc_remove_all(alloc: Global, h: &mut Handle, id: u32, now: u64) -> u32
-    ensures { OnSeat h.old.held (λ old status new. Called old (λ call. Begin id now call) (Ok Call.RemoveAll) status new) result h.new.held }
+    ensures { SeatBegins id now (Ok Call.RemoveAll) h.old result h.new }
 {
     begin(alloc, h, id, now, Ok(Call::RemoveAll))
 }
 
 #[unsafe(no_mangle)]
 pub extern "C" fn jc_clear(alloc: Global, h: &mut Handle, id: u32, now: u64) -> u32
-    ensures { OnSeat h.old.held (λ old status new. Called old (λ call. Begin id now call) (Ok Call.Clear) status new) result h.new.held }
+    ensures { SeatBegins id now (Ok Call.Clear) h.old result h.new }
 {
     begin(alloc, h, id, now, Ok(Call::Clear))
 }
 
 #[unsafe(no_mangle)]
 pub extern "C" fn jc_entries(alloc: Global, h: &mut Handle, id: u32, now: u64) -> u32
-    ensures { OnSeat h.old.held (λ old status new. Called old (λ call. Begin id now call) (Ok Call.Entries) status new) result h.new.held }
+    ensures { SeatBegins id now (Ok Call.Entries) h.old result h.new }
 {
     begin(alloc, h, id, now, Ok(Call::Entries))
 }
 
 #[unsafe(no_mangle)]
 pub extern "C" fn jc_stats(alloc: Global, h: &mut Handle, id: u32, now: u64) -> u32
-    ensures { OnSeat h.old.held (λ old status new. Called old (λ call. Begin id now call) (Ok Call.Stats) status new) result h.new.held }
+    ensures { SeatBegins id now (Ok Call.Stats) h.old result h.new }
 {
     begin(alloc, h, id, now, Ok(Call::Stats))
 }
 
 #[unsafe(no_mangle)]
 pub extern "C" fn jc_clear_stats(alloc: Global, h: &mut Handle, id: u32, now: u64) -> u32
-    ensures { OnSeat h.old.held (λ old status new. Called old (λ call. Begin id now call) (Ok Call.ClearStats) status new) result h.new.held }
+    ensures { SeatBegins id now (Ok Call.ClearStats) h.old result h.new }
 {
     begin(alloc, h, id, now, Ok(Call::ClearStats))
 }
