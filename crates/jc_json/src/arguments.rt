@@ -1,5 +1,6 @@
 //! What a call was made with, as members of its object.
-ghost use Rattle.std.specs.Prelude.{◌≡◌, ◌++◌, OnOk, string_bytes};
+ghost use Rattle.std.specs.Prelude.{OnOk};
+ghost use Rattle.jc_script.specs.Report.{Appends};
 ghost use Rattle.jc_json.specs.Arguments.{key_member, keys_member, entries_member, key_value_members, key_expect_members, processor_members, replace_member, of_one_json, of_many_json, arguments_json};
 
 use crate::values::{push_bytes_member, push_list, push_next, push_number_member, push_truth};
@@ -10,20 +11,20 @@ use jc_model::value::Value;
 use std::alloc::{AllocError, Global};
 
 fn push_key(alloc: Global, text: &mut String, key: &Key) -> Result<(), AllocError>
-    ensures { OnOk result (string_bytes text.new ≡ string_bytes text.old ++ key_member key.now) }
+    ensures { OnOk result (Appends (key_member key.now) text.old text.new) }
 {
     push_bytes_member(alloc, text, "key", key.text().as_bytes())
 }
 
 fn push_keys(alloc: Global, text: &mut String, keys: &Keys) -> Result<(), AllocError>
-    ensures { OnOk result (string_bytes text.new ≡ string_bytes text.old ++ keys_member keys.now) }
+    ensures { OnOk result (Appends (keys_member keys.now) text.old text.new) }
 {
     push_next(text, "keys")?;
     push_list(alloc, text, keys.keys())
 }
 
 fn push_entries(alloc: Global, text: &mut String, pairs: &Pairs) -> Result<(), AllocError>
-    ensures { OnOk result (string_bytes text.new ≡ string_bytes text.old ++ entries_member pairs.now) }
+    ensures { OnOk result (Appends (entries_member pairs.now) text.old text.new) }
 {
     push_next(text, "entries")?;
     push_list(alloc, text, pairs.pairs())
@@ -35,7 +36,7 @@ fn push_key_value(
     key: &Key,
     value: &Value,
 ) -> Result<(), AllocError>
-    ensures { OnOk result (string_bytes text.new ≡ string_bytes text.old ++ key_value_members key.now value.now) }
+    ensures { OnOk result (Appends (key_value_members key.now value.now) text.old text.new) }
 {
     push_key(alloc, text, key)?;
     push_bytes_member(alloc, text, "value", value.bytes())
@@ -47,7 +48,7 @@ fn push_key_expected(
     key: &Key,
     expected: &Value,
 ) -> Result<(), AllocError>
-    ensures { OnOk result (string_bytes text.new ≡ string_bytes text.old ++ key_expect_members key.now expected.now) }
+    ensures { OnOk result (Appends (key_expect_members key.now expected.now) text.old text.new) }
 {
     push_key(alloc, text, key)?;
     push_bytes_member(alloc, text, "expect", expected.bytes())
@@ -59,14 +60,14 @@ fn push_processor(
     processor: u8,
     argument: &Value,
 ) -> Result<(), AllocError>
-    ensures { OnOk result (string_bytes text.new ≡ string_bytes text.old ++ processor_members processor argument.now) }
+    ensures { OnOk result (Appends (processor_members processor argument.now) text.old text.new) }
 {
     push_number_member(alloc, text, "processor", u64::from(processor))?;
     push_bytes_member(alloc, text, "argument", argument.bytes())
 }
 
 fn push_replace(text: &mut String, replace: bool) -> Result<(), AllocError>
-    ensures { OnOk result (string_bytes text.new ≡ string_bytes text.old ++ replace_member replace) }
+    ensures { OnOk result (Appends (replace_member replace) text.old text.new) }
 {
     push_next(text, "replace")?;
     push_truth(text, replace)
@@ -74,7 +75,7 @@ fn push_replace(text: &mut String, replace: bool) -> Result<(), AllocError>
 
 /// Adds what a call on one key was made with; nothing for any other.
 fn push_of_one(alloc: Global, text: &mut String, call: &Call) -> Result<(), AllocError>
-    ensures { OnOk result (string_bytes text.new ≡ string_bytes text.old ++ of_one_json call.now) }
+    ensures { OnOk result (Appends (of_one_json call.now) text.old text.new) }
 {
     match call {
         Call::Get(key) => push_key(alloc, text, key),
@@ -109,7 +110,7 @@ fn push_of_one(alloc: Global, text: &mut String, call: &Call) -> Result<(), Allo
 
 /// Adds what a call on many keys was made with; nothing for any other.
 fn push_of_many(alloc: Global, text: &mut String, call: &Call) -> Result<(), AllocError>
-    ensures { OnOk result (string_bytes text.new ≡ string_bytes text.old ++ of_many_json call.now) }
+    ensures { OnOk result (Appends (of_many_json call.now) text.old text.new) }
 {
     match call {
         Call::GetAll(keys) => push_keys(alloc, text, keys),
@@ -134,7 +135,7 @@ fn push_of_many(alloc: Global, text: &mut String, call: &Call) -> Result<(), All
 /// Adds what a call was made with.
 #[tactic(auto, unfolding(crate::specs::Arguments::arguments_json))]
 pub fn push_arguments(alloc: Global, text: &mut String, call: &Call) -> Result<(), AllocError>
-    ensures { OnOk result (string_bytes text.new ≡ string_bytes text.old ++ arguments_json call.now) }
+    ensures { OnOk result (Appends (arguments_json call.now) text.old text.new) }
 {
     push_of_one(alloc, text, call)?;
     push_of_many(alloc, text, call)

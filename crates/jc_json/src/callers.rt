@@ -1,9 +1,9 @@
 //! The entries of each caller: of a session on a cache.
-ghost use Rattle.std.specs.Prelude.{◌≡◌, ◌++◌, ◌∷◌, [], None, ℕ, List, drop, slice_get, option_map, if◌then◌else◌, IfOk, OnOk};
+ghost use Rattle.std.specs.Prelude.{◌≡◌, None, List, drop, slice_get, option_copied, IfOk, OnOk};
 ghost use Rattle.std.specs.HashMap.{get};
 ghost use Rattle.std.specs.List.{find};
 ghost use Rattle.jc_model.specs.declared.event.Entry.{Entry as Called};
-ghost use Rattle.jc_json.specs.Callers.{caller_eq, entries_in, AreLeft};
+ghost use Rattle.jc_json.specs.Callers.{caller_eq, entries_by, AddsEntry, AreLeft, ChangesOwn};
 ghost use Rattle.jc_json.specs.Lines.{is_by, without_first};
 
 use crate::queue::Queue;
@@ -23,7 +23,7 @@ fn begin<'e>(
     entry: &'e Entry,
 ) -> Result<(), AllocError>
     requires { get caller_eq callers.old (id, session) ≡ None }
-    ensures { OnOk result ((i s : ℕ) → entries_in (get caller_eq callers.new (i, s)) ≡ (if caller_eq (id, session) (i, s) then entries_in (get caller_eq callers.old (i, s)) ++ entry.entry.now ∷ [] else entries_in (get caller_eq callers.old (i, s)))) }
+    ensures { OnOk result (AddsEntry entry.entry.now id session callers.old callers.new) }
 {
     let mut queue = Queue::new(alloc);
     queue.push(entry)?;
@@ -39,7 +39,7 @@ fn add<'e>(
     session: u32,
     entry: &'e Entry,
 ) -> Result<(), AllocError>
-    ensures { OnOk result ((i s : ℕ) → entries_in (get caller_eq callers.new (i, s)) ≡ (if caller_eq (id, session) (i, s) then entries_in (get caller_eq callers.old (i, s)) ++ entry.entry.now ∷ [] else entries_in (get caller_eq callers.old (i, s)))) }
+    ensures { OnOk result (AddsEntry entry.entry.now id session callers.old callers.new) }
 {
     match callers.get_mut(&(id, session)) {
         Some(queue) => queue.push(entry),
@@ -60,8 +60,8 @@ pub fn callers<'e>(alloc: Global, entries: &'e [Entry]) -> Result<Callers<'e>, A
 
 /// Takes the first of the entries that a caller has left.
 fn take<'e>(callers: &mut Callers<'e>, id: u32, session: u32) -> Option<&'e Entry>
-    ensures first { option_map (λ e. e.now) result ≡ slice_get (entries_in (get caller_eq callers.old (id, session))) 0 }
-    ensures left { (i s : ℕ) → entries_in (get caller_eq callers.new (i, s)) ≡ (if caller_eq (id, session) (i, s) then drop 1 (entries_in (get caller_eq callers.old (i, s))) else entries_in (get caller_eq callers.old (i, s))) }
+    ensures first { option_copied result ≡ slice_get (entries_by id session callers.old) 0 }
+    ensures left { ChangesOwn (drop 1) id session callers.old callers.new }
 {
     match callers.get_mut(&(id, session)) {
         Some(queue) => queue.take(),
@@ -71,8 +71,10 @@ fn take<'e>(callers: &mut Callers<'e>, id: u32, session: u32) -> Option<&'e Entr
 
 /// Takes the first entry of a session on a cache.
 pub fn take_first<'e>(callers: &mut Callers<'e>, session: u32, id: CacheId) -> Option<&'e Entry>
-    ensures first { (entries : List Called) → AreLeft callers.old entries → option_map (λ e. e.now) result ≡ find (is_by id session) entries }
-    ensures left { (entries : List Called) → AreLeft callers.old entries → AreLeft callers.new (without_first (is_by id session) entries) }
+    ensures first { (entries : List Called) → AreLeft callers.old entries
+        → option_copied result ≡ find (is_by id session) entries }
+    ensures left { (entries : List Called) → AreLeft callers.old entries
+        → AreLeft callers.new (without_first (is_by id session) entries) }
 {
     take(callers, id.number(), session)
 }

@@ -1,5 +1,5 @@
 //! A life's counters: its calls made again on a manager of its cache alone.
-ghost use Rattle.std.specs.Prelude.{◌≡◌, ◌∷◌, [], false, None, IfOk, OnOk, map};
+ghost use Rattle.std.specs.Prelude.{◌≡◌, ◌∷◌, [], false, None, IfOk, OnOk};
 ghost use Rattle.std.specs.FinMap as finite;
 ghost use Rattle.jc_cuckoo.specs.Cells.{rows_in};
 ghost use Rattle.jc_engine.specs.Caches.{lives_of};
@@ -9,7 +9,7 @@ ghost use Rattle.jc_model.specs.Runs.{for_memory, fresh, opened_from};
 ghost use Rattle.jc_model.specs.declared.event.Event.TheVariants.{Begin, Answer as Answered, GiveUp};
 ghost use Rattle.jc_model.specs.declared.event.Outcome.TheVariants.{Refused};
 ghost use Rattle.jc_json.specs.Again.{after, after_answers, after_entry, after_entries, counts_in};
-ghost use Rattle.jc_json.specs.Totals.{counts_after};
+ghost use Rattle.jc_json.specs.Totals.{counts_after, entries_lent};
 
 use jc_cuckoo::cuckoo::{Cuckoo, TableRefusal};
 use jc_cuckoo::mirror::NoMirror;
@@ -146,7 +146,8 @@ fn make_all<R: Rows, G: Ring>(
     engine: &mut Engine<R, G>,
     entries: &[&Entry],
 ) -> Result<(), OutOfMemory>
-    ensures { OnOk result (lives_of engine.new ≡ after_entries (lives_of engine.old) (map (λ e. e.now) entries.now)) }
+    ensures { OnOk result (lives_of engine.new
+        ≡ after_entries (lives_of engine.old) (entries_lent entries.now)) }
 {
     for entry in entries {
         make(engine, entry)?;
@@ -172,8 +173,8 @@ pub fn counts_after(
     entries: &[&Entry],
 ) -> Result<Counts, OutOfMemory>
     requires opens { open_refusal (config.now ∷ []) ≡ None }
-    requires legal { IsLegalFrom config.now fresh (map (λ e. e.now) entries.now) }
-    ensures { IfOk result (λ counts. counts ≡ counts_after config.now (map (λ e. e.now) entries.now)) }
+    requires legal { IsLegalFrom config.now fresh (entries_lent entries.now) }
+    ensures { IfOk result (λ counts. counts ≡ counts_after config.now (entries_lent entries.now)) }
 {
     let mut engine = opened(alloc, table(alloc, seed)?, config)?;
     make_all(&mut engine, entries)?;

@@ -1,6 +1,7 @@
 //! The objects of a script's lines.
-ghost use Rattle.std.specs.Prelude.{◌≡◌, ◌≤◌, ◌<◌, ◌+◌, ◌-◌, ◌^◌, ◌++◌, List, drop, length, slice_get, option_map, OnOk, string_bytes};
+ghost use Rattle.std.specs.Prelude.{◌≡◌, ◌≤◌, ◌<◌, ◌+◌, ◌-◌, ◌^◌, List, drop, length, slice_get, option_copied, OnOk};
 ghost use Rattle.jc_model.specs.declared.event.Entry.{Entry as Called};
+ghost use Rattle.jc_script.specs.Report.{Appends};
 ghost use Rattle.jc_json.specs.Callers.{AreLeft};
 ghost use Rattle.jc_json.specs.Lines.{asked_json, answered_json, call_json, name_at, call_line, managed_line, id_after, next_after, left_by, managed_after, line_json, lines_json};
 
@@ -27,7 +28,7 @@ struct Left<'e> {
 impl<'e> Left<'e> {
     /// Takes what became of the next line that creates or destroys.
     fn managed(&mut self) -> Option<&'e Managed>
-        ensures first { option_map (λ m. m.now) result ≡ slice_get self.old.managed.now 0 }
+        ensures first { option_copied result ≡ slice_get self.old.managed.now 0 }
         ensures left { self.new.managed.now ≡ drop 1 self.old.managed.now }
         ensures callers { self.new.callers ≡ self.old.callers }
         ensures next { self.new.next ≡ self.old.next }
@@ -45,7 +46,7 @@ impl<'e> Left<'e> {
     fn id(&mut self, managed: Option<&Managed>) -> u64
         requires { self.old.next < 2 ^ 64 - 1 }
         ensures id { result ≡ self.old.next }
-        ensures next { self.new.next ≡ id_after (option_map (λ m. m.now) managed.entry) self.old.next }
+        ensures next { self.new.next ≡ id_after (option_copied managed.entry) self.old.next }
         ensures callers { self.new.callers ≡ self.old.callers }
         ensures managed { self.new.managed ≡ self.old.managed }
     {
@@ -62,7 +63,7 @@ impl<'e> Left<'e> {
 /// Adds a call's cache and moment, its op, and what it was made with.
 #[tactic(auto, unfolding(crate::specs::Lines::asked_json))]
 fn push_asked(alloc: Global, text: &mut String, entry: &Entry) -> Result<(), AllocError>
-    ensures { OnOk result (string_bytes text.new ≡ string_bytes text.old ++ asked_json entry.now) }
+    ensures { OnOk result (Appends (asked_json entry.now) text.old text.new) }
 {
     push_number_member(alloc, text, "id", u64::from(entry.id.number()))?;
     push_number_member(alloc, text, "at", entry.at)?;
@@ -74,7 +75,7 @@ fn push_asked(alloc: Global, text: &mut String, entry: &Entry) -> Result<(), All
 /// Adds what was told of a call, and what it came to.
 #[tactic(auto, unfolding(crate::specs::Lines::answered_json))]
 fn push_answered(alloc: Global, text: &mut String, entry: &Entry) -> Result<(), AllocError>
-    ensures { OnOk result (string_bytes text.new ≡ string_bytes text.old ++ answered_json entry.now) }
+    ensures { OnOk result (Appends (answered_json entry.now) text.old text.new) }
 {
     push_next(text, "events")?;
     push_list(alloc, text, entry.told.items())?;
@@ -90,7 +91,7 @@ fn push_call(
     cache: &str,
     entry: &Entry,
 ) -> Result<(), AllocError>
-    ensures { OnOk result (string_bytes text.new ≡ string_bytes text.old ++ call_json number cache.now entry.now) }
+    ensures { OnOk result (Appends (call_json number cache.now entry.now) text.old text.new) }
 {
     push_head(alloc, text, number, entry.session, cache)?;
     push_asked(alloc, text, entry)?;
@@ -115,7 +116,8 @@ fn push_call_line(
     lives: &[Life],
     entry: Option<&Entry>,
 ) -> Result<(), AllocError>
-    ensures { OnOk result (string_bytes text.new ≡ string_bytes text.old ++ call_line number lives.now (option_map (λ e. e.now) entry.entry)) }
+    ensures { OnOk result (Appends (call_line number lives.now (option_copied entry.entry))
+        text.old text.new) }
 {
     match entry {
         Some(entry) => push_call(alloc, text, number, name_at(lives, entry.id), entry),
@@ -130,7 +132,8 @@ fn push_managed_line(
     id: u64,
     managed: Option<&Managed>,
 ) -> Result<(), AllocError>
-    ensures { OnOk result (string_bytes text.new ≡ string_bytes text.old ++ managed_line number id (option_map (λ m. m.now) managed.entry)) }
+    ensures { OnOk result (Appends (managed_line number id (option_copied managed.entry))
+        text.old text.new) }
 {
     match managed {
         Some(managed) => push_managed(alloc, text, number, id, managed),
@@ -147,8 +150,11 @@ fn push_line(
     line: &NumberedLine,
 ) -> Result<(), AllocError>
     requires { left.old.next < 2 ^ 64 - 1 }
-    ensures text { OnOk result ((entries : List Called) → AreLeft left.old.callers entries → string_bytes text.new ≡ string_bytes text.old ++ line_json lives.now line.now.number left.old.next line.now.asked entries left.old.managed.now) }
-    ensures entries { (entries : List Called) → AreLeft left.old.callers entries → AreLeft left.new.callers (left_by line.now.asked entries) }
+    ensures text { OnOk result ((entries : List Called) → AreLeft left.old.callers entries
+        → Appends (line_json lives.now line.now.number left.old.next line.now.asked entries
+        left.old.managed.now) text.old text.new) }
+    ensures entries { (entries : List Called) → AreLeft left.old.callers entries
+        → AreLeft left.new.callers (left_by line.now.asked entries) }
     ensures managed { left.new.managed.now ≡ managed_after line.now.asked left.old.managed.now }
     ensures next { left.new.next ≡ next_after line.now.asked left.old.managed.now left.old.next }
 {
@@ -180,7 +186,8 @@ pub fn push_lines(
     managed: &[Managed],
 ) -> Result<(), AllocError>
     requires { first + length outline.now < 2 ^ 64 }
-    ensures { OnOk result (string_bytes text.new ≡ string_bytes text.old ++ lines_json lives.now first outline.now entries.now managed.now) }
+    ensures { OnOk result (Appends (lines_json lives.now first outline.now entries.now managed.now)
+        text.old text.new) }
 {
     let mut left = Left {
         callers: callers(alloc, entries)?,

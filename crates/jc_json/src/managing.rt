@@ -1,5 +1,6 @@
 //! The objects of lines that create and destroy caches.
-ghost use Rattle.std.specs.Prelude.{◌≡◌, ◌++◌, OnOk, string_bytes};
+ghost use Rattle.std.specs.Prelude.{◌≡◌, OnOk};
+ghost use Rattle.jc_script.specs.Report.{Appends};
 ghost use Rattle.jc_json.specs.Lines.{head_json, op_text, id_json, refusal_text, answer_json, managed_json};
 
 use crate::replies::{push_kind, push_kind_alone};
@@ -17,7 +18,7 @@ pub fn push_head(
     session: u32,
     cache: &str,
 ) -> Result<(), AllocError>
-    ensures { OnOk result (string_bytes text.new ≡ string_bytes text.old ++ head_json number session cache.now) }
+    ensures { OnOk result (Appends (head_json number session cache.now) text.old text.new) }
 {
     push_first(text, "line")?;
     push_number(alloc, text, number as u64)?;
@@ -41,7 +42,7 @@ fn push_id(
     refusal: Option<CreateRefusal>,
     id: u64,
 ) -> Result<(), AllocError>
-    ensures { OnOk result (string_bytes text.new ≡ string_bytes text.old ++ id_json refusal id) }
+    ensures { OnOk result (Appends (id_json refusal id) text.old text.new) }
 {
     match refusal {
         None => push_number(alloc, text, id),
@@ -65,7 +66,7 @@ fn name_of_refusal(refusal: CreateRefusal) -> &'static str
 }
 
 fn push_answer(text: &mut String, refusal: Option<CreateRefusal>) -> Result<(), AllocError>
-    ensures { OnOk result (string_bytes text.new ≡ string_bytes text.old ++ answer_json refusal) }
+    ensures { OnOk result (Appends (answer_json refusal) text.old text.new) }
 {
     match refusal {
         None => push_kind_alone(text, "done"),
@@ -87,7 +88,7 @@ pub fn push_managed(
     id: u64,
     managed: &Managed,
 ) -> Result<(), AllocError>
-    ensures { OnOk result (string_bytes text.new ≡ string_bytes text.old ++ managed_json number id managed.now) }
+    ensures { OnOk result (Appends (managed_json number id managed.now) text.old text.new) }
 {
     push_head(alloc, text, number, managed.session, managed.name.text())?;
     push_next(text, "id")?;

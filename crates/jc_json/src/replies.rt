@@ -1,5 +1,6 @@
 //! What a call came to, as JSON.
-ghost use Rattle.std.specs.Prelude.{◌≡◌, ◌++◌, OnOk, codes, string_bytes};
+ghost use Rattle.std.specs.Prelude.{◌≡◌, OnOk, codes};
+ghost use Rattle.jc_script.specs.Report.{Appends};
 ghost use Rattle.jc_json.specs.Replies.{kind_member, kind_json, valued_json, found_json, other_counters, counters_json, by_text, after_json, fault_json, reply_json, end_json, kind_text};
 ghost use Rattle.jc_json.specs.Values.{list_json, pair_json, result_json, truth_json};
 
@@ -16,7 +17,7 @@ use std::alloc::{AllocError, Global};
 /// Begins an object with its kind.
 #[tactic(auto, unfolding(crate::specs::Replies::kind_member))]
 pub fn push_kind(text: &mut String, kind: &str) -> Result<(), AllocError>
-    ensures { OnOk result (string_bytes text.new ≡ string_bytes text.old ++ kind_member kind.now) }
+    ensures { OnOk result (Appends (kind_member kind.now) text.old text.new) }
 {
     push_first(text, "kind")?;
     push_word(text, kind)
@@ -25,7 +26,7 @@ pub fn push_kind(text: &mut String, kind: &str) -> Result<(), AllocError>
 /// Adds an object that has a kind alone.
 #[tactic(auto, unfolding(crate::specs::Replies::kind_json))]
 pub fn push_kind_alone(text: &mut String, kind: &str) -> Result<(), AllocError>
-    ensures { OnOk result (string_bytes text.new ≡ string_bytes text.old ++ kind_json kind.now) }
+    ensures { OnOk result (Appends (kind_json kind.now) text.old text.new) }
 {
     push_kind(text, kind)?;
     text.push_str("}")
@@ -33,7 +34,8 @@ pub fn push_kind_alone(text: &mut String, kind: &str) -> Result<(), AllocError>
 
 #[tactic(auto, unfolding(crate::specs::Replies::valued_json))]
 fn push_truth_reply(text: &mut String, truth: bool) -> Result<(), AllocError>
-    ensures { OnOk result (string_bytes text.new ≡ string_bytes text.old ++ valued_json (codes "truth") (truth_json truth)) }
+    ensures { OnOk result (Appends (valued_json (codes "truth") (truth_json truth))
+        text.old text.new) }
 {
     push_kind(text, "truth")?;
     push_next(text, "value")?;
@@ -42,7 +44,7 @@ fn push_truth_reply(text: &mut String, truth: bool) -> Result<(), AllocError>
 }
 
 fn push_value(alloc: Global, text: &mut String, found: &Option<Value>) -> Result<(), AllocError>
-    ensures { OnOk result (string_bytes text.new ≡ string_bytes text.old ++ found_json found.now) }
+    ensures { OnOk result (Appends (found_json found.now) text.old text.new) }
 {
     match found {
         None => text.push_str("null"),
@@ -52,7 +54,8 @@ fn push_value(alloc: Global, text: &mut String, found: &Option<Value>) -> Result
 
 #[tactic(auto, unfolding(crate::specs::Replies::valued_json))]
 fn push_found(alloc: Global, text: &mut String, found: &Option<Value>) -> Result<(), AllocError>
-    ensures { OnOk result (string_bytes text.new ≡ string_bytes text.old ++ valued_json (codes "found") (found_json found.now)) }
+    ensures { OnOk result (Appends (valued_json (codes "found") (found_json found.now))
+        text.old text.new) }
 {
     push_kind(text, "found")?;
     push_next(text, "value")?;
@@ -62,7 +65,8 @@ fn push_found(alloc: Global, text: &mut String, found: &Option<Value>) -> Result
 
 #[tactic(auto, unfolding(crate::specs::Replies::valued_json))]
 fn push_listed(alloc: Global, text: &mut String, pairs: &[(Key, Value)]) -> Result<(), AllocError>
-    ensures { OnOk result (string_bytes text.new ≡ string_bytes text.old ++ valued_json (codes "listed") (list_json pair_json pairs.now)) }
+    ensures { OnOk result (Appends (valued_json (codes "listed") (list_json pair_json pairs.now))
+        text.old text.new) }
 {
     push_kind(text, "listed")?;
     push_next(text, "value")?;
@@ -76,7 +80,8 @@ fn push_results(
     text: &mut String,
     results: &[(Key, Result<Value, ProcessorFault>)],
 ) -> Result<(), AllocError>
-    ensures { OnOk result (string_bytes text.new ≡ string_bytes text.old ++ valued_json (codes "results") (list_json result_json results.now)) }
+    ensures { OnOk result (Appends
+        (valued_json (codes "results") (list_json result_json results.now)) text.old text.new) }
 {
     push_kind(text, "results")?;
     push_next(text, "value")?;
@@ -91,7 +96,7 @@ pub fn push_other_counters(
     text: &mut String,
     counts: &Counts,
 ) -> Result<(), AllocError>
-    ensures { OnOk result (string_bytes text.new ≡ string_bytes text.old ++ other_counters counts.now) }
+    ensures { OnOk result (Appends (other_counters counts.now) text.old text.new) }
 {
     push_number_member(alloc, text, "misses", counts.misses)?;
     push_number_member(alloc, text, "puts", counts.puts)?;
@@ -100,7 +105,7 @@ pub fn push_other_counters(
 }
 
 fn push_counters(alloc: Global, text: &mut String, counts: &Counts) -> Result<(), AllocError>
-    ensures { OnOk result (string_bytes text.new ≡ string_bytes text.old ++ counters_json counts.now) }
+    ensures { OnOk result (Appends (counters_json counts.now) text.old text.new) }
 {
     push_first(text, "hits")?;
     push_number(alloc, text, counts.hits)?;
@@ -110,7 +115,8 @@ fn push_counters(alloc: Global, text: &mut String, counts: &Counts) -> Result<()
 
 #[tactic(auto, unfolding(crate::specs::Replies::valued_json))]
 fn push_counted(alloc: Global, text: &mut String, counts: &Counts) -> Result<(), AllocError>
-    ensures { OnOk result (string_bytes text.new ≡ string_bytes text.old ++ valued_json (codes "counted") (counters_json counts.now)) }
+    ensures { OnOk result (Appends (valued_json (codes "counted") (counters_json counts.now))
+        text.old text.new) }
 {
     push_kind(text, "counted")?;
     push_next(text, "value")?;
@@ -129,7 +135,7 @@ fn name_of_hook(by: &By) -> &'static str
 }
 
 fn push_after(alloc: Global, text: &mut String, done: Option<u32>) -> Result<(), AllocError>
-    ensures { OnOk result (string_bytes text.new ≡ string_bytes text.old ++ after_json done) }
+    ensures { OnOk result (Appends (after_json done) text.old text.new) }
 {
     match done {
         None => text.push_str("null"),
@@ -143,7 +149,7 @@ fn push_fault(
     by: &By,
     done: Option<u32>,
 ) -> Result<(), AllocError>
-    ensures { OnOk result (string_bytes text.new ≡ string_bytes text.old ++ fault_json by.now done) }
+    ensures { OnOk result (Appends (fault_json by.now done) text.old text.new) }
 {
     push_kind(text, "fault")?;
     push_next(text, "by")?;
@@ -155,7 +161,7 @@ fn push_fault(
 
 /// Adds a reply.
 fn push_reply(alloc: Global, text: &mut String, reply: &Reply) -> Result<(), AllocError>
-    ensures { OnOk result (string_bytes text.new ≡ string_bytes text.old ++ reply_json reply.now) }
+    ensures { OnOk result (Appends (reply_json reply.now) text.old text.new) }
 {
     match reply {
         Reply::Done => push_kind_alone(text, "done"),
@@ -170,7 +176,7 @@ fn push_reply(alloc: Global, text: &mut String, reply: &Reply) -> Result<(), All
 
 /// Adds how a call stands.
 pub fn push_end(alloc: Global, text: &mut String, end: &End) -> Result<(), AllocError>
-    ensures { OnOk result (string_bytes text.new ≡ string_bytes text.old ++ end_json end.now) }
+    ensures { OnOk result (Appends (end_json end.now) text.old text.new) }
 {
     match end {
         End::Waiting => push_kind_alone(text, "waiting"),

@@ -24,7 +24,8 @@ pub fn report(
 ) -> Result<String, AllocError>
     requires legal { IsLegal transcript.now }
     requires opens { CanOpen transcript.now.lives }
-    ensures { IfOk result (λ s. string_bytes s ≡ json first outline.now transcript.now managed.now) }
+    ensures { IfOk result (λ s. string_bytes s
+        ≡ json first outline.now transcript.now managed.now) }
 {
     let mut report = String::new(alloc);
     let (lives, entries) = (transcript.lives(), transcript.entries());

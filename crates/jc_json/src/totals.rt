@@ -1,10 +1,10 @@
 //! The objects of lives.
-ghost use Rattle.std.specs.Prelude.{◌≡◌, ◌++◌, ◌∷◌, [], ◌/◌, ◌*◌, ◌+◌, ◌<◌, None, map, option_copied, OnOk, string_bytes};
+ghost use Rattle.std.specs.Prelude.{◌≡◌, ◌∷◌, [], ◌/◌, ◌*◌, ◌+◌, ◌<◌, None, option_copied, OnOk};
 ghost use Rattle.jc_engine.specs.Opening.{open_refusal};
 ghost use Rattle.jc_model.specs.Legal.{IsLegalFrom};
 ghost use Rattle.jc_model.specs.Runs.{fresh};
-ghost use Rattle.jc_script.specs.Report.{group};
-ghost use Rattle.jc_json.specs.Totals.{four_digits, fraction_json, ratio_json, life_json, lives_json, counts_after, AreMade};
+ghost use Rattle.jc_script.specs.Report.{Appends, group};
+ghost use Rattle.jc_json.specs.Totals.{four_digits, fraction_json, ratio_json, life_json, total_json, lives_json, entries_lent, AreMade};
 
 use crate::counters::counts_after;
 use crate::groups::grouped;
@@ -15,7 +15,7 @@ use jc_model::event::{Entry, Life};
 use std::alloc::{AllocError, Global};
 
 fn push_digits(alloc: Global, text: &mut String, number: u64) -> Result<(), AllocError>
-    ensures { OnOk result (string_bytes text.new ≡ string_bytes text.old ++ four_digits number) }
+    ensures { OnOk result (Appends (four_digits number) text.old text.new) }
 {
     push_number(alloc, text, number / 1_000 % 10)?;
     push_number(alloc, text, number / 100 % 10)?;
@@ -25,7 +25,7 @@ fn push_digits(alloc: Global, text: &mut String, number: u64) -> Result<(), Allo
 
 /// Adds so many ten-thousandths.
 fn push_fraction(alloc: Global, text: &mut String, number: u64) -> Result<(), AllocError>
-    ensures { OnOk result (string_bytes text.new ≡ string_bytes text.old ++ fraction_json number) }
+    ensures { OnOk result (Appends (fraction_json number) text.old text.new) }
 {
     push_number(alloc, text, number / 10_000)?;
     text.push_str(".")?;
@@ -44,7 +44,7 @@ fn ten_thousandths(hits: u64, misses: u64) -> u64
 /// Adds the hits in what was looked up.
 #[tactic(auto, unfolding(crate::specs::Totals::ratio_json))]
 fn push_ratio(alloc: Global, text: &mut String, hits: u64, misses: u64) -> Result<(), AllocError>
-    ensures { OnOk result (string_bytes text.new ≡ string_bytes text.old ++ ratio_json hits misses) }
+    ensures { OnOk result (Appends (ratio_json hits misses) text.old text.new) }
 {
     if hits == 0 && misses == 0 {
         return text.push_str("null");
@@ -60,7 +60,7 @@ fn push_life(
     life: &Life,
     counts: &Counts,
 ) -> Result<(), AllocError>
-    ensures { OnOk result (string_bytes text.new ≡ string_bytes text.old ++ life_json life.now counts.now) }
+    ensures { OnOk result (Appends (life_json life.now counts.now) text.old text.new) }
 {
     push_first(text, "cache")?;
     push_text(alloc, text, life.config.name.text())?;
@@ -81,8 +81,9 @@ fn push_total(
     entries: &[&Entry],
 ) -> Result<(), AllocError>
     requires opens { open_refusal (life.now.config ∷ []) ≡ None }
-    requires legal { IsLegalFrom life.now.config fresh (map (λ e. e.now) entries.now) }
-    ensures { OnOk result (string_bytes text.new ≡ string_bytes text.old ++ life_json life.now (counts_after life.now.config (map (λ e. e.now) entries.now))) }
+    requires legal { IsLegalFrom life.now.config fresh (entries_lent entries.now) }
+    ensures { OnOk result (Appends (total_json life.now (entries_lent entries.now))
+        text.old text.new) }
 {
     let counts = counts_after(alloc, seed, &life.config, entries)?;
     push_life(alloc, text, life, &counts)
@@ -98,7 +99,8 @@ fn push_grouped(
 ) -> Result<(), AllocError>
     requires opens { open_refusal (life.now.config ∷ []) ≡ None }
     requires legal { IsLegalFrom life.now.config fresh (group (option_copied entries)) }
-    ensures { OnOk result (string_bytes text.new ≡ string_bytes text.old ++ life_json life.now (counts_after life.now.config (group (option_copied entries.entry)))) }
+    ensures { OnOk result (Appends (total_json life.now (group (option_copied entries.entry)))
+        text.old text.new) }
 {
     match entries {
         Some(group) => push_total(alloc, seed, text, life, group.as_slice()),
@@ -115,7 +117,7 @@ pub fn push_lives(
     entries: &[Entry],
 ) -> Result<(), AllocError>
     requires { AreMade lives.now entries.now }
-    ensures { OnOk result (string_bytes text.new ≡ string_bytes text.old ++ lives_json lives.now entries.now) }
+    ensures { OnOk result (Appends (lives_json lives.now entries.now) text.old text.new) }
 {
     let groups = grouped(alloc, entries)?;
     for life in lives {

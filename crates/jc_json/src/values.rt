@@ -1,6 +1,7 @@
 //! Members, words, keys, values and lists as JSON.
-ghost use Rattle.std.specs.Prelude.{◌≡◌, ◌++◌, false, IfOk, OnOk, string_bytes, decimal};
+ghost use Rattle.std.specs.Prelude.{◌≡◌, false, IfOk, OnOk, string_bytes, decimal};
 ghost use Rattle.json.specs.Print.{quoted};
+ghost use Rattle.jc_script.specs.Report.{Appends};
 ghost use Rattle.jc_json.specs.Values.{first_member, next_member, word_json, number_member, bytes_json, bytes_member, comma_if, items_json, list_json, answered_member, truth_json};
 
 use jc_model::call::ProcessorFault;
@@ -10,19 +11,20 @@ use std::alloc::{AllocError, Global};
 
 /// What is written as JSON.
 pub trait Shown: Sized {
-    ghost use Rattle.std.specs.Prelude.{◌≡◌, ◌++◌, ℕ, List, OnOk, string_bytes};
+    ghost use Rattle.std.specs.Prelude.{ℕ, List, OnOk};
+    ghost use Rattle.jc_script.specs.Report.{Appends};
 
     ghost json: { Self → List ℕ };
 
     /// Adds it to a text.
     fn push(&self, alloc: Global, text: &mut String) -> Result<(), AllocError>
-        ensures { OnOk result (string_bytes text.new ≡ string_bytes text.old ++ json self.now) };
+        ensures { OnOk result (Appends (json self.now) text.old text.new) };
 }
 
 /// Begins an object with the name of its first member.
 #[tactic(auto, unfolding(crate::specs::Values::first_member))]
 pub fn push_first(text: &mut String, name: &str) -> Result<(), AllocError>
-    ensures { OnOk result (string_bytes text.new ≡ string_bytes text.old ++ first_member name.now) }
+    ensures { OnOk result (Appends (first_member name.now) text.old text.new) }
 {
     text.push_str("{\"")?;
     text.push_str(name)?;
@@ -32,7 +34,7 @@ pub fn push_first(text: &mut String, name: &str) -> Result<(), AllocError>
 /// Adds the name of one more member.
 #[tactic(auto, unfolding(crate::specs::Values::next_member))]
 pub fn push_next(text: &mut String, name: &str) -> Result<(), AllocError>
-    ensures { OnOk result (string_bytes text.new ≡ string_bytes text.old ++ next_member name.now) }
+    ensures { OnOk result (Appends (next_member name.now) text.old text.new) }
 {
     text.push_str(",\"")?;
     text.push_str(name)?;
@@ -42,7 +44,7 @@ pub fn push_next(text: &mut String, name: &str) -> Result<(), AllocError>
 /// Adds a word of letters and spaces as a string.
 #[tactic(auto, unfolding(crate::specs::Values::word_json))]
 pub fn push_word(text: &mut String, word: &str) -> Result<(), AllocError>
-    ensures { OnOk result (string_bytes text.new ≡ string_bytes text.old ++ word_json word.now) }
+    ensures { OnOk result (Appends (word_json word.now) text.old text.new) }
 {
     text.push_str("\"")?;
     text.push_str(word)?;
@@ -51,7 +53,7 @@ pub fn push_word(text: &mut String, word: &str) -> Result<(), AllocError>
 
 /// Adds a number in decimal digits.
 pub fn push_number(alloc: Global, text: &mut String, number: u64) -> Result<(), AllocError>
-    ensures { OnOk result (string_bytes text.new ≡ string_bytes text.old ++ decimal number) }
+    ensures { OnOk result (Appends (decimal number) text.old text.new) }
 {
     text.push_str(number.to_string(alloc)?.as_str())
 }
@@ -63,7 +65,7 @@ pub fn push_number_member(
     name: &str,
     number: u64,
 ) -> Result<(), AllocError>
-    ensures { OnOk result (string_bytes text.new ≡ string_bytes text.old ++ number_member name.now number) }
+    ensures { OnOk result (Appends (number_member name.now number) text.old text.new) }
 {
     push_next(text, name)?;
     push_number(alloc, text, number)
@@ -78,7 +80,7 @@ fn quote(alloc: Global, text: &str) -> Result<String, AllocError>
 
 /// Adds a text as a JSON string.
 pub fn push_text(alloc: Global, text: &mut String, shown: &str) -> Result<(), AllocError>
-    ensures { OnOk result (string_bytes text.new ≡ string_bytes text.old ++ quoted shown.now) }
+    ensures { OnOk result (Appends (quoted shown.now) text.old text.new) }
 {
     text.push_str(quote(alloc, shown)?.as_str())
 }
@@ -100,7 +102,7 @@ fn show(alloc: Global, bytes: &[u8]) -> Result<String, AllocError>
 
 /// Adds bytes.
 pub fn push_bytes(alloc: Global, text: &mut String, bytes: &[u8]) -> Result<(), AllocError>
-    ensures { OnOk result (string_bytes text.new ≡ string_bytes text.old ++ bytes_json bytes.now) }
+    ensures { OnOk result (Appends (bytes_json bytes.now) text.old text.new) }
 {
     text.push_str(show(alloc, bytes)?.as_str())
 }
@@ -112,7 +114,7 @@ pub fn push_bytes_member(
     name: &str,
     bytes: &[u8],
 ) -> Result<(), AllocError>
-    ensures { OnOk result (string_bytes text.new ≡ string_bytes text.old ++ bytes_member name.now bytes.now) }
+    ensures { OnOk result (Appends (bytes_member name.now bytes.now) text.old text.new) }
 {
     push_next(text, name)?;
     push_bytes(alloc, text, bytes)
@@ -120,13 +122,13 @@ pub fn push_bytes_member(
 
 /// Adds true or false.
 pub fn push_truth(text: &mut String, truth: bool) -> Result<(), AllocError>
-    ensures { OnOk result (string_bytes text.new ≡ string_bytes text.old ++ truth_json truth) }
+    ensures { OnOk result (Appends (truth_json truth) text.old text.new) }
 {
     text.push_str(if truth { "true" } else { "false" })
 }
 
 fn push_comma(text: &mut String, later: bool) -> Result<(), AllocError>
-    ensures { OnOk result (string_bytes text.new ≡ string_bytes text.old ++ comma_if later) }
+    ensures { OnOk result (Appends (comma_if later) text.old text.new) }
 {
     if later {
         return text.push_str(",");
@@ -135,7 +137,7 @@ fn push_comma(text: &mut String, later: bool) -> Result<(), AllocError>
 }
 
 fn push_items<T: Shown>(alloc: Global, text: &mut String, items: &[T]) -> Result<(), AllocError>
-    ensures { OnOk result (string_bytes text.new ≡ string_bytes text.old ++ items_json T.json false items.now) }
+    ensures { OnOk result (Appends (items_json T.json false items.now) text.old text.new) }
 {
     let mut later = false;
     for item in items {
@@ -149,7 +151,7 @@ fn push_items<T: Shown>(alloc: Global, text: &mut String, items: &[T]) -> Result
 /// Adds a list.
 #[tactic(auto, unfolding(crate::specs::Values::list_json))]
 pub fn push_list<T: Shown>(alloc: Global, text: &mut String, items: &[T]) -> Result<(), AllocError>
-    ensures { OnOk result (string_bytes text.new ≡ string_bytes text.old ++ list_json T.json items.now) }
+    ensures { OnOk result (Appends (list_json T.json items.now) text.old text.new) }
 {
     text.push_str("[")?;
     push_items(alloc, text, items)?;
@@ -184,7 +186,7 @@ fn push_answered(
     text: &mut String,
     answered: &Result<Value, ProcessorFault>,
 ) -> Result<(), AllocError>
-    ensures { OnOk result (string_bytes text.new ≡ string_bytes text.old ++ answered_member answered.now) }
+    ensures { OnOk result (Appends (answered_member answered.now) text.old text.new) }
 {
     match answered {
         Ok(value) => push_bytes_member(alloc, text, "value", value.bytes()),
