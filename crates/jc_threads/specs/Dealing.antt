@@ -1,5 +1,5 @@
 -- How sessions and calls are dealt to workers: session s goes to worker s mod workers, and with it its calls.
-use Rattle.std.specs.Prelude.{◌≡◌, ℕ, ◌+◌, max, ◌%◌, ◌/◌, ◌==◌, List, [], ◌++◌, length, slice_get, Some, Result, IfOk}
+use Rattle.std.specs.Prelude.{◌≡◌, ℕ, ◌+◌, ◌<◌, max, ◌%◌, ◌/◌, ◌==◌, List, [], ◌∷◌, ◌++◌, length, slice_get, Some, Result, IfOk}
 use Rattle.std.specs.List.{filter, fold, All}
 use Rattle.jc_script.specs.declared.line.Line.{Line}
 use Rattle.jc_script.specs.declared.line.Line.TheVariants.{Call, Create, Destroy}
@@ -17,6 +17,13 @@ pub record Share : Type 0 where
 abbrev pub idle : Share
 idle = record { sessions = []; lines = [] }
 
+-- with a session more, and with a call more
+abbrev pub with_session : Sitting → Share → Share
+with_session own share = record share { sessions = share.sessions ++ own ∷ [] }
+
+abbrev pub with_line : LineCall → Share → Share
+with_line line share = record share { lines = share.lines ++ line ∷ [] }
+
 -- a worker's sessions stand where one looks for them
 abbrev pub AreSeated : ℕ → ℕ → List Sitting → Type 0
 AreSeated workers worker sessions =
@@ -33,6 +40,14 @@ pub record HasSeat (workers number : ℕ) (crew : List Share) : Type 0 where
   pub session : Sitting
   pub there : slice_get share.sessions (number / workers) ≡ Some session
   pub own : session.number ≡ number
+
+-- all with smaller numbers than this are there
+abbrev pub HasSeats : ℕ → ℕ → List Share → Type 0
+HasSeats workers sessions crew = (number : ℕ) → number < sessions → HasSeat workers number crew
+
+-- and those that were there still are
+abbrev pub KeepsSeats : ℕ → List Share → List Share → Type 0
+KeepsSeats workers before after = (number : ℕ) → HasSeat workers number before → HasSeat workers number after
 
 -- the session of a line
 abbrev pub session_in : Line → ℕ
@@ -65,6 +80,11 @@ pub record IsAtWork (stated : List Stated) (workers worker : ℕ) (done : List L
   pub made : All (HasMade stated done) sessions
   pub there : All (λ l. Among l.session sessions) done
 
+-- they make these calls behind those that they have made
+abbrev pub WorkerMakes : List Stated → ℕ → List LineCall → List Sitting → List Sitting → Type 0
+WorkerMakes stated workers lines before after =
+    (worker : ℕ) (done : List LineCall) → IsAtWork stated workers worker done before → IsAtWork stated workers worker (done ++ lines) after
+
 -- a worker's sessions have made the first of its part of these calls, and it holds the others
 pub record IsUnderWay (stated : List Stated) (workers worker : ℕ) (all : List LineCall) (share : Share) : Type 0 where
   pub done : List LineCall
@@ -82,6 +102,22 @@ pub record HasRested (stated : List Stated) (workers worker : ℕ) (all : List L
 abbrev pub HaveRested : List Stated → List LineCall → List Share → Type 0
 HaveRested stated all crew = (worker : ℕ) (share : Share) → slice_get crew worker ≡ Some share → HasRested stated (length crew) worker all share
 
+-- workers take these calls behind those that they are under way with
+abbrev pub TakeCalls : List Stated → List LineCall → List Share → List Share → Type 0
+TakeCalls stated more before after = (all : List LineCall) → AreUnderWay stated all before → AreUnderWay stated (all ++ more) after
+
+-- they are still under way with what they were
+abbrev pub KeepCalls : List Stated → List Share → List Share → Type 0
+KeepCalls stated before after = (all : List LineCall) → AreUnderWay stated all before → AreUnderWay stated all after
+
+-- they make all that they were under way with
+abbrev pub EndCalls : List Stated → List Share → List Share → Type 0
+EndCalls stated before after = (all : List LineCall) → AreUnderWay stated all before → HaveRested stated all after
+
+-- what they had made they have made still, and they hold none
+abbrev pub KeepRest : List Stated → List Share → List Share → Type 0
+KeepRest stated before after = (all : List LineCall) → HaveRested stated all before → HaveRested stated all after
+
 -- no worker holds a call
 abbrev pub AreAtRest : List Share → Type 0
 AreAtRest crew = (worker : ℕ) (share : Share) → slice_get crew worker ≡ Some share → share.lines ≡ []
@@ -89,7 +125,7 @@ AreAtRest crew = (worker : ℕ) (share : Share) → slice_get crew worker ≡ So
 -- a worker has made the calls that it held
 pub record HasWorked (stated : List Stated) (workers : ℕ) (before after : Share) : Type 0 where
   pub lines : after.lines ≡ []
-  pub made : (worker : ℕ) (done : List LineCall) → IsAtWork stated workers worker done before.sessions → IsAtWork stated workers worker (done ++ before.lines) after.sessions
+  pub made : WorkerMakes stated workers before.lines before.sessions after.sessions
 
 -- and so has each that is not at fault
 pub record HaveWorked (stated : List Stated) (crew : List Share) (results : List (Result Share WorkFault)) : Type 0 where

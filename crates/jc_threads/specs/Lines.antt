@@ -1,5 +1,5 @@
 -- Which calls sessions have made.
-use Rattle.std.specs.Prelude.{◌≡◌, ◌⊎◌, ℕ, ◌==◌, List, [], ◌∷◌, map, slice_get}
+use Rattle.std.specs.Prelude.{◌≡◌, ◌⊎◌, ℕ, ◌==◌, List, [], ◌∷◌, ◌++◌, map, slice_get}
 use Rattle.std.specs.List.{filter, All}
 use Rattle.jc_model.specs.declared.event.Entry.{Entry}
 use Rattle.jc_script.specs.Calls.{line_of, IsReply}
@@ -26,6 +26,10 @@ pub record HasMade (stated : List Stated) (lines : List LineCall) (own : Sitting
 pub record AreMade (stated : List Stated) (lines : List LineCall) (entries : List Entry) : Type 0 where
   pub each : (session : ℕ) → map line_of (calls_of session entries) ≡ lines_by session lines
   pub answered : All (IsAnswered stated) entries
+
+-- a session makes this call behind those that it has made
+abbrev pub SessionMakes : List Stated → LineCall → Sitting → Sitting → Type 0
+SessionMakes stated line before after = (done : List LineCall) → HasMade stated done before → HasMade stated (done ++ line ∷ []) after
 
 -- one of these is a session with this number
 abbrev pub Among : ℕ → List Sitting → Type 0

@@ -1,5 +1,5 @@
 -- What becomes of a script's lines that create and destroy caches.
-use Rattle.std.specs.Prelude.{ℕ, List, [], ◌∷◌, Option, Some, None, ⊤}
+use Rattle.std.specs.Prelude.{ℕ, List, [], ◌∷◌, ◌++◌, Option, Some, None, ⊤}
 use Rattle.jc_model.specs.declared.config.CacheConfig.{CacheConfig}
 use Rattle.jc_model.specs.declared.event.CreateRefusal.{CreateRefusal}
 use Rattle.jc_script.specs.declared.line.Line.{Line}
@@ -26,3 +26,7 @@ AreManaged configs (Create session config ∷ ls) (r ∷ rs) = IsCreating config
 AreManaged configs (Destroy session id ∷ ls) [] = ⊥
 AreManaged configs (Destroy session id ∷ ls) (None ∷ rs) = IsDestroying configs id × AreManaged configs ls rs
 AreManaged configs (Destroy session id ∷ ls) (Some refusal ∷ rs) = ⊥
+
+-- this line did so behind those that did
+abbrev pub ManagesLine : List CacheConfig → Line → List (Option CreateRefusal) → List (Option CreateRefusal) → Type 0
+ManagesLine configs line before after = (done : List Line) → AreManaged configs done before → AreManaged configs (done ++ line ∷ []) after

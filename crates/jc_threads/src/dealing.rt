@@ -1,7 +1,6 @@
 //! Dealing sessions and calls to workers.
-ghost use Rattle.std.specs.Prelude.{◌≡◌, ℕ, ◌<◌, ◌++◌, ◌∷◌, [], List, Err, IfOk, OnOk, length, replicate};
-ghost use Rattle.jc_script.specs.declared.line.LineCall.{LineCall as CallValue};
-ghost use Rattle.jc_threads.specs.Dealing.{idle, session_in, sessions_in, IsNext, HasSeat, AreIdle, AreUnderWay};
+ghost use Rattle.std.specs.Prelude.{◌≡◌, ◌<◌, ◌∷◌, [], Err, IfOk, OnOk, length, replicate};
+ghost use Rattle.jc_threads.specs.Dealing.{idle, session_in, sessions_in, IsNext, HasSeat, HasSeats, KeepsSeats, AreIdle, AreUnderWay, TakeCalls};
 
 use crate::fault::WorkFault;
 use crate::worker::Worker;
@@ -58,10 +57,12 @@ fn seat<'a, N: Name, L: Loader, W: Writer, P: Processor, K: Hearer>(
     requires some { 0 < length crew.old }
     requires fresh { session.calls ≡ [] }
     ensures counted { length crew.new ≡ length crew.old }
-    ensures close { result ≡ Err WorkFault.Close → session.entry.number ≡ number → IsNext number crew.old → ⊥ }
-    ensures memory { result ≡ Err WorkFault.OutOfMemory → (session.entry.number ≡ number) × IsNext number crew.old }
+    ensures close { result ≡ Err WorkFault.Close → session.entry.number ≡ number
+        → IsNext number crew.old → ⊥ }
+    ensures memory { result ≡ Err WorkFault.OutOfMemory
+        → (session.entry.number ≡ number) × IsNext number crew.old }
     ensures own { OnOk result (HasSeat (length crew.old) number crew.new) }
-    ensures kept { OnOk result ((n : ℕ) → HasSeat (length crew.old) n crew.old → HasSeat (length crew.old) n crew.new) }
+    ensures kept { OnOk result (KeepsSeats (length crew.old) crew.old crew.new) }
     ensures seated { OnOk result (AreIdle crew.old → AreIdle crew.new) }
 {
     if session.number() as usize != number {
@@ -80,7 +81,7 @@ fn seat_all<'a, N: Name, L: Loader, W: Writer, P: Processor, K: Hearer, R: Wait>
 ) -> Result<(), WorkFault>
     requires some { 0 < length crew.old }
     ensures counted { length crew.new ≡ length crew.old }
-    ensures opened { OnOk result ((number : ℕ) → number < sessions → HasSeat (length crew.old) number crew.new) }
+    ensures opened { OnOk result (HasSeats (length crew.old) sessions crew.new) }
     ensures seated { OnOk result (AreIdle crew.old → AreIdle crew.new) }
 {
     for number in 0..sessions {
@@ -97,7 +98,7 @@ pub(crate) fn hand<'a, N: Name, L: Loader, W: Writer, P: Processor, K: Hearer>(
 ) -> Result<(), OutOfMemory>
     requires some { 0 < length crew.old }
     ensures counted { length crew.new ≡ length crew.old }
-    ensures handed { OnOk result ((all : List CallValue) → AreUnderWay N.stated all crew.old → AreUnderWay N.stated (all ++ line ∷ []) crew.new) }
+    ensures handed { OnOk result (TakeCalls N.stated (line ∷ []) crew.old crew.new) }
 {
     let workers = crew.len();
     crew[line.session as usize % workers].hand(line)
@@ -112,8 +113,9 @@ pub(crate) fn dealt<'a, N: Name, L: Loader, W: Writer, P: Processor, K: Hearer, 
     lines: &[Line],
 ) -> Result<Vec<Worker<'a, N, L, W, P, K>>, WorkFault>
     requires { 0 < workers }
-    ensures ready { IfOk result (λ crew. (length crew.items ≡ workers) × AreUnderWay N.stated [] crew.items) }
-    ensures opened { IfOk result (λ crew. (number : ℕ) → number < sessions_in lines.now → HasSeat workers number crew.items) }
+    ensures ready { IfOk result (λ crew. (length crew.items ≡ workers)
+        × AreUnderWay N.stated [] crew.items) }
+    ensures opened { IfOk result (λ crew. HasSeats workers (sessions_in lines.now) crew.items) }
 {
     let sessions = sessions_of(lines);
     let mut crew = idle(alloc, workers)?;

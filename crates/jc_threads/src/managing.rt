@@ -1,9 +1,8 @@
 //! Caches created and destroyed by a worker's session.
-ghost use Rattle.std.specs.Prelude.{◌≡◌, ◌≢◌, ◌<◌, ◌≤◌, List, None, Some, Err, IsOk, IfOk, IfErr, OnOk, length, map, slice_get};
-ghost use Rattle.jc_script.specs.declared.line.LineCall.{LineCall as CallValue};
+ghost use Rattle.std.specs.Prelude.{◌≡◌, ◌≢◌, ◌<◌, ◌≤◌, None, Some, Err, IsOk, IfOk, IfErr, OnOk, length, map, slice_get};
 ghost use Rattle.jc_shared.specs.Living.{Answers};
 ghost use Rattle.jc_shared.specs.Sessions.{Sitting, log_of};
-ghost use Rattle.jc_threads.specs.Dealing.{HasSeat, AreAtRest, HaveRested};
+ghost use Rattle.jc_threads.specs.Dealing.{HasSeat, AreAtRest, KeepRest};
 ghost use Rattle.jc_threads.specs.Managing.{IsCreating, IsDestroying};
 
 use crate::fault::{WorkFault, of_create};
@@ -73,7 +72,8 @@ pub(crate) fn create<'a, N: Name, L: Loader, W: Writer, P: Processor, K: Hearer,
     requires some { 0 < length crew.now }
     requires rest { AreAtRest crew.now }
     ensures told { IfOk result (λ refusal. IsCreating N.configs config refusal) }
-    ensures ended { HasSeat (length crew.now) session crew.now → IfErr result (λ _. Answers N.configs config None) }
+    ensures ended { HasSeat (length crew.now) session crew.now
+        → IfErr result (λ _. Answers N.configs config None) }
 {
     create_by(rt, alloc, own_session(crew, session)?, config)
 }
@@ -87,7 +87,8 @@ pub(crate) fn destroy_by<'a, N: Name, L: Loader, W: Writer, P: Processor, K: Hea
     id: CacheId,
 ) -> Result<(), WorkFault>
     ensures beyond { length sessions.old ≤ place → result ≡ Err WorkFault.Close }
-    ensures other { (found : Sitting) → slice_get sessions.old place ≡ Some found → found.number ≢ session → result ≡ Err WorkFault.Close }
+    ensures other { (found : Sitting) → slice_get sessions.old place ≡ Some found
+        → found.number ≢ session → result ≡ Err WorkFault.Close }
     ensures gone { OnOk result (IsDestroying N.configs id) }
     ensures same { map log_of sessions.new ≡ map log_of sessions.old }
 {
@@ -111,7 +112,7 @@ pub(crate) fn destroy<'a, N: Name, L: Loader, W: Writer, P: Processor, K: Hearer
     requires rest { AreAtRest crew.old }
     ensures gone { OnOk result (IsDestroying N.configs id) }
     ensures counted { length crew.new ≡ length crew.old }
-    ensures rested { (all : List CallValue) → HaveRested N.stated all crew.old → HaveRested N.stated all crew.new }
+    ensures rested { KeepRest N.stated crew.old crew.new }
 {
     let workers = crew.len();
     let number = session as usize;

@@ -1,12 +1,10 @@
 //! A script in rounds: the workers make calls side by side, and are all done before a cache is created or destroyed.
-ghost use Rattle.std.specs.Prelude.{◌≡◌, ◌↔◌, ◌⊎◌, ◌<◌, ◌++◌, ◌∷◌, [], List, Ok, Err, None, IsTrue, IfOk, IfErr, OnOk, length, map};
+ghost use Rattle.std.specs.Prelude.{◌≡◌, ◌↔◌, ◌⊎◌, ◌<◌, ◌∷◌, [], Ok, Err, None, IsTrue, IfOk, IfErr, OnOk, length, map};
 ghost use Rattle.std.specs.List.{Contains};
 ghost use Rattle.jc_script.specs.Calls.{call_in, calls_in};
-ghost use Rattle.jc_script.specs.declared.line.Line.{Line as LineValue};
 ghost use Rattle.jc_script.specs.declared.line.Line.TheVariants as lines;
-ghost use Rattle.jc_script.specs.declared.line.LineCall.{LineCall as CallValue};
-ghost use Rattle.jc_threads.specs.Dealing.{AreAtRest, HasWorked, HaveWorked, AreUnderWay, HaveRested};
-ghost use Rattle.jc_threads.specs.Managing.{AreManaged};
+ghost use Rattle.jc_threads.specs.Dealing.{AreAtRest, HasWorked, HaveWorked, AreUnderWay, EndCalls, KeepCalls, TakeCalls};
+ghost use Rattle.jc_threads.specs.Managing.{AreManaged, ManagesLine};
 
 use crate::dealing::hand;
 use crate::fault::WorkFault;
@@ -59,7 +57,8 @@ fn gathered<'a, N: Name, L: Loader, W: Writer, P: Processor, K: Hearer>(
     results: Vec<Result<Worker<'a, N, L, W, P, K>, WorkFault>>,
 ) -> Result<Vec<Worker<'a, N, L, W, P, K>>, WorkFault>
     ensures ok { IfOk result (λ crew. map Ok crew.items ≡ results.entry.items) }
-    ensures fault { IfErr result (λ fault. (fault ≡ WorkFault.OutOfMemory) ⊎ Contains results.entry.items (Err fault)) }
+    ensures fault { IfErr result (λ fault. (fault ≡ WorkFault.OutOfMemory)
+        ⊎ Contains results.entry.items (Err fault)) }
 {
     let mut crew = Vec::new(alloc);
     for result in results {
@@ -102,7 +101,7 @@ pub(crate) fn end_round<
     ensures idle { AreAtRest crew.entry.items → result ≡ Ok crew.entry }
     ensures counted { IfOk result (λ v. length v.items ≡ length crew.entry.items) }
     ensures rest { IfOk result (λ v. AreAtRest v.items) }
-    ensures rested { IfOk result (λ v. (all : List CallValue) → AreUnderWay N.stated all crew.entry.items → HaveRested N.stated all v.items) }
+    ensures rested { IfOk result (λ v. EndCalls N.stated crew.entry.items v.items) }
 {
     if are_at_rest(crew.as_slice()) {
         return Ok(crew);
@@ -118,7 +117,7 @@ fn take_call<'a, N: Name, L: Loader, W: Writer, P: Processor, K: Hearer>(
 ) -> Result<Vec<Worker<'a, N, L, W, P, K>>, OutOfMemory>
     requires some { 0 < length crew.items }
     ensures counted { IfOk result (λ v. length v.items ≡ length crew.entry.items) }
-    ensures made { IfOk result (λ v. (all : List CallValue) → AreUnderWay N.stated all crew.entry.items → AreUnderWay N.stated (all ++ line ∷ []) v.items) }
+    ensures made { IfOk result (λ v. TakeCalls N.stated (line ∷ []) crew.entry.items v.items) }
 {
     let mut crew = crew;
     hand(crew.as_mut_slice(), line)?;
@@ -146,8 +145,9 @@ fn take_create<
 ) -> Result<Vec<Worker<'a, N, L, W, P, K>>, WorkFault>
     requires some { 0 < length crew.items }
     ensures counted { IfOk result (λ v. length v.items ≡ length crew.entry.items) }
-    ensures made { IfOk result (λ v. (all : List CallValue) → AreUnderWay N.stated all crew.entry.items → AreUnderWay N.stated all v.items) }
-    ensures managed { OnOk result ((done : List LineValue) → AreManaged N.configs done refusals.old.items → AreManaged N.configs (done ++ lines.Create session config ∷ []) refusals.new.items) }
+    ensures made { IfOk result (λ v. KeepCalls N.stated crew.entry.items v.items) }
+    ensures managed { OnOk result (ManagesLine N.configs (lines.Create session config)
+        refusals.old.items refusals.new.items) }
 {
     let crew = end_round(rt, alloc, gate, crew)?;
     let refusal = create(rt, alloc, crew.as_slice(), session, config)?;
@@ -176,8 +176,9 @@ fn take_destroy<
 ) -> Result<Vec<Worker<'a, N, L, W, P, K>>, WorkFault>
     requires some { 0 < length crew.items }
     ensures counted { IfOk result (λ v. length v.items ≡ length crew.entry.items) }
-    ensures made { IfOk result (λ v. (all : List CallValue) → AreUnderWay N.stated all crew.entry.items → AreUnderWay N.stated all v.items) }
-    ensures managed { OnOk result ((done : List LineValue) → AreManaged N.configs done refusals.old.items → AreManaged N.configs (done ++ lines.Destroy session id ∷ []) refusals.new.items) }
+    ensures made { IfOk result (λ v. KeepCalls N.stated crew.entry.items v.items) }
+    ensures managed { OnOk result (ManagesLine N.configs (lines.Destroy session id)
+        refusals.old.items refusals.new.items) }
 {
     let mut crew = end_round(rt, alloc, gate, crew)?;
     destroy(rt, crew.as_mut_slice(), session, id)?;
@@ -205,8 +206,9 @@ fn take<
 ) -> Result<Vec<Worker<'a, N, L, W, P, K>>, WorkFault>
     requires some { 0 < length crew.items }
     ensures counted { IfOk result (λ v. length v.items ≡ length crew.entry.items) }
-    ensures made { IfOk result (λ v. (all : List CallValue) → AreUnderWay N.stated all crew.entry.items → AreUnderWay N.stated (all ++ call_in line) v.items) }
-    ensures managed { OnOk result ((done : List LineValue) → AreManaged N.configs done refusals.old.items → AreManaged N.configs (done ++ line ∷ []) refusals.new.items) }
+    ensures made { IfOk result (λ v. TakeCalls N.stated (call_in line) crew.entry.items v.items) }
+    ensures managed { OnOk result (ManagesLine N.configs line
+        refusals.old.items refusals.new.items) }
 {
     match line {
         Line::Call(call) => Ok(take_call(crew, call)?),
@@ -239,8 +241,10 @@ pub(crate) fn take_all<
 ) -> Result<Vec<Worker<'a, N, L, W, P, K>>, WorkFault>
     requires some { 0 < length crew.items }
     ensures counted { IfOk result (λ v. length v.items ≡ length crew.entry.items) }
-    ensures made { IfOk result (λ v. AreUnderWay N.stated [] crew.entry.items → AreUnderWay N.stated (calls_in lines.items) v.items) }
-    ensures managed { OnOk result (AreManaged N.configs [] refusals.old.items → AreManaged N.configs lines.items refusals.new.items) }
+    ensures made { IfOk result (λ v. AreUnderWay N.stated [] crew.entry.items
+        → AreUnderWay N.stated (calls_in lines.items) v.items) }
+    ensures managed { OnOk result (AreManaged N.configs [] refusals.old.items
+        → AreManaged N.configs lines.items refusals.new.items) }
 {
     let mut crew = crew;
     for line in lines {

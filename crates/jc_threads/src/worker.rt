@@ -1,10 +1,9 @@
 //! One worker: it makes the calls that it holds, by its sessions and in the script's order.
-ghost use Rattle.std.specs.Prelude.{◌≡◌, ◌≢◌, ◌↔◌, ℕ, ◌<◌, ◌≤◌, ◌/◌, ◌++◌, ◌∷◌, [], List, length, map, Err, IsTrue, IsOk, IfOk, IfErr, OnOk};
-ghost use Rattle.jc_script.specs.declared.line.LineCall.{LineCall as CallValue};
+ghost use Rattle.std.specs.Prelude.{◌≡◌, ◌≢◌, ◌↔◌, ◌<◌, ◌≤◌, ◌/◌, ◌∷◌, [], length, map, Err, IsTrue, IsOk, IfOk, IfErr, OnOk};
 ghost use Rattle.jc_shared.specs.Sessions.{log_of};
-ghost use Rattle.jc_threads.specs.Dealing.{IsAtWork, HasWorked};
+ghost use Rattle.jc_threads.specs.Dealing.{HasWorked, WorkerMakes, with_line, with_session};
 ghost use Rattle.jc_threads.specs.Faults.{of_call};
-ghost use Rattle.jc_threads.specs.Lines.{HasMade};
+ghost use Rattle.jc_threads.specs.Lines.{SessionMakes};
 ghost use Rattle.jc_threads.specs.Managing.{IsDestroying};
 
 use crate::fault::WorkFault;
@@ -45,8 +44,9 @@ impl<'a, N: Name, L: Loader, W: Writer, P: Processor, K: Hearer> Worker<'a, N, L
     ) -> Result<(), WorkFault>
         ensures next { OnOk result (length self.old.sessions ≡ place) }
         ensures other { length self.old.sessions ≢ place → result ≡ Err WorkFault.Close }
-        ensures memory { length self.old.sessions ≡ place → IfErr result (λ fault. fault ≡ WorkFault.OutOfMemory) }
-        ensures seated { OnOk result (self.new ≡ record self.old { sessions = self.old.sessions ++ session.entry ∷ [] }) }
+        ensures memory { length self.old.sessions ≡ place
+            → IfErr result (λ fault. fault ≡ WorkFault.OutOfMemory) }
+        ensures seated { OnOk result (self.new ≡ with_session session.entry self.old) }
     {
         if self.sessions.len() != place {
             return Err(WorkFault::Close);
@@ -57,7 +57,7 @@ impl<'a, N: Name, L: Loader, W: Writer, P: Processor, K: Hearer> Worker<'a, N, L
 
     /// Takes a call.
     pub(crate) fn hand(&mut self, line: LineCall) -> Result<(), OutOfMemory>
-        ensures handed { OnOk result (self.new ≡ record self.old { lines = self.old.lines ++ line ∷ [] }) }
+        ensures handed { OnOk result (self.new ≡ with_line line self.old) }
     {
         self.lines.push(line)?;
         Ok(())
@@ -122,7 +122,7 @@ fn make_call<'a, N: Name, L: Loader, W: Writer, P: Processor, K: Hearer, G: Gate
     ensures number { session.new.number ≡ session.old.number }
     ensures own { OnOk result (session.old.number ≡ line.session) }
     ensures other { session.old.number ≢ line.session → result ≡ Err WorkFault.Close }
-    ensures made { OnOk result ((done : List CallValue) → HasMade N.stated done session.old → HasMade N.stated (done ++ line ∷ []) session.new) }
+    ensures made { OnOk result (SessionMakes N.stated line session.old session.new) }
 {
     if session.number() != line.session {
         drop(line);
@@ -151,7 +151,8 @@ fn make_line<'a, N: Name, L: Loader, W: Writer, P: Processor, K: Hearer, G: Gate
 ) -> Result<(), WorkFault>
     requires { 0 < workers }
     ensures beyond { length sessions.old ≤ line.session / workers → result ≡ Err WorkFault.Close }
-    ensures made { OnOk result ((worker : ℕ) (done : List CallValue) → IsAtWork N.stated workers worker done sessions.old → IsAtWork N.stated workers worker (done ++ line ∷ []) sessions.new) }
+    ensures made { OnOk result (WorkerMakes N.stated workers (line ∷ [])
+        sessions.old sessions.new) }
 {
     let place = line.session as usize / workers;
     if place >= sessions.len() {
@@ -170,7 +171,7 @@ fn make_all<'a, N: Name, L: Loader, W: Writer, P: Processor, K: Hearer, G: Gate,
     lines: Vec<LineCall>,
 ) -> Result<(), WorkFault>
     requires { 0 < workers }
-    ensures { OnOk result ((worker : ℕ) (done : List CallValue) → IsAtWork N.stated workers worker done sessions.old → IsAtWork N.stated workers worker (done ++ lines.items) sessions.new) }
+    ensures { OnOk result (WorkerMakes N.stated workers lines.items sessions.old sessions.new) }
 {
     for line in lines {
         make_line(rt, gate, workers, sessions, line)?;
