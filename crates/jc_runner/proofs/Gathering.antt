@@ -31,7 +31,7 @@ use Rattle.jc_shared.specs.Opening.{CanOpen, IsRefusal}
 use Rattle.jc_runner.specs.Hooks.{AreSuited, CannotOpen}
 use Rattle.jc_runner.proofs.Suiting.{suited, each_suits}
 use Rattle.jc_runner.specs.Forms.{report_in}
-use Rattle.jc_runner.specs.Together.{stated_of, Gathers, GathersSo}
+use Rattle.jc_runner.specs.Together.{stated_of, refusals_of, Gathers, GathersSo}
 use Rattle.jc_runner.specs.declared.output.form.Form.{Form}
 use Rattle.jc_runner.specs.declared.exit.fault.RunFault.{RunFault}
 
@@ -70,10 +70,7 @@ module _ {L W P K : Type 0} (wants : P → Bool) where
 
 -- What was refused, line by line.
 
-abbrev pub refusals : List Managed → List (Option CreateRefusal)
-refusals managed = map (λ m. m.refusal) managed
-
-pub refused_at : (managed : List Managed) (all : List (Option CreateRefusal)) (i : ℕ) (m d : Managed) (r e : Option CreateRefusal) → i < length managed → refusals managed ≡ all → m ≡ get_or managed i d → r ≡ get_or all i e → m.refusal ≡ r
+pub refused_at : (managed : List Managed) (all : List (Option CreateRefusal)) (i : ℕ) (m d : Managed) (r e : Option CreateRefusal) → i < length managed → refusals_of managed ≡ all → m ≡ get_or managed i d → r ≡ get_or all i e → m.refusal ≡ r
 refused_at [] all i m d r e below same is is' = absurd (omega arith)
 refused_at (x ∷ xs) [] i m d r e below same is is' = cc
 refused_at (x ∷ xs) (y ∷ ys) zero m d r e below same is is' = ap (λ (z : Managed). z.refusal) is ∙ ap (λ (zs : List (Option CreateRefusal)). get_or zs 0 e) same ∙ sym is'
@@ -83,24 +80,24 @@ refused_at (x ∷ xs) (y ∷ ys) (suc i) m d r e below same is is' = refused_at 
     get_tail [] = []
     get_tail (z ∷ zs) = zs
 
-pub one_more_refused : (managed : List Managed) (all : List (Option CreateRefusal)) (i : ℕ) (m d : Managed) (r e : Option CreateRefusal) → i < length managed → i < length all → refusals (take i managed) ≡ take i all → m ≡ get_or managed i d → r ≡ get_or all i e → m.refusal ≡ r
-    → refusals (take (i + 1) managed) ≡ take (i + 1) all
+pub one_more_refused : (managed : List Managed) (all : List (Option CreateRefusal)) (i : ℕ) (m d : Managed) (r e : Option CreateRefusal) → i < length managed → i < length all → refusals_of (take i managed) ≡ take i all → m ≡ get_or managed i d → r ≡ get_or all i e → m.refusal ≡ r
+    → refusals_of (take (i + 1) managed) ≡ take (i + 1) all
 one_more_refused managed all i m d r e below below' so_far is is' same =
-    ap refusals (take_more managed i d below) ∙ map_push (λ (x : Managed). x.refusal) (take i managed) (get_or managed i d)
+    ap refusals_of (take_more managed i d below) ∙ map_push (λ (x : Managed). x.refusal) (take i managed) (get_or managed i d)
     ∙ ap₂ (λ (xs : List (Option CreateRefusal)) (x : Option CreateRefusal). xs ++ x ∷ []) so_far (ap (λ (x : Managed). x.refusal) (sym is) ∙ same ∙ is') ∙ sym (take_more all i e below')
 
-pub all_refused : (managed : List Managed) (all : List (Option CreateRefusal)) (i : ℕ) → length managed ≤ i → length managed ≡ length all → refusals (take i managed) ≡ take i all → refusals managed ≡ all
-all_refused managed all i le same so_far = ap refusals (sym (take_all i managed le)) ∙ so_far ∙ take_all i all (omega (arith, same))
+pub all_refused : (managed : List Managed) (all : List (Option CreateRefusal)) (i : ℕ) → length managed ≤ i → length managed ≡ length all → refusals_of (take i managed) ≡ take i all → refusals_of managed ≡ all
+all_refused managed all i le same so_far = ap refusals_of (sym (take_all i managed le)) ∙ so_far ∙ take_all i all (omega (arith, same))
 
 -- The report of what was made.
 
 module _ (form : Form) (stated : List Stated) (caches : List CacheConfig) (all : List Line) where
   pub gathers : (t : History) (managed : List Managed) (refused : List (Option CreateRefusal)) (bytes : List ℕ) → IsLegal t → t.lives ≡ lives_of caches all → AreMade stated (calls_in all) t.entries
-      → managed ≡ managed_of caches all → refusals managed ≡ refused → AreManaged caches all refused → bytes ≡ report_in form (length caches) t managed → Gathers form stated caches all bytes
+      → managed ≡ managed_of caches all → refusals_of managed ≡ refused → AreManaged caches all refused → bytes ≡ report_in form (length caches) t managed → Gathers form stated caches all bytes
   gathers t managed refused bytes legal lives made is_of same answered told = record {
     transcript = t;
     is_made = record { legal = legal; lives = lives; made = made };
-    managed = subst (λ (ms : List Managed). AreManaged caches all (refusals ms)) is_of (subst (AreManaged caches all) (sym same) answered);
+    managed = subst (λ (ms : List Managed). AreManaged caches all (refusals_of ms)) is_of (subst (AreManaged caches all) (sym same) answered);
     told = told ∙ ap (report_in form (length caches) t) is_of;
   }
 

@@ -7,8 +7,8 @@ use Rattle.jc_replay.specs.Hits.{ratios_of}
 use Rattle.jc_replay.specs.declared.fault.ReplayFault.TheVariants as replay
 use Rattle.jc_replay.proofs.Traces.{too_long}
 use Rattle.jc_runner.specs.Faults.{of_trace}
-use Rattle.jc_runner.specs.Program.{TraceEnds, failed_once}
-use Rattle.jc_runner.specs.Streams.{IsOfReading}
+use Rattle.jc_runner.specs.Program.{TraceEnds}
+use Rattle.jc_runner.specs.Streams.{IsOfReading, ReadFails}
 use Rattle.jc_runner.specs.declared.exit.fault.RunFault.{RunFault}
 use Rattle.jc_runner.specs.declared.exit.fault.RunFault.TheVariants as run
 use Rattle.jc_runner.specs.declared.input.Watched.{Watched}
@@ -24,7 +24,7 @@ if_long capacities (Some trace) long = long_table trace capacities long
 
 module _ {I O : Type 0} (remaining : I → Option (List ℕ)) (contents : O → Option (List ℕ)) (capacities : List ℕ) (reader reader' : Watched I) (writer : WatchedWriter O) where
   -- the trace was not read to its end
-  pub ends_unread : (fault : RunFault) → IsOfReading fault → (fault ≡ run.Read → failed_once reader reader') → (fault ≡ run.TooLong → IfSome (remaining reader.inner) (λ trace. text_bytes < length trace))
+  pub ends_unread : (fault : RunFault) → IsOfReading fault → (fault ≡ run.Read → ReadFails reader reader') → (fault ≡ run.TooLong → IfSome (remaining reader.inner) (λ trace. text_bytes < length trace))
       → TraceEnds remaining contents capacities reader reader' writer writer (Err (of_trace fault))
   ends_unread run.Read is failed long = (failed refl, keeps_same _)
   ends_unread run.TooLong is failed long = (if_long capacities _ (long refl), keeps_same _)

@@ -1,5 +1,5 @@
 -- What a disk states of its paths.
-use Rattle.std.specs.Prelude.{◌≡◌, ℕ, List, [], ◌∷◌, ◌++◌, Option, Some, None, ⊤}
+use Rattle.std.specs.Prelude.{◌≡◌, ◌⊎◌, ℕ, List, [], ◌∷◌, ◌++◌, Option, Some, None, ⊤}
 
 -- a file that was opened, by what its path holds
 abbrev pub IsFound : Option (Option (List ℕ)) → Option (List ℕ) → Type 0
@@ -11,6 +11,10 @@ IsFound (Some (Some bytes)) left = left ≡ Some bytes
 abbrev pub MayBeMissing : Option (Option (List ℕ)) → Type 0
 MayBeMissing (Some (Some bytes)) = ⊥
 MayBeMissing _ = ⊤
+
+-- how a file fails to open: its path can't be read, or memory is wanting
+abbrev pub FailsToOpen : {E : Type 0} → E → E → Option (Option (List ℕ)) → E → Type 0
+FailsToOpen unreadable memory held fault = ((fault ≡ unreadable) × MayBeMissing held) ⊎ (fault ≡ memory)
 
 -- this was asked for next
 abbrev pub Asks : Option (List (List ℕ)) → Option (List (List ℕ)) → List ℕ → Type 0

@@ -1,11 +1,11 @@
 -- How the program ends: the status, and what standard error says.
 use Rattle.std.specs.Bool.{OnTrue}
 use Rattle.std.specs.Prelude.{Bool, true, false, not, ◌&&◌, if◌then◌else◌, ◌≡◌, ◌≢◌, ◌⊎◌, ℕ, Option, List, ◌++◌, Result, Ok, Err, codes, string_bytes}
-use Rattle.std.specs.Io.KnownBytes.{Appends}
 use Rattle.clap.specs.Words.{kind_of}
 use Rattle.clap.specs.declared.error.kind.ErrorKind.TheVariants as kinds
 use Rattle.jc_runner.specs.Faults.{fault_line, explained_line, is_of_report}
 use Rattle.jc_runner.specs.Meters.{next_if}
+use Rattle.jc_runner.specs.Streams.{AddsText}
 use Rattle.jc_runner.specs.declared.exit.Ending.{Ending}
 use Rattle.jc_runner.specs.declared.exit.Ending.TheVariants.{Done, Faulty, Explained, Refused, Mistaken, NotText}
 use Rattle.jc_runner.specs.declared.exit.fault.ProgramFault.{ProgramFault}
@@ -45,11 +45,15 @@ HasStatus (Refused e) told unheard status =
 HasStatus (Mistaken text) told unheard status = status ≡ 2
 HasStatus NotText told unheard status = status ≡ 2
 
+-- what is told of words of which one is no text
+abbrev pub no_text_line : List ℕ
+no_text_line = codes "error: a word is not UTF-8\n"
+
 -- What standard error says, or that its writer failed; what a refusal says is `clap`'s, where it is not told under the
 -- program's name.
 module _ {E : Type 0} (said : E → Option (List ℕ)) where
   abbrev pub TellsLine : List ℕ → Bool → WatchedWriter E → WatchedWriter E → Type 0
-  TellsLine line told old new = OnTrue told (Appends (said old.inner) (said new.inner) line) × (new.failures ≡ next_if (not told) old.failures)
+  TellsLine line told old new = OnTrue told (AddsText said old new line) × (new.failures ≡ next_if (not told) old.failures)
 
   abbrev pub SaysNothing : Bool → WatchedWriter E → WatchedWriter E → Type 0
   SaysNothing told old new = (told ≡ true) × (new ≡ old)
@@ -72,7 +76,7 @@ module _ {E : Type 0} (said : E → Option (List ℕ)) where
   SaysSo lines (Refused e) told unheard old new =
       ((kind_of e ≡ kinds.DisplayHelp) ⊎ (kind_of e ≡ kinds.DisplayVersion) → new ≡ old) × (kind_of e ≢ kinds.DisplayHelp → kind_of e ≢ kinds.DisplayVersion → new.failures ≡ next_if (not told) old.failures)
   SaysSo lines (Mistaken text) told unheard old new = TellsLine (codes "jcache: " ++ string_bytes text) told old new
-  SaysSo lines NotText told unheard old new = TellsLine (codes "error: a word is not UTF-8\n") told old new
+  SaysSo lines NotText told unheard old new = TellsLine no_text_line told old new
 
 -- it was written and flushed, or its writer failed
 abbrev pub IsPrinted : {O : Type 0} → Bool → WatchedWriter O → WatchedWriter O → Type 0

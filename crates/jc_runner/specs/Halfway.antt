@@ -8,16 +8,17 @@ use Rattle.jc_model.specs.declared.call.Reply.{Reply}
 use Rattle.jc_model.specs.declared.call.Request.{Request}
 use Rattle.jc_model.specs.declared.call.Verdict.{Verdict}
 use Rattle.jc_model.specs.declared.config.CacheConfig.{CacheConfig}
+use Rattle.jc_model.specs.declared.event.CreateRefusal.{CreateRefusal}
 use Rattle.jc_model.specs.declared.event.Entry.{Entry}
 use Rattle.jc_model.specs.declared.event.Event.{Event}
-use Rattle.jc_model.specs.declared.event.Event.TheVariants.{Begin, Create, Destroy}
+use Rattle.jc_model.specs.declared.event.Event.TheVariants.{Begin, Answer as Answered, Create, Destroy}
 use Rattle.jc_model.specs.declared.event.Outcome.{Outcome}
 use Rattle.jc_model.specs.declared.event.Outcome.TheVariants.{Step as Stepped, Destroyed}
 use Rattle.jc_model.specs.declared.event.Step.{Step}
 use Rattle.jc_model.specs.declared.event.Step.TheVariants.{Done}
 use Rattle.jc_model.specs.State.{State}
 use Rattle.jc_model.specs.Run.{answered}
-use Rattle.jc_model.specs.Runs.{Status, Standing, idle, fresh, opened, Lives, live_at, shown, standing_of, answer_to, lives_after}
+use Rattle.jc_model.specs.Runs.{Status, Standing, idle, fresh, opened, Lives, live_at, shown, standing_of, answer_to, create_refusal, lives_after}
 use Rattle.jc_model.specs.Solo.{standing_from}
 use Rattle.jc_model.specs.Legal.{Fits, played, entries_of, config_of, on_open, recorded, Tells}
 use Rattle.jc_engine.specs.Caches.{lives_of}
@@ -27,7 +28,7 @@ use Rattle.jc_hooks.specs.declared.loader.Loaded.{Loaded}
 use Rattle.jc_script.specs.declared.line.Line.{Line}
 use Rattle.jc_script.specs.declared.line.Line.TheVariants as line
 use Rattle.jc_script.specs.declared.managed.Managed.{Managed}
-use Rattle.jc_script.specs.Managing.{begun_from, managed_from, managed_of, lives_of as lives_of_all}
+use Rattle.jc_script.specs.Managing.{begun_from, managed_by, managed_from, managed_of, lives_of as lives_of_all}
 use Rattle.jc_runner.specs.Alone.{calls_on, line_of, AllReplied, exchanged, exchanges, run_alone, entry_by}
 use Rattle.jc_runner.specs.Answering.{HeardAt}
 use Rattle.jc_script.specs.declared.line.LineCall.{LineCall}
@@ -52,6 +53,30 @@ pub record Moves (old new : Recording) (session : ℕ) (event : Event) (outcome 
   pub answers : outcome ≡ answer_to (lives_now old) event false
   pub lives : lives_now new ≡ lives_after (lives_now old) event outcome
   pub transcript : new.transcript ≡ recorded session event outcome old.transcript
+
+-- why a cache of this configuration would be refused now, if it would
+abbrev pub refusal_now : Recording → CacheConfig → Option CreateRefusal
+refusal_now r config = create_refusal (lives_now r) config
+
+-- a cache was created, or refused
+abbrev pub Creates : Recording → Recording → ℕ → CacheConfig → Type 0
+Creates old new session config = Moves old new session (Create config) (answer_to (lives_now old) (Create config) false)
+
+-- a cache was destroyed
+abbrev pub Destroys : Recording → Recording → ℕ → ℕ → Type 0
+Destroys old new session id = Moves old new session (Destroy id) Destroyed
+
+-- the call of a line has begun, and came to this step
+abbrev pub BeginsCall : Recording → Recording → LineCall → Step → Type 0
+BeginsCall old new l step = Moves old new l.session (event_of l) (Stepped step)
+
+-- the open call of a cache was handed this answer, and came to this step, whichever session made it
+abbrev pub HandsAnswer : Recording → Recording → ℕ → Answer → Step → Type 0
+HandsAnswer old new id answer step = (session : ℕ) → Moves old new session (Answered id answer) (Stepped step)
+
+-- behind what was noted, it was noted what became of a line, where it creates or destroys a cache
+abbrev pub NotesLine : Recording → Line → List Managed → List Managed → Type 0
+NotesLine r l before after = after ≡ before ++ managed_by (as_read (lives_now r)) l
 
 -- no entry waits
 abbrev pub NoneOpen : List Entry → Type 0
@@ -112,8 +137,8 @@ module _ {L W P K : Type 0} (load_of : L → List ℕ → Loaded) (may : W → L
   -- a line was run
   abbrev pub RunsLine : Recording → Recording → List (CacheHooks L W P K) → List (CacheHooks L W P K) → Line → Type 0
   RunsLine old new hooks hooks' (line.Call l) = RepliesAt old new hooks hooks' l
-  RunsLine old new hooks hooks' (line.Create session c) = Moves old new session (Create c) (answer_to (lives_now old) (Create c) false) × (hooks' ≡ hooks)
-  RunsLine old new hooks hooks' (line.Destroy session id) = Moves old new session (Destroy id) Destroyed × (hooks' ≡ hooks)
+  RunsLine old new hooks hooks' (line.Create session c) = Creates old new session c × (hooks' ≡ hooks)
+  RunsLine old new hooks hooks' (line.Destroy session id) = Destroys old new session id × (hooks' ≡ hooks)
 
   -- what was recorded of a life, with the lines that are left, are all of its calls
   pub record Goes (c : CacheConfig) (id : ℕ) (all rest : List Line) (handed hooks : Option (CacheHooks L W P K)) (entries : List Entry) : Type 0 where

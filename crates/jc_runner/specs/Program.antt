@@ -1,16 +1,14 @@
 -- What the program does with its words, its files and its streams.
-use Rattle.std.specs.Prelude.{Bool, true, false, ◌&&◌, ◌==◌, if◌then◌else◌, ◌≡◌, ◌≢◌, ◌⊎◌, ℕ, ◌<◌, List, [], ◌∷◌, length, Option, Some, None, IfSome, Result, Ok, Err, IsOk, String, string_bytes, ⊤}
-use Rattle.std.specs.Io.KnownBytes.{Appends, Keeps, IsAtEnd}
+use Rattle.std.specs.Prelude.{Bool, true, false, ◌&&◌, ◌==◌, if◌then◌else◌, ◌≡◌, ◌≢◌, ◌⊎◌, ℕ, List, [], ◌∷◌, length, Option, Some, None, IfSome, Result, Ok, Err, String, string_bytes, ⊤}
+use Rattle.std.specs.Io.KnownBytes.{IsAtEnd}
 use Rattle.std.specs.declared.alloc.Global.{Global}
 use Rattle.clap.specs.Words.{Text, kind_of}
 use Rattle.clap.specs.declared.error.Error.{Error}
 use Rattle.clap.specs.declared.error.kind.ErrorKind.TheVariants.{DisplayHelp, DisplayVersion, OutOfMemory}
-use Rattle.jc_config.specs.Config.{configuration_of}
 use Rattle.jc_config.specs.declared.kinds.Configuration.{Configuration}
 use Rattle.jc_config.specs.declared.kinds.HookKinds.{HookKinds}
 use Rattle.jc_hooks.specs.Processors.{verdict_by}
 use Rattle.jc_hooks.specs.Program.{echoed, AllChecked}
-use Rattle.jc_model.specs.Limits.{text_bytes}
 use Rattle.jc_model.specs.declared.config.CacheConfig.{CacheConfig}
 use Rattle.jc_replay.specs.Table.{replay_table}
 use Rattle.jc_script.specs.declared.line.Line.{Line}
@@ -24,14 +22,15 @@ use Rattle.jc_words.specs.declared.run.Format.{Format}
 use Rattle.jc_words.specs.declared.run.Format.TheVariants as format
 use Rattle.jc_words.specs.declared.run.Run.{Run}
 use Rattle.jc_runner.specs.Demonstration.{demonstration_caches}
-use Rattle.jc_runner.specs.Disks.{IsFound, MayBeMissing, Asks}
+use Rattle.jc_runner.specs.Disks.{IsFound, FailsToOpen, Asks}
 use Rattle.jc_runner.specs.Endings.{ending_of, no_memory, HasStatus, SaysSo, Leaves}
 use Rattle.jc_runner.specs.Forms.{form_of}
-use Rattle.jc_runner.specs.Meters.{next, most_reads, AddsAtMost}
+use Rattle.jc_runner.specs.Meters.{most_reads, AddsAtMost}
 use Rattle.jc_runner.specs.Naming.{ProgramHooks, AllNamed, heard_by}
 use Rattle.jc_runner.specs.Reports.{ReportsOf}
-use Rattle.jc_runner.specs.Streams.{WritesFront}
+use Rattle.jc_runner.specs.Streams.{unread, InputIsTooLong, ReadFails, AddsText, AddsFront, AddsNothing, WriteFails}
 use Rattle.jc_runner.specs.Strictness.{HasNone, HasOne}
+use Rattle.jc_runner.specs.Texts.{IsConfiguration, ConfigHasFault, ScriptIsGood, ScriptHasFault}
 use Rattle.jc_runner.specs.Together.{stated_of, GathersSo}
 use Rattle.jc_runner.specs.declared.exit.Ended.{Ended}
 use Rattle.jc_runner.specs.declared.exit.Ending.{Ending}
@@ -67,13 +66,6 @@ abbrev pub Tells : Bool → Format → Configuration → List ℕ → (List ℕ 
 Tells true format c script IsSo = Reported format c script IsSo
 Tells false format c script IsSo = Gathered format c script IsSo
 
-abbrev pub failed_once : {F : Type 0} → Watched F → Watched F → Type 0
-failed_once old new = new.failures ≡ next old.failures
-
--- a reader that was not read yet
-abbrev pub unread : {F : Type 0} → F → Watched F
-unread file = record { inner = file; reads = 0; failures = 0 }
-
 -- what is not told as a failed reading came without one
 abbrev pub HasNotFailed : {T E F : Type 0} → E → Result T E → Watched F → Watched F → Type 0
 HasNotFailed fault result old new = result ≢ Err fault → new.failures ≡ old.failures
@@ -82,26 +74,26 @@ HasNotFailed fault result old new = result ≢ Err fault → new.failures ≡ ol
 module _ {I O : Type 0} (remaining : I → Option (List ℕ)) (contents : O → Option (List ℕ)) (serial strict : Bool) (format : Format) (c : Configuration) (reader reader' : Watched I) (writer writer' : WatchedWriter O) where
   abbrev pub RunEnds : Result (Unit {0}) RunFault → Type 0
   RunEnds (Ok done) =
-      IfSome (remaining reader.inner) (λ script. Tells serial format c script (Appends (contents writer.inner) (contents writer'.inner)))
+      IfSome (remaining reader.inner) (λ script. Tells serial format c script (AddsText contents writer writer'))
       × HasNone strict (remaining reader.inner) × IsAtEnd (remaining reader'.inner) × (writer'.failures ≡ writer.failures) × (writer'.flushed ≡ true)
-  RunEnds (Err run.Read) = failed_once reader reader' × Keeps (contents writer.inner) (contents writer'.inner)
-  RunEnds (Err run.TooLong) = IfSome (remaining reader.inner) (λ script. text_bytes < length script) × Keeps (contents writer.inner) (contents writer'.inner)
-  RunEnds (Err (run.Script fault)) = IfSome (remaining reader.inner) (λ script. lines c.settings script ≡ Err fault) × Keeps (contents writer.inner) (contents writer'.inner)
-  RunEnds (Err (run.Entry n)) = HasOne strict c.settings (remaining reader.inner) n × Keeps (contents writer.inner) (contents writer'.inner)
+  RunEnds (Err run.Read) = ReadFails reader reader' × AddsNothing contents writer writer'
+  RunEnds (Err run.TooLong) = InputIsTooLong remaining reader × AddsNothing contents writer writer'
+  RunEnds (Err (run.Script fault)) = ScriptHasFault remaining c.settings reader fault × AddsNothing contents writer writer'
+  RunEnds (Err (run.Entry n)) = HasOne strict c.settings (remaining reader.inner) n × AddsNothing contents writer writer'
   RunEnds (Err run.Open) = ⊥
-  RunEnds (Err run.Close) = (serial ≡ false) × Keeps (contents writer.inner) (contents writer'.inner)
+  RunEnds (Err run.Close) = (serial ≡ false) × AddsNothing contents writer writer'
   RunEnds (Err run.Write) =
-      IfSome (remaining reader.inner) (λ script. Tells serial format c script (WritesFront (contents writer.inner) (contents writer'.inner)))
-      × HasNone strict (remaining reader.inner) × (writer'.failures ≡ next writer.failures)
-  RunEnds (Err run.Memory) = Keeps (contents writer.inner) (contents writer'.inner)
+      IfSome (remaining reader.inner) (λ script. Tells serial format c script (AddsFront contents writer writer'))
+      × HasNone strict (remaining reader.inner) × WriteFails writer writer'
+  RunEnds (Err run.Memory) = AddsNothing contents writer writer'
 
 -- A script that is read and not run: how that ends.
 module _ {I : Type 0} (remaining : I → Option (List ℕ)) (strict : Bool) (caches : List CacheConfig) (reader reader' : Watched I) where
   abbrev pub LinesEnd : Result (Unit {0}) RunFault → Type 0
-  LinesEnd (Ok done) = IfSome (remaining reader.inner) (λ script. IsOk (lines caches script)) × HasNone strict (remaining reader.inner) × IsAtEnd (remaining reader'.inner)
-  LinesEnd (Err run.Read) = failed_once reader reader'
-  LinesEnd (Err run.TooLong) = IfSome (remaining reader.inner) (λ script. text_bytes < length script)
-  LinesEnd (Err (run.Script fault)) = IfSome (remaining reader.inner) (λ script. lines caches script ≡ Err fault)
+  LinesEnd (Ok done) = ScriptIsGood remaining caches reader × HasNone strict (remaining reader.inner) × IsAtEnd (remaining reader'.inner)
+  LinesEnd (Err run.Read) = ReadFails reader reader'
+  LinesEnd (Err run.TooLong) = InputIsTooLong remaining reader
+  LinesEnd (Err (run.Script fault)) = ScriptHasFault remaining caches reader fault
   LinesEnd (Err (run.Entry n)) = HasOne strict caches (remaining reader.inner) n
   LinesEnd (Err run.Memory) = ⊤
   LinesEnd (Err _) = ⊥
@@ -109,31 +101,35 @@ module _ {I : Type 0} (remaining : I → Option (List ℕ)) (strict : Bool) (cac
 -- A configuration that is read.
 module _ {I : Type 0} (remaining : I → Option (List ℕ)) (reader reader' : Watched I) where
   abbrev pub ConfigRead : Result Configuration ProgramFault → Type 0
-  ConfigRead (Ok c) = IfSome (remaining reader.inner) (λ bytes. configuration_of bytes ≡ Ok c) × IsAtEnd (remaining reader'.inner)
-  ConfigRead (Err program.ConfigRead) = failed_once reader reader'
-  ConfigRead (Err (program.Config fault)) = IfSome (remaining reader.inner) (λ bytes. configuration_of bytes ≡ Err fault)
+  ConfigRead (Ok c) = IsConfiguration remaining reader c × IsAtEnd (remaining reader'.inner)
+  ConfigRead (Err program.ConfigRead) = ReadFails reader reader'
+  ConfigRead (Err (program.Config fault)) = ConfigHasFault remaining reader fault
   ConfigRead (Err (program.Run fault)) = fault ≡ run.Memory
   ConfigRead (Err _) = ⊥
 
 -- A file that holds this.
 module _ {F : Type 0} (remaining : F → Option (List ℕ)) (held : Option (Option (List ℕ))) where
+  -- it was opened, and not read yet
+  abbrev pub IsUnreadFile : Watched F → Type 0
+  IsUnreadFile reader = (reader ≡ unread reader.inner) × IsFound held (remaining reader.inner)
+
   -- the file does not open, or it is read to its end or its fault
   abbrev pub ConfigEnds : Option (Watched F) → Result Configuration ProgramFault → Type 0
-  ConfigEnds None result = ((result ≡ Err program.ConfigRead) × MayBeMissing held) ⊎ (result ≡ Err (program.Run run.Memory))
+  ConfigEnds None result = FailsToOpen (Err program.ConfigRead) (Err (program.Run run.Memory)) held result
   ConfigEnds (Some reader) result =
       (file : F) × IsFound held (remaining file) × AddsAtMost most_reads 0 reader.reads × HasNotFailed program.ConfigRead result (unread file) reader × ConfigRead remaining (unread file) reader result
 
   -- the same of the script
   module _ {O : Type 0} (contents : O → Option (List ℕ)) (serial strict : Bool) (format : Format) (c : Configuration) (writer writer' : WatchedWriter O) where
     abbrev pub ScriptEnds : Option (Watched F) → Result (Unit {0}) RunFault → Type 0
-    ScriptEnds None result = (((result ≡ Err run.Read) × MayBeMissing held) ⊎ (result ≡ Err run.Memory)) × Keeps (contents writer.inner) (contents writer'.inner)
+    ScriptEnds None result = FailsToOpen (Err run.Read) (Err run.Memory) held result × AddsNothing contents writer writer'
     ScriptEnds (Some reader) result =
         (file : F) × IsFound held (remaining file) × AddsAtMost most_reads 0 reader.reads × HasNotFailed run.Read result (unread file) reader
         × RunEnds remaining contents serial strict format c (unread file) reader writer writer' result
 
   -- of a script that is not run
   abbrev pub ScriptRead : Bool → List CacheConfig → Option (Watched F) → Result (Unit {0}) RunFault → Type 0
-  ScriptRead strict caches None result = ((result ≡ Err run.Read) × MayBeMissing held) ⊎ (result ≡ Err run.Memory)
+  ScriptRead strict caches None result = FailsToOpen (Err run.Read) (Err run.Memory) held result
   ScriptRead strict caches (Some reader) result =
       (file : F) × IsFound held (remaining file) × AddsAtMost most_reads 0 reader.reads × HasNotFailed run.Read result (unread file) reader × LinesEnd remaining strict caches (unread file) reader result
 
@@ -157,6 +153,20 @@ module _ {F I : Type 0} (of_file : F → Option (List ℕ)) (of_input : I → Op
       (opened ≡ None) × (asked' ≡ asked) × AddsAtMost most_reads input.reads input'.reads × HasNotFailed run.Read result input input' × LinesEnd of_input strict caches input input' result
   LinesFrom strict caches false opened result = (input' ≡ input) × Asks asked asked' path × ScriptRead of_file held strict caches opened result
 
+-- The same of the path itself, by what the disk holds there.
+module _ {F I : Type 0} (of_file : F → Option (List ℕ)) (of_input : I → Option (List ℕ)) (holds : List ℕ → Option (Option (List ℕ))) (path : List ℕ) (asked asked' : Option (List (List ℕ))) (input input' : Watched I) where
+  abbrev pub ConfigAt : Option (Watched F) → Result Configuration ProgramFault → Type 0
+  ConfigAt opened result = ConfigFrom of_file of_input (holds path) path asked asked' input input' (is_input path) opened result
+
+  abbrev pub LinesAt : Bool → List CacheConfig → Option (Watched F) → Result (Unit {0}) RunFault → Type 0
+  LinesAt strict caches opened result = LinesFrom of_file of_input (holds path) path asked asked' input input' strict caches (is_input path) opened result
+
+-- the script that the words name, run as they ask for it
+module _ {F I O : Type 0} (of_file : F → Option (List ℕ)) (of_input : I → Option (List ℕ)) (contents : O → Option (List ℕ)) (holds : List ℕ → Option (Option (List ℕ))) (run : Run) (c : Configuration) where
+  abbrev pub AskedScriptEnds : Option (List (List ℕ)) → Option (List (List ℕ)) → Watched I → Watched I → WatchedWriter O → WatchedWriter O → Option (Watched F) → Result (Unit {0}) RunFault → Type 0
+  AskedScriptEnds asked asked' input input' writer writer' opened result =
+      ScriptFrom of_file of_input (holds (string_bytes run.script)) (string_bytes run.script) asked asked' input input' contents run.serial run.strict run.format c writer writer' (is_input (string_bytes run.script)) opened result
+
 abbrev pub as_program : Result (Unit {0}) RunFault → Result (Unit {0}) ProgramFault
 as_program (Ok done) = Ok done
 as_program (Err fault) = Err (program.Run fault)
@@ -171,16 +181,16 @@ module _ {F I O : Type 0} (of_file : F → Option (List ℕ)) (of_input : I → 
     (config script : Option (Watched F)) (input input' : Watched I) (writer writer' : WatchedWriter O) where
   -- after the configuration's fault no script is asked for
   abbrev pub GoesOn : Option (List (List ℕ)) → Watched I → Result Configuration ProgramFault → Result (Unit {0}) ProgramFault → Type 0
-  GoesOn before between (Err fault) result = (result ≡ Err fault) × (script ≡ None) × (asked' ≡ before) × (input' ≡ between) × Keeps (contents writer.inner) (contents writer'.inner)
+  GoesOn before between (Err fault) result = (result ≡ Err fault) × (script ≡ None) × (asked' ≡ before) × (input' ≡ between) × AddsNothing contents writer writer'
   GoesOn before between (Ok c) result =
       (ran : Result (Unit {0}) RunFault) × (result ≡ as_program ran)
-      × ScriptFrom of_file of_input (holds (string_bytes run.script)) (string_bytes run.script) before asked' between input' contents run.serial run.strict run.format c writer writer' (is_input (string_bytes run.script)) script ran
+      × AskedScriptEnds of_file of_input contents holds run c before asked' between input' writer writer' script ran
 
   pub record FilesEnd (result : Result (Unit {0}) ProgramFault) : Type 0 where
     pub before : Option (List (List ℕ))
     pub between : Watched I
     pub read : Result Configuration ProgramFault
-    pub reads : ConfigFrom of_file of_input (holds (string_bytes run.config)) (string_bytes run.config) asked before input between (is_input (string_bytes run.config)) config read
+    pub reads : ConfigAt of_file of_input holds (string_bytes run.config) asked before input between config read
     pub goes_on : GoesOn before between (allowed run.strict read) result
 
 -- the files of a check, of which the second may be left out: the same, and nothing is run
@@ -189,8 +199,7 @@ module _ {F I : Type 0} (of_file : F → Option (List ℕ)) (of_input : I → Op
   -- a path that is not there is not asked for, and has no fault
   abbrev pub ReadsAt : Option (List (List ℕ)) → Watched I → List CacheConfig → Option (String Global) → Result (Unit {0}) RunFault → Type 0
   ReadsAt before between caches None read = (read ≡ Ok tt) × (script ≡ None) × (asked' ≡ before) × (input' ≡ between)
-  ReadsAt before between caches (Some path) read =
-      LinesFrom of_file of_input (holds (string_bytes path)) (string_bytes path) before asked' between input' check.strict caches (is_input (string_bytes path)) script read
+  ReadsAt before between caches (Some path) read = LinesAt of_file of_input holds (string_bytes path) before asked' between input' check.strict caches script read
 
   abbrev pub ReadsOn : Option (List (List ℕ)) → Watched I → Result Configuration ProgramFault → Result (Unit {0}) ProgramFault → Type 0
   ReadsOn before between (Err fault) result = (result ≡ Err fault) × (script ≡ None) × (asked' ≡ before) × (input' ≡ between)
@@ -200,7 +209,7 @@ module _ {F I : Type 0} (of_file : F → Option (List ℕ)) (of_input : I → Op
     pub before : Option (List (List ℕ))
     pub between : Watched I
     pub read : Result Configuration ProgramFault
-    pub reads : ConfigFrom of_file of_input (holds (string_bytes check.config)) (string_bytes check.config) asked before input between (is_input (string_bytes check.config)) config read
+    pub reads : ConfigAt of_file of_input holds (string_bytes check.config) asked before input between config read
     pub goes_on : ReadsOn before between (allowed check.strict read) result
 
 -- the table of a trace's replay, of which this is true
@@ -211,21 +220,21 @@ Tables capacities IsSo trace = (text : List ℕ) × (replay_table trace capaciti
 module _ {I O : Type 0} (remaining : I → Option (List ℕ)) (contents : O → Option (List ℕ)) (capacities : List ℕ) (reader reader' : Watched I) (writer writer' : WatchedWriter O) where
   abbrev pub TraceEnds : Result (Unit {0}) ProgramFault → Type 0
   TraceEnds (Ok done) =
-      IfSome (remaining reader.inner) (Tables capacities (Appends (contents writer.inner) (contents writer'.inner)))
+      IfSome (remaining reader.inner) (Tables capacities (AddsText contents writer writer'))
       × IsAtEnd (remaining reader'.inner) × (writer'.failures ≡ writer.failures) × (writer'.flushed ≡ true)
-  TraceEnds (Err program.TraceRead) = failed_once reader reader' × Keeps (contents writer.inner) (contents writer'.inner)
+  TraceEnds (Err program.TraceRead) = ReadFails reader reader' × AddsNothing contents writer writer'
   TraceEnds (Err (program.Trace fault)) =
-      IfSome (remaining reader.inner) (λ trace. replay_table trace capacities ≡ Err fault) × Keeps (contents writer.inner) (contents writer'.inner)
+      IfSome (remaining reader.inner) (λ trace. replay_table trace capacities ≡ Err fault) × AddsNothing contents writer writer'
   TraceEnds (Err (program.Run run.Write)) =
-      IfSome (remaining reader.inner) (Tables capacities (WritesFront (contents writer.inner) (contents writer'.inner))) × (writer'.failures ≡ next writer.failures)
-  TraceEnds (Err (program.Run run.Memory)) = Keeps (contents writer.inner) (contents writer'.inner)
+      IfSome (remaining reader.inner) (Tables capacities (AddsFront contents writer writer')) × WriteFails writer writer'
+  TraceEnds (Err (program.Run run.Memory)) = AddsNothing contents writer writer'
   TraceEnds (Err _) = ⊥
 
 -- a trace in a file that holds this
 module _ {F O : Type 0} (of_file : F → Option (List ℕ)) (contents : O → Option (List ℕ)) (held : Option (Option (List ℕ))) (capacities : List ℕ) (writer writer' : WatchedWriter O) where
   abbrev pub TraceFileEnds : Option (Watched F) → Result (Unit {0}) ProgramFault → Type 0
   TraceFileEnds None result =
-      (((result ≡ Err program.TraceRead) × MayBeMissing held) ⊎ (result ≡ Err (program.Run run.Memory))) × Keeps (contents writer.inner) (contents writer'.inner)
+      FailsToOpen (Err program.TraceRead) (Err (program.Run run.Memory)) held result × AddsNothing contents writer writer'
   TraceFileEnds (Some reader) result =
       (file : F) × IsFound held (of_file file) × AddsAtMost most_reads 0 reader.reads × HasNotFailed program.TraceRead result (unread file) reader
       × TraceEnds of_file contents capacities (unread file) reader writer writer' result

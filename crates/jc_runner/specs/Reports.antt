@@ -1,5 +1,5 @@
 -- What a whole run has done.
-use Rattle.std.specs.Prelude.{◌≡◌, ℕ, List, slice_get, Option, Some, Result, Ok}
+use Rattle.std.specs.Prelude.{◌≡◌, ℕ, List, slice_get, Option, Some, IfSome, Result, Ok}
 use Rattle.jc_model.specs.declared.call.Answer.{Answer}
 use Rattle.jc_model.specs.declared.call.Notice.{Notice}
 use Rattle.jc_model.specs.declared.call.ProcessorFault.{ProcessorFault}
@@ -19,6 +19,7 @@ use Rattle.jc_runner.specs.Answering.{HeardAt}
 use Rattle.jc_script.specs.declared.line.LineCall.{LineCall}
 use Rattle.jc_words.specs.declared.run.Format.{Format}
 use Rattle.jc_runner.specs.Forms.{form_of, IsToldIn}
+use Rattle.jc_runner.specs.declared.input.Watched.{Watched}
 use Rattle.jc_runner.specs.declared.output.form.Form.{Form}
 
 module _ {L W P K : Type 0} (load_of : L → List ℕ → Loaded) (may : W → List (Request × Answer) → Type 0) (verdict_of : P → Option (List ℕ) → List ℕ → Result Verdict ProcessorFault) (state_after : K → List Notice → List ℕ) where
@@ -41,3 +42,7 @@ module _ {L W P K : Type 0} (load_of : L → List ℕ → Loaded) (may : W → L
     pub text : List ℕ
     pub reports : Reports (form_of format bytes all) caches all old new text
     pub so : IsSo text
+
+  -- the same of the script that a reader has left
+  abbrev pub ReportsInput : {R : Type 0} → (R → Option (List ℕ)) → Watched R → Format → List CacheConfig → List (CacheHooks L W P K) → List (CacheHooks L W P K) → (List ℕ → Type 0) → Type 0
+  ReportsInput remaining reader format caches old new IsSo = IfSome (remaining reader.inner) (λ input. ReportsOf format caches input old new IsSo)

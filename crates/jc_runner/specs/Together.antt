@@ -1,19 +1,27 @@
 -- What a run on worker threads has done.
-use Rattle.std.specs.Prelude.{◌≡◌, ℕ, List, length, map, Option, Result}
+use Rattle.std.specs.Prelude.{◌≡◌, ℕ, Bool, List, length, map, Option, Result}
 use Rattle.jc_hooks.specs.declared.cache_hooks.CacheHooks.{CacheHooks}
 use Rattle.jc_hooks.specs.declared.loader.Loaded.{Loaded}
 use Rattle.jc_model.specs.declared.call.ProcessorFault.{ProcessorFault}
 use Rattle.jc_model.specs.declared.call.Verdict.{Verdict}
 use Rattle.jc_model.specs.declared.config.CacheConfig.{CacheConfig}
+use Rattle.jc_model.specs.declared.event.CreateRefusal.{CreateRefusal}
 use Rattle.jc_model.specs.Legal.{History, IsLegal}
 use Rattle.jc_script.specs.declared.line.Line.{Line}
+use Rattle.jc_script.specs.declared.managed.Managed.{Managed}
 use Rattle.jc_script.specs.Calls.{calls_in}
 use Rattle.jc_script.specs.Managing.{lives_of, managed_of}
 use Rattle.jc_shared.specs.Stated.{Stated, stated_by, shared_of}
 use Rattle.jc_threads.specs.Lines.{AreMade}
 use Rattle.jc_threads.specs.Managing.{AreManaged}
 use Rattle.jc_runner.specs.Forms.{report_in}
+use Rattle.jc_runner.specs.Hooks.{AreSuited, CannotOpen}
 use Rattle.jc_runner.specs.declared.output.form.Form.{Form}
+use Rattle.jc_runner.specs.declared.threaded_run.Setup.{Setup}
+
+-- why each of these lines was refused, if it was
+abbrev pub refusals_of : List Managed → List (Option CreateRefusal)
+refusals_of managed = map (λ m. m.refusal) managed
 
 -- what the loaders and processors state that were handed in
 abbrev pub stated_of : {L W P K : Type 0} → (L → List ℕ → Loaded) → (P → Option (List ℕ) → List ℕ → Result Verdict ProcessorFault) → List (CacheHooks L W P K) → List Stated
@@ -33,7 +41,7 @@ module _ (form : Form) (stated : List Stated) (caches : List CacheConfig) (all :
   pub record Gathers (text : List ℕ) : Type 0 where
     pub transcript : History
     pub is_made : IsMade stated caches all transcript
-    pub managed : AreManaged caches all (map (λ m. m.refusal) (managed_of caches all))
+    pub managed : AreManaged caches all (refusals_of (managed_of caches all))
     pub told : text ≡ report_in form (length caches) transcript (managed_of caches all)
 
   -- such a text, of which this is true
@@ -41,3 +49,19 @@ module _ (form : Form) (stated : List Stated) (caches : List CacheConfig) (all :
     pub text : List ℕ
     pub gathers : Gathers text
     pub so : IsSo text
+
+-- the callbacks of a setup are those that its caches name
+abbrev pub SetupSuits : {L W P K : Type 0} → (P → Bool) → Setup L W P K → Type 0
+SetupSuits wants setup = AreSuited wants setup.settings setup.hooks.items
+
+-- they differ, or the manager refuses its caches
+abbrev pub SetupCannotOpen : {L W P K : Type 0} → (P → Bool) → Setup L W P K → Type 0
+SetupCannotOpen wants setup = CannotOpen wants setup.settings setup.hooks.items
+
+-- what is gathered by a manager that was opened with this setup
+module _ {L W P K : Type 0} (load_of : L → List ℕ → Loaded) (verdict_of : P → Option (List ℕ) → List ℕ → Result Verdict ProcessorFault) (form : Form) (setup : Setup L W P K) (all : List Line) where
+  abbrev pub SetupGathers : List ℕ → Type 0
+  SetupGathers text = Gathers form (stated_of load_of verdict_of setup.hooks.items) setup.settings all text
+
+  abbrev pub SetupGathersSo : (List ℕ → Type 0) → Type 0
+  SetupGathersSo IsSo = GathersSo form (stated_of load_of verdict_of setup.hooks.items) setup.settings all IsSo

@@ -50,7 +50,8 @@ pub fn answer<L: Loader, W: Writer, P: Processor, K: Hearer>(
 ) -> Result<Answer, OutOfMemory>
     ensures fits { IfOk result (λ a. IsTrue (is_answer_to request a)) }
     ensures kept { asked_of hooks.new ≡ asked_of hooks.old }
-    ensures heard { IfOk result (λ a. Heard L.load_of W.may P.verdict_of K.state_after hooks.old hooks.new ((request, a) ∷ [])) }
+    ensures heard { IfOk result (λ a. Heard L.load_of W.may P.verdict_of K.state_after
+        hooks.old hooks.new ((request, a) ∷ [])) }
 {
     match request {
         Request::Load(key) => ask_loader(alloc, &hooks.loader, &key),

@@ -67,7 +67,9 @@ fn obey<D: Disk, I: Read, O: Write, R: Threads + Wait + Sync>(
     input: &mut Watched<I>,
     output: &mut WatchedWriter<O>,
 ) -> Ending
-    ensures ends { WordsEnd D.File.remaining I.remaining O.contents (D.holds disk.old) (D.asked disk.old) (D.asked disk.new) opened.old opened.new input.old input.new output.old output.new (map string_bytes words.now) result }
+    ensures ends { WordsEnd D.File.remaining I.remaining O.contents
+        (D.holds disk.old) (D.asked disk.old) (D.asked disk.new) opened.old opened.new
+        input.old input.new output.old output.new (map string_bytes words.now) result }
     ensures same { (other : List ℕ) → D.holds disk.new other ≡ D.holds disk.old other }
 {
     let Ok(texts) = texts_of(alloc, words) else {
@@ -109,8 +111,12 @@ pub fn heed<D: Disk, I: Read, O: Write, R: Threads + Wait + Sync>(
     input: &mut Watched<I>,
     output: &mut WatchedWriter<O>,
 ) -> Ending
-    ensures obeys { IfOk words (λ v. Obeys D.File.remaining I.remaining O.contents (D.holds disk.old) (D.asked disk.old) (D.asked disk.new) opened.old opened.new input.old input.new output.old output.new (Ok (map string_bytes v.items)) result) }
-    ensures wordless { IfErr words (λ fault. Obeys D.File.remaining I.remaining O.contents (D.holds disk.old) (D.asked disk.old) (D.asked disk.new) opened.old opened.new input.old input.new output.old output.new (Err fault) result) }
+    ensures obeys { IfOk words (λ v. Obeys D.File.remaining I.remaining O.contents
+        (D.holds disk.old) (D.asked disk.old) (D.asked disk.new) opened.old opened.new
+        input.old input.new output.old output.new (Ok (map string_bytes v.items)) result) }
+    ensures wordless { IfErr words (λ fault. Obeys D.File.remaining I.remaining O.contents
+        (D.holds disk.old) (D.asked disk.old) (D.asked disk.new) opened.old opened.new
+        input.old input.new output.old output.new (Err fault) result) }
     ensures same { (other : List ℕ) → D.holds disk.new other ≡ D.holds disk.old other }
 {
     match words {
@@ -140,8 +146,12 @@ pub fn program<D: Disk, I: Read, O: Write, E: Write, R: Threads + Wait + Sync>(
     opened: &mut Opened<D::File>,
     standard: &mut Standard<I, O, E>,
 ) -> Ended
-    ensures ends { IfOk words (λ v. Ends D.File.remaining I.remaining O.contents E.contents (D.holds disk.old) (D.asked disk.old) (D.asked disk.new) opened.old opened.new standard.old standard.new [] (Ok (map string_bytes v.items)) result) }
-    ensures wordless { IfErr words (λ fault. Ends D.File.remaining I.remaining O.contents E.contents (D.holds disk.old) (D.asked disk.old) (D.asked disk.new) opened.old opened.new standard.old standard.new [] (Err fault) result) }
+    ensures ends { IfOk words (λ v. Ends D.File.remaining I.remaining O.contents E.contents
+        (D.holds disk.old) (D.asked disk.old) (D.asked disk.new) opened.old opened.new
+        standard.old standard.new [] (Ok (map string_bytes v.items)) result) }
+    ensures wordless { IfErr words (λ fault. Ends D.File.remaining I.remaining O.contents E.contents
+        (D.holds disk.old) (D.asked disk.old) (D.asked disk.new) opened.old opened.new
+        standard.old standard.new [] (Err fault) result) }
     ensures same { (other : List ℕ) → D.holds disk.new other ≡ D.holds disk.old other }
 {
     let input = &mut standard.input;

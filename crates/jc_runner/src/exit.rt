@@ -1,9 +1,10 @@
 //! How the program ends, with which status, and what it says; and, before that, what it says to a person at a terminal.
-ghost use Rattle.std.specs.Prelude.{◌≡◌, ◌++◌, ◌&&◌, ◌==◌, length, true, is_err, OnOk, IfOk, IfErr, [], codes, option_map};
-ghost use Rattle.std.specs.Io.KnownBytes.{Appends};
-ghost use Rattle.jc_runner.specs.Endings.{Greets, HasStatus, SaysNothing, SaysSo, SaysFault, TellsLine, IsPrinted, Leaves, ending_of, is_unheard, unwritten};
+ghost use Rattle.std.specs.Prelude.{◌≡◌, ◌++◌, ◌&&◌, ◌==◌, length, true, is_err, OnOk, IfOk, IfErr, [], codes};
+ghost use Rattle.std.specs.Option.{option_copied};
+ghost use Rattle.jc_runner.specs.Endings.{Greets, HasStatus, SaysNothing, SaysSo, SaysFault, TellsLine, IsPrinted, Leaves, ending_of, is_unheard, unwritten, no_text_line};
 ghost use Rattle.jc_runner.specs.Faults.{told_lines};
 ghost use Rattle.jc_runner.specs.Meters.{next_if};
+ghost use Rattle.jc_runner.specs.Streams.{AddsText};
 
 pub mod fault;
 
@@ -64,8 +65,10 @@ pub fn greet<E: Write>(
     at_terminal: bool,
     errors: &mut WatchedWriter<E>,
 ) -> bool
-    ensures greets { IfOk words.now (λ v. Greets E.contents (at_terminal && (length v.items == 0)) result errors.old errors.new) }
-    ensures mistaken { IfErr words.now (λ fault. SaysNothing E.contents result errors.old errors.new) }
+    ensures greets { IfOk words.now (λ v. Greets E.contents (at_terminal && (length v.items == 0))
+        result errors.old errors.new) }
+    ensures mistaken { IfErr words.now (λ fault.
+        SaysNothing E.contents result errors.old errors.new) }
 {
     match words {
         Ok(words) => {
@@ -95,7 +98,7 @@ pub fn ending_of(explain: bool, ran: Result<(), ProgramFault>) -> Ending
 }
 
 fn write_no_text<E: Write>(errors: &mut WatchedWriter<E>) -> io::Result<()>
-    ensures bytes { OnOk result (Appends (E.contents errors.old.inner) (E.contents errors.new.inner) (codes "error: a word is not UTF-8\n")) }
+    ensures bytes { OnOk result (AddsText E.contents errors.old errors.new no_text_line) }
     ensures failures { errors.new.failures ≡ next_if (is_err result) errors.old.failures }
 {
     writeln!(errors, "error: a word is not UTF-8")
@@ -115,8 +118,10 @@ fn refuse<O: Write, E: Write>(
     output: &mut WatchedWriter<O>,
     errors: &mut WatchedWriter<E>,
 ) -> Ended
-    ensures status { HasStatus (Ending.Refused error.now) result.told output.new.unheard result.status }
-    ensures says { SaysSo E.contents [] (Ending.Refused error.now) result.told output.new.unheard errors.old errors.new }
+    ensures status { HasStatus (Ending.Refused error.now) result.told output.new.unheard
+        result.status }
+    ensures says { SaysSo E.contents [] (Ending.Refused error.now) result.told output.new.unheard
+        errors.old errors.new }
     ensures leaves { Leaves (Ending.Refused error.now) result.told output.old output.new }
 {
     if error.use_stderr() {
@@ -149,7 +154,8 @@ fn say_fault<E: Write>(
     errors: &mut WatchedWriter<E>,
 ) -> Ended
     ensures status { result.status ≡ unwritten (is_unheard fault.now unheard) }
-    ensures says { SaysFault E.contents (is_unheard fault.now unheard) (told_lines fault.now (option_map (λ l. l.now) lines.entry)) result.told errors.old errors.new }
+    ensures says { SaysFault E.contents (is_unheard fault.now unheard)
+        (told_lines fault.now (option_copied lines.entry)) result.told errors.old errors.new }
 {
     if is_of_report(fault) && unheard {
         return Ended {
@@ -171,7 +177,8 @@ pub fn say<O: Write, E: Write>(
     errors: &mut WatchedWriter<E>,
 ) -> Ended
     ensures status { HasStatus ending.now result.told output.new.unheard result.status }
-    ensures says { SaysSo E.contents lines.now ending.now result.told output.new.unheard errors.old errors.new }
+    ensures says { SaysSo E.contents lines.now ending.now result.told output.new.unheard
+        errors.old errors.new }
     ensures leaves { Leaves ending.now result.told output.old output.new }
 {
     match ending {

@@ -1,10 +1,9 @@
 //! The two files of a run: the configuration, and the script that is played with its callbacks.
-ghost use Rattle.std.specs.Prelude.{◌≡◌, ◌≢◌, ◌<◌, ◌⊎◌, ℕ, true, false, List, IfOk, IfErr, Ok, Err, string_bytes};
-ghost use Rattle.jc_runner.specs.Disks.{Asks, IsFound, MayBeMissing};
+ghost use Rattle.std.specs.Prelude.{◌≡◌, ◌≢◌, ◌<◌, ℕ, true, false, List, IfOk, IfErr, Ok, Err, string_bytes};
+ghost use Rattle.jc_runner.specs.Disks.{Asks, FailsToOpen};
 ghost use Rattle.jc_runner.specs.Meters.{most_reads, AddsAtMost};
 ghost use Rattle.jc_runner.specs.Opens.{Opens};
-ghost use Rattle.jc_runner.specs.Program.{RunEnds, ConfigEnds, ConfigFrom, ScriptEnds, ScriptFrom, FilesEnd, allowed, unread};
-ghost use Rattle.jc_words.specs.Program.{is_input};
+ghost use Rattle.jc_runner.specs.Program.{RunEnds, ConfigEnds, ScriptEnds, FilesEnd, allowed, IsUnreadFile, ConfigAt, AskedScriptEnds};
 ghost use Rattle.jc_runner.specs.declared.exit.fault.RunFault.TheVariants.{Read, Memory};
 
 pub mod check;
@@ -62,7 +61,8 @@ pub(crate) fn configured_from<D: Disk, I: Read>(
     config: &mut Option<Watched<D::File>>,
     input: &mut Watched<I>,
 ) -> Result<Configuration, ProgramFault>
-    ensures ends { ConfigFrom D.File.remaining I.remaining (D.holds disk.old path.now) path.now (D.asked disk.old) (D.asked disk.new) input.old input.new (is_input path.now) config.new result }
+    ensures ends { ConfigAt D.File.remaining I.remaining (D.holds disk.old) path.now
+        (D.asked disk.old) (D.asked disk.new) input.old input.new config.new result }
     ensures opens { IfOk result Opens }
     ensures same { (other : List ℕ) → D.holds disk.new other ≡ D.holds disk.old other }
 {
@@ -98,7 +98,8 @@ pub fn play<I: Read, O: Write>(
     writer: &mut WatchedWriter<O>,
 ) -> Result<(), RunFault>
     requires { Opens configuration }
-    ensures ends { RunEnds I.remaining O.contents true strict format configuration reader.old reader.new writer.old writer.new result }
+    ensures ends { RunEnds I.remaining O.contents true strict format configuration
+        reader.old reader.new writer.old writer.new result }
     ensures unfailed { result ≢ Err Read → reader.new.failures ≡ reader.old.failures }
     ensures reads { AddsAtMost most_reads reader.old.reads reader.new.reads }
 {
@@ -127,7 +128,8 @@ fn play_together<I: Read, O: Write, R: Threads + Wait + Sync>(
 ) -> Result<(), RunFault>
     requires opens { Opens configuration }
     requires workers { 0 < run.now.workers }
-    ensures ends { RunEnds I.remaining O.contents false run.now.strict run.now.format configuration reader.old reader.new writer.old writer.new result }
+    ensures ends { RunEnds I.remaining O.contents false run.now.strict run.now.format configuration
+        reader.old reader.new writer.old writer.new result }
     ensures unfailed { result ≢ Err Read → reader.new.failures ≡ reader.old.failures }
     ensures reads { AddsAtMost most_reads reader.old.reads reader.new.reads }
 {
@@ -160,7 +162,9 @@ fn play_so<I: Read, O: Write, R: Threads + Wait + Sync>(
 ) -> Result<(), RunFault>
     requires opens { Opens configuration }
     requires workers { 0 < run.now.workers }
-    ensures ends { RunEnds I.remaining O.contents run.now.serial run.now.strict run.now.format configuration reader.old reader.new writer.old writer.new result }
+    ensures ends { RunEnds I.remaining O.contents
+        run.now.serial run.now.strict run.now.format configuration
+        reader.old reader.new writer.old writer.new result }
     ensures unfailed { result ≢ Err Read → reader.new.failures ≡ reader.old.failures }
     ensures reads { AddsAtMost most_reads reader.old.reads reader.new.reads }
 {
@@ -181,8 +185,8 @@ fn play_so<I: Read, O: Write, R: Threads + Wait + Sync>(
 
 /// Opens a script.
 pub(crate) fn open_script<D: Disk>(disk: &mut D, path: &str) -> Result<Watched<D::File>, RunFault>
-    ensures unread { IfOk result (λ reader. (reader ≡ unread reader.inner) × IsFound (D.holds disk.old path.now) (D.File.remaining reader.inner)) }
-    ensures unopened { IfErr result (λ fault. ((fault ≡ Read) × MayBeMissing (D.holds disk.old path.now)) ⊎ (fault ≡ Memory)) }
+    ensures unread { IfOk result (IsUnreadFile D.File.remaining (D.holds disk.old path.now)) }
+    ensures unopened { IfErr result (FailsToOpen Read Memory (D.holds disk.old path.now)) }
     ensures asked { Asks (D.asked disk.old) (D.asked disk.new) path.now }
     ensures same { (other : List ℕ) → D.holds disk.new other ≡ D.holds disk.old other }
 {
@@ -205,7 +209,9 @@ fn scripted<D: Disk, O: Write, R: Threads + Wait + Sync>(
 ) -> Result<(), RunFault>
     requires opens { Opens configuration }
     requires workers { 0 < run.now.workers }
-    ensures ends { ScriptEnds D.File.remaining (D.holds disk.old (string_bytes run.now.script)) O.contents run.now.serial run.now.strict run.now.format configuration writer.old writer.new script.new result }
+    ensures ends { ScriptEnds D.File.remaining (D.holds disk.old (string_bytes run.now.script))
+        O.contents run.now.serial run.now.strict run.now.format configuration
+        writer.old writer.new script.new result }
     ensures asked { Asks (D.asked disk.old) (D.asked disk.new) (string_bytes run.now.script) }
     ensures same { (other : List ℕ) → D.holds disk.new other ≡ D.holds disk.old other }
 {
@@ -229,7 +235,9 @@ fn scripted_from<D: Disk, I: Read, O: Write, R: Threads + Wait + Sync>(
 ) -> Result<(), RunFault>
     requires opens { Opens configuration }
     requires workers { 0 < run.now.workers }
-    ensures ends { ScriptFrom D.File.remaining I.remaining (D.holds disk.old (string_bytes run.now.script)) (string_bytes run.now.script) (D.asked disk.old) (D.asked disk.new) input.old input.new O.contents run.now.serial run.now.strict run.now.format configuration writer.old writer.new (is_input (string_bytes run.now.script)) script.new result }
+    ensures ends { AskedScriptEnds D.File.remaining I.remaining O.contents (D.holds disk.old)
+        run.now configuration (D.asked disk.old) (D.asked disk.new)
+        input.old input.new writer.old writer.new script.new result }
     ensures same { (other : List ℕ) → D.holds disk.new other ≡ D.holds disk.old other }
 {
     if is_input(run.script.as_str()) {
@@ -251,7 +259,10 @@ pub fn run_files<D: Disk, I: Read, O: Write, R: Threads + Wait + Sync>(
     writer: &mut WatchedWriter<O>,
 ) -> Result<(), ProgramFault>
     requires { 0 < run.now.workers }
-    ensures ends { FilesEnd D.File.remaining I.remaining O.contents (D.holds disk.old) (D.asked disk.old) (D.asked disk.new) run.now opened.new.config opened.new.script input.old input.new writer.old writer.new result }
+    ensures ends { FilesEnd D.File.remaining I.remaining O.contents
+        (D.holds disk.old) (D.asked disk.old) (D.asked disk.new)
+        run.now opened.new.config opened.new.script
+        input.old input.new writer.old writer.new result }
     ensures same { (other : List ℕ) → D.holds disk.new other ≡ D.holds disk.old other }
 {
     opened.script = None;

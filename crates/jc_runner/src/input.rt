@@ -1,10 +1,10 @@
 //! The reader of all input, with an account of how it was used. Nothing else reads from what it holds.
-ghost use Rattle.std.specs.Prelude.{◌≡◌, ◌≢◌, ◌≤◌, ◌<◌, is_err, length, IfOk, IfErr, IfSome, Err};
+ghost use Rattle.std.specs.Prelude.{◌≡◌, ◌≢◌, ◌≤◌, is_err, length, IfOk, IfErr, Err};
 ghost use Rattle.std.specs.Io.{ReadsAtMost};
 ghost use Rattle.std.specs.Io.KnownBytes.{ReadConsumes};
 ghost use Rattle.jc_model.specs.Limits.{text_bytes};
 ghost use Rattle.jc_runner.specs.Meters.{next, next_if, most_reads, AddsAtMost};
-ghost use Rattle.jc_runner.specs.Streams.{IsAll, IsOfReading};
+ghost use Rattle.jc_runner.specs.Streams.{IsOfReading, unread, ReadsAll, InputIsTooLong, ReadFails};
 ghost use Rattle.jc_runner.specs.declared.exit.fault.RunFault.TheVariants as faults;
 
 use crate::exit::fault::RunFault;
@@ -38,7 +38,7 @@ pub struct Watched<R> {
 impl<R: Read> Watched<R> {
     /// A reader that was not read yet.
     pub fn new(inner: R) -> Watched<R>
-        ensures { result ≡ record { inner = inner; reads = 0; failures = 0 } }
+        ensures { result ≡ unread inner }
     {
         Watched {
             inner,
@@ -70,7 +70,8 @@ impl<R: Read> Watched<R> {
 
     pub(crate) fn read(&mut self, buf: &mut [u8]) -> io::Result<usize>
         ensures bound { ReadsAtMost result buf.new }
-        ensures bytes { ReadConsumes (R.remaining self.old.inner) (R.remaining self.new.inner) result buf.new }
+        ensures bytes { ReadConsumes (R.remaining self.old.inner) (R.remaining self.new.inner)
+            result buf.new }
         ensures reads { self.new.reads ≡ next self.old.reads }
         ensures failures { self.new.failures ≡ next_if (is_err result) self.old.failures }
     {
@@ -86,10 +87,10 @@ impl<R: Read> Watched<R> {
 /// `Read` where the reader failed, an interruption too; `TooLong`; `Memory`. The clauses on failures tell this call's
 /// from those before: `Read` comes with one failure more, anything else with none.
 pub fn read_bytes<R: Read>(alloc: Global, reader: &mut Watched<R>) -> Result<Vec<u8>, RunFault>
-    ensures all { IfOk result (λ v. IsAll (R.remaining reader.old.inner) (R.remaining reader.new.inner) v.items) }
+    ensures all { IfOk result (λ v. ReadsAll R.remaining reader.old reader.new v.items) }
     ensures fits { IfOk result (λ v. length v.items ≤ text_bytes) }
-    ensures long { result ≡ Err faults.TooLong → IfSome (R.remaining reader.old.inner) (λ input. text_bytes < length input) }
-    ensures failed { result ≡ Err faults.Read → reader.new.failures ≡ next reader.old.failures }
+    ensures long { result ≡ Err faults.TooLong → InputIsTooLong R.remaining reader.old }
+    ensures failed { result ≡ Err faults.Read → ReadFails reader.old reader.new }
     ensures unfailed { result ≢ Err faults.Read → reader.new.failures ≡ reader.old.failures }
     ensures others { IfErr result IsOfReading }
     ensures reads { AddsAtMost most_reads reader.old.reads reader.new.reads }

@@ -17,21 +17,26 @@ use jc_hooks::{Hearer, Loader, Processor, Writer};
 
 /// Where no two sessions call the same life, a run on worker threads tells each life alone.
 pub fn apart_is_alone()
-    ensures { (stated : List Stated) (caches : List CacheConfig) (all : List Line) (transcript : History)
+    ensures { (stated : List Stated) (caches : List CacheConfig) (all : List Line)
+        (transcript : History)
         → IsMade stated caches all transcript → AreApart all
-        → TellsAlone caches all (λ id. entries_of id transcript.entries) (report.text transcript (managed_of caches all)) }
+        → TellsAlone caches all (λ id. entries_of id transcript.entries)
+        (report.text transcript (managed_of caches all)) }
 {}
 
 /// A run in the lines' order tells each life alone, as text.
 pub fn serial_is_alone<L: Loader, W: Writer, P: Processor, K: Hearer>()
-    ensures { (caches : List CacheConfig) (all : List Line) (old new : List (Callbacks L W P K)) (text : List ℕ)
-        → (told : Reports L.load_of W.may P.verdict_of K.state_after form.Text caches all old new text)
+    ensures { (caches : List CacheConfig) (all : List Line) (old new : List (Callbacks L W P K))
+        (text : List ℕ)
+        → (told : Reports L.load_of W.may P.verdict_of K.state_after
+        form.Text caches all old new text)
         → TellsAlone caches all told.entries text }
 {}
 
 /// Two reports of each life alone are the same bytes, where the callbacks have answered the same.
 pub fn alone_is_one_report()
-    ensures { (caches : List CacheConfig) (all : List Line) (entries entries' : ℕ → List Entry) (text text' : List ℕ)
+    ensures { (caches : List CacheConfig) (all : List Line) (entries entries' : ℕ → List Entry)
+        (text text' : List ℕ)
         → TellsAlone caches all entries text → TellsAlone caches all entries' text'
         → AnswerAlike caches all entries entries'
         → text ≡ text' }

@@ -1,9 +1,9 @@
 //! The writer of all output, with an account of how it was used. Nothing else writes to what it holds.
 ghost use Rattle.std.specs.Prelude.{◌≡◌, true, false, is_err, is_ok, IfSome, IfErr, OnOk, Err};
 ghost use Rattle.std.specs.Io.{WritesAtMost};
-ghost use Rattle.std.specs.Io.KnownBytes.{WriteAppends, Appends, Keeps};
-ghost use Rattle.jc_runner.specs.Meters.{next, next_if};
-ghost use Rattle.jc_runner.specs.Streams.{takes_nothing, UnheardAfter, WritesFront};
+ghost use Rattle.std.specs.Io.KnownBytes.{WriteAppends};
+ghost use Rattle.jc_runner.specs.Meters.{next_if};
+ghost use Rattle.jc_runner.specs.Streams.{takes_nothing, UnheardAfter, unused, AddsText, AddsFront, AddsNothing, WriteFails};
 ghost use Rattle.jc_runner.specs.declared.exit.fault.RunFault.TheVariants as faults;
 
 pub mod form;
@@ -37,7 +37,7 @@ pub struct WatchedWriter<W> {
 impl<W: Write> WatchedWriter<W> {
     /// A writer that was not called yet.
     pub fn new(inner: W) -> WatchedWriter<W>
-        ensures { result ≡ record { inner = inner; failures = 0; unheard = false; flushed = false } }
+        ensures { result ≡ unused inner }
     {
         WatchedWriter {
             inner,
@@ -64,7 +64,8 @@ impl<W: Write> WatchedWriter<W> {
 
     /// What `write!` and `writeln!` call: writes all of a text.
     pub(crate) fn write_fmt<T: Display + Drop>(&mut self, text: T) -> io::Result<()>
-        ensures bytes { OnOk result (IfSome (T.output text) (Appends (W.contents self.old.inner) (W.contents self.new.inner))) }
+        ensures bytes { OnOk result (IfSome (T.output text)
+            (AddsText W.contents self.old self.new)) }
         ensures failures { self.new.failures ≡ next_if (is_err result) self.old.failures }
         ensures unheard { UnheardAfter result self.old.unheard self.new.unheard }
         ensures flushed { self.new.flushed ≡ false }
@@ -78,7 +79,8 @@ impl<W: Write> WatchedWriter<W> {
 
     pub(crate) fn write(&mut self, buf: &[u8]) -> io::Result<usize>
         ensures bound { WritesAtMost result buf.now }
-        ensures bytes { WriteAppends (W.contents self.old.inner) (W.contents self.new.inner) result buf.now }
+        ensures bytes { WriteAppends (W.contents self.old.inner) (W.contents self.new.inner)
+            result buf.now }
         ensures failures { self.new.failures ≡ next_if (takes_nothing result) self.old.failures }
         ensures unheard { UnheardAfter result self.old.unheard self.new.unheard }
         ensures flushed { self.new.flushed ≡ false }
@@ -95,7 +97,7 @@ impl<W: Write> WatchedWriter<W> {
     }
 
     pub(crate) fn flush(&mut self) -> io::Result<()>
-        ensures bytes { Keeps (W.contents self.old.inner) (W.contents self.new.inner) }
+        ensures bytes { AddsNothing W.contents self.old self.new }
         ensures failures { self.new.failures ≡ next_if (is_err result) self.old.failures }
         ensures unheard { UnheardAfter result self.old.unheard self.new.unheard }
         ensures flushed { self.new.flushed ≡ is_ok result }
@@ -110,12 +112,13 @@ impl<W: Write> WatchedWriter<W> {
 
 /// Writes all of a text and flushes it. Where the writer fails, at the flush too, a prefix of it was written.
 pub fn write_text<W: Write>(writer: &mut WatchedWriter<W>, text: &[u8]) -> Result<(), RunFault>
-    ensures all { OnOk result (Appends (W.contents writer.old.inner) (W.contents writer.new.inner) text.now) }
+    ensures all { OnOk result (AddsText W.contents writer.old writer.new text.now) }
     ensures flushed { OnOk result (writer.new.flushed ≡ true) }
     ensures unfailed { OnOk result (writer.new.failures ≡ writer.old.failures) }
     ensures only { IfErr result (λ e. e ≡ faults.Write) }
-    ensures failed { result ≡ Err faults.Write → writer.new.failures ≡ next writer.old.failures }
-    ensures front { result ≡ Err faults.Write → WritesFront (W.contents writer.old.inner) (W.contents writer.new.inner) text.now }
+    ensures failed { result ≡ Err faults.Write → WriteFails writer.old writer.new }
+    ensures front { result ≡ Err faults.Write → AddsFront W.contents writer.old writer.new
+        text.now }
 {
     let mut rest = text;
     while !rest.is_empty() {

@@ -1,20 +1,19 @@
 //! A run in the lines' order: a script in, a report out.
-ghost use Rattle.std.specs.Prelude.{◌≡◌, ◌<◌, ◌≢◌, ℕ, true, IfOk, IfErr, IfSome, IsSome, Some, None, OnOk, IsOk, Ok, Err, length, string_bytes};
+ghost use Rattle.std.specs.Prelude.{◌≡◌, ◌≢◌, ℕ, true, IfOk, IfErr, IsSome, Some, None, OnOk, Ok, Err, string_bytes};
 ghost use Rattle.std.specs.FinMap as finite;
-ghost use Rattle.std.specs.Io.KnownBytes.{Appends, IsAtEnd, Keeps};
+ghost use Rattle.std.specs.Io.KnownBytes.{IsAtEnd};
 ghost use Rattle.jc_script.specs.Script.{lines};
-ghost use Rattle.jc_script.specs.declared.fault.ScriptFault.{ScriptFault as TextFault};
 ghost use Rattle.jc_script.specs.Named.{AllName};
 ghost use Rattle.jc_engine.specs.Opening.{open_refusal};
-ghost use Rattle.jc_model.specs.Limits.{text_bytes};
 ghost use Rattle.jc_model.specs.Legal.{at_first};
 ghost use Rattle.jc_model.specs.Runs.{opened_from};
 ghost use Rattle.jc_runner.specs.Halfway.{lives_now};
 ghost use Rattle.jc_runner.specs.Hooks.{AreKept, AreSuited, CannotOpen};
-ghost use Rattle.jc_runner.specs.Reports.{Reports, ReportsOf};
-ghost use Rattle.jc_runner.specs.Meters.{next, most_reads, AddsAtMost};
-ghost use Rattle.jc_runner.specs.Streams.{WritesFront, IsOfRunning, IsOfScript, IsOfStrictness, IsBeforeCalls, HasRun};
+ghost use Rattle.jc_runner.specs.Reports.{Reports, ReportsInput};
+ghost use Rattle.jc_runner.specs.Meters.{most_reads, AddsAtMost};
+ghost use Rattle.jc_runner.specs.Streams.{IsOfRunning, IsOfScript, IsOfStrictness, IsBeforeCalls, HasRun, InputIsTooLong, ReadFails, AddsText, AddsFront, AddsNothing, FlushesAll, WriteFails};
 ghost use Rattle.jc_runner.specs.Strictness.{HasNone, HasOne};
+ghost use Rattle.jc_runner.specs.Texts.{ScriptIsGood, ScriptHasFault, IfScriptFault, IfStrayLine};
 ghost use Rattle.jc_strict.specs.Stray.{stray_line};
 ghost use Rattle.jc_runner.specs.declared.exit.fault.RunFault.TheVariants as faults;
 ghost use Rattle.jc_runner.specs.declared.output.form.Form.TheVariants as forms;
@@ -50,7 +49,7 @@ pub(crate) fn lines_of(
     settings: &Settings,
 ) -> Result<Vec<Line>, RunFault>
     ensures ok { IfOk result (λ v. lines settings.now bytes.now ≡ Ok v.items) }
-    ensures script { (f : TextFault) → result ≡ Err (faults.Script f) → lines settings.now bytes.now ≡ Err f }
+    ensures script { IfScriptFault result (λ f. lines settings.now bytes.now ≡ Err f) }
     ensures others { IfErr result IsOfScript }
     ensures named { IfOk result (λ v. AllName (opened_from 0 settings.now) v.items) }
 {
@@ -72,7 +71,8 @@ fn opened<T: Rows>(
     ensures takes { OnOk result (open_refusal settings ≡ None) }
     ensures faults { IfErr result IsOfRunning }
     ensures refused { result ≡ Err faults.Open → IsSome (open_refusal settings) }
-    ensures memory { result ≡ Err faults.Memory → IsSome (open_refusal settings) → open_refusal settings ≡ Some OpenRefusal.OutOfMemory }
+    ensures memory { result ≡ Err faults.Memory → IsSome (open_refusal settings)
+        → open_refusal settings ≡ Some OpenRefusal.OutOfMemory }
 {
     match Recorded::open(alloc, rows, settings.into_caches()) {
         Ok(recorded) => Ok(recorded),
@@ -96,7 +96,8 @@ fn report_as<T: Rows, L: Loader, W: Writer, P: Processor, K: Hearer>(
     requires suit { AreSuited P.wants settings hooks.old }
     ensures kept { AreKept hooks.old hooks.new }
     ensures untouched { result ≡ Err faults.Open → hooks.new ≡ hooks.old }
-    ensures text { IfOk result (λ s. Reports L.load_of W.may P.verdict_of K.state_after form.now settings lines.items hooks.old hooks.new (string_bytes s)) }
+    ensures text { IfOk result (λ s. Reports L.load_of W.may P.verdict_of K.state_after
+        form.now settings lines.items hooks.old hooks.new (string_bytes s)) }
     ensures faults { IfErr result IsOfRunning }
     ensures refused { result ≡ Err faults.Open → IsSome (open_refusal settings) }
 {
@@ -131,7 +132,8 @@ pub fn report_on<T: Rows, L: Loader, W: Writer, P: Processor, K: Hearer>(
     requires suit { AreSuited P.wants settings hooks.old }
     ensures kept { AreKept hooks.old hooks.new }
     ensures untouched { result ≡ Err faults.Open → hooks.new ≡ hooks.old }
-    ensures text { IfOk result (λ s. Reports L.load_of W.may P.verdict_of K.state_after forms.Text settings lines.items hooks.old hooks.new (string_bytes s)) }
+    ensures text { IfOk result (λ s. Reports L.load_of W.may P.verdict_of K.state_after
+        forms.Text settings lines.items hooks.old hooks.new (string_bytes s)) }
     ensures faults { IfErr result IsOfRunning }
     ensures refused { result ≡ Err faults.Open → IsSome (open_refusal settings) }
 {
@@ -141,7 +143,7 @@ pub fn report_on<T: Rows, L: Loader, W: Writer, P: Processor, K: Hearer>(
 /// Refuses a script with a member that its op does not need, where that is asked for.
 pub(crate) fn strictly(alloc: Global, bytes: &[u8], strict: bool) -> Result<(), RunFault>
     ensures known { OnOk result (strict ≡ true → stray_line bytes.now ≡ None) }
-    ensures entry { (n : ℕ) → result ≡ Err (faults.Entry n) → (strict ≡ true) × (stray_line bytes.now ≡ Some n) }
+    ensures entry { IfStrayLine result (λ n. (strict ≡ true) × (stray_line bytes.now ≡ Some n)) }
     ensures others { IfErr result IsOfStrictness }
 {
     if !strict {
@@ -165,24 +167,30 @@ pub(crate) fn serial_as<L: Loader, W: Writer, P: Processor, K: Hearer, R: Read, 
     reader: &mut Watched<R>,
     writer: &mut WatchedWriter<O>,
 ) -> Result<(), RunFault>
-    ensures ok { OnOk result (IfSome (R.remaining reader.old.inner) (λ input. ReportsOf L.load_of W.may P.verdict_of K.state_after format settings input hooks.old hooks.new (λ text. Appends (O.contents writer.old.inner) (O.contents writer.new.inner) text))) }
+    ensures ok { OnOk result (ReportsInput L.load_of W.may P.verdict_of K.state_after
+        R.remaining reader.old format settings hooks.old hooks.new
+        (AddsText O.contents writer.old writer.new)) }
     ensures end { OnOk result (IsAtEnd (R.remaining reader.new.inner)) }
-    ensures script { (f : TextFault) → result ≡ Err (faults.Script f) → IfSome (R.remaining reader.old.inner) (λ input. lines settings input ≡ Err f) }
-    ensures entry { (n : ℕ) → result ≡ Err (faults.Entry n) → HasOne strict settings (R.remaining reader.old.inner) n }
+    ensures script { IfScriptFault result (ScriptHasFault R.remaining settings reader.old) }
+    ensures entry { IfStrayLine result (HasOne strict settings (R.remaining reader.old.inner)) }
     ensures known { HasRun result → HasNone strict (R.remaining reader.old.inner) }
-    ensures long { result ≡ Err faults.TooLong → IfSome (R.remaining reader.old.inner) (λ input. text_bytes < length input) }
+    ensures long { result ≡ Err faults.TooLong → InputIsTooLong R.remaining reader.old }
     ensures open { result ≡ Err faults.Open → CannotOpen P.wants settings hooks.old }
-    ensures good { result ≡ Err faults.Open → IfSome (R.remaining reader.old.inner) (λ input. IsOk (lines settings input)) }
+    ensures good { result ≡ Err faults.Open → ScriptIsGood R.remaining settings reader.old }
     ensures kept { AreKept hooks.old hooks.new }
     ensures untouched { IfErr result (λ e. IsBeforeCalls e → hooks.new ≡ hooks.old) }
     ensures suit { HasRun result → AreSuited P.wants settings hooks.old }
-    ensures flushed { OnOk result ((writer.new.flushed ≡ true) × (writer.new.failures ≡ writer.old.failures)) }
+    ensures flushed { OnOk result (FlushesAll writer.old writer.new) }
     ensures closed { result ≢ Err faults.Close }
-    ensures front { result ≡ Err faults.Write → IfSome (R.remaining reader.old.inner) (λ input. ReportsOf L.load_of W.may P.verdict_of K.state_after format settings input hooks.old hooks.new (λ text. WritesFront (O.contents writer.old.inner) (O.contents writer.new.inner) text)) }
-    ensures nothing { IfErr result (λ e. e ≢ faults.Write → Keeps (O.contents writer.old.inner) (O.contents writer.new.inner)) }
-    ensures read_failed { result ≡ Err faults.Read → reader.new.failures ≡ next reader.old.failures }
+    ensures front { result ≡ Err faults.Write
+        → ReportsInput L.load_of W.may P.verdict_of K.state_after
+        R.remaining reader.old format settings hooks.old hooks.new
+        (AddsFront O.contents writer.old writer.new) }
+    ensures nothing { IfErr result (λ e.
+        e ≢ faults.Write → AddsNothing O.contents writer.old writer.new) }
+    ensures read_failed { result ≡ Err faults.Read → ReadFails reader.old reader.new }
     ensures unfailed { result ≢ Err faults.Read → reader.new.failures ≡ reader.old.failures }
-    ensures write_failed { result ≡ Err faults.Write → writer.new.failures ≡ next writer.old.failures }
+    ensures write_failed { result ≡ Err faults.Write → WriteFails writer.old writer.new }
     ensures reads { AddsAtMost most_reads reader.old.reads reader.new.reads }
 {
     let bytes = read_bytes(alloc, reader)?;
@@ -211,23 +219,29 @@ pub fn serial<L: Loader, W: Writer, P: Processor, K: Hearer, R: Read, O: Write>(
     reader: &mut Watched<R>,
     writer: &mut WatchedWriter<O>,
 ) -> Result<(), RunFault>
-    ensures ok { OnOk result (IfSome (R.remaining reader.old.inner) (λ input. ReportsOf L.load_of W.may P.verdict_of K.state_after formats.Text settings input hooks.old hooks.new (λ text. Appends (O.contents writer.old.inner) (O.contents writer.new.inner) text))) }
+    ensures ok { OnOk result (ReportsInput L.load_of W.may P.verdict_of K.state_after
+        R.remaining reader.old formats.Text settings hooks.old hooks.new
+        (AddsText O.contents writer.old writer.new)) }
     ensures end { OnOk result (IsAtEnd (R.remaining reader.new.inner)) }
-    ensures script { (f : TextFault) → result ≡ Err (faults.Script f) → IfSome (R.remaining reader.old.inner) (λ input. lines settings input ≡ Err f) }
+    ensures script { IfScriptFault result (ScriptHasFault R.remaining settings reader.old) }
     ensures lax { (n : ℕ) → result ≢ Err (faults.Entry n) }
-    ensures long { result ≡ Err faults.TooLong → IfSome (R.remaining reader.old.inner) (λ input. text_bytes < length input) }
+    ensures long { result ≡ Err faults.TooLong → InputIsTooLong R.remaining reader.old }
     ensures open { result ≡ Err faults.Open → CannotOpen P.wants settings hooks.old }
-    ensures good { result ≡ Err faults.Open → IfSome (R.remaining reader.old.inner) (λ input. IsOk (lines settings input)) }
+    ensures good { result ≡ Err faults.Open → ScriptIsGood R.remaining settings reader.old }
     ensures kept { AreKept hooks.old hooks.new }
     ensures untouched { IfErr result (λ e. IsBeforeCalls e → hooks.new ≡ hooks.old) }
     ensures suit { HasRun result → AreSuited P.wants settings hooks.old }
-    ensures flushed { OnOk result ((writer.new.flushed ≡ true) × (writer.new.failures ≡ writer.old.failures)) }
+    ensures flushed { OnOk result (FlushesAll writer.old writer.new) }
     ensures closed { result ≢ Err faults.Close }
-    ensures front { result ≡ Err faults.Write → IfSome (R.remaining reader.old.inner) (λ input. ReportsOf L.load_of W.may P.verdict_of K.state_after formats.Text settings input hooks.old hooks.new (λ text. WritesFront (O.contents writer.old.inner) (O.contents writer.new.inner) text)) }
-    ensures nothing { IfErr result (λ e. e ≢ faults.Write → Keeps (O.contents writer.old.inner) (O.contents writer.new.inner)) }
-    ensures read_failed { result ≡ Err faults.Read → reader.new.failures ≡ next reader.old.failures }
+    ensures front { result ≡ Err faults.Write
+        → ReportsInput L.load_of W.may P.verdict_of K.state_after
+        R.remaining reader.old formats.Text settings hooks.old hooks.new
+        (AddsFront O.contents writer.old writer.new) }
+    ensures nothing { IfErr result (λ e.
+        e ≢ faults.Write → AddsNothing O.contents writer.old writer.new) }
+    ensures read_failed { result ≡ Err faults.Read → ReadFails reader.old reader.new }
     ensures unfailed { result ≢ Err faults.Read → reader.new.failures ≡ reader.old.failures }
-    ensures write_failed { result ≡ Err faults.Write → writer.new.failures ≡ next writer.old.failures }
+    ensures write_failed { result ≡ Err faults.Write → WriteFails writer.old writer.new }
     ensures reads { AddsAtMost most_reads reader.old.reads reader.new.reads }
 {
     let format = Format::Text;

@@ -1,6 +1,5 @@
 //! A run on worker threads: the lines of a script in, a report out.
-ghost use Rattle.std.specs.Prelude.{◌≡◌, ◌≢◌, ◌<◌, ◌↔◌, true, IsTrue, IfOk, IfErr, OnOk, OnErr, Err, map, string_bytes};
-ghost use Rattle.std.specs.Io.KnownBytes.{Appends, Keeps};
+ghost use Rattle.std.specs.Prelude.{◌≡◌, ◌≢◌, ◌<◌, ◌↔◌, IsTrue, IfOk, IfErr, OnOk, OnErr, Err, map, string_bytes};
 ghost use Rattle.jc_model.specs.Legal.{IsLegal};
 ghost use Rattle.jc_model.specs.Runs.{opened_from};
 ghost use Rattle.jc_script.specs.Calls.{calls_in};
@@ -8,10 +7,8 @@ ghost use Rattle.jc_script.specs.Named.{AllName};
 ghost use Rattle.jc_shared.specs.Stated.{stated_by, shared_of};
 ghost use Rattle.jc_threads.specs.Lines.{AreMade};
 ghost use Rattle.jc_threads.specs.Managing.{AreManaged};
-ghost use Rattle.jc_runner.specs.Hooks.{AreSuited, CannotOpen};
-ghost use Rattle.jc_runner.specs.Meters.{next};
-ghost use Rattle.jc_runner.specs.Streams.{WritesFront, IsOfThreads, HasRun};
-ghost use Rattle.jc_runner.specs.Together.{stated_of, Gathers, GathersSo};
+ghost use Rattle.jc_runner.specs.Streams.{IsOfThreads, HasRun, AddsText, AddsFront, AddsNothing, FlushesAll, WriteFails};
+ghost use Rattle.jc_runner.specs.Together.{refusals_of, SetupSuits, SetupCannotOpen, SetupGathers, SetupGathersSo};
 ghost use Rattle.jc_runner.specs.declared.exit.fault.RunFault.TheVariants as faults;
 ghost use Rattle.jc_runner.specs.declared.output.form.Form.TheVariants as forms;
 
@@ -53,10 +50,10 @@ fn unnamed<L: Loader, W: Writer, P: Processor, K: Hearer>(
 ) -> Result<Shared<L, W, P, K>, RunFault>
     ensures configs { IfOk result (λ s. s.configs ≡ setup.settings) }
     ensures shared { IfOk result (λ s. s.shared ≡ map shared_of setup.hooks.items) }
-    ensures suit { OnOk result (AreSuited P.wants setup.settings setup.hooks.items) }
-    ensures opens { OnOk result (CannotOpen P.wants setup.settings setup.hooks.items → ⊥) }
-    ensures refused { result ≡ Err faults.Open → CannotOpen P.wants setup.settings setup.hooks.items }
-    ensures memory { result ≡ Err faults.Memory → CannotOpen P.wants setup.settings setup.hooks.items → ⊥ }
+    ensures suit { OnOk result (SetupSuits P.wants setup) }
+    ensures opens { OnOk result (SetupCannotOpen P.wants setup → ⊥) }
+    ensures refused { result ≡ Err faults.Open → SetupCannotOpen P.wants setup }
+    ensures memory { result ≡ Err faults.Memory → SetupCannotOpen P.wants setup → ⊥ }
     ensures closed { result ≢ Err faults.Close }
     ensures faults { IfErr result IsOfThreads }
 {
@@ -116,7 +113,8 @@ fn made<L: Loader, W: Writer, P: Processor, K: Hearer, G: Gate, R: Threads + Wai
 ) -> Result<Transcription, RunFault>
     requires workers { 0 < crew.now.workers }
     ensures legal { IfOk result (λ t. IsLegal t.transcript) }
-    ensures made { IfOk result (λ t. AreMade (map (stated_by L.load_of P.verdict_of) shared.shared) (calls_in lines.items) t.transcript.entries) }
+    ensures made { IfOk result (λ t. AreMade (map (stated_by L.load_of P.verdict_of) shared.shared)
+        (calls_in lines.items) t.transcript.entries) }
     ensures managed { IfOk result (λ t. AreManaged shared.configs lines.items t.refusals.items) }
     ensures faults { IfErr result IsOfThreads }
     ensures opened { result ≢ Err faults.Open }
@@ -126,7 +124,7 @@ fn made<L: Loader, W: Writer, P: Processor, K: Hearer, G: Gate, R: Threads + Wai
 
 /// Whether these lines were refused as here.
 fn are_refused_so(managed: &[Managed], refusals: &[Option<CreateRefusal>]) -> bool
-    ensures { IsTrue result ↔ (map (λ m. m.refusal) managed.now ≡ refusals.now) }
+    ensures { IsTrue result ↔ (refusals_of managed.now ≡ refusals.now) }
 {
     if managed.len() != refusals.len() {
         return false;
@@ -143,9 +141,10 @@ fn are_refused_so(managed: &[Managed], refusals: &[Option<CreateRefusal>]) -> bo
 fn compared(followed: &Followed, made: Transcription) -> Result<Transcript, RunFault>
     ensures same { IfOk result (λ t. t ≡ made.transcript) }
     ensures lives { IfOk result (λ t. t.lives ≡ followed.now.lives.items) }
-    ensures refusals { OnOk result (map (λ m. m.refusal) followed.now.managed.items ≡ made.refusals.items) }
+    ensures refusals { OnOk result (refusals_of followed.now.managed.items ≡ made.refusals.items) }
     ensures faults { IfErr result (λ e. e ≡ faults.Close) }
-    ensures differ { OnErr result (made.transcript.lives ≡ followed.now.lives.items → map (λ m. m.refusal) followed.now.managed.items ≡ made.refusals.items → ⊥) }
+    ensures differ { OnErr result (made.transcript.lives ≡ followed.now.lives.items
+        → refusals_of followed.now.managed.items ≡ made.refusals.items → ⊥) }
 {
     let Transcription {
         transcript,
@@ -171,10 +170,11 @@ fn gathered<L: Loader, W: Writer, P: Processor, K: Hearer, G: Gate, R: Threads +
 ) -> Result<String, RunFault>
     requires workers { 0 < crew.now.workers }
     requires named { AllName (opened_from 0 setup.settings) lines.items }
-    ensures text { IfOk result (λ s. Gathers form.now (stated_of L.load_of P.verdict_of setup.hooks.items) setup.settings lines.items (string_bytes s)) }
-    ensures suit { OnOk result (AreSuited P.wants setup.settings setup.hooks.items) }
-    ensures refused { result ≡ Err faults.Open → CannotOpen P.wants setup.settings setup.hooks.items }
-    ensures closed { result ≡ Err faults.Close → CannotOpen P.wants setup.settings setup.hooks.items → ⊥ }
+    ensures text { IfOk result (λ s. SetupGathers L.load_of P.verdict_of form.now setup lines.items
+        (string_bytes s)) }
+    ensures suit { OnOk result (SetupSuits P.wants setup) }
+    ensures refused { result ≡ Err faults.Open → SetupCannotOpen P.wants setup }
+    ensures closed { result ≡ Err faults.Close → SetupCannotOpen P.wants setup → ⊥ }
     ensures faults { IfErr result IsOfThreads }
 {
     let followed = follow(alloc, &setup.settings, lines.as_slice())?;
@@ -208,14 +208,18 @@ pub(crate) fn threaded_as<
 ) -> Result<(), RunFault>
     requires workers { 0 < crew.now.workers }
     requires named { AllName (opened_from 0 setup.settings) lines.items }
-    ensures ok { OnOk result (GathersSo form.now (stated_of L.load_of P.verdict_of setup.hooks.items) setup.settings lines.items (λ text. Appends (O.contents writer.old.inner) (O.contents writer.new.inner) text)) }
-    ensures flushed { OnOk result ((writer.new.flushed ≡ true) × (writer.new.failures ≡ writer.old.failures)) }
-    ensures suit { HasRun result → AreSuited P.wants setup.settings setup.hooks.items }
-    ensures refused { result ≡ Err faults.Open → CannotOpen P.wants setup.settings setup.hooks.items }
-    ensures closed { result ≡ Err faults.Close → CannotOpen P.wants setup.settings setup.hooks.items → ⊥ }
-    ensures front { result ≡ Err faults.Write → GathersSo form.now (stated_of L.load_of P.verdict_of setup.hooks.items) setup.settings lines.items (λ text. WritesFront (O.contents writer.old.inner) (O.contents writer.new.inner) text) }
-    ensures write_failed { result ≡ Err faults.Write → writer.new.failures ≡ next writer.old.failures }
-    ensures nothing { IfErr result (λ e. e ≢ faults.Write → Keeps (O.contents writer.old.inner) (O.contents writer.new.inner)) }
+    ensures ok { OnOk result (SetupGathersSo L.load_of P.verdict_of form.now setup lines.items
+        (AddsText O.contents writer.old writer.new)) }
+    ensures flushed { OnOk result (FlushesAll writer.old writer.new) }
+    ensures suit { HasRun result → SetupSuits P.wants setup }
+    ensures refused { result ≡ Err faults.Open → SetupCannotOpen P.wants setup }
+    ensures closed { result ≡ Err faults.Close → SetupCannotOpen P.wants setup → ⊥ }
+    ensures front { result ≡ Err faults.Write
+        → SetupGathersSo L.load_of P.verdict_of form.now setup lines.items
+        (AddsFront O.contents writer.old writer.new) }
+    ensures write_failed { result ≡ Err faults.Write → WriteFails writer.old writer.new }
+    ensures nothing { IfErr result (λ e.
+        e ≢ faults.Write → AddsNothing O.contents writer.old writer.new) }
     ensures others { IfErr result (λ e. e ≢ faults.Write → IsOfThreads e) }
 {
     let text = gathered(rt, alloc, setup, crew, lines, form)?;
@@ -247,14 +251,18 @@ pub fn threaded<
 ) -> Result<(), RunFault>
     requires workers { 0 < crew.now.workers }
     requires named { AllName (opened_from 0 setup.settings) lines.items }
-    ensures ok { OnOk result (GathersSo forms.Text (stated_of L.load_of P.verdict_of setup.hooks.items) setup.settings lines.items (λ text. Appends (O.contents writer.old.inner) (O.contents writer.new.inner) text)) }
-    ensures flushed { OnOk result ((writer.new.flushed ≡ true) × (writer.new.failures ≡ writer.old.failures)) }
-    ensures suit { HasRun result → AreSuited P.wants setup.settings setup.hooks.items }
-    ensures refused { result ≡ Err faults.Open → CannotOpen P.wants setup.settings setup.hooks.items }
-    ensures closed { result ≡ Err faults.Close → CannotOpen P.wants setup.settings setup.hooks.items → ⊥ }
-    ensures front { result ≡ Err faults.Write → GathersSo forms.Text (stated_of L.load_of P.verdict_of setup.hooks.items) setup.settings lines.items (λ text. WritesFront (O.contents writer.old.inner) (O.contents writer.new.inner) text) }
-    ensures write_failed { result ≡ Err faults.Write → writer.new.failures ≡ next writer.old.failures }
-    ensures nothing { IfErr result (λ e. e ≢ faults.Write → Keeps (O.contents writer.old.inner) (O.contents writer.new.inner)) }
+    ensures ok { OnOk result (SetupGathersSo L.load_of P.verdict_of forms.Text setup lines.items
+        (AddsText O.contents writer.old writer.new)) }
+    ensures flushed { OnOk result (FlushesAll writer.old writer.new) }
+    ensures suit { HasRun result → SetupSuits P.wants setup }
+    ensures refused { result ≡ Err faults.Open → SetupCannotOpen P.wants setup }
+    ensures closed { result ≡ Err faults.Close → SetupCannotOpen P.wants setup → ⊥ }
+    ensures front { result ≡ Err faults.Write
+        → SetupGathersSo L.load_of P.verdict_of forms.Text setup lines.items
+        (AddsFront O.contents writer.old writer.new) }
+    ensures write_failed { result ≡ Err faults.Write → WriteFails writer.old writer.new }
+    ensures nothing { IfErr result (λ e.
+        e ≢ faults.Write → AddsNothing O.contents writer.old writer.new) }
     ensures others { IfErr result (λ e. e ≢ faults.Write → IsOfThreads e) }
 {
     threaded_as(rt, alloc, setup, crew, lines, &Form::Text, writer)

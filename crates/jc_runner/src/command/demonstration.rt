@@ -75,7 +75,8 @@ pub(crate) fn demonstrate<I: Read, O: Write>(
     input: &mut Watched<I>,
     output: &mut WatchedWriter<O>,
 ) -> Result<(), RunFault>
-    ensures ends { RunEnds I.remaining O.contents true false formats.Text demonstration_read input.old input.new output.old output.new result }
+    ensures ends { RunEnds I.remaining O.contents true false formats.Text demonstration_read
+        input.old input.new output.old output.new result }
     ensures unfailed { result ≢ Err Read → input.new.failures ≡ input.old.failures }
     ensures reads { AddsAtMost most_reads input.old.reads input.new.reads }
 {

@@ -1,6 +1,7 @@
 //! The files that the program opens, and its standard streams.
 
-ghost use Rattle.std.specs.Prelude.{◌≡◌, None, false};
+ghost use Rattle.std.specs.Prelude.{◌≡◌, None};
+ghost use Rattle.jc_runner.specs.Streams.{unread, unused};
 
 use crate::input::Watched;
 use crate::output::WatchedWriter;
@@ -36,7 +37,11 @@ impl<F> Opened<F> {
 impl<I: Read, O: Write, E: Write> Standard<I, O, E> {
     /// Streams that were not used yet.
     pub fn new(input: I, output: O, errors: E) -> Standard<I, O, E>
-        ensures { result ≡ record { input = record { inner = input; reads = 0; failures = 0 }; output = record { inner = output; failures = 0; unheard = false; flushed = false }; errors = record { inner = errors; failures = 0; unheard = false; flushed = false } } }
+        ensures { result ≡ record {
+          input = unread input;
+          output = unused output;
+          errors = unused errors;
+        } }
     {
         Standard {
             input: Watched::new(input),

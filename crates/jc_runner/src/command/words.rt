@@ -22,7 +22,8 @@ fn no_text<R: Env + AllocGlobal>(rt: &R) -> WordsFault
 
 /// The fault of words that the machine does not hand over.
 fn words_fault<R: Env + AllocGlobal>(rt: &R, error: &Error) -> WordsFault
-    ensures memory { error_kind error.now ≡ ErrorKind.OutOfMemory → result ≡ WordsFault.OutOfMemory }
+    ensures memory { error_kind error.now ≡ ErrorKind.OutOfMemory
+        → result ≡ WordsFault.OutOfMemory }
     ensures others { error_kind error.now ≢ ErrorKind.OutOfMemory → IsOfNoText result }
 {
     if is_of_memory(error) {

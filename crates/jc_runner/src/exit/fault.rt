@@ -1,10 +1,11 @@
 //! The faults of a run and of the program, and the line that tells each.
-ghost use Rattle.std.specs.Prelude.{◌≡◌, not, is_err, OnOk, codes, option_map};
+ghost use Rattle.std.specs.Prelude.{◌≡◌, not, is_err, OnOk, codes};
 ghost use Rattle.std.specs.Bool.{OnTrue};
-ghost use Rattle.std.specs.Io.KnownBytes.{Appends};
+ghost use Rattle.std.specs.Option.{option_copied};
 ghost use Rattle.jc_runner.specs.declared.exit.fault.RunFault.TheVariants.{Memory};
 ghost use Rattle.jc_runner.specs.Faults.{of_work, bad_line, bad_cache_line, script_line, config_line, trace_line, run_line, fault_line, explained_line, told_lines, is_of_report};
 ghost use Rattle.jc_runner.specs.Meters.{next_if};
+ghost use Rattle.jc_runner.specs.Streams.{AddsText};
 
 use crate::output::WatchedWriter;
 use jc_config::ConfigFault;
@@ -82,14 +83,15 @@ pub enum ProgramFault {
 }
 
 fn write_bad<W: Write>(line: usize, member: &str, writer: &mut WatchedWriter<W>) -> io::Result<()>
-    ensures bytes { OnOk result (Appends (W.contents writer.old.inner) (W.contents writer.new.inner) (bad_line line member.now)) }
+    ensures bytes { OnOk result (AddsText W.contents writer.old writer.new
+        (bad_line line member.now)) }
     ensures failures { writer.new.failures ≡ next_if (is_err result) writer.old.failures }
 {
     writeln!(writer, "script line {line}: bad {member}")
 }
 
 fn write_script_fault<W: Write>(fault: ScriptFault, writer: &mut WatchedWriter<W>) -> io::Result<()>
-    ensures bytes { OnOk result (Appends (W.contents writer.old.inner) (W.contents writer.new.inner) (script_line fault)) }
+    ensures bytes { OnOk result (AddsText W.contents writer.old writer.new (script_line fault)) }
     ensures failures { writer.new.failures ≡ next_if (is_err result) writer.old.failures }
 {
     match fault {
@@ -106,14 +108,15 @@ fn write_bad_cache<W: Write>(
     member: &str,
     writer: &mut WatchedWriter<W>,
 ) -> io::Result<()>
-    ensures bytes { OnOk result (Appends (W.contents writer.old.inner) (W.contents writer.new.inner) (bad_cache_line cache member.now)) }
+    ensures bytes { OnOk result (AddsText W.contents writer.old writer.new
+        (bad_cache_line cache member.now)) }
     ensures failures { writer.new.failures ≡ next_if (is_err result) writer.old.failures }
 {
     writeln!(writer, "config cache {cache}: bad {member}")
 }
 
 fn write_config_fault<W: Write>(fault: ConfigFault, writer: &mut WatchedWriter<W>) -> io::Result<()>
-    ensures bytes { OnOk result (Appends (W.contents writer.old.inner) (W.contents writer.new.inner) (config_line fault)) }
+    ensures bytes { OnOk result (AddsText W.contents writer.old writer.new (config_line fault)) }
     ensures failures { writer.new.failures ≡ next_if (is_err result) writer.old.failures }
 {
     match fault {
@@ -131,7 +134,7 @@ fn write_config_fault<W: Write>(fault: ConfigFault, writer: &mut WatchedWriter<W
 }
 
 fn write_run_fault<W: Write>(fault: &RunFault, writer: &mut WatchedWriter<W>) -> io::Result<()>
-    ensures bytes { OnOk result (Appends (W.contents writer.old.inner) (W.contents writer.new.inner) (run_line fault.now)) }
+    ensures bytes { OnOk result (AddsText W.contents writer.old writer.new (run_line fault.now)) }
     ensures failures { writer.new.failures ≡ next_if (is_err result) writer.old.failures }
 {
     match fault {
@@ -147,7 +150,7 @@ fn write_run_fault<W: Write>(fault: &RunFault, writer: &mut WatchedWriter<W>) ->
 }
 
 fn write_replay_fault<W: Write>(fault: ReplayFault, writer: &mut WatchedWriter<W>) -> io::Result<()>
-    ensures bytes { OnOk result (Appends (W.contents writer.old.inner) (W.contents writer.new.inner) (trace_line fault)) }
+    ensures bytes { OnOk result (AddsText W.contents writer.old writer.new (trace_line fault)) }
     ensures failures { writer.new.failures ≡ next_if (is_err result) writer.old.failures }
 {
     match fault {
@@ -179,7 +182,8 @@ pub fn is_of_report(fault: &ProgramFault) -> bool
 
 /// Writes the line of a fault; false where the writer failed.
 pub fn write_fault<W: Write>(fault: &ProgramFault, writer: &mut WatchedWriter<W>) -> bool
-    ensures told { OnTrue result (Appends (W.contents writer.old.inner) (W.contents writer.new.inner) (fault_line fault.now)) }
+    ensures told { OnTrue result (AddsText W.contents writer.old writer.new
+        (fault_line fault.now)) }
     ensures failures { writer.new.failures ≡ next_if (not result) writer.old.failures }
 {
     let result = match fault {
@@ -194,14 +198,14 @@ pub fn write_fault<W: Write>(fault: &ProgramFault, writer: &mut WatchedWriter<W>
 }
 
 pub(crate) fn write_name<W: Write>(writer: &mut WatchedWriter<W>) -> bool
-    ensures told { OnTrue result (Appends (W.contents writer.old.inner) (W.contents writer.new.inner) (codes "jcache: ")) }
+    ensures told { OnTrue result (AddsText W.contents writer.old writer.new (codes "jcache: ")) }
     ensures failures { writer.new.failures ≡ next_if (not result) writer.old.failures }
 {
     write!(writer, "jcache: ").is_ok()
 }
 
 pub(crate) fn write_lines<W: Write>(lines: &str, writer: &mut WatchedWriter<W>) -> bool
-    ensures told { OnTrue result (Appends (W.contents writer.old.inner) (W.contents writer.new.inner) lines.now) }
+    ensures told { OnTrue result (AddsText W.contents writer.old writer.new lines.now) }
     ensures failures { writer.new.failures ≡ next_if (not result) writer.old.failures }
 {
     write!(writer, "{lines}").is_ok()
@@ -213,7 +217,8 @@ fn write_explained<W: Write>(
     lines: &str,
     writer: &mut WatchedWriter<W>,
 ) -> bool
-    ensures told { OnTrue result (Appends (W.contents writer.old.inner) (W.contents writer.new.inner) (explained_line fault.now lines.now)) }
+    ensures told { OnTrue result (AddsText W.contents writer.old writer.new
+        (explained_line fault.now lines.now)) }
     ensures failures { writer.new.failures ≡ next_if (not result) writer.old.failures }
 {
     if !write_name(writer) {
@@ -231,7 +236,8 @@ pub fn write_told<W: Write>(
     lines: Option<&str>,
     writer: &mut WatchedWriter<W>,
 ) -> bool
-    ensures told { OnTrue result (Appends (W.contents writer.old.inner) (W.contents writer.new.inner) (told_lines fault.now (option_map (λ l. l.now) lines.entry))) }
+    ensures told { OnTrue result (AddsText W.contents writer.old writer.new
+        (told_lines fault.now (option_copied lines.entry))) }
     ensures failures { writer.new.failures ≡ next_if (not result) writer.old.failures }
 {
     match lines {

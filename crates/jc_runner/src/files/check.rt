@@ -2,8 +2,7 @@
 ghost use Rattle.std.specs.Prelude.{◌≡◌, ◌≢◌, ℕ, List, Err};
 ghost use Rattle.jc_runner.specs.Disks.{Asks};
 ghost use Rattle.jc_runner.specs.Meters.{most_reads, AddsAtMost};
-ghost use Rattle.jc_runner.specs.Program.{LinesEnd, LinesFrom, ScriptRead, CheckEnds};
-ghost use Rattle.jc_words.specs.Program.{is_input};
+ghost use Rattle.jc_runner.specs.Program.{LinesEnd, ScriptRead, CheckEnds, LinesAt};
 ghost use Rattle.jc_runner.specs.declared.exit.fault.RunFault.TheVariants.{Read};
 
 use crate::command::streams::Opened;
@@ -44,7 +43,8 @@ fn check_script<D: Disk>(
     strict: bool,
     script: &mut Option<Watched<D::File>>,
 ) -> Result<(), RunFault>
-    ensures ends { ScriptRead D.File.remaining (D.holds disk.old path.now) strict settings.now script.new result }
+    ensures ends { ScriptRead D.File.remaining (D.holds disk.old path.now) strict settings.now
+        script.new result }
     ensures asked { Asks (D.asked disk.old) (D.asked disk.new) path.now }
     ensures same { (other : List ℕ) → D.holds disk.new other ≡ D.holds disk.old other }
 {
@@ -65,7 +65,9 @@ fn check_from<D: Disk, I: Read>(
     script: &mut Option<Watched<D::File>>,
     input: &mut Watched<I>,
 ) -> Result<(), RunFault>
-    ensures ends { LinesFrom D.File.remaining I.remaining (D.holds disk.old path.now) path.now (D.asked disk.old) (D.asked disk.new) input.old input.new strict settings.now (is_input path.now) script.new result }
+    ensures ends { LinesAt D.File.remaining I.remaining (D.holds disk.old) path.now
+        (D.asked disk.old) (D.asked disk.new) input.old input.new strict settings.now
+        script.new result }
     ensures same { (other : List ℕ) → D.holds disk.new other ≡ D.holds disk.old other }
 {
     if is_input(path) {
@@ -85,7 +87,9 @@ pub fn check_files<D: Disk, I: Read>(
     check: &Check,
     input: &mut Watched<I>,
 ) -> Result<(), ProgramFault>
-    ensures ends { CheckEnds D.File.remaining I.remaining (D.holds disk.old) (D.asked disk.old) (D.asked disk.new) check.now opened.new.config opened.new.script input.old input.new result }
+    ensures ends { CheckEnds D.File.remaining I.remaining
+        (D.holds disk.old) (D.asked disk.old) (D.asked disk.new)
+        check.now opened.new.config opened.new.script input.old input.new result }
     ensures same { (other : List ℕ) → D.holds disk.new other ≡ D.holds disk.old other }
 {
     opened.script = None;

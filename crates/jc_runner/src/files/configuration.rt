@@ -1,14 +1,12 @@
 //! The configuration of a reader, read to its end.
-ghost use Rattle.std.specs.Prelude.{◌≡◌, ◌≢◌, ◌<◌, length, IfOk, IfErr, IfSome, OnOk, Ok, Err};
+ghost use Rattle.std.specs.Prelude.{◌≡◌, ◌≢◌, IfOk, IfErr, OnOk, Ok, Err};
 ghost use Rattle.std.specs.Io.KnownBytes.{IsAtEnd};
 ghost use Rattle.jc_config.specs.Config.{configuration_of};
-ghost use Rattle.jc_config.specs.declared.fault.ConfigFault.{ConfigFault as TextFault};
-ghost use Rattle.jc_config.specs.declared.fault.ConfigFault.TheVariants.{TooLong};
-ghost use Rattle.jc_model.specs.Limits.{text_bytes};
-ghost use Rattle.jc_runner.specs.Meters.{next, most_reads, AddsAtMost};
+ghost use Rattle.jc_runner.specs.Meters.{most_reads, AddsAtMost};
 ghost use Rattle.jc_runner.specs.Opens.{Opens};
-ghost use Rattle.jc_runner.specs.Streams.{IsAll, IsOfConfiguring};
-ghost use Rattle.jc_runner.specs.declared.exit.fault.ProgramFault.TheVariants.{ConfigRead, Config};
+ghost use Rattle.jc_runner.specs.Streams.{IsOfConfiguring, ReadsAll, ReadFails};
+ghost use Rattle.jc_runner.specs.Texts.{IsConfiguration, ConfigHasFault, FaultIsOfLength, IfConfigFault};
+ghost use Rattle.jc_runner.specs.declared.exit.fault.ProgramFault.TheVariants.{ConfigRead};
 
 use crate::exit::fault::{ProgramFault, RunFault};
 use crate::input::{Watched, read_bytes};
@@ -17,9 +15,9 @@ use std::alloc::Global;
 use std::io::Read;
 
 fn text_of<R: Read>(alloc: Global, reader: &mut Watched<R>) -> Result<Vec<u8>, ProgramFault>
-    ensures all { IfOk result (λ v. IsAll (R.remaining reader.old.inner) (R.remaining reader.new.inner) v.items) }
-    ensures long { IfErr result (λ e. (f : TextFault) → e ≡ Config f → (f ≡ TooLong) × IfSome (R.remaining reader.old.inner) (λ input. text_bytes < length input)) }
-    ensures failed { result ≡ Err ConfigRead → reader.new.failures ≡ next reader.old.failures }
+    ensures all { IfOk result (λ v. ReadsAll R.remaining reader.old reader.new v.items) }
+    ensures long { IfErr result (FaultIsOfLength R.remaining reader.old) }
+    ensures failed { result ≡ Err ConfigRead → ReadFails reader.old reader.new }
     ensures unfailed { result ≢ Err ConfigRead → reader.new.failures ≡ reader.old.failures }
     ensures others { IfErr result IsOfConfiguring }
     ensures reads { AddsAtMost most_reads reader.old.reads reader.new.reads }
@@ -35,7 +33,7 @@ fn text_of<R: Read>(alloc: Global, reader: &mut Watched<R>) -> Result<Vec<u8>, P
 fn configuration_in(alloc: Global, bytes: &[u8]) -> Result<Configuration, ProgramFault>
     ensures ok { IfOk result (λ c. configuration_of bytes.now ≡ Ok c) }
     ensures opens { IfOk result Opens }
-    ensures config { (f : TextFault) → result ≡ Err (Config f) → configuration_of bytes.now ≡ Err f }
+    ensures config { IfConfigFault result (λ f. configuration_of bytes.now ≡ Err f) }
     ensures others { IfErr result (λ e. (e ≡ ConfigRead → ⊥) × IsOfConfiguring e) }
 {
     match read_config(alloc, bytes) {
@@ -52,11 +50,11 @@ pub fn read_configuration<R: Read>(
     alloc: Global,
     reader: &mut Watched<R>,
 ) -> Result<Configuration, ProgramFault>
-    ensures ok { IfOk result (λ c. IfSome (R.remaining reader.old.inner) (λ input. configuration_of input ≡ Ok c)) }
+    ensures ok { IfOk result (IsConfiguration R.remaining reader.old) }
     ensures opens { IfOk result Opens }
     ensures end { OnOk result (IsAtEnd (R.remaining reader.new.inner)) }
-    ensures config { (f : TextFault) → result ≡ Err (Config f) → IfSome (R.remaining reader.old.inner) (λ input. configuration_of input ≡ Err f) }
-    ensures failed { result ≡ Err ConfigRead → reader.new.failures ≡ next reader.old.failures }
+    ensures config { IfConfigFault result (ConfigHasFault R.remaining reader.old) }
+    ensures failed { result ≡ Err ConfigRead → ReadFails reader.old reader.new }
     ensures unfailed { result ≢ Err ConfigRead → reader.new.failures ≡ reader.old.failures }
     ensures others { IfErr result IsOfConfiguring }
     ensures reads { AddsAtMost most_reads reader.old.reads reader.new.reads }

@@ -29,7 +29,8 @@ pub trait Disk {
     ghost asked: { Self → Option (List (List ℕ)) };
 
     fn open(&mut self, path: &str) -> Result<Self::File, OpenFault>
-        ensures found { IfOk result (λ file. IsFound (holds self.old path.now) (Self.File.remaining file)) }
+        ensures found { IfOk result (λ file.
+            IsFound (holds self.old path.now) (Self.File.remaining file)) }
         ensures missing { result ≡ Err Unreadable → MayBeMissing (holds self.old path.now) }
         ensures same { (other : List ℕ) → holds self.new other ≡ holds self.old other }
         ensures asked { Asks (asked self.old) (asked self.new) path.now };

@@ -1,11 +1,11 @@
 //! A replay of a trace: its file is read, and its table written.
-ghost use Rattle.std.specs.Prelude.{◌≡◌, ◌≢◌, ◌⊎◌, ℕ, List, IfOk, IfErr, Err, None, string_bytes};
+ghost use Rattle.std.specs.Prelude.{◌≡◌, ◌≢◌, ℕ, List, IfOk, IfErr, Err};
 ghost use Rattle.std.specs.List.{All};
 ghost use Rattle.jc_replay.specs.Hits.{IsCapacity};
-ghost use Rattle.jc_runner.specs.Disks.{IsFound, MayBeMissing, Asks};
+ghost use Rattle.jc_runner.specs.Disks.{Asks, FailsToOpen};
 ghost use Rattle.jc_runner.specs.Faults.{of_trace, of_replay};
 ghost use Rattle.jc_runner.specs.Meters.{most_reads, AddsAtMost};
-ghost use Rattle.jc_runner.specs.Program.{unread, TraceEnds, TraceFileEnds, ReplayEnds};
+ghost use Rattle.jc_runner.specs.Program.{TraceEnds, TraceFileEnds, ReplayEnds, IsUnreadFile};
 ghost use Rattle.jc_runner.specs.declared.exit.fault.ProgramFault.TheVariants.{TraceRead};
 
 use crate::command::streams::Opened;
@@ -48,7 +48,8 @@ fn replay_all<I: Read, O: Write>(
     writer: &mut WatchedWriter<O>,
 ) -> Result<(), ProgramFault>
     requires { All IsCapacity capacities.now }
-    ensures ends { TraceEnds I.remaining O.contents capacities.now reader.old reader.new writer.old writer.new result }
+    ensures ends { TraceEnds I.remaining O.contents capacities.now
+        reader.old reader.new writer.old writer.new result }
     ensures unfailed { result ≢ Err TraceRead → reader.new.failures ≡ reader.old.failures }
     ensures reads { AddsAtMost most_reads reader.old.reads reader.new.reads }
 {
@@ -68,8 +69,9 @@ fn replay_all<I: Read, O: Write>(
 
 /// Opens a trace.
 fn open_trace<D: Disk>(disk: &mut D, path: &str) -> Result<Watched<D::File>, ProgramFault>
-    ensures unread { IfOk result (λ reader. (reader ≡ unread reader.inner) × IsFound (D.holds disk.old path.now) (D.File.remaining reader.inner)) }
-    ensures unopened { IfErr result (λ fault. ((fault ≡ TraceRead) × MayBeMissing (D.holds disk.old path.now)) ⊎ (fault ≡ ProgramFault.Run RunFault.Memory)) }
+    ensures unread { IfOk result (IsUnreadFile D.File.remaining (D.holds disk.old path.now)) }
+    ensures unopened { IfErr result (FailsToOpen TraceRead (ProgramFault.Run RunFault.Memory)
+        (D.holds disk.old path.now)) }
     ensures asked { Asks (D.asked disk.old) (D.asked disk.new) path.now }
     ensures same { (other : List ℕ) → D.holds disk.new other ≡ D.holds disk.old other }
 {
@@ -89,7 +91,8 @@ fn replay_opened<D: Disk, O: Write>(
     writer: &mut WatchedWriter<O>,
 ) -> Result<(), ProgramFault>
     requires { All IsCapacity capacities.now }
-    ensures ends { TraceFileEnds D.File.remaining O.contents (D.holds disk.old path.now) capacities.now writer.old writer.new trace.new result }
+    ensures ends { TraceFileEnds D.File.remaining O.contents (D.holds disk.old path.now)
+        capacities.now writer.old writer.new trace.new result }
     ensures asked { Asks (D.asked disk.old) (D.asked disk.new) path.now }
     ensures same { (other : List ℕ) → D.holds disk.new other ≡ D.holds disk.old other }
 {
@@ -110,7 +113,10 @@ pub fn replay_file<D: Disk, I: Read, O: Write>(
     writer: &mut WatchedWriter<O>,
 ) -> Result<(), ProgramFault>
     requires { All IsCapacity replay.now.capacities.items }
-    ensures ends { ReplayEnds D.File.remaining I.remaining O.contents (D.holds disk.old) (D.asked disk.old) (D.asked disk.new) replay.now opened.new.config opened.new.script input.old input.new writer.old writer.new result }
+    ensures ends { ReplayEnds D.File.remaining I.remaining O.contents
+        (D.holds disk.old) (D.asked disk.old) (D.asked disk.new)
+        replay.now opened.new.config opened.new.script
+        input.old input.new writer.old writer.new result }
     ensures same { (other : List ℕ) → D.holds disk.new other ≡ D.holds disk.old other }
 {
     opened.config = None;

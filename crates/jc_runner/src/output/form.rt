@@ -47,7 +47,8 @@ pub(crate) fn report_in(
 ) -> Result<String, AllocError>
     requires legal { IsLegal transcript.now }
     requires opens { CanOpen transcript.now.lives }
-    ensures { IfOk result (λ s. string_bytes s ≡ report_in form.now first transcript.now managed.now) }
+    ensures { IfOk result (λ s.
+        string_bytes s ≡ report_in form.now first transcript.now managed.now) }
 {
     match form {
         Form::Text => report(alloc, transcript, managed),

@@ -1,13 +1,9 @@
 //! The caches that lines create and destroy.
-ghost use Rattle.std.specs.Prelude.{◌≡◌, ◌++◌, ◌<◌, ℕ, false, Some, IfOk, IfErr, OnOk, None, length, slice_get};
-ghost use Rattle.jc_model.specs.declared.event.Event.TheVariants.{Create, Destroy};
+ghost use Rattle.std.specs.Prelude.{◌≡◌, ◌<◌, ℕ, Some, IfOk, IfErr, OnOk, None, length, slice_get};
 ghost use Rattle.jc_model.specs.declared.event.Life.{Life as Lived};
-ghost use Rattle.jc_model.specs.declared.event.Outcome.TheVariants.{Destroyed};
-ghost use Rattle.jc_model.specs.Runs.{create_refusal, answer_to};
 ghost use Rattle.jc_script.specs.declared.line.Line.TheVariants as lines;
-ghost use Rattle.jc_script.specs.Managing.{managed_by};
 ghost use Rattle.jc_script.specs.Named.{IsLive};
-ghost use Rattle.jc_runner.specs.Halfway.{lives_now, as_read, IsAtRest, Moves};
+ghost use Rattle.jc_runner.specs.Halfway.{lives_now, as_read, IsAtRest, refusal_now, Creates, Destroys, NotesLine};
 ghost use Rattle.jc_runner.specs.declared.exit.fault.RunFault.TheVariants as faults;
 
 use crate::exit::fault::RunFault;
@@ -24,9 +20,10 @@ fn create<R: Rows, G: Ring>(
     recorded: &mut Recorded<R, G>,
     config: CacheConfig,
 ) -> Result<Option<CreateRefusal>, RunFault>
-    ensures moves { OnOk result ((session : ℕ) → Moves recorded.old recorded.new session (Create config) (answer_to (lives_now recorded.old) (Create config) false)) }
-    ensures refusal { IfOk result (λ refusal. refusal ≡ create_refusal (lives_now recorded.old) config) }
-    ensures faults { IfErr result (λ e. (e ≡ faults.Memory) × (create_refusal (lives_now recorded.old) config ≡ None)) }
+    ensures moves { OnOk result ((session : ℕ) → Creates recorded.old recorded.new session config) }
+    ensures refusal { IfOk result (λ refusal. refusal ≡ refusal_now recorded.old config) }
+    ensures faults { IfErr result (λ e.
+        (e ≡ faults.Memory) × (refusal_now recorded.old config ≡ None)) }
 {
     match recorded.create(config) {
         Ok(_) => Ok(None),
@@ -42,8 +39,9 @@ pub(crate) fn run_create<R: Rows, G: Ring>(
     session: u32,
     config: CacheConfig,
 ) -> Result<(), RunFault>
-    ensures moves { OnOk result (Moves recorded.old recorded.new session (Create config) (answer_to (lives_now recorded.old) (Create config) false)) }
-    ensures managed { OnOk result (managed.new.items ≡ managed.old.items ++ managed_by (as_read (lives_now recorded.old)) (lines.Create session config)) }
+    ensures moves { OnOk result (Creates recorded.old recorded.new session config) }
+    ensures managed { OnOk result (NotesLine recorded.old (lines.Create session config)
+        managed.old.items managed.new.items) }
     ensures faults { IfErr result (λ e. e ≡ faults.Memory) }
 {
     let name = config.name;
@@ -74,8 +72,9 @@ pub(crate) fn run_destroy<R: Rows, G: Ring>(
 ) -> Result<(), RunFault>
     requires rest { IsAtRest recorded.old }
     requires live { IsLive (as_read (lives_now recorded.old)) id }
-    ensures moves { OnOk result (Moves recorded.old recorded.new session (Destroy id) Destroyed) }
-    ensures managed { OnOk result (managed.new.items ≡ managed.old.items ++ managed_by (as_read (lives_now recorded.old)) (lines.Destroy session id)) }
+    ensures moves { OnOk result (Destroys recorded.old recorded.new session id) }
+    ensures managed { OnOk result (NotesLine recorded.old (lines.Destroy session id)
+        managed.old.items managed.new.items) }
     ensures faults { IfErr result (λ e. e ≡ faults.Memory) }
 {
     let name = name_of(recorded.transcript().lives(), id);

@@ -1,8 +1,7 @@
 //! The call of a line, with the callbacks that answer its requests.
-ghost use Rattle.std.specs.Prelude.{◌≡◌, ℕ, Some, IfOk, IfErr, OnOk};
+ghost use Rattle.std.specs.Prelude.{◌≡◌, Some, IfOk, IfErr, OnOk};
 ghost use Rattle.jc_model.specs.declared.event.Event.TheVariants.{Answer as Answered};
-ghost use Rattle.jc_model.specs.declared.event.Outcome.TheVariants.{Step as Stepped};
-ghost use Rattle.jc_runner.specs.Halfway.{event_of, CanMove, Moves, IsReady, Replies, RepliesAt};
+ghost use Rattle.jc_runner.specs.Halfway.{event_of, CanMove, IsReady, Replies, RepliesAt, BeginsCall, HandsAnswer};
 ghost use Rattle.jc_runner.specs.Hooks.{asked_of, AreKept};
 ghost use Rattle.jc_runner.specs.declared.exit.fault.RunFault.TheVariants as faults;
 
@@ -20,7 +19,7 @@ use std::alloc::Global;
 /// Begins the call of a line.
 fn begin<R: Rows, G: Ring>(recorded: &mut Recorded<R, G>, line: LineCall) -> Result<Step, RunFault>
     requires { CanMove recorded.old (event_of line) }
-    ensures moves { IfOk result (λ step. Moves recorded.old recorded.new line.session (event_of line) (Stepped step)) }
+    ensures moves { IfOk result (BeginsCall recorded.old recorded.new line) }
     ensures faults { IfErr result (λ e. e ≡ faults.Memory) }
 {
     let LineCall {
@@ -43,7 +42,7 @@ fn resume<R: Rows, G: Ring>(
     answer: Answer,
 ) -> Result<Step, RunFault>
     requires { CanMove recorded.old (Answered id answer) }
-    ensures moves { IfOk result (λ step. (session : ℕ) → Moves recorded.old recorded.new session (Answered id answer) (Stepped step)) }
+    ensures moves { IfOk result (HandsAnswer recorded.old recorded.new id answer) }
     ensures faults { IfErr result (λ e. e ≡ faults.Memory) }
 {
     match recorded.resume(id, answer) {
@@ -61,7 +60,8 @@ fn carry_out<R: Rows, G: Ring, L: Loader, W: Writer, P: Processor, K: Hearer>(
     line: LineCall,
 ) -> Result<(), RunFault>
     requires ready { IsReady recorded.old line }
-    ensures replies { OnOk result (Replies L.load_of W.may P.verdict_of K.state_after recorded.old recorded.new (Some hooks.old) (Some hooks.new) line) }
+    ensures replies { OnOk result (Replies L.load_of W.may P.verdict_of K.state_after
+        recorded.old recorded.new (Some hooks.old) (Some hooks.new) line) }
     ensures kept { asked_of hooks.new ≡ asked_of hooks.old }
     ensures faults { IfErr result (λ e. e ≡ faults.Memory) }
 {
@@ -82,7 +82,8 @@ pub(crate) fn run_call<R: Rows, G: Ring, L: Loader, W: Writer, P: Processor, K: 
     line: LineCall,
 ) -> Result<(), RunFault>
     requires { IsReady recorded.old line }
-    ensures replies { OnOk result (RepliesAt L.load_of W.may P.verdict_of K.state_after recorded.old recorded.new hooks.old hooks.new line) }
+    ensures replies { OnOk result (RepliesAt L.load_of W.may P.verdict_of K.state_after
+        recorded.old recorded.new hooks.old hooks.new line) }
     ensures kept { AreKept hooks.old hooks.new }
     ensures faults { IfErr result (λ e. e ≡ faults.Memory) }
 {

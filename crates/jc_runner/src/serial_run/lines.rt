@@ -1,11 +1,10 @@
 //! The lines of a script, one after the other.
-ghost use Rattle.std.specs.Prelude.{◌≡◌, ◌++◌, [], IfOk, IfErr, OnOk, List};
+ghost use Rattle.std.specs.Prelude.{◌≡◌, [], IfOk, IfErr, OnOk, List};
 ghost use Rattle.jc_model.specs.declared.config.CacheConfig.{CacheConfig};
 ghost use Rattle.jc_hooks.specs.declared.cache_hooks.CacheHooks.{CacheHooks as Callbacks};
 ghost use Rattle.jc_script.specs.declared.line.Line.{Line as ScriptLine};
-ghost use Rattle.jc_script.specs.Managing.{managed_by};
 ghost use Rattle.jc_script.specs.Named.{Names, AllName};
-ghost use Rattle.jc_runner.specs.Halfway.{lives_now, as_read, IsAtRest, RunsLine, Halfway};
+ghost use Rattle.jc_runner.specs.Halfway.{lives_now, as_read, IsAtRest, RunsLine, Halfway, NotesLine};
 ghost use Rattle.jc_runner.specs.Hooks.{AreKept};
 ghost use Rattle.jc_runner.specs.declared.exit.fault.RunFault.TheVariants as faults;
 
@@ -29,9 +28,11 @@ fn run_line<R: Rows, G: Ring, L: Loader, W: Writer, P: Processor, K: Hearer>(
 ) -> Result<(), RunFault>
     requires rest { IsAtRest recorded.old }
     requires named { Names (as_read (lives_now recorded.old)) line }
-    ensures ran { OnOk result (RunsLine L.load_of W.may P.verdict_of K.state_after recorded.old recorded.new hooks.old hooks.new line) }
+    ensures ran { OnOk result (RunsLine L.load_of W.may P.verdict_of K.state_after
+        recorded.old recorded.new hooks.old hooks.new line) }
     ensures kept { AreKept hooks.old hooks.new }
-    ensures managed { OnOk result (managed.new.items ≡ managed.old.items ++ managed_by (as_read (lives_now recorded.old)) line) }
+    ensures managed { OnOk result (NotesLine recorded.old line
+        managed.old.items managed.new.items) }
     ensures faults { IfErr result (λ e. e ≡ faults.Memory) }
 {
     match line {
@@ -51,7 +52,12 @@ pub(crate) fn run_all<R: Rows, G: Ring, L: Loader, W: Writer, P: Processor, K: H
     requires rest { IsAtRest recorded.old }
     requires named { AllName (as_read (lives_now recorded.old)) lines.items }
     ensures kept { AreKept hooks.old hooks.new }
-    ensures done { (caches : List CacheConfig) (handed : List (Callbacks L W P K)) (all : List ScriptLine) → Halfway L.load_of W.may P.verdict_of K.state_after caches handed all lines.items recorded.old hooks.old [] → IfOk result (λ managed. Halfway L.load_of W.may P.verdict_of K.state_after caches handed all [] recorded.new hooks.new managed.items) }
+    ensures done { (caches : List CacheConfig) (handed : List (Callbacks L W P K))
+        (all : List ScriptLine)
+        → Halfway L.load_of W.may P.verdict_of K.state_after
+        caches handed all lines.items recorded.old hooks.old []
+        → IfOk result (λ managed. Halfway L.load_of W.may P.verdict_of K.state_after
+        caches handed all [] recorded.new hooks.new managed.items) }
     ensures faults { IfErr result (λ e. e ≡ faults.Memory) }
 {
     let mut managed = Vec::new(alloc);
