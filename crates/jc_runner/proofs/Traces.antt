@@ -8,7 +8,8 @@ use Rattle.jc_replay.specs.declared.fault.ReplayFault.TheVariants as replay
 use Rattle.jc_replay.proofs.Traces.{too_long}
 use Rattle.jc_runner.specs.Faults.{of_trace}
 use Rattle.jc_runner.specs.Program.{TraceEnds}
-use Rattle.jc_runner.specs.Streams.{IsOfReading, ReadFails}
+use Rattle.jc_runner.specs.Streams.{IsOfReading}
+use Rattle.jc_runner.specs.Watching.{ReadFails}
 use Rattle.jc_runner.specs.declared.exit.fault.RunFault.{RunFault}
 use Rattle.jc_runner.specs.declared.exit.fault.RunFault.TheVariants as run
 use Rattle.jc_runner.specs.declared.input.Watched.{Watched}

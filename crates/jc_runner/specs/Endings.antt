@@ -5,7 +5,7 @@ use Rattle.clap.specs.Words.{kind_of}
 use Rattle.clap.specs.declared.error.kind.ErrorKind.TheVariants as kinds
 use Rattle.jc_runner.specs.Faults.{fault_line, explained_line, is_of_report}
 use Rattle.jc_runner.specs.Meters.{next_if}
-use Rattle.jc_runner.specs.Streams.{AddsText}
+use Rattle.jc_runner.specs.Watching.{AddsText}
 use Rattle.jc_runner.specs.declared.exit.Ending.{Ending}
 use Rattle.jc_runner.specs.declared.exit.Ending.TheVariants.{Done, Faulty, Explained, Refused, Mistaken, NotText}
 use Rattle.jc_runner.specs.declared.exit.fault.ProgramFault.{ProgramFault}

@@ -1,5 +1,6 @@
 pub mod Meters
 pub mod Streams
+pub mod Watching
 pub mod Texts
 pub mod Strictness
 pub mod Faults

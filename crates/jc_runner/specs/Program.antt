@@ -28,10 +28,10 @@ use Rattle.jc_runner.specs.Forms.{form_of}
 use Rattle.jc_runner.specs.Meters.{most_reads, AddsAtMost}
 use Rattle.jc_runner.specs.Naming.{ProgramHooks, AllNamed, heard_by}
 use Rattle.jc_runner.specs.Reports.{ReportsOf}
-use Rattle.jc_runner.specs.Streams.{unread, InputIsTooLong, ReadFails, AddsText, AddsFront, AddsNothing, WriteFails}
 use Rattle.jc_runner.specs.Strictness.{HasNone, HasOne}
 use Rattle.jc_runner.specs.Texts.{IsConfiguration, ConfigHasFault, ScriptIsGood, ScriptHasFault}
 use Rattle.jc_runner.specs.Together.{stated_of, GathersSo}
+use Rattle.jc_runner.specs.Watching.{unread, InputIsTooLong, ReadFails, AddsText, AddsFront, AddsNothing, WriteFails}
 use Rattle.jc_runner.specs.declared.exit.Ended.{Ended}
 use Rattle.jc_runner.specs.declared.exit.Ending.{Ending}
 use Rattle.jc_runner.specs.declared.exit.Ending.TheVariants.{Refused, Mistaken, NotText}

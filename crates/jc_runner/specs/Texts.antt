@@ -7,7 +7,7 @@ use Rattle.jc_config.specs.declared.kinds.Configuration.{Configuration}
 use Rattle.jc_model.specs.declared.config.CacheConfig.{CacheConfig}
 use Rattle.jc_script.specs.declared.fault.ScriptFault.{ScriptFault}
 use Rattle.jc_script.specs.Script.{lines}
-use Rattle.jc_runner.specs.Streams.{InputIsTooLong}
+use Rattle.jc_runner.specs.Watching.{InputIsTooLong}
 use Rattle.jc_runner.specs.declared.exit.fault.ProgramFault.{ProgramFault}
 use Rattle.jc_runner.specs.declared.exit.fault.ProgramFault.TheVariants.{Config}
 use Rattle.jc_runner.specs.declared.exit.fault.RunFault.{RunFault}

@@ -4,7 +4,7 @@ ghost use Rattle.std.specs.Option.{option_copied};
 ghost use Rattle.jc_runner.specs.Endings.{Greets, HasStatus, SaysNothing, SaysSo, SaysFault, TellsLine, IsPrinted, Leaves, ending_of, is_unheard, unwritten, no_text_line};
 ghost use Rattle.jc_runner.specs.Faults.{told_lines};
 ghost use Rattle.jc_runner.specs.Meters.{next_if};
-ghost use Rattle.jc_runner.specs.Streams.{AddsText};
+ghost use Rattle.jc_runner.specs.Watching.{AddsText};
 
 pub mod fault;
 

@@ -4,7 +4,8 @@ ghost use Rattle.std.specs.Io.{ReadsAtMost};
 ghost use Rattle.std.specs.Io.KnownBytes.{ReadConsumes};
 ghost use Rattle.jc_model.specs.Limits.{text_bytes};
 ghost use Rattle.jc_runner.specs.Meters.{next, next_if, most_reads, AddsAtMost};
-ghost use Rattle.jc_runner.specs.Streams.{IsOfReading, unread, ReadsAll, InputIsTooLong, ReadFails};
+ghost use Rattle.jc_runner.specs.Streams.{IsOfReading};
+ghost use Rattle.jc_runner.specs.Watching.{unread, ReadsAll, InputIsTooLong, ReadFails};
 ghost use Rattle.jc_runner.specs.declared.exit.fault.RunFault.TheVariants as faults;
 
 use crate::exit::fault::RunFault;

@@ -3,7 +3,8 @@ ghost use Rattle.std.specs.Prelude.{◌≡◌, true, false, is_err, is_ok, IfSom
 ghost use Rattle.std.specs.Io.{WritesAtMost};
 ghost use Rattle.std.specs.Io.KnownBytes.{WriteAppends};
 ghost use Rattle.jc_runner.specs.Meters.{next_if};
-ghost use Rattle.jc_runner.specs.Streams.{takes_nothing, UnheardAfter, unused, AddsText, AddsFront, AddsNothing, WriteFails};
+ghost use Rattle.jc_runner.specs.Streams.{takes_nothing, UnheardAfter};
+ghost use Rattle.jc_runner.specs.Watching.{unused, AddsText, AddsFront, AddsNothing, WriteFails};
 ghost use Rattle.jc_runner.specs.declared.exit.fault.RunFault.TheVariants as faults;
 
 pub mod form;

@@ -7,8 +7,9 @@ ghost use Rattle.jc_script.specs.Named.{AllName};
 ghost use Rattle.jc_shared.specs.Stated.{stated_by, shared_of};
 ghost use Rattle.jc_threads.specs.Lines.{AreMade};
 ghost use Rattle.jc_threads.specs.Managing.{AreManaged};
-ghost use Rattle.jc_runner.specs.Streams.{IsOfThreads, HasRun, AddsText, AddsFront, AddsNothing, FlushesAll, WriteFails};
+ghost use Rattle.jc_runner.specs.Streams.{IsOfThreads, HasRun};
 ghost use Rattle.jc_runner.specs.Together.{refusals_of, SetupSuits, SetupCannotOpen, SetupGathers, SetupGathersSo};
+ghost use Rattle.jc_runner.specs.Watching.{AddsText, AddsFront, AddsNothing, FlushesAll, WriteFails};
 ghost use Rattle.jc_runner.specs.declared.exit.fault.RunFault.TheVariants as faults;
 ghost use Rattle.jc_runner.specs.declared.output.form.Form.TheVariants as forms;
 

@@ -1,7 +1,7 @@
 //! The files that the program opens, and its standard streams.
 
 ghost use Rattle.std.specs.Prelude.{◌≡◌, None};
-ghost use Rattle.jc_runner.specs.Streams.{unread, unused};
+ghost use Rattle.jc_runner.specs.Watching.{unread, unused};
 
 use crate::input::Watched;
 use crate::output::WatchedWriter;

@@ -5,7 +5,7 @@ ghost use Rattle.std.specs.Option.{option_copied};
 ghost use Rattle.jc_runner.specs.declared.exit.fault.RunFault.TheVariants.{Memory};
 ghost use Rattle.jc_runner.specs.Faults.{of_work, bad_line, bad_cache_line, script_line, config_line, trace_line, run_line, fault_line, explained_line, told_lines, is_of_report};
 ghost use Rattle.jc_runner.specs.Meters.{next_if};
-ghost use Rattle.jc_runner.specs.Streams.{AddsText};
+ghost use Rattle.jc_runner.specs.Watching.{AddsText};
 
 use crate::output::WatchedWriter;
 use jc_config::ConfigFault;

@@ -4,8 +4,9 @@ ghost use Rattle.std.specs.Io.KnownBytes.{IsAtEnd};
 ghost use Rattle.jc_config.specs.Config.{configuration_of};
 ghost use Rattle.jc_runner.specs.Meters.{most_reads, AddsAtMost};
 ghost use Rattle.jc_runner.specs.Opens.{Opens};
-ghost use Rattle.jc_runner.specs.Streams.{IsOfConfiguring, ReadsAll, ReadFails};
+ghost use Rattle.jc_runner.specs.Streams.{IsOfConfiguring};
 ghost use Rattle.jc_runner.specs.Texts.{IsConfiguration, ConfigHasFault, FaultIsOfLength, IfConfigFault};
+ghost use Rattle.jc_runner.specs.Watching.{ReadsAll, ReadFails};
 ghost use Rattle.jc_runner.specs.declared.exit.fault.ProgramFault.TheVariants.{ConfigRead};
 
 use crate::exit::fault::{ProgramFault, RunFault};
