@@ -95,6 +95,9 @@ impl<R: Rows, G: Ring> Engine<R, G> {
         ensures fits { IfSome result (λ value. FitsAt (Replied (Found value)) (at_place self.new id)) }
         ensures same { result ≡ None → self.new ≡ self.old }
     {
+        if !matches!(call, Call::Get(_)) {
+            return None;
+        }
         let number = id.number();
         match self.caches.get_mut(&number) {
             Some(cache) => cache.get_at_once(&mut self.rows, now, call),

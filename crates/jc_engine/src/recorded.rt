@@ -352,6 +352,18 @@ impl<R: Rows, G: Ring> Recorded<R, G> {
         &self.journal.transcript
     }
 
+    /// The transcript itself, without the manager, which is let go.
+    pub fn into_transcript(self) -> Transcript
+        ensures value { result ≡ self.transcript }
+        ensures legal { IsLegal result }
+    {
+        let Recorded {
+            engine, journal, ..
+        } = self;
+        drop(engine);
+        journal.transcript
+    }
+
     /// The entry of the call that has begun last.
     pub fn last(&self) -> Option<&Entry>
         ensures { MatchOption result (self.now.transcript.entries ≡ []) (λ e. IsLastOf self.now.transcript.entries e.now) }

@@ -98,7 +98,7 @@ fn made_under<
     ensures opened { result ≢ Err faults.Open }
 {
     let manager = shared.named::<N>();
-    match transcribed(rt, alloc, &manager, crew.gate, crew.workers, lines) {
+    match transcribed(rt, alloc, manager, crew.gate, crew.workers, lines) {
         Ok(made) => Ok(made),
         Err(fault) => Err(RunFault::from(fault)),
     }

@@ -5,9 +5,14 @@ use Rattle.jc_model.specs.declared.event.End.TheVariants.{Waiting}
 use Rattle.jc_model.specs.declared.event.Entry.{Entry}
 use Rattle.jc_model.specs.declared.config.CacheConfig.{CacheConfig}
 use Rattle.jc_model.specs.Legal.{History, IsLegal}
+use Rattle.jc_shared.specs.declared.auditing.SessionLog.{SessionLog}
 use Rattle.jc_shared.specs.declared.fault.CloseFault.{CloseFault}
 use Rattle.jc_shared.specs.declared.fault.CloseFault.TheVariants.{Missing, StillOpen, Differs, OutOfMemory}
 use Rattle.jc_shared.specs.Sessions.{Own, BeginsWith}
+
+-- what a log of plain values shows
+abbrev pub own_log : SessionLog → Own
+own_log log = record { number = log.number; calls = log.own.items }
 
 -- the entries of a session
 abbrev pub calls_of : ℕ → List Entry → List Entry

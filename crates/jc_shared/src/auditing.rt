@@ -33,7 +33,9 @@ pub struct SessionLog {
 }
 
 impl Logged for SessionLog {
-    ghost log = { λ s. record { number = s.number; calls = s.own.items } };
+    ghost use Rattle.jc_shared.specs.Accounts.{own_log};
+
+    ghost log = { own_log };
 
     fn log_number(&self) -> u32 {
         self.number

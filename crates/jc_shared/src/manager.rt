@@ -1,15 +1,16 @@
 //! The manager that threads share.
-ghost use Rattle.std.specs.Prelude.{◌≡◌, ◌⊎◌, ℕ, true, [], Ok, Err, Some, None, IfSome, IfOk, IfErr, OnOk, map, option_map, slice_get};
+ghost use Rattle.std.specs.Prelude.{◌≡◌, ◌≢◌, ◌⊎◌, ℕ, true, [], Ok, Err, Some, None, IfSome, IfOk, IfErr, OnOk, map, option_map, slice_get};
 ghost use Rattle.jc_model.specs.declared.call.Call.{Call as Called};
 ghost use Rattle.jc_model.specs.declared.event.Cause.TheVariants.{NoSuchCache};
 ghost use Rattle.jc_model.specs.declared.event.Event.TheVariants.{Begin};
 ghost use Rattle.jc_model.specs.Legal.{IsLegal};
-ghost use Rattle.jc_shared.specs.Accounts.{Accounts, IsCloseRefusal};
+ghost use Rattle.jc_shared.specs.Accounts.{Accounts, IsCloseRefusal, own_log};
 ghost use Rattle.jc_shared.specs.Admitting.{IsAdmission};
 ghost use Rattle.jc_shared.specs.Living.{HasOpenCall, IsIdle, IsNamed, Refuses};
 ghost use Rattle.jc_shared.specs.Sessions.{BeginsWith, SeesSome, log_of};
 ghost use Rattle.jc_shared.specs.Stated.{stated_by, AreOf, AreCounted, processor_counts, wanted_counts};
 
+use crate::auditing::SessionLog;
 use crate::brief_lock::BriefLock;
 use crate::directory::{Directory, HooksLock};
 use crate::fault::{CallFault, CloseFault, SessionRefusal, Unfound};
@@ -150,6 +151,45 @@ impl<N: Name, L: Loader, W: Writer, P: Processor, K: Hearer> Manager<N, L, W, P,
         match finished {
             Ok(transcript) => Ok(transcript),
             Err(fault) => Err((fault, sessions)),
+        }
+    }
+
+    /// Ends the manager as `close` does, by the logs of its sessions, which borrow it and so have ended before. The
+    /// transcript itself is handed out, and no copy of it: no memory is wanted, and no lock is taken.
+    ///
+    /// `Missing` (closed already, or the numbers are not those given out, each once), `StillOpen`, `Differs`, in this
+    /// order: the manager is handed back as it was.
+    pub fn into_transcript(
+        self,
+        logs: &[SessionLog],
+    ) -> Result<Transcript, (CloseFault, Manager<N, L, W, P, K>)>
+        ensures legal { IfOk result (λ t. IsLegal t) }
+        ensures begins { IfOk result (λ t. BeginsWith N.configs t) }
+        ensures accounts { IfOk result (λ t.
+            (given : ℕ) × Accounts given (map own_log logs.now) t.entries) }
+        ensures refused { IfErr result (λ e.
+            IsCloseRefusal N.configs (map own_log logs.now) e.0) }
+        ensures memory { IfErr result (λ e. e.0 ≢ CloseFault.OutOfMemory) }
+    {
+        let Manager {
+            alloc,
+            shared,
+            locks,
+            directory,
+            locked,
+        } = self;
+        match locked.into_inner().into_transcript(logs) {
+            Ok(transcript) => Ok(transcript),
+            Err((fault, locked)) => Err((
+                fault,
+                Manager {
+                    alloc,
+                    shared,
+                    locks,
+                    directory,
+                    locked: BriefLock::new(locked),
+                },
+            )),
         }
     }
 }

@@ -6,13 +6,14 @@ ghost use Rattle.jc_engine.specs.Recording.{blank};
 ghost use Rattle.jc_hooks.specs.Suits.{Suits};
 ghost use Rattle.jc_stripes.specs.Stripes.{Stayed};
 ghost use Rattle.jc_index.specs.declared.lookup.Lookup.TheVariants.{Sure, Unsure};
+ghost use Rattle.jc_shared.specs.Accounts.{own_log};
 ghost use Rattle.jc_shared.specs.Calls.{Adds, Fails, Lacks, TellsLack};
 ghost use Rattle.jc_shared.specs.Living.{IsCreated, IsCreateFault, IsDestroyRefusal, HasGone, IsHeld, IsSeen};
 ghost use Rattle.jc_shared.specs.Lookups.{found_by, Agrees, MayBeUnsure, ReadsStripes};
 ghost use Rattle.jc_shared.specs.Sessions.{SeesSome, log_of};
 ghost use Rattle.jc_shared.specs.Stated.{AreOf, AreCounted};
 
-use crate::auditing::Logged;
+use crate::auditing::{Logged, SessionLog};
 use crate::fault::{CallFault, CreateFault, DestroyFault};
 use crate::hooks::{LockedHooks, OwnHooks, SharedHooks};
 use crate::keeping::{Keeping, OwnCalls};
@@ -72,6 +73,22 @@ impl<'a, N: Name, L: Loader, W: Writer, P: Processor, K: Hearer> Logged
 
     fn log_calls(&self) -> &[Entry] {
         self.own.entries.as_slice()
+    }
+}
+
+impl<'a, N: Name, L: Loader, W: Writer, P: Processor, K: Hearer> Session<'a, N, L, W, P, K> {
+    /// What it has kept of its calls. The session ends, and borrows its manager no longer.
+    pub fn into_log(self) -> SessionLog
+        ensures { own_log result ≡ log_of self }
+    {
+        let Session {
+            number, own, pass, ..
+        } = self;
+        drop(pass);
+        SessionLog {
+            number,
+            own: own.entries,
+        }
     }
 }
 

@@ -1,4 +1,5 @@
 pub mod Faults
 pub mod Lines
+pub mod Batches
 pub mod Dealing
 pub mod Managing

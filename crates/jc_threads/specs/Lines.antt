@@ -4,8 +4,8 @@ use Rattle.std.specs.List.{filter, All}
 use Rattle.jc_model.specs.declared.event.Entry.{Entry}
 use Rattle.jc_script.specs.Calls.{line_of, IsReply}
 use Rattle.jc_script.specs.declared.line.LineCall.{LineCall}
-use Rattle.jc_shared.specs.Accounts.{calls_of}
-use Rattle.jc_shared.specs.Sessions.{Sitting}
+use Rattle.jc_shared.specs.Accounts.{Accounts, calls_of}
+use Rattle.jc_shared.specs.Sessions.{Own, Sitting}
 use Rattle.jc_shared.specs.Stated.{Stated, AreStated}
 
 -- the calls of a session's lines
@@ -26,6 +26,11 @@ pub record HasMade (stated : List Stated) (lines : List LineCall) (own : Sitting
 pub record AreMade (stated : List Stated) (lines : List LineCall) (entries : List Entry) : Type 0 where
   pub each : (session : ℕ) → map line_of (calls_of session entries) ≡ lines_by session lines
   pub answered : All (IsAnswered stated) entries
+
+-- these calls are made in each transcript for which the logs account
+abbrev pub AccountFor : List Stated → List LineCall → List Own → Type 0
+AccountFor stated lines logs =
+    (given : ℕ) (entries : List Entry) → Accounts given logs entries → AreMade stated lines entries
 
 -- a session makes this call behind those that it has made
 abbrev pub SessionMakes : List Stated → LineCall → Sitting → Sitting → Type 0

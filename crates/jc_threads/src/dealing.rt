@@ -2,6 +2,7 @@
 ghost use Rattle.std.specs.Prelude.{◌≡◌, ◌<◌, ◌∷◌, [], Err, IfOk, OnOk, length, replicate};
 ghost use Rattle.jc_threads.specs.Dealing.{idle, session_in, sessions_in, IsNext, HasSeat, HasSeats, KeepsSeats, AreIdle, AreUnderWay, TakeCalls};
 
+use crate::batches::Batches;
 use crate::fault::WorkFault;
 use crate::worker::Worker;
 use jc_hooks::{Hearer, Loader, Processor, Writer};
@@ -42,7 +43,7 @@ fn idle<'a, N: Name, L: Loader, W: Writer, P: Processor, K: Hearer>(
     for _ in 0..workers {
         crew.push(Worker {
             sessions: Vec::new(alloc),
-            lines: Vec::new(alloc),
+            lines: Batches::new(alloc),
         })?;
     }
     Ok(crew)

@@ -1,6 +1,7 @@
 //! The lines of a script, made by sessions on worker threads.
 #![tactic(auto)]
 
+mod batches;
 mod dealing;
 mod fault;
 mod gate;

@@ -1,10 +1,11 @@
 //! A whole script, on worker threads.
-ghost use Rattle.std.specs.Prelude.{◌≡◌, ◌<◌, List, IfOk};
+ghost use Rattle.std.specs.Prelude.{◌≡◌, ◌<◌, List, [], IfOk, OnOk, map};
 ghost use Rattle.std.specs.List.{flat_map};
 ghost use Rattle.jc_model.specs.Legal.{IsLegal};
 ghost use Rattle.jc_script.specs.Calls.{calls_in};
-ghost use Rattle.jc_shared.specs.Sessions.{BeginsWith};
-ghost use Rattle.jc_threads.specs.Lines.{AreMade};
+ghost use Rattle.jc_shared.specs.Accounts.{own_log};
+ghost use Rattle.jc_shared.specs.Sessions.{BeginsWith, log_of};
+ghost use Rattle.jc_threads.specs.Lines.{AccountFor, AreMade};
 ghost use Rattle.jc_threads.specs.Managing.{AreManaged};
 
 use crate::dealing::dealt;
@@ -17,7 +18,7 @@ use jc_model::OutOfMemory;
 use jc_model::event::CreateRefusal;
 use jc_model::transcript::Transcript;
 use jc_script::Line;
-use jc_shared::{Manager, Name, Session};
+use jc_shared::{Manager, Name, Session, SessionLog};
 use std::alloc::Global;
 use std::sync::Wait;
 use std::thread::Threads;
@@ -45,8 +46,55 @@ fn all_sessions<'a, N: Name, L: Loader, W: Writer, P: Processor, K: Hearer>(
     Ok(all)
 }
 
+/// What all sessions of the workers have kept of their calls.
+fn all_logs<'a, N: Name, L: Loader, W: Writer, P: Processor, K: Hearer>(
+    alloc: Global,
+    crew: Vec<Worker<'a, N, L, W, P, K>>,
+) -> Result<Vec<SessionLog>, OutOfMemory>
+    ensures { IfOk result (λ v. map own_log v.items
+        ≡ map log_of (flat_map (λ share. share.sessions) crew.entry.items)) }
+{
+    let mut logs = Vec::new(alloc);
+    for session in all_sessions(alloc, crew)? {
+        logs.push(session.into_log())?;
+    }
+    Ok(logs)
+}
+
+/// Makes a script's lines by sessions of this manager on so many worker threads. The result is what the sessions have
+/// kept of their calls.
+fn made_by_sessions<
+    N: Name + Send + Sync,
+    L: Loader,
+    W: Writer,
+    P: Processor,
+    K: Hearer,
+    G: Gate,
+    R: Threads + Wait + Sync,
+>(
+    rt: &R,
+    alloc: Global,
+    manager: &Manager<N, L, W, P, K>,
+    gate: &G,
+    workers: usize,
+    refusals: &mut Vec<Option<CreateRefusal>>,
+    lines: Vec<Line>,
+) -> Result<Vec<SessionLog>, WorkFault>
+    requires { 0 < workers }
+    ensures made { IfOk result (λ logs.
+        AccountFor N.stated (calls_in lines.items) (map own_log logs.items)) }
+    ensures managed { OnOk result (AreManaged N.configs [] refusals.old.items
+        → AreManaged N.configs lines.items refusals.new.items) }
+{
+    let crew = dealt(rt, alloc, manager, workers, lines.as_slice())?;
+    let crew = take_all(rt, alloc, gate, crew, refusals, lines)?;
+    let crew = end_round(rt, alloc, gate, crew)?;
+    let logs = all_logs(alloc, crew)?;
+    Ok(logs)
+}
+
 /// Makes a script's lines by sessions of this manager on so many worker threads, session s by worker s mod workers.
-/// Then it closes the manager, and hands the transcript out.
+/// Then it ends the manager, and hands its transcript out, for which the sessions' lists account.
 ///
 /// The run goes in rounds: at a line that creates or destroys a cache all workers first make the calls that stand
 /// before it, each worker its own in the script's order. Then the line's session creates or destroys the cache, and the
@@ -64,7 +112,7 @@ pub fn transcribed<
 >(
     rt: &R,
     alloc: Global,
-    manager: &Manager<N, L, W, P, K>,
+    manager: Manager<N, L, W, P, K>,
     gate: &G,
     workers: usize,
     lines: Vec<Line>,
@@ -75,12 +123,9 @@ pub fn transcribed<
     ensures made { IfOk result (λ t. AreMade N.stated (calls_in lines.items) t.transcript.entries) }
     ensures managed { IfOk result (λ t. AreManaged N.configs lines.items t.refusals.items) }
 {
-    let crew = dealt(rt, alloc, manager, workers, lines.as_slice())?;
     let mut refusals = Vec::new(alloc);
-    let crew = take_all(rt, alloc, gate, crew, &mut refusals, lines)?;
-    let crew = end_round(rt, alloc, gate, crew)?;
-    let sessions = all_sessions(alloc, crew)?;
-    match manager.close(rt, sessions) {
+    let logs = made_by_sessions(rt, alloc, &manager, gate, workers, &mut refusals, lines)?;
+    match manager.into_transcript(logs.as_slice()) {
         Ok(transcript) => Ok(Transcription {
             transcript,
             refusals,

@@ -6,6 +6,7 @@ ghost use Rattle.jc_threads.specs.Faults.{of_call};
 ghost use Rattle.jc_threads.specs.Lines.{SessionMakes};
 ghost use Rattle.jc_threads.specs.Managing.{IsDestroying};
 
+use crate::batches::Batches;
 use crate::fault::WorkFault;
 use crate::gate::Gate;
 use crate::managing::destroy_by;
@@ -23,7 +24,7 @@ use std::sync::Wait;
 #[derive(Drop)]
 pub(crate) struct Worker<'a, N: Name, L: Loader, W: Writer, P: Processor, K: Hearer> {
     pub(crate) sessions: Vec<Session<'a, N, L, W, P, K>>,
-    pub(crate) lines: Vec<LineCall>,
+    pub(crate) lines: Batches,
 }
 
 impl<'a, N: Name, L: Loader, W: Writer, P: Processor, K: Hearer> Model
@@ -32,7 +33,7 @@ impl<'a, N: Name, L: Loader, W: Writer, P: Processor, K: Hearer> Model
 
     ghost Value = { Share };
 
-    ghost view = { λ w. record { sessions = w.sessions.items; lines = w.lines.items } };
+    ghost view = { λ w. record { sessions = w.sessions.items; lines = w.lines } };
 }
 
 impl<'a, N: Name, L: Loader, W: Writer, P: Processor, K: Hearer> Worker<'a, N, L, W, P, K> {
@@ -162,8 +163,8 @@ fn make_line<'a, N: Name, L: Loader, W: Writer, P: Processor, K: Hearer, G: Gate
     make_call(rt, gate, &mut sessions[place], line)
 }
 
-/// Makes these calls.
-fn make_all<'a, N: Name, L: Loader, W: Writer, P: Processor, K: Hearer, G: Gate, R: Wait>(
+/// Makes the calls of a batch.
+fn make_batch<'a, N: Name, L: Loader, W: Writer, P: Processor, K: Hearer, G: Gate, R: Wait>(
     rt: &R,
     gate: &G,
     workers: usize,
@@ -177,6 +178,24 @@ fn make_all<'a, N: Name, L: Loader, W: Writer, P: Processor, K: Hearer, G: Gate,
         make_line(rt, gate, workers, sessions, line)?;
     }
     Ok(())
+}
+
+/// Makes these calls.
+fn make_all<'a, N: Name, L: Loader, W: Writer, P: Processor, K: Hearer, G: Gate, R: Wait>(
+    rt: &R,
+    gate: &G,
+    workers: usize,
+    sessions: &mut [Session<'a, N, L, W, P, K>],
+    lines: Batches,
+) -> Result<(), WorkFault>
+    requires { 0 < workers }
+    ensures { OnOk result (WorkerMakes N.stated workers lines sessions.old sessions.new) }
+{
+    let Batches { full, last } = lines;
+    for batch in full {
+        make_batch(rt, gate, workers, sessions, batch.into_items())?;
+    }
+    make_batch(rt, gate, workers, sessions, last)
 }
 
 /// Makes the calls that a worker holds.
@@ -197,6 +216,6 @@ pub(crate) fn work<'a, N: Name, L: Loader, W: Writer, P: Processor, K: Hearer, G
     make_all(rt, gate, workers, sessions.as_mut_slice(), lines)?;
     Ok(Worker {
         sessions,
-        lines: Vec::new(alloc),
+        lines: Batches::new(alloc),
     })
 }

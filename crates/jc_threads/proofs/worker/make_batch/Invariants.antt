@@ -1,6 +1,6 @@
 use Rattle.std.proofs.Common.{◌≡◌, ◌++◌}
 use Rattle.jc_threads.specs.Dealing.{WorkerMakes}
-use Rattle.jc_threads.proofs.worker.make_all.Given as goal
+use Rattle.jc_threads.proofs.worker.make_batch.Given as goal
 
 abbrev pub invariant-loop-line : goal.invariant-loop-line
 invariant-loop-line g l = record {

@@ -2,7 +2,7 @@ use Rattle.std.proofs.Common.{◌∙◌, ◌++◌, ◌∷◌, [], List, sym, ap,
 use Rattle.jc_script.specs.declared.line.LineCall.{LineCall}
 use Rattle.jc_threads.specs.Dealing.{IsAtWork}
 use Rattle.jc_threads.proofs.Lists.{all_taken}
-use Rattle.jc_threads.proofs.worker.make_all.Goals as goal
+use Rattle.jc_threads.proofs.worker.make_batch.Goals as goal
 
 pub loop-line-preserved : goal.loop-line-preserved
 loop-line-preserved g c = record {
