@@ -29,7 +29,8 @@ where
     J::Held: Send,
     <J::Own as OwnCalls>::Kept: Send,
     requires configs { unnamed.configs ≡ N.configs }
-    requires stated { map (stated_by (λ _ _. Failed) (λ _ _ _. Err (record {}))) unnamed.shared ≡ N.stated }
+    requires stated { map (stated_by (λ _ _. Failed) (λ _ _ _. Err (record {}))) unnamed.shared
+        ≡ N.stated }
     requires index { unnamed.index ≡ N.index }
 {
     let manager = unnamed.named::<N>();
@@ -93,10 +94,12 @@ where
     J::Held: Send,
     <J::Own as OwnCalls>::Kept: Send,
     requires first { (unnamed.first.configs ≡ A.configs)
-        × (map (stated_by (λ _ _. Failed) (λ _ _ _. Err (record {}))) unnamed.first.shared ≡ A.stated)
+        × (map (stated_by (λ _ _. Failed) (λ _ _ _. Err (record {}))) unnamed.first.shared
+        ≡ A.stated)
         × (unnamed.first.index ≡ A.index) }
     requires second { (unnamed.second.configs ≡ B.configs)
-        × (map (stated_by (λ _ _. Failed) (λ _ _ _. Err (record {}))) unnamed.second.shared ≡ B.stated)
+        × (map (stated_by (λ _ _. Failed) (λ _ _ _. Err (record {}))) unnamed.second.shared
+        ≡ B.stated)
         × (unnamed.second.index ≡ B.index) }
 {
     let Unnamed2 { first, second } = unnamed;
@@ -171,10 +174,12 @@ where
     J::Held: Send,
     <J::Own as OwnCalls>::Kept: Send,
     requires first { (unnamed.first.configs ≡ A.configs)
-        × (map (stated_by (λ _ _. Failed) (λ _ _ _. Err (record {}))) unnamed.first.shared ≡ A.stated)
+        × (map (stated_by (λ _ _. Failed) (λ _ _ _. Err (record {}))) unnamed.first.shared
+        ≡ A.stated)
         × (unnamed.first.index ≡ A.index) }
     requires second { (unnamed.second.configs ≡ B.configs)
-        × (map (stated_by (λ _ _. Failed) (λ _ _ _. Err (record {}))) unnamed.second.shared ≡ B.stated)
+        × (map (stated_by (λ _ _. Failed) (λ _ _ _. Err (record {}))) unnamed.second.shared
+        ≡ B.stated)
         × (unnamed.second.index ≡ B.index) }
 {
     let Unnamed2 { first, second } = unnamed;

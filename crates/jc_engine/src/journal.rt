@@ -51,7 +51,8 @@ pub trait Journal: Drop {
 
     /// The entry of a cache's open call.
     fn open_entry(&self, id: CacheId) -> Option<&Entry>
-        ensures { option_map (λ e. e.now) result ≡ kept_at (history self.now) (places self.now id) };
+        ensures { option_map (λ e. e.now) result ≡
+            kept_at (history self.now) (places self.now id) };
 
     /// Whether a call that has its reply at once can be noted without being handed over.
     fn notes(&self) -> bool
@@ -74,7 +75,8 @@ pub trait Journal: Drop {
         now: u64,
         call: Call,
     ) -> Result<Self::Held, Call>
-        ensures entered { IfOk result (λ held. Enters (history self.old) self.new held (blank session id now call)) }
+        ensures entered { IfOk result (λ held.
+            Enters (history self.old) self.new held (blank session id now call)) }
         ensures places { KeepsAll (places self.old) (places self.new) }
         ensures back { IfErr result (λ back. back ≡ call) }
         ensures refused { OnErr result (history self.new ≡ history self.old) };
@@ -96,12 +98,14 @@ pub trait Journal: Drop {
         ensures shown { result.0 ≡ step_of advance }
         ensures copy { result.1 ≡ reply_in result.0 }
         ensures noted { BeginsEntry (λ h e. Enters h self.old held e) advance (history self.new) }
-        ensures places { KeepsBegun (λ h e. Enters h self.old held e) (places self.old) id advance (places self.new) };
+        ensures places { KeepsBegun (λ h e. Enters h self.old held e) (places self.old) id advance
+            (places self.new) };
 
     /// Adds an answer to the entry of a cache's open call. Where memory is refused nothing has changed.
     fn answer(&mut self, id: CacheId, answer: &Answer) -> Result<(), OutOfMemory>
         requires { KeepsEntry (history self.old) (places self.old) id }
-        ensures ok { OnOk result (AnswersEntry (history self.old) (places self.old) id answer.now (history self.new)) }
+        ensures ok { OnOk result (AnswersEntry (history self.old) (places self.old) id answer.now
+            (history self.new)) }
         ensures refused { OnErr result (history self.new ≡ history self.old) }
         ensures places { KeepsAll (places self.old) (places self.new) };
 
@@ -116,8 +120,10 @@ pub trait Journal: Drop {
         requires { CanGoOn (history self.old) (places self.old) id advance }
         ensures shown { result.0 ≡ step_of advance }
         ensures copy { result.1 ≡ reply_in result.0 }
-        ensures noted { AdvancesEntry (history self.old) (places self.old) id advance (history self.new) }
-        ensures places { KeepsPlace (history self.old) (places self.old) id advance (places self.new) };
+        ensures noted { AdvancesEntry (history self.old) (places self.old) id advance
+            (history self.new) }
+        ensures places { KeepsPlace (history self.old) (places self.old) id advance
+            (places self.new) };
 
     /// A cache's open call was given up. The result is the notices that are left.
     fn give_up(&mut self, alloc: Global, id: CacheId, left: Option<Notices>) -> Sequence<Notice>

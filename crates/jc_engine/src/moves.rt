@@ -90,9 +90,11 @@ impl<R: Rows, G: Ring> Engine<R, G> {
         call: &Call,
     ) -> Option<Option<Thrice<Value>>>
         ensures outcome { IfSome result (λ value. FindsValue self.old id now call.now value) }
-        ensures lives { IfSome result (λ value. LeadsTo self.old (Begin id now call.now) (of_found value) self.new) }
+        ensures lives { IfSome result (λ value.
+            LeadsTo self.old (Begin id now call.now) (of_found value) self.new) }
         ensures one { IfSome result (λ value. ChangesOne self.old id self.new) }
-        ensures fits { IfSome result (λ value. FitsAt (Replied (Found value)) (at_place self.new id)) }
+        ensures fits { IfSome result (λ value.
+            FitsAt (Replied (Found value)) (at_place self.new id)) }
         ensures same { result ≡ None → self.new ≡ self.old }
     {
         if !matches!(call, Call::Get(_)) {

@@ -200,8 +200,10 @@ impl<R: Rows, G: Ring, J: Journal> Recorded<R, G, J> {
         call: &Call,
     ) -> Option<(Option<Value>, Option<Value>)>
         ensures outcome { IfSome result (λ it. FindsValue self.old.caches id now call.now it.0) }
-        ensures lives { IfSome result (λ it. LeadsTo self.old.caches (Begin id now call.now) (of_found it.0) self.new.caches) }
-        ensures transcript { IfSome result (λ it. RecordsEvent session (Begin id now call.now) (of_found it.0) self.old self.new) }
+        ensures lives { IfSome result (λ it.
+            LeadsTo self.old.caches (Begin id now call.now) (of_found it.0) self.new.caches) }
+        ensures transcript { IfSome result (λ it.
+            RecordsEvent session (Begin id now call.now) (of_found it.0) self.old self.new) }
         ensures told { TellsItsCaches self.old × TellsItsCaches self.new }
         ensures copy { IfSome result (λ it. it.1 ≡ it.0) }
         ensures same { result ≡ None → self.new ≡ self.old }
@@ -228,8 +230,10 @@ impl<R: Rows, G: Ring, J: Journal> Recorded<R, G, J> {
         call: Call,
     ) -> Result<(Step, Option<Reply>), (Cause, Call)>
         ensures outcome { IsAnswer self.old.caches (Begin id now call) (of_recorded_begin result) }
-        ensures lives { LeadsTo self.old.caches (Begin id now call) (of_recorded_begin result) self.new.caches }
-        ensures transcript { RecordsEvent session (Begin id now call) (of_recorded_begin result) self.old self.new }
+        ensures lives { LeadsTo self.old.caches (Begin id now call) (of_recorded_begin result)
+            self.new.caches }
+        ensures transcript { RecordsEvent session (Begin id now call) (of_recorded_begin result)
+            self.old self.new }
         ensures told { TellsItsCaches self.old × TellsItsCaches self.new }
         ensures copy { IfOk result (λ s. s.1 ≡ reply_in s.0) }
         ensures back { IfErr result (λ e. e.1 ≡ call) }
@@ -257,9 +261,12 @@ impl<R: Rows, G: Ring, J: Journal> Recorded<R, G, J> {
         id: CacheId,
         answer: Answer,
     ) -> Result<(Step, Option<Reply>), (Cause, Answer)>
-        ensures outcome { IsAnswer self.old.caches (Answered id answer) (of_recorded_resume result) }
-        ensures lives { LeadsTo self.old.caches (Answered id answer) (of_recorded_resume result) self.new.caches }
-        ensures transcript { RecordsFromAny (Answered id answer) (of_recorded_resume result) self.old self.new }
+        ensures outcome { IsAnswer self.old.caches (Answered id answer)
+            (of_recorded_resume result) }
+        ensures lives { LeadsTo self.old.caches (Answered id answer) (of_recorded_resume result)
+            self.new.caches }
+        ensures transcript { RecordsFromAny (Answered id answer) (of_recorded_resume result)
+            self.old self.new }
         ensures told { TellsItsCaches self.old × TellsItsCaches self.new }
         ensures copy { IfOk result (λ s. s.1 ≡ reply_in s.0) }
         ensures back { IfErr result (λ e. e.1 ≡ answer) }
@@ -366,7 +373,8 @@ impl<R: Rows, G: Ring> Recorded<R, G> {
 
     /// The entry of the call that has begun last.
     pub fn last(&self) -> Option<&Entry>
-        ensures { MatchOption result (self.now.transcript.entries ≡ []) (λ e. IsLastOf self.now.transcript.entries e.now) }
+        ensures { MatchOption result (self.now.transcript.entries ≡ [])
+            (λ e. IsLastOf self.now.transcript.entries e.now) }
     {
         self.journal.transcript.last()
     }

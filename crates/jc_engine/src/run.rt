@@ -29,8 +29,10 @@ impl<R: Rows, G: Ring> Engine<R, G> {
     /// An event that takes no memory is not refused for want of it. The run is refused only for want of room for the
     /// outcomes, before the first event; the events are then handed back.
     pub fn run(&mut self, events: Vec<Event>) -> Result<Vec<Outcome>, Vec<Event>>
-        ensures outcomes { IfOk result (λ outcomes. IsRun (lives_of self.old) events.items outcomes.items) }
-        ensures lives { IfOk result (λ outcomes. RunLeadsTo self.old events.items outcomes.items self.new) }
+        ensures outcomes { IfOk result (λ outcomes.
+            IsRun (lives_of self.old) events.items outcomes.items) }
+        ensures lives { IfOk result (λ outcomes.
+            RunLeadsTo self.old events.items outcomes.items self.new) }
         ensures alone { IfOk result (λ outcomes. (id : ℕ) (c : CacheConfig)
             → begun id (lives_of self.old) events.items outcomes.items ≡ Some (opened c)
             → seen id (lives_of self.old) events.items outcomes.items (lives_of self.new)

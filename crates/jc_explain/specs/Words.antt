@@ -1,9 +1,17 @@
 -- The words that are known, and what each member has to be.
-use Rattle.std.specs.Prelude.{ℕ, List, [], ◌∷◌, codes}
+use Rattle.std.specs.Prelude.{ℕ, List, [], ◌∷◌, map, Option, option_map, codes}
+use Rattle.std.specs.Borrow.{Bor}
 use Rattle.jc_config.specs.declared.fault.Member.{Member as ConfigMember}
 use Rattle.jc_config.specs.declared.fault.Member.TheVariants as config
 use Rattle.jc_script.specs.declared.fault.Member.{Member as ScriptMember}
 use Rattle.jc_script.specs.declared.fault.Member.TheVariants as script
+
+-- the words that are lent, or one, if it is there
+abbrev pub words_lent : List (Bor (List ℕ)) → List (List ℕ)
+words_lent words = map (λ word. word.now) words
+
+abbrev pub word_lent : Option (Bor (List ℕ)) → Option (List ℕ)
+word_lent found = option_map (λ word. word.now) found
 
 abbrev pub config_members : List (List ℕ)
 config_members =

@@ -1,9 +1,10 @@
 //! Explanations of a configuration's faults.
-ghost use Rattle.std.specs.Prelude.{◌≡◌, ◌≤◌, ◌-◌, IfOk, codes, length, take, map, option_map, string_bytes};
+ghost use Rattle.std.specs.Prelude.{◌≡◌, ◌≤◌, ◌-◌, IfOk, codes, length, take, option_map, string_bytes};
 ghost use Rattle.toml.specs.View.{view, table_view};
 ghost use Rattle.toml.specs.Data.{get_member};
 ghost use Rattle.jc_config.specs.Config.{document_of};
 ghost use Rattle.jc_explain.specs.Config.{place_line, TellsPlace, table_at, stranger_line, entry_lines, near_value, value_line, member_lines, table_lines, duplicate_lines, at_table, of_document, no_caches_line, Tells};
+ghost use Rattle.jc_explain.specs.Words.{word_lent, words_lent};
 
 use crate::found::show_toml;
 use crate::lines::{member_line, missing_line, plain_line, show_text, suggest, unknown_line};
@@ -68,7 +69,8 @@ fn document_of(alloc: Global, bytes: &[u8]) -> Result<Option<Table>, AllocError>
 }
 
 fn cache_entry(document: &Table) -> Option<&Value>
-    ensures { option_map (λ v. view v.now) result ≡ get_member (codes "cache") (table_view document.now) }
+    ensures { option_map (λ v. view v.now) result ≡
+        get_member (codes "cache") (table_view document.now) }
 {
     document.get("cache")
 }
@@ -89,7 +91,8 @@ fn stranger_line(
     stranger: Option<&str>,
     known: &[&str],
 ) -> Result<String, AllocError>
-    ensures { IfOk result (λ s. string_bytes s ≡ stranger_line (map (λ w. w.now) known.now) (option_map (λ w. w.now) stranger.entry)) }
+    ensures { IfOk result (λ s.
+        string_bytes s ≡ stranger_line (words_lent known.now) (word_lent stranger.entry)) }
 {
     let Some(word) = stranger else {
         return Ok(String::new(alloc));
@@ -119,7 +122,8 @@ fn near_value<'a>(
     value: &Value,
     words: &[&'a str],
 ) -> Result<Option<&'a str>, AllocError>
-    ensures { IfOk result (λ near. option_map (λ w. w.now) near ≡ near_value (view value.now) (map (λ w. w.now) words.now)) }
+    ensures { IfOk result (λ near.
+        word_lent near ≡ near_value (view value.now) (words_lent words.now)) }
 {
     match value.as_str() {
         Some(text) => nearest(alloc, text, words),

@@ -52,7 +52,8 @@ impl<R> Kept<R> {
     /// Keeps more bytes.
     fn keep(&mut self, more: &[u8])
         ensures inner { self.new.inner ≡ self.old.inner }
-        ensures bytes { self.new.keeps ≡ true → self.new.bytes.items ≡ self.old.bytes.items ++ more.now }
+        ensures bytes { self.new.keeps ≡ true →
+            self.new.bytes.items ≡ self.old.bytes.items ++ more.now }
         ensures fault { self.new.fault ≡ self.old.fault }
     {
         if self.keeps && self.bytes.extend_from_slice(more).is_err() {
@@ -67,8 +68,10 @@ impl<R: Read> Read for Kept<R> {
 
     fn read(&mut self, buf: &mut [u8]) -> io::Result<usize>
         ensures bound { ReadsAtMost result buf.new }
-        ensures bytes { ReadConsumes (R.remaining self.old.inner) (R.remaining self.new.inner) result buf.new }
-        ensures kept { IfOk result (λ n. self.new.keeps ≡ true → self.new.bytes.items ≡ self.old.bytes.items ++ take n buf.new) }
+        ensures bytes { ReadConsumes (R.remaining self.old.inner) (R.remaining self.new.inner)
+            result buf.new }
+        ensures kept { IfOk result (λ n. self.new.keeps ≡ true →
+            self.new.bytes.items ≡ self.old.bytes.items ++ take n buf.new) }
         ensures fault { IfErr result (λ e. self.new.fault ≡ Some (error_kind e)) }
     {
         match self.inner.read(buf) {

@@ -1,7 +1,8 @@
 //! The lines of an explanation, each below the fault's line and two blanks in.
-ghost use Rattle.std.specs.Prelude.{◌≡◌, IfOk, option_map, string_bytes};
+ghost use Rattle.std.specs.Prelude.{◌≡◌, IfOk, string_bytes};
 ghost use Rattle.json.specs.Print.{quoted};
 ghost use Rattle.jc_explain.specs.Lines.{text_shown, suggestion, member_line, missing_line, unknown_line, no_member_line, plain_line};
+ghost use Rattle.jc_explain.specs.Words.{word_lent};
 
 use serde_json::Value;
 use std::alloc::{AllocError, Global};
@@ -25,7 +26,7 @@ pub fn show_text(alloc: Global, text: &str) -> Result<String, AllocError>
 
 /// What is asked about the nearest word.
 pub fn suggest(alloc: Global, near: Option<&str>) -> Result<String, AllocError>
-    ensures { IfOk result (λ s. string_bytes s ≡ suggestion (option_map (λ w. w.now) near.entry)) }
+    ensures { IfOk result (λ s. string_bytes s ≡ suggestion (word_lent near.entry)) }
 {
     match near {
         Some(word) => format!(in alloc; "; did you mean \"{word}\"?"),
@@ -41,7 +42,8 @@ pub fn member_line(
     allowed: &str,
     suggestion: &str,
 ) -> Result<String, AllocError>
-    ensures { IfOk result (λ s. string_bytes s ≡ member_line member.now shown.now allowed.now suggestion.now) }
+    ensures { IfOk result (λ s.
+        string_bytes s ≡ member_line member.now shown.now allowed.now suggestion.now) }
 {
     format!(in alloc; "  \"{member}\" is {shown}; it has to be {allowed}{suggestion}\n")
 }

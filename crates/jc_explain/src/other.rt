@@ -1,8 +1,9 @@
 //! Members of a script's line that its op does not have.
-ghost use Rattle.std.specs.Prelude.{◌≡◌, option_map};
+ghost use Rattle.std.specs.Prelude.{◌≡◌};
 ghost use Rattle.serde_json.specs.View.{view, members_view};
 ghost use Rattle.jc_strict.specs.Stray.{op_of};
 ghost use Rattle.jc_explain.specs.Other.{is_member, other_of, other_in};
+ghost use Rattle.jc_explain.specs.Words.{word_lent};
 
 use crate::stranger::is_known;
 use crate::words::script_members;
@@ -11,7 +12,7 @@ use serde_json::{Map, Value};
 
 /// Whether the op has the member; where there is no op, whether any has it.
 fn is_member(op: Option<&str>, name: &str) -> bool
-    ensures { result ≡ is_member (option_map (λ o. o.now) op.entry) name.now }
+    ensures { result ≡ is_member (word_lent op.entry) name.now }
 {
     match op {
         Some(op) => has_member(op, name),
@@ -20,7 +21,7 @@ fn is_member(op: Option<&str>, name: &str) -> bool
 }
 
 fn other_of<'a>(op: Option<&str>, members: &'a Map<String, Value>) -> Option<&'a str>
-    ensures { option_map (λ w. w.now) result ≡ other_of (option_map (λ o. o.now) op.entry) (members_view members.now.entries) }
+    ensures { word_lent result ≡ other_of (word_lent op.entry) (members_view members.now.entries) }
 {
     for name in members.keys() {
         if !is_member(op, name.as_str()) {
@@ -31,14 +32,14 @@ fn other_of<'a>(op: Option<&str>, members: &'a Map<String, Value>) -> Option<&'a
 }
 
 fn op_of(line: &Value) -> Option<&str>
-    ensures { option_map (λ op. op.now) result ≡ op_of (view line.now) }
+    ensures { word_lent result ≡ op_of (view line.now) }
 {
     line.get("op").and_then(Value::as_str)
 }
 
 /// The first member of a line, in the order of their names, that its op does not have.
 pub fn other_in(line: &Value) -> Option<&str>
-    ensures { option_map (λ w. w.now) result ≡ other_in (view line.now) }
+    ensures { word_lent result ≡ other_in (view line.now) }
 {
     match line.as_object() {
         Some(members) => other_of(op_of(line), members),

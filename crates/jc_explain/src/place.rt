@@ -13,7 +13,8 @@ pub struct Place {
 pub fn place_of(text: &[u8], at: usize) -> Place
     requires short { length text.now < 2 ^ 63 }
     requires within { at ≤ length text.now }
-    ensures { result ≡ record { line = line_of (take at text.now); column = column_of (take at text.now) } }
+    ensures { result ≡
+        record { line = line_of (take at text.now); column = column_of (take at text.now) } }
 {
     let mut line = 1;
     let mut column = 1;

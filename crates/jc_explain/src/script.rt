@@ -4,6 +4,7 @@ ghost use Rattle.std.specs.List.{slice_split};
 ghost use Rattle.serde_json.specs.View.{view};
 ghost use Rattle.jc_script.specs.Script.{is_feed};
 ghost use Rattle.jc_explain.specs.Script.{piece_at, json_at, column_line, TellsColumn, object_line, near_value, value_line, near_other, other_line, member_lines, names_line, joined, further, bad_lines, lines_at, too_long_line, Tells};
+ghost use Rattle.jc_explain.specs.Words.{word_lent, words_lent};
 
 use crate::found::show_json;
 use crate::lines::{member_line, missing_line, no_member_line, plain_line, show_text, suggest};
@@ -93,7 +94,8 @@ fn near_value<'a>(
     value: &Value,
     words: &[&'a str],
 ) -> Result<Option<&'a str>, AllocError>
-    ensures { IfOk result (λ near. option_map (λ w. w.now) near ≡ near_value (view value.now) (map (λ w. w.now) words.now)) }
+    ensures { IfOk result (λ near.
+        word_lent near ≡ near_value (view value.now) (words_lent words.now)) }
 {
     match value.as_str() {
         Some(text) => nearest(alloc, text, words),
@@ -108,7 +110,8 @@ fn value_line(
     member: Member,
     names: &[&str],
 ) -> Result<String, AllocError>
-    ensures { IfOk result (λ s. string_bytes s ≡ value_line (map (λ w. w.now) names.now) member (view value.now)) }
+    ensures { IfOk result (λ s.
+        string_bytes s ≡ value_line (words_lent names.now) member (view value.now)) }
 {
     let near = near_value(alloc, value, script_words(member, names))?;
     let suggestion = suggest(alloc, near)?;
@@ -124,7 +127,7 @@ fn value_line(
 
 /// The member nearest to one that no op has.
 fn near_other(alloc: Global, word: &str) -> Result<Option<&'static str>, AllocError>
-    ensures { IfOk result (λ near. option_map (λ w. w.now) near ≡ near_other word.now) }
+    ensures { IfOk result (λ near. word_lent near ≡ near_other word.now) }
 {
     if is_known(script_members(), word) {
         return Ok(None);
@@ -152,7 +155,8 @@ fn member_lines(
     member: Member,
     names: &[&str],
 ) -> Result<String, AllocError>
-    ensures { IfOk result (λ s. string_bytes s ≡ member_lines (map (λ w. w.now) names.now) member (view line.now)) }
+    ensures { IfOk result (λ s.
+        string_bytes s ≡ member_lines (words_lent names.now) member (view line.now)) }
 {
     match line.get(member.name()) {
         Some(value) => value_line(alloc, value, member, names),
@@ -166,7 +170,7 @@ fn member_lines(
 
 /// The names with a blank before each.
 fn joined(alloc: Global, names: &[&str]) -> Result<String, AllocError>
-    ensures { IfOk result (λ s. string_bytes s ≡ joined (map (λ w. w.now) names.now)) }
+    ensures { IfOk result (λ s. string_bytes s ≡ joined (words_lent names.now)) }
 {
     let mut text = String::new(alloc);
     for name in names {
@@ -178,7 +182,7 @@ fn joined(alloc: Global, names: &[&str]) -> Result<String, AllocError>
 
 /// The caches that a configuration has, or how many.
 fn names_line(alloc: Global, names: &[&str]) -> Result<String, AllocError>
-    ensures { IfOk result (λ s. string_bytes s ≡ names_line (map (λ w. w.now) names.now)) }
+    ensures { IfOk result (λ s. string_bytes s ≡ names_line (words_lent names.now)) }
 {
     if names.is_empty() {
         return plain_line(alloc, "the configuration has no caches");
@@ -192,7 +196,7 @@ fn names_line(alloc: Global, names: &[&str]) -> Result<String, AllocError>
 
 /// What is told besides: at a cache the names that there are.
 fn further(alloc: Global, member: Member, names: &[&str]) -> Result<String, AllocError>
-    ensures { IfOk result (λ s. string_bytes s ≡ further (map (λ w. w.now) names.now) member) }
+    ensures { IfOk result (λ s. string_bytes s ≡ further (words_lent names.now) member) }
 {
     match member {
         Member::Cache => names_line(alloc, names),
@@ -206,7 +210,8 @@ fn bad_lines(
     member: Member,
     names: &[&str],
 ) -> Result<String, AllocError>
-    ensures { IfOk result (λ s. string_bytes s ≡ bad_lines (map (λ w. w.now) names.now) member (view line.now)) }
+    ensures { IfOk result (λ s.
+        string_bytes s ≡ bad_lines (words_lent names.now) member (view line.now)) }
 {
     let lines = member_lines(alloc, line, member, names)?;
     let further = further(alloc, member, names)?;
@@ -220,7 +225,8 @@ fn bad_member(
     member: Member,
     names: &[&str],
 ) -> Result<String, AllocError>
-    ensures { IfOk result (λ s. string_bytes s ≡ lines_at (bad_lines (map (λ w. w.now) names.now) member) (json_at line bytes.now)) }
+    ensures { IfOk result (λ s. string_bytes s ≡
+        lines_at (bad_lines (words_lent names.now) member) (json_at line bytes.now)) }
 {
     match json_at(alloc, bytes, line)? {
         Some(value) => bad_lines(alloc, &value, member, names),
@@ -255,7 +261,7 @@ pub fn explain_script(
     names: &[&str],
     fault: ScriptFault,
 ) -> Result<String, AllocError>
-    ensures { IfOk result (λ s. Tells bytes.now (map (λ w. w.now) names.now) fault (string_bytes s)) }
+    ensures { IfOk result (λ s. Tells bytes.now (words_lent names.now) fault (string_bytes s)) }
 {
     match fault {
         ScriptFault::TooLong => explain_too_long(alloc),

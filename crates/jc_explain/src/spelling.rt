@@ -1,6 +1,7 @@
 //! The known word nearest to one that is not known.
-ghost use Rattle.std.specs.Prelude.{◌≡◌, IfOk, map, option_map};
+ghost use Rattle.std.specs.Prelude.{◌≡◌, IfOk};
 ghost use Rattle.jc_explain.specs.Spelling.{close, nearest};
+ghost use Rattle.jc_explain.specs.Words.{word_lent, words_lent};
 
 use std::alloc::{AllocError, Global};
 use strsim::levenshtein;
@@ -12,7 +13,7 @@ fn close<'a>(
     known: &[&'a str],
     edits: usize,
 ) -> Result<Option<&'a str>, AllocError>
-    ensures { IfOk result (λ near. option_map (λ w. w.now) near ≡ close edits word.now (map (λ w. w.now) known.now)) }
+    ensures { IfOk result (λ near. word_lent near ≡ close edits word.now (words_lent known.now)) }
 {
     for name in known {
         if levenshtein(alloc, word, name)? <= edits {
@@ -29,7 +30,7 @@ pub fn nearest<'a>(
     word: &str,
     known: &[&'a str],
 ) -> Result<Option<&'a str>, AllocError>
-    ensures { IfOk result (λ near. option_map (λ w. w.now) near ≡ nearest word.now (map (λ w. w.now) known.now)) }
+    ensures { IfOk result (λ near. word_lent near ≡ nearest word.now (words_lent known.now)) }
 {
     if word.len() < 2 || word.len() > 63 {
         return Ok(None);

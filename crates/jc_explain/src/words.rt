@@ -1,13 +1,13 @@
 //! The words that are known, and what each member has to be.
-ghost use Rattle.std.specs.Prelude.{◌≡◌, map};
-ghost use Rattle.jc_explain.specs.Words.{config_members, script_members, config_words, script_words, config_allowed, script_allowed};
+ghost use Rattle.std.specs.Prelude.{◌≡◌};
+ghost use Rattle.jc_explain.specs.Words.{config_members, script_members, config_words, script_words, config_allowed, script_allowed, words_lent};
 
 use jc_config::Member as ConfigMember;
 use jc_script::Member as ScriptMember;
 
 /// The members of a cache's table.
 pub fn config_members() -> &'static [&'static str]
-    ensures { map (λ w. w.now) result.now ≡ config_members }
+    ensures { words_lent result.now ≡ config_members }
 {
     &[
         "name",
@@ -23,7 +23,7 @@ pub fn config_members() -> &'static [&'static str]
 
 /// The members of a script's lines.
 pub fn script_members() -> &'static [&'static str]
-    ensures { map (λ w. w.now) result.now ≡ script_members }
+    ensures { words_lent result.now ≡ script_members }
 {
     &[
         "s", "c", "at", "op", "capacity", "expiry", "duration", "k", "ks", "kvs", "expect", "v",
@@ -33,7 +33,7 @@ pub fn script_members() -> &'static [&'static str]
 
 /// The words that a member of a cache's table may be, where they are few.
 pub fn config_words(member: ConfigMember) -> &'static [&'static str]
-    ensures { map (λ w. w.now) result.now ≡ config_words member }
+    ensures { words_lent result.now ≡ config_words member }
 {
     match member {
         ConfigMember::Expiry => &["eternal", "created", "accessed", "modified", "touched"],
@@ -46,7 +46,7 @@ pub fn config_words(member: ConfigMember) -> &'static [&'static str]
 /// The words that a member of a script's line may be, where they are few; the names are those of the configuration's
 /// caches.
 pub fn script_words<'a>(member: ScriptMember, names: &'a [&'a str]) -> &'a [&'a str]
-    ensures { map (λ w. w.now) result.now ≡ script_words (map (λ w. w.now) names.now) member }
+    ensures { words_lent result.now ≡ script_words (words_lent names.now) member }
 {
     match member {
         ScriptMember::Cache => names,

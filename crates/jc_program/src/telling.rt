@@ -96,7 +96,8 @@ fn lines_of<R, F: Read, I: Read>(
 
 /// The lines themselves, or what is told for want of memory.
 fn text_of(explanation: &Result<String, AllocError>) -> &str
-    ensures { MatchResult explanation.now (λ s. result.now ≡ string_bytes s) (λ e. result.now ≡ no_memory) }
+    ensures { MatchResult explanation.now (λ s. result.now ≡ string_bytes s)
+        (λ e. result.now ≡ no_memory) }
 {
     match explanation {
         Ok(lines) => lines.as_str(),
@@ -114,8 +115,10 @@ pub fn run_program<D: Files, I: Read, O: Write, E: Write, R: Threads + Wait + Sy
     opened: &mut Opened<Kept<D::File>>,
     standard: &mut Standard<Kept<I>, O, E>,
 ) -> Ended
-    ensures ends { IfOk words (λ v. EndsTold D.File.remaining I.remaining O.contents E.contents opened.old opened.new standard.old standard.new (Ok (map string_bytes v.items)) result) }
-    ensures wordless { IfErr words (λ fault. EndsTold D.File.remaining I.remaining O.contents E.contents opened.old opened.new standard.old standard.new (Err fault) result) }
+    ensures ends { IfOk words (λ v. EndsTold D.File.remaining I.remaining O.contents E.contents
+        opened.old opened.new standard.old standard.new (Ok (map string_bytes v.items)) result) }
+    ensures wordless { IfErr words (λ fault. EndsTold D.File.remaining I.remaining O.contents
+        E.contents opened.old opened.new standard.old standard.new (Err fault) result) }
 {
     let input = &mut standard.input;
     let ending = heed(rt, alloc, words, disk, opened, input, &mut standard.output);

@@ -104,7 +104,8 @@ impl<A: Caches, B: Caches> Caches for Pair<A, B> {
         config: CacheConfig,
         hooks: UnaskedHooks,
     ) -> Result<Side<A::Id, B::Id>, (CreateFault, CacheConfig, UnaskedHooks)>
-        ensures { MadeIn (λ rest it. A.Creates rest config hooks it) (λ rest it. B.Creates rest config hooks it) spread result }
+        ensures { MadeIn (λ rest it. A.Creates rest config hooks it)
+            (λ rest it. B.Creates rest config hooks it) spread result }
     {
         if goes_right(spread) {
             return match self.right.create_by(rt, spread / 2, config, hooks) {

@@ -68,7 +68,8 @@ fn run_named<N: Name + Send + Sync, R: Threads + Wait + Print + Sync>(
     unnamed: Unnamed,
 ) -> Result<(), Fault>
     requires configs { unnamed.configs ≡ N.configs }
-    requires stated { map (stated_by (λ _ _. Failed) (λ _ _ _. Err (record {}))) unnamed.shared ≡ N.stated }
+    requires stated { map (stated_by (λ _ _. Failed) (λ _ _ _. Err (record {}))) unnamed.shared
+        ≡ N.stated }
     requires index { unnamed.index ≡ N.index }
 {
     let store = unnamed.named::<N>();

@@ -1,5 +1,5 @@
 -- Words that are no text.
-use Rattle.std.proofs.Common.{◌≡◌, ◌<◌, ◌≤◌, ◌+◌, ℕ, String, Global, string_bytes, option_map, IfSome, zero, suc, Bool, true, false, List, [], ◌∷◌, ◌++◌, Option, Some, None, Bor, length, take, drop, map, refl, sym, ap, ◌∙◌, arith, append_assoc, length-append, length-drop, inl, inr}
+use Rattle.std.proofs.Common.{◌≡◌, ◌<◌, ◌≤◌, ◌+◌, ℕ, String, Global, string_bytes, option_map, IfSome, zero, suc, Bool, true, false, List, [], ◌∷◌, ◌++◌, Option, Some, None, Bor, length, take, drop, refl, sym, ap, ◌∙◌, arith, append_assoc, length-append, length-drop, inl, inr}
 use Rattle.std.specs.Prelude.{◌==◌, if◌then◌else◌, nat_lt, slice_index, slice_index_or, unwrap_or}
 use Rattle.std.specs.Int.{is_in_range}
 use Rattle.std.specs.Str.{IsUtf8, is_utf8}
@@ -9,23 +9,21 @@ use Rattle.std.proofs.lemmas.Bool.Decides.{eqb_tells}
 use Rattle.std.proofs.lemmas.List.{append-nil, drop_at, take_at}
 use Rattle.std.proofs.lemmas.Str.{IsUtf8-from_is_utf8, is_utf8-from_IsUtf8, utf8_valid_len_le}
 use Rattle.jc_words.specs.NoText.{bytes_shown, invalid_of, shown_within, word_shown, no_text_from, no_text_mistake, IsToldOfWords}
+use Rattle.jc_words.specs.Program.{texts_lent}
 
 -- The first word that is no text.
-
-abbrev words_of : List (Bor (List ℕ)) → List (List ℕ)
-words_of words = map (λ word. word.now) words
 
 not_utf8 : (bytes : List ℕ) → ¬ (IsUtf8 bytes) → is_utf8 bytes ≡ false
 not_utf8 bytes none = elim (is_utf8 bytes) as (λ b. is_utf8 bytes ≡ b → b ≡ false) [ true ↦ λ e. absurd (none (IsUtf8-from_is_utf8 bytes e)) | false ↦ λ e. refl ] refl
 
-pub passed : (n k : ℕ) (d : Bor (List ℕ)) (ws : List (Bor (List ℕ))) → k < length ws → IsUtf8 (slice_index_or ws k d).now → no_text_from n (words_of (drop k ws)) ≡ no_text_from (n + 1) (words_of (drop (k + 1) ws))
+pub passed : (n k : ℕ) (d : Bor (List ℕ)) (ws : List (Bor (List ℕ))) → k < length ws → IsUtf8 (slice_index_or ws k d).now → no_text_from n (texts_lent (drop k ws)) ≡ no_text_from (n + 1) (texts_lent (drop (k + 1) ws))
 passed n k d [] below utf8 = absurd (omega (arith, below))
 passed n zero d (w ∷ ws) below utf8 = rw (is_utf8-from_IsUtf8 w.now utf8) refl
 passed n (suc k) d (w ∷ ws) below utf8 =
     let e : suc k + 1 ≡ suc (k + 1) = omega arith in
     rw e (passed n k d ws (omega (arith, below)) utf8)
 
-pub met : (n k : ℕ) (d : Bor (List ℕ)) (ws : List (Bor (List ℕ))) → k < length ws → ¬ (IsUtf8 (slice_index_or ws k d).now) → no_text_from n (words_of (drop k ws)) ≡ Some (n, (slice_index_or ws k d).now)
+pub met : (n k : ℕ) (d : Bor (List ℕ)) (ws : List (Bor (List ℕ))) → k < length ws → ¬ (IsUtf8 (slice_index_or ws k d).now) → no_text_from n (texts_lent (drop k ws)) ≡ Some (n, (slice_index_or ws k d).now)
 met n k d [] below none = absurd (omega (arith, below))
 met n zero d (w ∷ ws) below none = rw (not_utf8 w.now none) refl
 met n (suc k) d (w ∷ ws) below none = met n k d ws (omega (arith, below)) none

@@ -1,21 +1,17 @@
 -- Capacities that are read one after the other.
-use Rattle.std.proofs.Common.{◌≡◌, ◌≤◌, ◌<◌, ℕ, ◌+◌, List, [], ◌∷◌, ◌++◌, Some, None, Option, Vec, Global, MatchOption, option_map, map, length, drop, get_or, drop_of_length-le, append_assoc, append-nil, ap, Bor}
+use Rattle.std.proofs.Common.{◌≡◌, ◌≤◌, ◌<◌, ℕ, ◌+◌, List, [], ◌∷◌, ◌++◌, Some, None, Option, Vec, Global, MatchOption, option_map, length, drop, get_or, drop_of_length-le, append_assoc, append-nil, ap, Bor}
 use Rattle.std.proofs.lemmas.List.{drop_more}
 use Rattle.clap.specs.Words.{Text}
-use Rattle.jc_words.specs.Program.{AreCapacities, IsCapacity, IsNumber, ListsCapacities}
+use Rattle.jc_words.specs.Program.{AreCapacities, ListsCapacities, SaysCapacity, SaysNoCapacity, ListsNoCapacities, texts_lent}
 
 abbrev pub Parts : Type 0
 Parts = List (Bor (List ℕ))
 
--- what parts are lent
-abbrev pub texts : Parts → List Text
-texts parts = map (λ part. part.now) parts
+pub next_part : (parts : Parts) (i : ℕ) (d : Bor (List ℕ)) → i < length parts → texts_lent (drop i parts) ≡ (get_or parts i d).now ∷ texts_lent (drop (i + 1) parts)
+next_part parts i d below = ap texts_lent (drop_more parts i d below)
 
-pub next_part : (parts : Parts) (i : ℕ) (d : Bor (List ℕ)) → i < length parts → texts (drop i parts) ≡ (get_or parts i d).now ∷ texts (drop (i + 1) parts)
-next_part parts i d below = ap texts (drop_more parts i d below)
-
-pub no_part : (parts : Parts) (i : ℕ) → length parts ≤ i → texts (drop i parts) ≡ []
-no_part parts i past = ap texts (drop_of_length-le parts past)
+pub no_part : (parts : Parts) (i : ℕ) → length parts ≤ i → texts_lent (drop i parts) ≡ []
+no_part parts i past = ap texts_lent (drop_of_length-le parts past)
 
 -- so many were read of all texts, and these are left
 pub record IsSoFar (all : List Text) (read : List ℕ) (left : List Text) : Type 0 where
@@ -29,7 +25,7 @@ rest : (text : Text) (left : List Text) (ms : List ℕ) → AreCapacities (text 
 rest text left [] h = absurd h
 rest text left (m ∷ ms) h = (ms, h.1)
 
-pub goes_on : (all : List Text) (read : List ℕ) (text : Text) (left : List Text) (n : ℕ) → IsNumber (Some text) n × IsCapacity n → IsSoFar all read (text ∷ left) → IsSoFar all (read ++ n ∷ []) left
+pub goes_on : (all : List Text) (read : List ℕ) (text : Text) (left : List Text) (n : ℕ) → SaysCapacity text n → IsSoFar all read (text ∷ left) → IsSoFar all (read ++ n ∷ []) left
 goes_on all read text left n is so_far = record {
   front = λ ns h. rw (append_assoc) (so_far.front (n ∷ ns) (is, h));
   back = λ ns h. let (ms, more) = so_far.back ns h in rest text left ms more;
@@ -38,16 +34,16 @@ goes_on all read text left n is so_far = record {
 pub is_done : (all : List Text) (read : List ℕ) → IsSoFar all read [] → AreCapacities all read
 is_done all read so_far = let h = so_far.front [] tt in rw (append-nil read) at h
 
-none : (text : Text) (left : List Text) (ms : List ℕ) → ((n : ℕ) → IsNumber (Some text) n → IsCapacity n → ⊥) → AreCapacities (text ∷ left) ms → ⊥
+none : (text : Text) (left : List Text) (ms : List ℕ) → SaysNoCapacity text → AreCapacities (text ∷ left) ms → ⊥
 none text left [] never h = h
 none text left (m ∷ ms) never h = never m h.0.0 h.0.1
 
-pub stops : (all : List Text) (read : List ℕ) (text : Text) (left : List Text) → ((n : ℕ) → IsNumber (Some text) n → IsCapacity n → ⊥) → IsSoFar all read (text ∷ left) → (ns : List ℕ) → AreCapacities all ns → ⊥
+pub stops : (all : List Text) (read : List ℕ) (text : Text) (left : List Text) → SaysNoCapacity text → IsSoFar all read (text ∷ left) → (ns : List ℕ) → AreCapacities all ns → ⊥
 stops all read text left never so_far ns h = let (ms, more) = so_far.back ns h in none text left ms never more
 
 -- whether a text lists capacities, and which, as a reader tells
 abbrev pub IsRead : Text → Option (Vec ℕ Global) → Type 0
-IsRead text read = MatchOption read ((ns : List ℕ) → ListsCapacities (Some text) ns → ⊥) (λ v. ListsCapacities (Some text) v.items)
+IsRead text read = MatchOption read (ListsNoCapacities (Some text)) (λ v. ListsCapacities (Some text) v.items)
 
 pub listed : (first : Option Text) (text : Text) (o : Option (Vec ℕ Global)) (v : Vec ℕ Global) → first ≡ Some text → o ≡ Some v → IsRead text o → ListsCapacities first v.items
 listed first text o v is made read = rw is (rw made at read)

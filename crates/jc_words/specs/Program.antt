@@ -1,12 +1,14 @@
 -- The program's command, and what words ask of it as `clap` reads them.
-use Rattle.std.specs.Prelude.{◌≡◌, ◌≢◌, ◌≤◌, ◌<◌, ◌^◌, ◌⊎◌, ◌&&◌, ◌==◌, ℕ, pos, Bool, true, false, if◌then◌else◌, List, [], ◌∷◌, find, Option, Some, None, option_map, option_and_then, codes, string_bytes, ⊤}
+use Rattle.std.specs.Prelude.{◌≡◌, ◌≢◌, ◌≤◌, ◌<◌, ◌^◌, ◌⊎◌, ◌&&◌, ◌==◌, ℕ, pos, Bool, true, false, if◌then◌else◌, List, [], ◌∷◌, map, find, Option, Some, None, option_map, option_and_then, codes, string_bytes, ⊤}
+use Rattle.std.specs.Borrow.{Bor}
 use Rattle.std.specs.List.{All, list_any, slice_split}
 use Rattle.std.specs.Str.{bytes_eq}
 use Rattle.std.specs.Str.Parse.{IsNumeral, without_leading_plus, digits_value}
 use Rattle.clap.specs.Kinds.{HasKind}
-use Rattle.clap.specs.Words.{App, Row, Rule, Text, new_app, new_rule, one_of, first_of, subcommand_of, with_rule, with_subcommand, fault_of}
+use Rattle.clap.specs.Words.{App, Row, Rule, Text, new_app, new_rule, one_of, first_of, found_of, rows_of, subcommand_of, with_rule, with_subcommand, fault_of}
 use Rattle.clap.specs.declared.builder.ArgAction.TheVariants.{Set, SetTrue}
 use Rattle.clap.specs.declared.builder.value_parser.ValueParser.TheVariants as parsers
+use Rattle.clap.specs.declared.parser.matches.ArgMatches.{ArgMatches}
 use Rattle.clap.specs.declared.parser.matches.ValueSource.{ValueSource}
 use Rattle.clap.specs.declared.parser.matches.ValueSource.TheVariants.{DefaultValue, CommandLine}
 use Rattle.clap.specs.declared.error.Error.{Error}
@@ -67,6 +69,14 @@ program = with_subcommand (with_subcommand (with_subcommand bare_app run_app.top
 
 -- What is asked.
 
+-- the texts, or bytes, that are lent
+abbrev pub texts_lent : List (Bor (List ℕ)) → List Text
+texts_lent texts = map (λ text. text.now) texts
+
+-- the rows of matches
+abbrev pub rows_in : ArgMatches → List Row
+rows_in matches = rows_of (found_of matches)
+
 -- a text as `str::parse` reads it
 abbrev pub IsNumber : Option Text → ℕ → Type 0
 IsNumber None n = ⊥
@@ -79,6 +89,17 @@ truth false = codes "false"
 abbrev pub format_text : Format → Text
 format_text form.Text = codes "text"
 format_text form.Json = codes "json"
+
+-- a text is no form's
+abbrev pub SaysNoFormat : Text → Type 0
+SaysNoFormat text = (form : Format) → text ≢ format_text form
+
+-- rows of matches name this form, or none
+abbrev pub NamesFormat : List Row → Format → Type 0
+NamesFormat rows form = first_of (codes "format") rows ≡ Some (format_text form)
+
+abbrev pub NamesNoFormat : List Row → Type 0
+NamesNoFormat rows = (form : Format) → first_of (codes "format") rows ≢ Some (format_text form)
 
 -- the options in rows of matches
 pub record AsksOptions (rows : List Row) (options : Options) : Type 0 where
@@ -135,16 +156,35 @@ pub record AsksCheck (rows : List Row) (check : Check) : Type 0 where
 abbrev pub IsCapacity : ℕ → Type 0
 IsCapacity n = (1 ≤ n) × (n ≤ 65536)
 
+-- a text is this capacity, or none
+abbrev pub SaysCapacity : Text → ℕ → Type 0
+SaysCapacity text n = IsNumber (Some text) n × IsCapacity n
+
+abbrev pub SaysNoCapacity : Text → Type 0
+SaysNoCapacity text = (n : ℕ) → IsNumber (Some text) n → IsCapacity n → ⊥
+
 -- each text is a capacity
 abbrev pub AreCapacities : List Text → List ℕ → Type 0
 AreCapacities [] [] = ⊤
-AreCapacities (text ∷ texts) (n ∷ ns) = (IsNumber (Some text) n × IsCapacity n) × AreCapacities texts ns
+AreCapacities (text ∷ texts) (n ∷ ns) = SaysCapacity text n × AreCapacities texts ns
 AreCapacities _ _ = ⊥
+
+-- they are no capacities
+abbrev pub AreNoCapacities : List Text → Type 0
+AreNoCapacities texts = (ns : List ℕ) → AreCapacities texts ns → ⊥
+
+-- the texts between commas
+abbrev pub between_commas : Text → List Text
+between_commas list = slice_split (λ b. b == 44) list
 
 -- a list of capacities, with a comma between two
 abbrev pub ListsCapacities : Option Text → List ℕ → Type 0
 ListsCapacities None ns = ⊥
-ListsCapacities (Some text) ns = AreCapacities (slice_split (λ b. b == 44) text) ns
+ListsCapacities (Some text) ns = AreCapacities (between_commas text) ns
+
+-- it lists none
+abbrev pub ListsNoCapacities : Option Text → Type 0
+ListsNoCapacities list = (ns : List ℕ) → ListsCapacities list ns → ⊥
 
 -- the replay that rows of matches ask for
 pub record AsksReplay (rows : List Row) (replay : Replay) : Type 0 where

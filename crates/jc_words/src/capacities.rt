@@ -1,7 +1,8 @@
 //! A list of capacities.
-ghost use Rattle.std.specs.Prelude.{◌≡◌, ◌==◌, ℕ, List, IfOk, IfSome, Some, MatchOption, map};
-ghost use Rattle.std.specs.List.{All, slice_split};
-ghost use Rattle.jc_words.specs.Program.{AreCapacities, IsCapacity, IsNumber, ListsCapacities};
+ghost use Rattle.std.specs.Prelude.{◌≡◌, IfOk, IfSome, Some, MatchOption};
+ghost use Rattle.std.specs.List.{All};
+ghost use Rattle.jc_words.specs.Program.{AreCapacities, AreNoCapacities, IsCapacity, ListsCapacities, ListsNoCapacities};
+ghost use Rattle.jc_words.specs.Program.{SaysCapacity, SaysNoCapacity, between_commas, texts_lent};
 
 use std::alloc::{AllocError, Global};
 
@@ -10,14 +11,14 @@ const MOST_ROWS: u32 = 65_536;
 
 /// The texts between the commas.
 fn parts_of<'a>(alloc: Global, list: &'a str) -> Result<Vec<&'a str>, AllocError>
-    ensures { IfOk result (λ v. map (λ part. part.now) v.items ≡ slice_split (λ b. b == 44) list.entry.now) }
+    ensures { IfOk result (λ v. texts_lent v.items ≡ between_commas list.entry.now) }
 {
     list.split(',').collect(alloc)
 }
 
 /// A whole number from 1 to 65,536.
 fn read_capacity(text: &str) -> Option<u32>
-    ensures { MatchOption result ((n : ℕ) → IsNumber (Some text.now) n → IsCapacity n → ⊥) (λ n. IsNumber (Some text.now) n × IsCapacity n) }
+    ensures { MatchOption result (SaysNoCapacity text.now) (SaysCapacity text.now) }
 {
     match text.parse::<u32>() {
         Ok(n) => {
@@ -32,7 +33,8 @@ fn read_capacity(text: &str) -> Option<u32>
 
 /// The capacities that are all of these texts, if they are.
 fn read_parts(alloc: Global, parts: &[&str]) -> Result<Option<Vec<u32>>, AllocError>
-    ensures read { IfOk result (λ read. MatchOption read ((ns : List ℕ) → AreCapacities (map (λ part. part.now) parts.now) ns → ⊥) (λ v. AreCapacities (map (λ part. part.now) parts.now) v.items)) }
+    ensures read { IfOk result (λ read. MatchOption read (AreNoCapacities (texts_lent parts.now))
+        (λ v. AreCapacities (texts_lent parts.now) v.items)) }
     ensures limits { IfOk result (λ read. IfSome read (λ v. All IsCapacity v.items)) }
 {
     let mut capacities = Vec::new(alloc);
@@ -47,7 +49,8 @@ fn read_parts(alloc: Global, parts: &[&str]) -> Result<Option<Vec<u32>>, AllocEr
 
 /// The capacities in a list with a comma between two, if it is one.
 pub(crate) fn read_capacities(alloc: Global, list: &str) -> Result<Option<Vec<u32>>, AllocError>
-    ensures read { IfOk result (λ read. MatchOption read ((ns : List ℕ) → ListsCapacities (Some list.now) ns → ⊥) (λ v. ListsCapacities (Some list.now) v.items)) }
+    ensures read { IfOk result (λ read. MatchOption read (ListsNoCapacities (Some list.now))
+        (λ v. ListsCapacities (Some list.now) v.items)) }
     ensures limits { IfOk result (λ read. IfSome read (λ v. All IsCapacity v.items)) }
 {
     let parts = parts_of(alloc, list)?;

@@ -1,13 +1,13 @@
 //! Words of which one is no text.
-ghost use Rattle.std.specs.Prelude.{◌≡◌, ◌++◌, IfOk, OnOk, map, option_map, string_bytes};
+ghost use Rattle.std.specs.Prelude.{◌≡◌, ◌++◌, IfOk, OnOk, option_map, string_bytes};
 ghost use Rattle.jc_words.specs.NoText.{bytes_shown, word_shown, no_text_from, told_of, no_text_mistake};
-ghost use Rattle.jc_words.specs.Program.{asks_to_explain};
+ghost use Rattle.jc_words.specs.Program.{asks_to_explain, texts_lent};
 
 use std::alloc::{AllocError, Global};
 
 /// Whether the words ask for explanations.
 fn asks(words: &[&[u8]]) -> bool
-    ensures { result ≡ asks_to_explain (map (λ word. word.now) words.now) }
+    ensures { result ≡ asks_to_explain (texts_lent words.now) }
 {
     match words {
         [] => false,
@@ -39,7 +39,7 @@ fn show_word(alloc: Global, word: &[u8]) -> Result<String, AllocError>
 
 /// The first word that is not UTF-8, and its place, counted from 1.
 fn first_no_text<'a>(words: &[&'a [u8]]) -> Option<(usize, &'a [u8])>
-    ensures { option_map (λ p. (p.0, p.1.now)) result ≡ no_text_from 1 (map (λ word. word.now) words.now) }
+    ensures { option_map (λ p. (p.0, p.1.now)) result ≡ no_text_from 1 (texts_lent words.now) }
 {
     for i in 0..words.len() {
         match str::from_utf8(words[i]) {
@@ -60,7 +60,8 @@ fn told_of(alloc: Global, place: usize, word: &[u8]) -> Result<String, AllocErro
 /// What is told, without the program's name, of words that ask for explanations and of which one is not UTF-8: which it
 /// is. Nothing of other words.
 pub fn no_text_mistake(alloc: Global, words: &[&[u8]]) -> Result<Option<String>, AllocError>
-    ensures { IfOk result (λ told. option_map string_bytes told ≡ no_text_mistake (map (λ word. word.now) words.now)) }
+    ensures { IfOk result (λ told.
+        option_map string_bytes told ≡ no_text_mistake (texts_lent words.now)) }
 {
     if !asks(words) {
         return Ok(None);

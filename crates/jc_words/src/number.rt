@@ -1,7 +1,8 @@
 //! Numbers below 0 behind an option, of which `clap` says that they are no words that it knows.
-ghost use Rattle.std.specs.Prelude.{◌≡◌, IfOk, map, option_map, string_bytes};
+ghost use Rattle.std.specs.Prelude.{◌≡◌, IfOk, option_map, string_bytes};
 ghost use Rattle.std.specs.List.{list_any};
 ghost use Rattle.jc_words.specs.Number.{limits_of, is_above_zero, is_below_zero, first_below_zero, number_line, note_among, number_note};
+ghost use Rattle.jc_words.specs.Program.{texts_lent};
 
 use std::alloc::{AllocError, Global};
 
@@ -41,7 +42,7 @@ fn is_below_zero(word: &str) -> bool
 }
 
 fn first_below_zero<'a>(words: &[&'a str]) -> Option<&'a str>
-    ensures { option_map (λ word. word.now) result ≡ first_below_zero (map (λ word. word.now) words.now) }
+    ensures { option_map (λ word. word.now) result ≡ first_below_zero (texts_lent words.now) }
 {
     match words {
         [word, ..] => {
@@ -70,7 +71,7 @@ fn number_line(
 
 /// The line of the first option that takes a number and has one below 0 behind it; words behind `--` are paths.
 fn note_among(alloc: Global, words: &[&str]) -> Result<String, AllocError>
-    ensures { IfOk result (λ s. string_bytes s ≡ note_among (map (λ word. word.now) words.now)) }
+    ensures { IfOk result (λ s. string_bytes s ≡ note_among (texts_lent words.now)) }
 {
     match words {
         [] => Ok(String::new(alloc)),
@@ -90,7 +91,7 @@ fn note_among(alloc: Global, words: &[&str]) -> Result<String, AllocError>
 
 /// What is told of a number below 0 that stands behind an option of `run`; nothing where none does.
 pub(crate) fn number_note(alloc: Global, words: &[&str]) -> Result<String, AllocError>
-    ensures { IfOk result (λ s. string_bytes s ≡ number_note (map (λ word. word.now) words.now)) }
+    ensures { IfOk result (λ s. string_bytes s ≡ number_note (texts_lent words.now)) }
 {
     match words {
         [] => Ok(String::new(alloc)),

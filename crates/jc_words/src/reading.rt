@@ -1,9 +1,8 @@
 //! The words after the program's name, as `clap` reads them.
 
-ghost use Rattle.std.specs.Prelude.{◌≡◌, ◌≤◌, ◌<◌, ◌^◌, ◌↔◌, [], IfOk, IfErr, IfSome, None, Ok, map, option_map, string_bytes};
+ghost use Rattle.std.specs.Prelude.{◌≡◌, ◌≤◌, ◌<◌, ◌^◌, ◌↔◌, [], IfOk, IfErr, IfSome, None, Ok, option_map, string_bytes};
 ghost use Rattle.std.specs.List.{All};
-ghost use Rattle.clap.specs.Words.{found_of, rows_of};
-ghost use Rattle.jc_words.specs.Program.{Asks, AsksBy, AsksCheck, AsksFor, AsksForNone, AsksOptions, AsksReplay, HaveNoCheck, HaveNoOptions, HaveNoReplay, HaveNoRun, IsCapacity, KeepsLimits, MayRefuse};
+ghost use Rattle.jc_words.specs.Program.{Asks, AsksBy, AsksCheck, AsksFor, AsksForNone, AsksOptions, AsksReplay, HaveNoCheck, HaveNoOptions, HaveNoReplay, HaveNoRun, IsCapacity, KeepsLimits, MayRefuse, rows_in, texts_lent};
 
 use crate::asked::{Asked, Check, Replay};
 use crate::capacities::read_capacities;
@@ -20,10 +19,10 @@ use std::alloc::{AllocError, Global};
 const MAX_SEED: u64 = 9_223_372_036_854_775_807;
 
 fn options(matches: &ArgMatches<'_>) -> Option<Options>
-    ensures asks { IfSome result (AsksOptions (rows_of (found_of matches.now))) }
+    ensures asks { IfSome result (AsksOptions (rows_in matches.now)) }
     ensures workers { IfSome result (λ o. (1 ≤ o.workers) × (o.workers ≤ 8)) }
     ensures seed { IfSome result (λ o. o.seed < 2 ^ 63) }
-    ensures none { result ≡ None → HaveNoOptions (rows_of (found_of matches.now)) }
+    ensures none { result ≡ None → HaveNoOptions (rows_in matches.now) }
 {
     let workers = matches.get_one::<u8>("workers")?;
     let seed = matches.get_one::<u64>("seed")?;
@@ -46,10 +45,10 @@ fn options(matches: &ArgMatches<'_>) -> Option<Options>
 
 /// What the matches of `run` ask for.
 fn run_asked(alloc: Global, matches: &ArgMatches<'_>) -> Result<Option<Run>, AllocError>
-    ensures asks { IfOk result (λ run. IfSome run (Asks (rows_of (found_of matches.now)))) }
+    ensures asks { IfOk result (λ run. IfSome run (Asks (rows_in matches.now))) }
     ensures workers { IfOk result (λ run. IfSome run (λ r. (1 ≤ r.workers) × (r.workers ≤ 8))) }
     ensures seed { IfOk result (λ run. IfSome run (λ r. r.seed < 2 ^ 63)) }
-    ensures none { IfOk result (λ run. run ≡ None → HaveNoRun (rows_of (found_of matches.now))) }
+    ensures none { IfOk result (λ run. run ≡ None → HaveNoRun (rows_in matches.now)) }
 {
     let Some(config) = matches.get_str("CONFIG") else {
         return Ok(None);
@@ -84,8 +83,8 @@ fn owned(alloc: Global, text: Option<&str>) -> Result<Option<String>, AllocError
 
 /// What the matches of `check` ask for.
 fn check_asked(alloc: Global, matches: &ArgMatches<'_>) -> Result<Option<Check>, AllocError>
-    ensures asks { IfOk result (λ check. IfSome check (AsksCheck (rows_of (found_of matches.now)))) }
-    ensures none { IfOk result (λ check. check ≡ None → HaveNoCheck (rows_of (found_of matches.now))) }
+    ensures asks { IfOk result (λ check. IfSome check (AsksCheck (rows_in matches.now))) }
+    ensures none { IfOk result (λ check. check ≡ None → HaveNoCheck (rows_in matches.now)) }
 {
     let Some(config) = matches.get_str("CONFIG") else {
         return Ok(None);
@@ -108,9 +107,10 @@ fn check_asked(alloc: Global, matches: &ArgMatches<'_>) -> Result<Option<Check>,
 
 /// What the matches of `replay` ask for.
 fn replay_asked(alloc: Global, matches: &ArgMatches<'_>) -> Result<Option<Replay>, AllocError>
-    ensures asks { IfOk result (λ replay. IfSome replay (AsksReplay (rows_of (found_of matches.now)))) }
-    ensures limits { IfOk result (λ replay. IfSome replay (λ r. All IsCapacity r.capacities.items)) }
-    ensures none { IfOk result (λ replay. replay ≡ None → HaveNoReplay (rows_of (found_of matches.now))) }
+    ensures asks { IfOk result (λ replay. IfSome replay (AsksReplay (rows_in matches.now))) }
+    ensures limits { IfOk result (λ replay.
+        IfSome replay (λ r. All IsCapacity r.capacities.items)) }
+    ensures none { IfOk result (λ replay. replay ≡ None → HaveNoReplay (rows_in matches.now)) }
 {
     let Some(trace) = matches.get_str("TRACE") else {
         return Ok(None);
@@ -127,9 +127,10 @@ fn replay_asked(alloc: Global, matches: &ArgMatches<'_>) -> Result<Option<Replay
 
 /// What the matches of a subcommand ask for.
 fn asked(alloc: Global, name: &str, matches: &ArgMatches<'_>) -> Result<Option<Asked>, AllocError>
-    ensures asks { IfOk result (λ asked. IfSome asked (AsksBy (name.now, rows_of (found_of matches.now)))) }
+    ensures asks { IfOk result (λ asked. IfSome asked (AsksBy (name.now, rows_in matches.now))) }
     ensures limits { IfOk result (λ asked. IfSome asked KeepsLimits) }
-    ensures none { IfOk result (λ asked. asked ≡ None → AsksForNone (name.now, rows_of (found_of matches.now))) }
+    ensures none { IfOk result (λ asked.
+        asked ≡ None → AsksForNone (name.now, rows_in matches.now)) }
 {
     if name == "run" {
         return match run_asked(alloc, matches)? {
@@ -174,9 +175,9 @@ fn unasked(matches: &ArgMatches<'_>) -> &'static str {
 pub fn read_words<'a>(alloc: Global, words: &'a [&'a str]) -> Result<Option<Asked>, Error>
     ensures none { IfOk result (λ asked. (asked ≡ None) ↔ (words.entry.now ≡ [])) }
     ensures wordless { words.entry.now ≡ [] → result ≡ Ok None }
-    ensures exact { IfOk result (λ asked. IfSome asked (AsksFor (map (λ word. word.now) words.entry.now))) }
+    ensures exact { IfOk result (λ asked. IfSome asked (AsksFor (texts_lent words.entry.now))) }
     ensures limits { IfOk result (λ asked. IfSome asked KeepsLimits) }
-    ensures refused { IfErr result (MayRefuse (map (λ word. word.now) words.entry.now)) }
+    ensures refused { IfErr result (MayRefuse (texts_lent words.entry.now)) }
 {
     if words.is_empty() {
         return Ok(None);

@@ -1,7 +1,7 @@
 //! How a mistake in the words is told.
-ghost use Rattle.std.specs.Prelude.{◌≡◌, IfOk, map, string_bytes};
+ghost use Rattle.std.specs.Prelude.{◌≡◌, IfOk, string_bytes};
 ghost use Rattle.jc_words.specs.Number.{number_note, EndsWith};
-ghost use Rattle.jc_words.specs.Program.{asks_to_explain};
+ghost use Rattle.jc_words.specs.Program.{asks_to_explain, texts_lent};
 
 use crate::number::number_note;
 use clap::Error;
@@ -12,7 +12,7 @@ const BEFORE: &str = "error: ";
 
 /// Whether the words ask for explanations, also where they are mistaken.
 pub fn asks_to_explain(words: &[&str]) -> bool
-    ensures { result ≡ asks_to_explain (map (λ word. word.now) words.now) }
+    ensures { result ≡ asks_to_explain (texts_lent words.now) }
 {
     match words {
         [] => false,
@@ -31,7 +31,7 @@ fn clap_text(alloc: Global, error: &Error) -> Result<String, AllocError> {
 
 /// What a mistake in these words is told by: what `clap` writes, and below it the note on a number below 0.
 pub fn mistake_text(alloc: Global, words: &[&str], error: &Error) -> Result<String, AllocError>
-    ensures { IfOk result (λ s. EndsWith (number_note (map (λ word. word.now) words.now)) (string_bytes s)) }
+    ensures { IfOk result (λ s. EndsWith (number_note (texts_lent words.now)) (string_bytes s)) }
 {
     let mut text = clap_text(alloc, error)?;
     let note = number_note(alloc, words)?;

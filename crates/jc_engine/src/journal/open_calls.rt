@@ -70,7 +70,8 @@ impl OpenCalls {
     /// A call has begun, and had this reply at once. Nothing of it is kept.
     fn push_replied(&mut self, begun: Begun, reply: &Reply)
         requires room { self.old.begun + 1 < 2 ^ 64 }
-        ensures noted { self.new.past.history ≡ with_entry (replied_at_once begun reply.now) self.old.past.history }
+        ensures noted { self.new.past.history ≡
+            with_entry (replied_at_once begun reply.now) self.old.past.history }
         ensures waiting { self.new.waiting ≡ self.old.waiting }
     {
         self.past.push_replied(begun, reply);
@@ -87,8 +88,10 @@ impl OpenCalls {
         requires waits { is_replied advance ≡ false }
         ensures shown { result.0 ≡ step_of advance }
         ensures copy { result.1 ≡ reply_in result.0 }
-        ensures noted { self.new.past.history ≡ with_entry (with_advance advance (beginning_entry held)) self.old.past.history }
-        ensures places { KeepsLast (places_in self.old.waiting) id self.old.past.history advance (places_in self.new.waiting) }
+        ensures noted { self.new.past.history ≡
+            with_entry (with_advance advance (beginning_entry held)) self.old.past.history }
+        ensures places { KeepsLast (places_in self.old.waiting) id self.old.past.history advance
+            (places_in self.new.waiting) }
     {
         let mut entry = held.into_entry();
         let shown = write_outcome(&mut entry, advance);
@@ -105,7 +108,8 @@ impl OpenCalls {
         requires waits { is_replied advance ≡ false }
         ensures shown { result.0 ≡ step_of advance }
         ensures copy { result.1 ≡ reply_in result.0 }
-        ensures noted { AdvancesEntry self.old.past.history (places_in self.old.waiting) id advance self.new.past.history }
+        ensures noted { AdvancesEntry self.old.past.history (places_in self.old.waiting) id advance
+            self.new.past.history }
         ensures places { KeepsAll (places_in self.old.waiting) (places_in self.new.waiting) }
     {
         let number = id.number();
@@ -124,7 +128,8 @@ impl OpenCalls {
         requires kept { CanGoOn self.old.past.history (places_in self.old.waiting) id advance }
         ensures shown { result.0 ≡ step_of advance }
         ensures copy { result.1 ≡ reply_in result.0 }
-        ensures noted { AdvancesEntry self.old.past.history (places_in self.old.waiting) id advance self.new.past.history }
+        ensures noted { AdvancesEntry self.old.past.history (places_in self.old.waiting) id advance
+            self.new.past.history }
         ensures places { KeepsOthers (places_in self.old.waiting) id (places_in self.new.waiting) }
     {
         let number = id.number();

@@ -143,7 +143,8 @@ fn answer_load<G: Ring>(
     requires copy { OnLoaded answer (λ loaded. supply.copy ≡ Some invocation.argument) }
     ensures same { state.new ≡ record state.old { counts = state.new.counts } }
     ensures next { (c : CacheConfig) (told : List Notice) →
-        let run = resume (key_run c (progress_of state.old told) (wait_of invocation None)) answer in
+        let run =
+        resume (key_run c (progress_of state.old told) (wait_of invocation None)) answer in
         run ≡ loaded_run c invocation (progress_of state.old told) answer →
         StepsTo c run result state.new told }
     ensures stays { StaysAt invocation.at.moment (part_of invocation) result }
