@@ -5,7 +5,7 @@ use Rattle.std.specs.Str.{bytes_eq}
 use Rattle.toml.specs.Data.{Data, Items, no_items, item, Members, no_members, member, get, as_str, as_integer, as_array, as_table}
 use Rattle.jc_model.specs.declared.config.Policy.{Policy}
 use Rattle.jc_model.specs.declared.config.Policy.TheVariants as policies
-use Rattle.jc_model.specs.Limits.{most_processors}
+use Rattle.jc_model.specs.Limits.{most_processors, most_listeners}
 use Rattle.jc_config.specs.Faults.{◌>>=◌, name_of}
 use Rattle.jc_config.specs.Kinds.{name_in, expiry_of, processor_of}
 use Rattle.jc_config.specs.declared.fault.Member.{Member}
@@ -71,6 +71,18 @@ missing_by n m (Some d) = Err (Bad n m)
 abbrev pub missing : ℕ → Member → Data → Result (Unit {0}) ConfigFault
 missing n m d = missing_by n m (get (name_of m) d)
 
+-- the expiry, which is eternal where it is missing
+abbrev pub expiry_or_eternal : ℕ → Data → Result ExpiryKind ConfigFault
+expiry_or_eternal n d = found_or Eternal (text_kind expiry_of) n members.Expiry (get (name_of members.Expiry) d)
+
+-- the kinds of processors
+abbrev pub processors_or_none : ℕ → Data → Result (List ProcessorKind) ConfigFault
+processors_or_none n d = found_or [] processor_list n members.Processors (get (name_of members.Processors) d)
+
+-- how many listeners
+abbrev pub listeners_or_none : ℕ → Data → Result ℕ ConfigFault
+listeners_or_none n d = found_or 0 (number 0 most_listeners) n members.Listeners (get (name_of members.Listeners) d)
+
 -- the duration, which an eternal cache must not have
 abbrev pub policy_by : ExpiryKind → ℕ → Data → Result Policy ConfigFault
 policy_by Eternal n d = do
@@ -83,7 +95,7 @@ policy_by Touched n d = needed whole n members.Duration d >>= (λ t. Ok (policie
 
 unfoldable pub policy_of : ℕ → Data → Result Policy ConfigFault
 policy_of n d = do
-  kind ← found_or Eternal (text_kind expiry_of) n members.Expiry (get (name_of members.Expiry) d)
+  kind ← expiry_or_eternal n d
   policy_by kind n d
 
 -- Entries.

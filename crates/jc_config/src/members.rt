@@ -2,11 +2,10 @@
 
 ghost use Rattle.std.specs.Prelude.{◌≡◌, None, pos, option_map};
 ghost use Rattle.toml.specs.View.{view};
-ghost use Rattle.toml.specs.Data.{get};
-ghost use Rattle.jc_model.specs.Limits.{most_rows, most_listeners};
-ghost use Rattle.jc_config.specs.Faults.{Gives, name_of};
+ghost use Rattle.jc_model.specs.Limits.{most_rows};
+ghost use Rattle.jc_config.specs.Faults.{Gives};
 ghost use Rattle.jc_config.specs.Kinds.{expiry_of, with_duration, loader_of, writer_of, processor_of};
-ghost use Rattle.jc_config.specs.Members.{number, whole, name_text, text_kind, optional, missing, needed, found_or, policy_of};
+ghost use Rattle.jc_config.specs.Members.{number, whole, name_text, text_kind, optional, missing, needed, expiry_or_eternal, listeners_or_none, policy_of};
 
 use crate::fault::{ConfigFault, Member};
 use crate::kinds::{LoaderKind, ProcessorKind, WriterKind};
@@ -110,7 +109,8 @@ pub fn name(table: &Value, cache: usize) -> Result<Key, ConfigFault>
 
 /// Needed: rows, a TOML integer from 1 to 65,536, else `Bad`.
 pub fn capacity(table: &Value, cache: usize) -> Result<u32, ConfigFault>
-    ensures { Gives (λ x. x) result (needed (number 1 most_rows) cache Member.Capacity (view table.now)) }
+    ensures { Gives (λ x. x) result
+        (needed (number 1 most_rows) cache Member.Capacity (view table.now)) }
 {
     let member = Member::Capacity;
     match table.get(member.name()).and_then(Value::as_integer) {
@@ -120,7 +120,7 @@ pub fn capacity(table: &Value, cache: usize) -> Result<u32, ConfigFault>
 }
 
 fn expiry(table: &Value, cache: usize) -> Result<ExpiryKind, ConfigFault>
-    ensures { Gives (λ x. x) result (found_or ExpiryKind.Eternal (text_kind expiry_of) cache Member.Expiry (get (name_of Member.Expiry) (view table.now))) }
+    ensures { Gives (λ x. x) result (expiry_or_eternal cache (view table.now)) }
 {
     let member = Member::Expiry;
     match table.get(member.name()) {
@@ -168,7 +168,8 @@ pub fn policy(table: &Value, cache: usize) -> Result<Policy, ConfigFault>
 
 /// `"echo"`, or none where the member is missing; anything else is `Bad`.
 pub fn loader(table: &Value, cache: usize) -> Result<Option<LoaderKind>, ConfigFault>
-    ensures { Gives (λ x. x) result (optional (text_kind loader_of) cache Member.Loader (view table.now)) }
+    ensures { Gives (λ x. x) result
+        (optional (text_kind loader_of) cache Member.Loader (view table.now)) }
 {
     let member = Member::Loader;
     match table.get(member.name()) {
@@ -182,7 +183,8 @@ pub fn loader(table: &Value, cache: usize) -> Result<Option<LoaderKind>, ConfigF
 
 /// `"check"`, or none where the member is missing; anything else is `Bad`.
 pub fn writer(table: &Value, cache: usize) -> Result<Option<WriterKind>, ConfigFault>
-    ensures { Gives (λ x. x) result (optional (text_kind writer_of) cache Member.Writer (view table.now)) }
+    ensures { Gives (λ x. x) result
+        (optional (text_kind writer_of) cache Member.Writer (view table.now)) }
 {
     let member = Member::Writer;
     match table.get(member.name()) {
@@ -196,7 +198,7 @@ pub fn writer(table: &Value, cache: usize) -> Result<Option<WriterKind>, ConfigF
 
 /// How many listeners: a TOML integer from 0 to 8, else `Bad`; 0 where the member is missing.
 pub fn listeners(table: &Value, cache: usize) -> Result<u8, ConfigFault>
-    ensures { Gives (λ x. x) result (found_or 0 (number 0 most_listeners) cache Member.Listeners (get (name_of Member.Listeners) (view table.now))) }
+    ensures { Gives (λ x. x) result (listeners_or_none cache (view table.now)) }
 {
     let member = Member::Listeners;
     match table.get(member.name()) {
