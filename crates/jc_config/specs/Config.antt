@@ -6,7 +6,7 @@ use Rattle.std.specs.Str.{is_utf8, bytes_eq}
 use Rattle.toml.specs.Data.{Data, Items, no_items, item, Members, get_member, as_array, as_table}
 use Rattle.toml.specs.Parse.{parse_document}
 use Rattle.jc_model.specs.Limits.{most_rows, most_caches, most_rows_together, text_bytes}
-use Rattle.jc_config.specs.Faults.{◌>>=◌}
+use Rattle.jc_config.specs.FirstFault.{◌>>=◌}
 use Rattle.jc_config.specs.Kinds.{loader_of, writer_of, wants_value_of}
 use Rattle.jc_config.specs.Members.{number, name_text, text_kind, needed, optional, processors_or_none, listeners_or_none, policy_of, all_known, no_other_entry}
 use Rattle.jc_config.specs.declared.fault.Member.TheVariants as members
