@@ -1,6 +1,6 @@
 -- What is read keeps to the limits of settings.
 use Rattle.std.proofs.Common.{◌≡◌, ℕ, ◌+◌, Bool, true, false, List, [], ◌∷◌, length, map, Option, Some, None, option_map, Result, Ok, Err, refl, sym, ap, ◌∙◌, subst, nat_le, add-one}
-use Rattle.std.specs.Prelude.{if◌then◌else◌, option_and_then, ◌||◌, not}
+use Rattle.std.specs.Prelude.{if◌then◌else◌, option_and_then, ◌||◌}
 use Rattle.std.specs.Option.{ok_or}
 use Rattle.std.specs.List.{list_all, list_any}
 use Rattle.std.specs.Str.{bytes_eq}

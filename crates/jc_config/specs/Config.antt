@@ -3,12 +3,12 @@ use Rattle.std.specs.Prelude.{ℕ, ◌+◌, ◌&&◌, List, [], ◌∷◌, lengt
 use Rattle.std.specs.Option.{ok_or}
 use Rattle.std.specs.List.{list_any}
 use Rattle.std.specs.Str.{is_utf8, bytes_eq}
-use Rattle.toml.specs.Data.{Data, Items, no_items, item, Members, get_member, get, as_array, as_table}
+use Rattle.toml.specs.Data.{Data, Items, no_items, item, Members, get_member, as_array, as_table}
 use Rattle.toml.specs.Parse.{parse_document}
-use Rattle.jc_model.specs.Limits.{most_rows, most_listeners, most_caches, most_rows_together, text_bytes}
-use Rattle.jc_config.specs.Faults.{◌>>=◌, name_of}
+use Rattle.jc_model.specs.Limits.{most_rows, most_caches, most_rows_together, text_bytes}
+use Rattle.jc_config.specs.FirstFault.{◌>>=◌}
 use Rattle.jc_config.specs.Kinds.{loader_of, writer_of, wants_value_of}
-use Rattle.jc_config.specs.Members.{number, name_text, text_kind, processor_list, needed, found_or, optional, policy_of, all_known, no_other_entry}
+use Rattle.jc_config.specs.Members.{number, name_text, text_kind, needed, optional, processors_or_none, listeners_or_none, policy_of, all_known, no_other_entry}
 use Rattle.jc_config.specs.declared.fault.Member.TheVariants as members
 use Rattle.jc_config.specs.declared.fault.ConfigFault.{ConfigFault}
 use Rattle.jc_config.specs.declared.fault.ConfigFault.TheVariants.{TooLong, NotToml, UnknownEntry, TooManyCaches, DuplicateName, TotalCapacity}
@@ -48,8 +48,8 @@ cache_of n d = do
   policy ← policy_of n d
   loader ← optional (text_kind loader_of) n members.Loader d
   writer ← optional (text_kind writer_of) n members.Writer d
-  kinds ← found_or [] processor_list n members.Processors (get (name_of members.Processors) d)
-  listeners ← found_or 0 (number 0 most_listeners) n members.Listeners (get (name_of members.Listeners) d)
+  kinds ← processors_or_none n d
+  listeners ← listeners_or_none n d
   none ← no_other_entry n d
   Ok (record {
     config = record { name = name; capacity = capacity; policy = policy; loader = is_some loader; writer = is_some writer; processors = map wants_value_of kinds; listeners = listeners };
@@ -88,6 +88,10 @@ check_totals caches = do
   distinct ← check_names (duplicate_from [] 1 (map (λ c. c.config.name) caches))
   provided (nat_le (total_of caches) most_rows_together) TotalCapacity
 
+-- the settings of caches, and the kinds of their callbacks in the same order
+abbrev pub configuration_with : List CacheSettings → Configuration
+configuration_with caches = record { settings = map (λ c. c.config) caches; hooks = map (λ c. c.hooks) caches }
+
 unfoldable pub configuration_of : List ℕ → Result Configuration ConfigFault
 configuration_of bytes = do
   short ← provided (nat_le (length bytes) text_bytes) TooLong
@@ -95,4 +99,4 @@ configuration_of bytes = do
   tables ← tables_of document
   caches ← caches_of 1 tables
   within ← check_totals caches
-  Ok (record { settings = map (λ c. c.config) caches; hooks = map (λ c. c.hooks) caches })
+  Ok (configuration_with caches)

@@ -1,5 +1,5 @@
 -- Names, expiry policies and kinds of callbacks, as a configuration spells them.
-use Rattle.std.specs.Prelude.{ℕ, ◌==◌, ◌&&◌, ◌||◌, Bool, true, false, nat_le, if◌then◌else◌, List, [], length, Option, Some, None, codes}
+use Rattle.std.specs.Prelude.{ℕ, ◌==◌, ◌&&◌, ◌||◌, Bool, true, false, nat_le, if◌then◌else◌, List, [], length, Option, Some, None, option_map, codes}
 use Rattle.std.specs.List.{list_all}
 use Rattle.std.specs.Str.{bytes_eq}
 use Rattle.jc_model.specs.Limits.{key_bytes, most_rows}
@@ -49,6 +49,13 @@ with_duration Created d = policies.Created d
 with_duration Accessed d = policies.Accessed d
 with_duration Modified d = policies.Modified d
 with_duration Touched d = policies.Touched d
+
+-- the policy of a kind by the duration, where it is there: an eternal cache has none, and others need a whole number
+abbrev pub policy_in : ExpiryKind → Option (Option ℕ) → Option Policy
+policy_in Eternal None = Some policies.Eternal
+policy_in Eternal (Some duration) = None
+policy_in kind None = None
+policy_in kind (Some duration) = option_map (with_duration kind) duration
 
 abbrev pub loader_of : List ℕ → Option LoaderKind
 loader_of text = if bytes_eq text (codes "echo") then Some Echo else None

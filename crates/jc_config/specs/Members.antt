@@ -4,16 +4,17 @@ use Rattle.std.specs.Option.{ok_or}
 use Rattle.std.specs.Str.{bytes_eq}
 use Rattle.toml.specs.Data.{Data, Items, no_items, item, Members, no_members, member, get, as_str, as_integer, as_array, as_table}
 use Rattle.jc_model.specs.declared.config.Policy.{Policy}
-use Rattle.jc_model.specs.declared.config.Policy.TheVariants as policies
-use Rattle.jc_model.specs.Limits.{most_processors}
-use Rattle.jc_config.specs.Faults.{◌>>=◌, name_of}
-use Rattle.jc_config.specs.Kinds.{name_in, expiry_of, processor_of}
+use Rattle.jc_model.specs.Limits.{most_processors, most_listeners}
+use Rattle.jc_config.specs.Faults.{name_of}
+use Rattle.jc_config.specs.FirstFault as first
+use Rattle.jc_config.specs.FirstFault.{◌>>=◌}
+use Rattle.jc_config.specs.Kinds.{name_in, expiry_of, policy_in, processor_of}
 use Rattle.jc_config.specs.declared.fault.Member.{Member}
 use Rattle.jc_config.specs.declared.fault.Member.TheVariants as members
 use Rattle.jc_config.specs.declared.fault.ConfigFault.{ConfigFault}
 use Rattle.jc_config.specs.declared.fault.ConfigFault.TheVariants.{Bad}
 use Rattle.jc_config.specs.declared.members.ExpiryKind.{ExpiryKind}
-use Rattle.jc_config.specs.declared.members.ExpiryKind.TheVariants.{Eternal, Created, Accessed, Modified, Touched}
+use Rattle.jc_config.specs.declared.members.ExpiryKind.TheVariants.{Eternal}
 use Rattle.jc_config.specs.declared.kinds.ProcessorKind.{ProcessorKind}
 
 abbrev pub natural : ℤ → Option ℕ
@@ -53,38 +54,31 @@ processor_list d = option_and_then few_kinds (as_array d)
 
 -- a member that must be there
 abbrev pub needed : {A : Type 0} → (Data → Option A) → ℕ → Member → Data → Result A ConfigFault
-needed f n m d = ok_or (option_and_then f (get (name_of m) d)) (Bad n m)
+needed f n m d = first.needed f (Bad n m) (get (name_of m) d)
 
 -- a member that may be missing
 abbrev pub found_or : {A : Type 0} → A → (Data → Option A) → ℕ → Member → Option Data → Result A ConfigFault
-found_or a f n m None = Ok a
-found_or a f n m (Some d) = ok_or (f d) (Bad n m)
+found_or a f n m found = first.found_or a f (Bad n m) found
 
 abbrev pub optional : {A : Type 0} → (Data → Option A) → ℕ → Member → Data → Result (Option A) ConfigFault
 optional f n m d = found_or None (λ x. option_map Some (f x)) n m (get (name_of m) d)
 
--- a member that must not be there
-abbrev pub missing_by : ℕ → Member → Option Data → Result (Unit {0}) ConfigFault
-missing_by n m None = Ok tt
-missing_by n m (Some d) = Err (Bad n m)
+-- the expiry, which is eternal where it is missing
+abbrev pub expiry_or_eternal : ℕ → Data → Result ExpiryKind ConfigFault
+expiry_or_eternal n d = found_or Eternal (text_kind expiry_of) n members.Expiry (get (name_of members.Expiry) d)
 
-abbrev pub missing : ℕ → Member → Data → Result (Unit {0}) ConfigFault
-missing n m d = missing_by n m (get (name_of m) d)
+-- the kinds of processors
+abbrev pub processors_or_none : ℕ → Data → Result (List ProcessorKind) ConfigFault
+processors_or_none n d = found_or [] processor_list n members.Processors (get (name_of members.Processors) d)
 
--- the duration, which an eternal cache must not have
-abbrev pub policy_by : ExpiryKind → ℕ → Data → Result Policy ConfigFault
-policy_by Eternal n d = do
-  none ← missing n members.Duration d
-  Ok policies.Eternal
-policy_by Created n d = needed whole n members.Duration d >>= (λ t. Ok (policies.Created t))
-policy_by Accessed n d = needed whole n members.Duration d >>= (λ t. Ok (policies.Accessed t))
-policy_by Modified n d = needed whole n members.Duration d >>= (λ t. Ok (policies.Modified t))
-policy_by Touched n d = needed whole n members.Duration d >>= (λ t. Ok (policies.Touched t))
+-- how many listeners
+abbrev pub listeners_or_none : ℕ → Data → Result ℕ ConfigFault
+listeners_or_none n d = found_or 0 (number 0 most_listeners) n members.Listeners (get (name_of members.Listeners) d)
 
 unfoldable pub policy_of : ℕ → Data → Result Policy ConfigFault
 policy_of n d = do
-  kind ← found_or Eternal (text_kind expiry_of) n members.Expiry (get (name_of members.Expiry) d)
-  policy_by kind n d
+  kind ← expiry_or_eternal n d
+  ok_or (policy_in kind (option_map whole (get (name_of members.Duration) d))) (Bad n members.Duration)
 
 -- Entries.
 

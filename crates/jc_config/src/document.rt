@@ -58,7 +58,8 @@ fn are_tables(items: &[Value]) -> bool
 }
 
 fn cache_entry(document: &Table) -> Option<&Value>
-    ensures { option_map (λ v. view v.now) result ≡ get_member (codes "cache") (table_view document.now) }
+    ensures { option_map (λ v. view v.now) result
+        ≡ get_member (codes "cache") (table_view document.now) }
 {
     document.get("cache")
 }

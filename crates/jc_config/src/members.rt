@@ -2,11 +2,10 @@
 
 ghost use Rattle.std.specs.Prelude.{◌≡◌, None, pos, option_map};
 ghost use Rattle.toml.specs.View.{view};
-ghost use Rattle.toml.specs.Data.{get};
-ghost use Rattle.jc_model.specs.Limits.{most_rows, most_listeners};
-ghost use Rattle.jc_config.specs.Faults.{Gives, name_of};
-ghost use Rattle.jc_config.specs.Kinds.{expiry_of, with_duration, loader_of, writer_of, processor_of};
-ghost use Rattle.jc_config.specs.Members.{number, whole, name_text, text_kind, optional, missing, needed, found_or, policy_of};
+ghost use Rattle.jc_model.specs.Limits.{most_rows};
+ghost use Rattle.jc_config.specs.Faults.{Gives};
+ghost use Rattle.jc_config.specs.Kinds.{expiry_of, with_duration, policy_in, loader_of, writer_of, processor_of};
+ghost use Rattle.jc_config.specs.Members.{number, whole, name_text, text_kind, optional, needed, expiry_or_eternal, listeners_or_none, policy_of};
 
 use crate::fault::{ConfigFault, Member};
 use crate::kinds::{LoaderKind, ProcessorKind, WriterKind};
@@ -51,6 +50,18 @@ impl ExpiryKind {
             ExpiryKind::Accessed => Policy::Accessed(duration),
             ExpiryKind::Modified => Policy::Modified(duration),
             ExpiryKind::Touched => Policy::Touched(duration),
+        }
+    }
+
+    /// The policy by the member `duration`, where it is there: an eternal cache has none, and others need a whole
+    /// number.
+    pub fn policy(self, duration: Option<Option<u64>>) -> Option<Policy>
+        ensures { result ≡ policy_in self duration }
+    {
+        match (self, duration) {
+            (ExpiryKind::Eternal, None) => Some(Policy::Eternal),
+            (ExpiryKind::Eternal, Some(_)) | (_, None | Some(None)) => None,
+            (kind, Some(Some(duration))) => Some(kind.with_duration(duration)),
         }
     }
 }
@@ -98,19 +109,17 @@ pub fn name(table: &Value, cache: usize) -> Result<Key, ConfigFault>
     ensures { Gives (λ x. x) result (needed name_text cache Member.Name (view table.now)) }
 {
     let member = Member::Name;
-    match table
+    table
         .get(member.name())
         .and_then(Value::as_str)
         .and_then(name_in)
-    {
-        Some(name) => Ok(name),
-        None => Err(ConfigFault::Bad { cache, member }),
-    }
+        .ok_or(ConfigFault::Bad { cache, member })
 }
 
 /// Needed: rows, a TOML integer from 1 to 65,536, else `Bad`.
 pub fn capacity(table: &Value, cache: usize) -> Result<u32, ConfigFault>
-    ensures { Gives (λ x. x) result (needed (number 1 most_rows) cache Member.Capacity (view table.now)) }
+    ensures { Gives (λ x. x) result
+        (needed (number 1 most_rows) cache Member.Capacity (view table.now)) }
 {
     let member = Member::Capacity;
     match table.get(member.name()).and_then(Value::as_integer) {
@@ -120,35 +129,25 @@ pub fn capacity(table: &Value, cache: usize) -> Result<u32, ConfigFault>
 }
 
 fn expiry(table: &Value, cache: usize) -> Result<ExpiryKind, ConfigFault>
-    ensures { Gives (λ x. x) result (found_or ExpiryKind.Eternal (text_kind expiry_of) cache Member.Expiry (get (name_of Member.Expiry) (view table.now))) }
+    ensures { Gives (λ x. x) result (expiry_or_eternal cache (view table.now)) }
 {
     let member = Member::Expiry;
     match table.get(member.name()) {
         None => Ok(ExpiryKind::Eternal),
-        Some(value) => match value.as_str().and_then(ExpiryKind::of) {
-            Some(kind) => Ok(kind),
-            None => Err(ConfigFault::Bad { cache, member }),
-        },
+        Some(value) => value
+            .as_str()
+            .and_then(ExpiryKind::of)
+            .ok_or(ConfigFault::Bad { cache, member }),
     }
 }
 
-fn duration(table: &Value, cache: usize) -> Result<u64, ConfigFault>
-    ensures { Gives (λ x. x) result (needed whole cache Member.Duration (view table.now)) }
+/// The whole number that a value is, if it is one.
+fn whole(value: &Value) -> Option<u64>
+    ensures { result ≡ whole (view value.now) }
 {
-    let member = Member::Duration;
-    match table.get(member.name()).and_then(Value::as_integer) {
-        Some(number) if number >= 0 => Ok(number as u64),
-        _ => Err(ConfigFault::Bad { cache, member }),
-    }
-}
-
-fn no_duration(table: &Value, cache: usize) -> Result<(), ConfigFault>
-    ensures { Gives (λ x. x) result (missing cache Member.Duration (view table.now)) }
-{
-    let member = Member::Duration;
-    match table.get(member.name()) {
-        None => Ok(()),
-        Some(_) => Err(ConfigFault::Bad { cache, member }),
+    match value.as_integer() {
+        Some(number) if number >= 0 => Some(number as u64),
+        _ => None,
     }
 }
 
@@ -158,17 +157,16 @@ pub fn policy(table: &Value, cache: usize) -> Result<Policy, ConfigFault>
     ensures { Gives (λ x. x) result (policy_of cache (view table.now)) }
 {
     let kind = expiry(table, cache)?;
-    if kind == ExpiryKind::Eternal {
-        no_duration(table, cache)?;
-        return Ok(Policy::Eternal);
-    }
-    let duration = duration(table, cache)?;
-    Ok(kind.with_duration(duration))
+    let member = Member::Duration;
+    let duration = table.get(member.name()).map(whole);
+    kind.policy(duration)
+        .ok_or(ConfigFault::Bad { cache, member })
 }
 
 /// `"echo"`, or none where the member is missing; anything else is `Bad`.
 pub fn loader(table: &Value, cache: usize) -> Result<Option<LoaderKind>, ConfigFault>
-    ensures { Gives (λ x. x) result (optional (text_kind loader_of) cache Member.Loader (view table.now)) }
+    ensures { Gives (λ x. x) result
+        (optional (text_kind loader_of) cache Member.Loader (view table.now)) }
 {
     let member = Member::Loader;
     match table.get(member.name()) {
@@ -182,7 +180,8 @@ pub fn loader(table: &Value, cache: usize) -> Result<Option<LoaderKind>, ConfigF
 
 /// `"check"`, or none where the member is missing; anything else is `Bad`.
 pub fn writer(table: &Value, cache: usize) -> Result<Option<WriterKind>, ConfigFault>
-    ensures { Gives (λ x. x) result (optional (text_kind writer_of) cache Member.Writer (view table.now)) }
+    ensures { Gives (λ x. x) result
+        (optional (text_kind writer_of) cache Member.Writer (view table.now)) }
 {
     let member = Member::Writer;
     match table.get(member.name()) {
@@ -196,7 +195,7 @@ pub fn writer(table: &Value, cache: usize) -> Result<Option<WriterKind>, ConfigF
 
 /// How many listeners: a TOML integer from 0 to 8, else `Bad`; 0 where the member is missing.
 pub fn listeners(table: &Value, cache: usize) -> Result<u8, ConfigFault>
-    ensures { Gives (λ x. x) result (found_or 0 (number 0 most_listeners) cache Member.Listeners (get (name_of Member.Listeners) (view table.now))) }
+    ensures { Gives (λ x. x) result (listeners_or_none cache (view table.now)) }
 {
     let member = Member::Listeners;
     match table.get(member.name()) {

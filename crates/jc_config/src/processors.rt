@@ -1,11 +1,10 @@
 //! The member `processors`: a list of kinds.
 
-ghost use Rattle.std.specs.Prelude.{◌≡◌, IfOk, [], map, option_map};
+ghost use Rattle.std.specs.Prelude.{◌≡◌, IfOk, map, option_map};
 ghost use Rattle.toml.specs.View.{view, items_view};
-ghost use Rattle.toml.specs.Data.{get};
-ghost use Rattle.jc_config.specs.Faults.{Gives, name_of};
+ghost use Rattle.jc_config.specs.Faults.{Gives};
 ghost use Rattle.jc_config.specs.Kinds.{wants_value_of};
-ghost use Rattle.jc_config.specs.Members.{found_or, kinds_of, few_kinds, processor_list};
+ghost use Rattle.jc_config.specs.Members.{kinds_of, few_kinds, processor_list, processors_or_none};
 
 use crate::fault::{ConfigFault, Member};
 use crate::kinds::ProcessorKind;
@@ -52,7 +51,7 @@ pub fn processors(
     table: &Value,
     cache: usize,
 ) -> Result<Vec<ProcessorKind>, ConfigFault>
-    ensures { Gives (λ v. v.items) result (found_or [] processor_list cache Member.Processors (get (name_of Member.Processors) (view table.now))) }
+    ensures { Gives (λ v. v.items) result (processors_or_none cache (view table.now)) }
 {
     let member = Member::Processors;
     match table.get(member.name()) {

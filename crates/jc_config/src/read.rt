@@ -2,7 +2,7 @@
 
 ghost use Rattle.std.specs.Prelude.{◌≡◌, true, IfOk, map};
 ghost use Rattle.jc_config.specs.Faults.{Gives};
-ghost use Rattle.jc_config.specs.Config.{configuration_of};
+ghost use Rattle.jc_config.specs.Config.{configuration_with, configuration_of};
 ghost use Rattle.jc_config.specs.Limits.{within_limits};
 
 use crate::document::{parse, read_caches, tables};
@@ -20,7 +20,8 @@ fn split(
     alloc: Global,
     caches: Vec<CacheSettings>,
 ) -> Result<(Vec<CacheConfig>, Vec<HookKinds>), AllocError>
-    ensures { IfOk result (λ r. (r.0.items ≡ map (λ c. c.config) caches.items) × (r.1.items ≡ map (λ c. c.hooks) caches.items)) }
+    ensures { IfOk result (λ r. (r.0.items ≡ map (λ c. c.config) caches.items)
+        × (r.1.items ≡ map (λ c. c.hooks) caches.items)) }
 {
     let mut configs = Vec::with_capacity(alloc, caches.len())?;
     let mut hooks = Vec::with_capacity(alloc, caches.len())?;
@@ -34,7 +35,7 @@ fn split(
 /// The configuration of caches that were read and that keep to what all caches together must keep to.
 fn configured(alloc: Global, caches: Vec<CacheSettings>) -> Result<Configuration, AllocError>
     requires { within_limits (map (λ c. c.config) caches.items) ≡ true }
-    ensures { IfOk result (λ r. r ≡ record { settings = map (λ c. c.config) caches.items; hooks = map (λ c. c.hooks) caches.items }) }
+    ensures { IfOk result (λ r. r ≡ configuration_with caches.items) }
 {
     let (configs, hooks) = split(alloc, caches)?;
     Ok(Configuration {

@@ -6,10 +6,9 @@ use Rattle.jc_model.specs.declared.event.CreateRefusal.{CreateRefusal}
 use Rattle.jc_model.specs.declared.event.CreateRefusal.TheVariants as create
 use Rattle.jc_model.specs.declared.event.Entry.{Entry}
 use Rattle.jc_model.specs.declared.event.Life.{Life}
-use Rattle.jc_script.specs.declared.managed.ManageOp.{ManageOp}
-use Rattle.jc_script.specs.declared.managed.ManageOp.TheVariants as op
 use Rattle.jc_script.specs.declared.managed.Managed.{Managed}
 use Rattle.jc_script.specs.Operation.{name_of}
+use Rattle.jc_script.specs.Report.{op_text}
 use Rattle.jc_json.specs.declared.line_numbers.Asked.{Asked}
 use Rattle.jc_json.specs.declared.line_numbers.Asked.TheVariants as asked
 use Rattle.jc_json.specs.declared.line_numbers.NumberedLine.{NumberedLine}
@@ -33,10 +32,6 @@ unfoldable pub call_json : ℕ → List ℕ → Entry → List ℕ
 call_json number cache e = head_json number e.session cache ++ asked_json e ++ answered_json e ++ codes "}\n"
 
 -- Creating and destroying.
-
-abbrev pub op_text : ManageOp → List ℕ
-op_text op.Create = codes "create"
-op_text op.Destroy = codes "destroy"
 
 -- the id of the life that began or ended; no life begins where a cache is refused
 abbrev pub id_json : Option CreateRefusal → ℕ → List ℕ

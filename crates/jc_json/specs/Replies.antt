@@ -1,15 +1,13 @@
 -- What a call came to, as JSON: each reply is an object that has its kind.
 use Rattle.std.specs.Prelude.{ℕ, List, ◌++◌, Option, Some, None, codes, decimal}
 use Rattle.jc_model.specs.declared.call.By.{By}
-use Rattle.jc_model.specs.declared.call.By.TheVariants as by
 use Rattle.jc_model.specs.declared.call.Counts.{Counts}
-use Rattle.jc_model.specs.declared.call.Kind.{Kind}
-use Rattle.jc_model.specs.declared.call.Kind.TheVariants as kind
 use Rattle.jc_model.specs.declared.call.Notice.{Notice}
 use Rattle.jc_model.specs.declared.call.Reply.{Reply}
 use Rattle.jc_model.specs.declared.call.Reply.TheVariants.{Done, Truth, Found, Listed, Results, Counted, Fault}
 use Rattle.jc_model.specs.declared.event.End.{End}
 use Rattle.jc_model.specs.declared.event.End.TheVariants.{Waiting, Replied, GivenUp}
+use Rattle.jc_script.specs.Report.{by_text, kind_text}
 use Rattle.jc_json.specs.Values.{first_member, next_member, number_member, word_json, bytes_json, bytes_member, list_json, pair_json, result_json, truth_json}
 
 -- an object up to its kind
@@ -35,11 +33,6 @@ other_counters c = number_member (codes "misses") c.misses ++ number_member (cod
 abbrev pub counters_json : Counts → List ℕ
 counters_json c = first_member (codes "hits") ++ decimal c.hits ++ other_counters c ++ codes "}"
 
-abbrev pub by_text : By → List ℕ
-by_text by.Loader = codes "loader"
-by_text by.Writer = codes "writer"
-by_text by.Processor = codes "processor"
-
 -- how many keys were done before
 abbrev pub after_json : Option ℕ → List ℕ
 after_json None = codes "null"
@@ -63,12 +56,6 @@ end_json (Replied reply) = reply_json reply
 end_json GivenUp = kind_json (codes "gave up")
 
 -- Notices that were told.
-
-abbrev pub kind_text : Kind → List ℕ
-kind_text kind.Created = codes "created"
-kind_text kind.Updated = codes "updated"
-kind_text kind.Removed = codes "removed"
-kind_text kind.Expired = codes "expired"
 
 abbrev pub event_json : Notice → List ℕ
 event_json n = kind_member (kind_text n.kind) ++ bytes_member (codes "key") n.key ++ codes "}"

@@ -1,7 +1,6 @@
 -- The object of a life: its counters at the end of the run, and its hit ratio.
-use Rattle.std.specs.Prelude.{◌≡◌, ℕ, ◌+◌, ◌*◌, ◌/◌, ◌%◌, ◌==◌, List, [], ◌∷◌, ◌++◌, map, Option, None, Vec, if◌then◌else◌, codes, decimal, ⊤}
+use Rattle.std.specs.Prelude.{◌≡◌, ℕ, ◌+◌, ◌*◌, ◌/◌, ◌%◌, ◌==◌, List, [], ◌∷◌, ◌++◌, map, None, if◌then◌else◌, codes, decimal, ⊤}
 use Rattle.std.specs.Borrow.{Bor}
-use Rattle.std.specs.declared.alloc.Global.{Global}
 use Rattle.json.specs.Print.{quoted}
 use Rattle.jc_engine.specs.Opening.{open_refusal}
 use Rattle.jc_model.specs.declared.call.Counts.{Counts}
@@ -11,17 +10,12 @@ use Rattle.jc_model.specs.declared.event.Life.{Life}
 use Rattle.jc_model.specs.Legal.{IsLegalFrom, entries_of, played}
 use Rattle.jc_model.specs.Runs.{fresh}
 use Rattle.jc_model.specs.Solo.{state_of, standing_from}
-use Rattle.jc_script.specs.Report.{group}
 use Rattle.jc_json.specs.Replies.{other_counters}
 use Rattle.jc_json.specs.Values.{first_member, next_member, number_member}
 
 -- the entries that are lent
 abbrev pub entries_lent : List (Bor Entry) → List Entry
 entries_lent entries = map (λ e. e.now) entries
-
--- each cache has its own of these entries in its group
-abbrev pub AreGrouped : List Entry → (ℕ → Option (Vec (Bor Entry) Global)) → Type 0
-AreGrouped entries groups = (id : ℕ) → group (groups id) ≡ entries_of id entries
 
 -- the counters of a cache alone, of which these are the calls
 abbrev pub counts_after : CacheConfig → List Entry → Counts

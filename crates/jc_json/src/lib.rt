@@ -4,11 +4,9 @@
 mod arguments;
 mod callers;
 mod counters;
-mod groups;
 mod line_numbers;
 mod lines;
 mod managing;
-mod op_name;
 mod queue;
 mod replies;
 mod report_json;

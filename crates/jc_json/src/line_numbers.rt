@@ -1,11 +1,9 @@
 //! The lines of a script, each with its number, and what it asks for.
 ghost use Rattle.std.specs.Prelude.{◌≡◌, IfOk, map};
-ghost use Rattle.std.specs.List.{slice_split};
-ghost use Rattle.jc_script.specs.Script.{is_feed, is_blank};
 ghost use Rattle.jc_json.specs.Outline.{asked_by, numbers_from, numbered, outline_of};
 
 use jc_model::event::CacheId;
-use jc_script::Line;
+use jc_script::{Line, is_blank, pieces};
 use std::alloc::{AllocError, Global};
 
 /// What a line of a script asks for.
@@ -37,21 +35,6 @@ fn asked_by(line: &Line) -> Asked
         Line::Create { .. } => Asked::Create,
         Line::Destroy { id, .. } => Asked::Destroy { id: *id },
     }
-}
-
-fn is_blank(piece: &[u8]) -> bool
-    ensures { result ≡ is_blank piece.now }
-{
-    piece
-        .iter()
-        .all(|b| *b == b' ' || *b == b'\t' || *b == b'\r')
-}
-
-/// The bytes, cut at each line feed.
-fn pieces(alloc: Global, bytes: &[u8]) -> Result<Vec<&[u8]>, AllocError>
-    ensures { IfOk result (λ v. map (λ piece. piece.now) v.items ≡ slice_split is_feed bytes.now) }
-{
-    bytes.split(|b| *b == b'\n').collect(alloc)
 }
 
 /// The numbers of the pieces that are not blank, from 1.

@@ -9,11 +9,10 @@ use crate::arguments::push_arguments;
 use crate::callers::{Callers, callers, take_first};
 use crate::line_numbers::{Asked, NumberedLine};
 use crate::managing::{push_head, push_managed};
-use crate::op_name::op_name;
 use crate::replies::push_end;
 use crate::values::{push_list, push_next, push_number_member, push_word};
 use jc_model::event::{CacheId, Entry, Life};
-use jc_script::Managed;
+use jc_script::{Managed, name_of};
 use std::alloc::{AllocError, Global};
 
 /// What lines have left to those after them: entries, and what became of lines that create and destroy; and the id that
@@ -68,7 +67,7 @@ fn push_asked(alloc: Global, text: &mut String, entry: &Entry) -> Result<(), All
     push_number_member(alloc, text, "id", u64::from(entry.id.number()))?;
     push_number_member(alloc, text, "at", entry.at)?;
     push_next(text, "op")?;
-    push_word(text, op_name(&entry.call))?;
+    push_word(text, name_of(&entry.call))?;
     push_arguments(alloc, text, &entry.call)
 }
 

@@ -1,12 +1,12 @@
 //! The objects of lines that create and destroy caches.
 ghost use Rattle.std.specs.Prelude.{◌≡◌, OnOk};
 ghost use Rattle.jc_script.specs.Report.{Appends};
-ghost use Rattle.jc_json.specs.Lines.{head_json, op_text, id_json, refusal_text, answer_json, managed_json};
+ghost use Rattle.jc_json.specs.Lines.{head_json, id_json, refusal_text, answer_json, managed_json};
 
 use crate::replies::{push_kind, push_kind_alone};
-use crate::values::{push_first, push_next, push_number, push_number_member, push_text, push_word};
+use crate::values::{push_first, push_next, push_number_member, push_text, push_word};
 use jc_model::event::CreateRefusal;
-use jc_script::{ManageOp, Managed};
+use jc_script::{Managed, name_of_op, push_number};
 use std::alloc::{AllocError, Global};
 
 /// Adds the beginning of a line's object: its number, its session, and the name of its cache.
@@ -25,15 +25,6 @@ pub fn push_head(
     push_number_member(alloc, text, "session", u64::from(session))?;
     push_next(text, "cache")?;
     push_text(alloc, text, cache)
-}
-
-fn name_of_op(op: ManageOp) -> &'static str
-    ensures { result.now ≡ op_text op }
-{
-    match op {
-        ManageOp::Create => "create",
-        ManageOp::Destroy => "destroy",
-    }
 }
 
 fn push_id(

@@ -1,17 +1,18 @@
 //! What a call came to, as JSON.
-ghost use Rattle.std.specs.Prelude.{◌≡◌, OnOk, codes};
+ghost use Rattle.std.specs.Prelude.{OnOk, codes};
 ghost use Rattle.jc_script.specs.Report.{Appends};
-ghost use Rattle.jc_json.specs.Replies.{kind_member, kind_json, valued_json, found_json, other_counters, counters_json, by_text, after_json, fault_json, reply_json, end_json, kind_text};
+ghost use Rattle.jc_json.specs.Replies.{kind_member, kind_json, valued_json, found_json, other_counters, counters_json, after_json, fault_json, reply_json, end_json};
 ghost use Rattle.jc_json.specs.Values.{list_json, pair_json, result_json, truth_json};
 
 use crate::values::{
-    Shown, push_bytes, push_bytes_member, push_first, push_list, push_next, push_number,
-    push_number_member, push_truth, push_word,
+    Shown, push_bytes, push_bytes_member, push_first, push_list, push_next, push_number_member,
+    push_truth, push_word,
 };
-use jc_model::call::{By, Counts, Kind, Notice, ProcessorFault, Reply};
+use jc_model::call::{By, Counts, Notice, ProcessorFault, Reply};
 use jc_model::event::End;
 use jc_model::key::Key;
 use jc_model::value::Value;
+use jc_script::{name_of_hook, name_of_kind, push_number};
 use std::alloc::{AllocError, Global};
 
 /// Begins an object with its kind.
@@ -124,16 +125,6 @@ fn push_counted(alloc: Global, text: &mut String, counts: &Counts) -> Result<(),
     text.push_str("}")
 }
 
-fn name_of_hook(by: &By) -> &'static str
-    ensures { result.now ≡ by_text by.now }
-{
-    match by {
-        By::Loader => "loader",
-        By::Writer => "writer",
-        By::Processor => "processor",
-    }
-}
-
 fn push_after(alloc: Global, text: &mut String, done: Option<u32>) -> Result<(), AllocError>
     ensures { OnOk result (Appends (after_json done) text.old text.new) }
 {
@@ -182,17 +173,6 @@ pub fn push_end(alloc: Global, text: &mut String, end: &End) -> Result<(), Alloc
         End::Waiting => push_kind_alone(text, "waiting"),
         End::Replied(reply) => push_reply(alloc, text, reply),
         End::GivenUp => push_kind_alone(text, "gave up"),
-    }
-}
-
-fn name_of_kind(kind: &Kind) -> &'static str
-    ensures { result.now ≡ kind_text kind.now }
-{
-    match kind {
-        Kind::Created => "created",
-        Kind::Updated => "updated",
-        Kind::Removed => "removed",
-        Kind::Expired => "expired",
     }
 }
 

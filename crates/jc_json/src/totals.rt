@@ -7,11 +7,11 @@ ghost use Rattle.jc_script.specs.Report.{Appends, group};
 ghost use Rattle.jc_json.specs.Totals.{four_digits, fraction_json, ratio_json, life_json, total_json, lives_json, entries_lent, AreMade};
 
 use crate::counters::counts_after;
-use crate::groups::grouped;
 use crate::replies::push_other_counters;
-use crate::values::{push_first, push_next, push_number, push_number_member, push_text};
+use crate::values::{push_first, push_next, push_number_member, push_text};
 use jc_model::call::Counts;
 use jc_model::event::{Entry, Life};
+use jc_script::{grouped, push_number};
 use std::alloc::{AllocError, Global};
 
 fn push_digits(alloc: Global, text: &mut String, number: u64) -> Result<(), AllocError>

@@ -1,5 +1,5 @@
 //! Members, words, keys, values and lists as JSON.
-ghost use Rattle.std.specs.Prelude.{◌≡◌, false, IfOk, OnOk, string_bytes, decimal};
+ghost use Rattle.std.specs.Prelude.{◌≡◌, false, IfOk, OnOk, string_bytes};
 ghost use Rattle.json.specs.Print.{quoted};
 ghost use Rattle.jc_script.specs.Report.{Appends};
 ghost use Rattle.jc_json.specs.Values.{first_member, next_member, word_json, number_member, bytes_json, bytes_member, comma_if, items_json, list_json, answered_member, truth_json};
@@ -7,6 +7,7 @@ ghost use Rattle.jc_json.specs.Values.{first_member, next_member, word_json, num
 use jc_model::call::ProcessorFault;
 use jc_model::key::Key;
 use jc_model::value::Value;
+use jc_script::{push_number, quote_text};
 use std::alloc::{AllocError, Global};
 
 /// What is written as JSON.
@@ -51,13 +52,6 @@ pub fn push_word(text: &mut String, word: &str) -> Result<(), AllocError>
     text.push_str("\"")
 }
 
-/// Adds a number in decimal digits.
-pub fn push_number(alloc: Global, text: &mut String, number: u64) -> Result<(), AllocError>
-    ensures { OnOk result (Appends (decimal number) text.old text.new) }
-{
-    text.push_str(number.to_string(alloc)?.as_str())
-}
-
 /// Adds a member that is a number.
 pub fn push_number_member(
     alloc: Global,
@@ -71,18 +65,11 @@ pub fn push_number_member(
     push_number(alloc, text, number)
 }
 
-/// A text as a JSON string.
-fn quote(alloc: Global, text: &str) -> Result<String, AllocError>
-    ensures { IfOk result (λ s. string_bytes s ≡ quoted text.now) }
-{
-    serde_json::Value::String(String::from_str(alloc, text)?).to_string(alloc)
-}
-
 /// Adds a text as a JSON string.
 pub fn push_text(alloc: Global, text: &mut String, shown: &str) -> Result<(), AllocError>
     ensures { OnOk result (Appends (quoted shown.now) text.old text.new) }
 {
-    text.push_str(quote(alloc, shown)?.as_str())
+    text.push_str(quote_text(alloc, shown)?.as_str())
 }
 
 /// Bytes as a JSON string, and where they are no text as an object with their hexadecimal digits.
@@ -90,7 +77,7 @@ fn show(alloc: Global, bytes: &[u8]) -> Result<String, AllocError>
     ensures { IfOk result (λ s. string_bytes s ≡ bytes_json bytes.now) }
 {
     match std::str::from_utf8(bytes) {
-        Ok(text) => quote(alloc, text),
+        Ok(text) => quote_text(alloc, text),
         Err(_) => {
             let mut shown = String::from_str(alloc, "{\"hex\":\"")?;
             shown.push_str(hex::encode(alloc, bytes)?.as_str())?;

@@ -1,5 +1,5 @@
 -- Reading lines one after the other, as a loop does.
-use Rattle.std.proofs.Common.{◌≡◌, ℕ, ◌+◌, ◌<◌, ◌≤◌, List, [], ◌∷◌, ◌++◌, length, true, false, Option, Some, None, Result, Ok, Err, refl, sym, ap, ◌∙◌, append_assoc, arith}
+use Rattle.std.proofs.Common.{◌≡◌, ℕ, ◌+◌, ◌<◌, ◌≤◌, List, [], ◌∷◌, ◌++◌, length, Bool, true, false, Option, Some, None, Result, Ok, Err, refl, sym, ap, ◌∙◌, append_assoc, arith}
 use Rattle.std.specs.Borrow.{Bor}
 use Rattle.std.proofs.lemmas.List.{append-nil}
 use Rattle.std.specs.List.{slice_split}
@@ -8,11 +8,11 @@ use Rattle.std.specs.Prelude.{IfSome}
 use Rattle.jc_model.specs.declared.config.CacheConfig.{CacheConfig}
 use Rattle.jc_model.specs.Limits.{text_bytes}
 use Rattle.jc_model.specs.Runs.{Lives, opened_from}
+use Rattle.jc_config.specs.FirstFault.{◌>>=◌, FailsUnless}
 use Rattle.jc_script.specs.Live.{after_line}
 use Rattle.jc_script.specs.declared.line.Line.{Line}
 use Rattle.jc_script.specs.declared.fault.ScriptFault.{ScriptFault}
-use Rattle.jc_script.specs.declared.fault.ScriptFault.TheVariants.{TooLong, NotJson, NotObject, Bad, OutOfMemory}
-use Rattle.jc_script.specs.Faults.{◌>>=◌, Fails}
+use Rattle.jc_script.specs.Faults.{is_want}
 use Rattle.jc_script.specs.Script.{piece_of, lines_from, is_blank, is_feed, lines}
 
 -- what was read before, and what is still read
@@ -47,17 +47,14 @@ stops lives front n pieces rest piece e total cut full so_far fault =
     let one : with_front front (lines_from lives n pieces) ≡ Err e = rw (cut, full, fault) refl in
     sym so_far ∙ one
 
--- a fault of a step that is a fault of the whole, by cases on the fault
-fails_by : {A B : Type 0} (e : ScriptFault) (step : Result A ScriptFault) (total : Result B ScriptFault) → ((f : ScriptFault) → step ≡ Err f → total ≡ Err f) → Fails e step → Fails e total
-fails_by OutOfMemory step total up h = tt
-fails_by TooLong step total up h = up TooLong h
-fails_by (NotJson n) step total up h = up (NotJson n) h
-fails_by (NotObject n) step total up h = up (NotObject n) h
-fails_by (Bad n m) step total up h = up (Bad n m) h
+-- a fault of a step that is a fault of the whole
+fails_by : {A B : Type 0} (b : Bool) (e : ScriptFault) (step : Result A ScriptFault) (total : Result B ScriptFault) → (step ≡ Err e → total ≡ Err e) → FailsUnless b e step → FailsUnless b e total
+fails_by true e step total up h = tt
+fails_by false e step total up h = up h
 
 pub ends : (e : ScriptFault) (lives : Lives) (front : List Line) (n : ℕ) (pieces rest : List (List ℕ)) (piece : List ℕ) (total : Result (List Line) ScriptFault) → pieces ≡ piece ∷ rest → is_blank piece ≡ false
-    → with_front front (lines_from lives n pieces) ≡ total → Fails e (piece_of lives n piece) → Fails e total
-ends e lives front n pieces rest piece total cut full so_far h = fails_by e (piece_of lives n piece) total (λ f is. stops lives front n pieces rest piece f total cut full so_far is) h
+    → with_front front (lines_from lives n pieces) ≡ total → FailsUnless (is_want e) e (piece_of lives n piece) → FailsUnless (is_want e) e total
+ends e lives front n pieces rest piece total cut full so_far h = fails_by (is_want e) e (piece_of lives n piece) total (stops lives front n pieces rest piece e total cut full so_far) h
 
 pub fewer : (o : Option (Bor (List ℕ))) (most : ℕ) → IfSome o (λ r. length r.now < most) → room o ≤ most
 fewer None most h = omega arith

@@ -5,12 +5,12 @@ use Rattle.serde_json.specs.Data.{Data}
 use Rattle.serde_json.specs.Find.{as_str}
 use Rattle.jc_model.specs.Limits.{sessions}
 use Rattle.jc_model.specs.Runs.{Lives}
+use Rattle.jc_config.specs.FirstFault.{◌>>=◌}
 use Rattle.jc_script.specs.declared.fault.Member.TheVariants as members
 use Rattle.jc_script.specs.declared.fault.ScriptFault.{ScriptFault}
 use Rattle.jc_script.specs.declared.line.Line.{Line}
 use Rattle.jc_script.specs.declared.line.Line.TheVariants.{Call, Destroy}
 use Rattle.jc_script.specs.Creating.{asks_to_create, creating}
-use Rattle.jc_script.specs.Faults.{◌>>=◌}
 use Rattle.jc_script.specs.Live.{processors_at}
 use Rattle.jc_script.specs.Member.{needed, whole, whole_below, cache}
 use Rattle.jc_script.specs.Operation.{call_of}

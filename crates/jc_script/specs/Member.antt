@@ -8,11 +8,12 @@ use Rattle.serde_json.specs.Find.{get, as_array, as_object, as_number, as_u64, a
 use Rattle.jc_model.specs.Limits.{key_bytes, value_bytes, most_keys}
 use Rattle.jc_model.specs.Lists.{distinct}
 use Rattle.jc_model.specs.Runs.{Lives}
+use Rattle.jc_config.specs.FirstFault as first
+use Rattle.jc_config.specs.FirstFault.{◌>>=◌}
 use Rattle.jc_script.specs.declared.fault.Member.{Member}
 use Rattle.jc_script.specs.declared.fault.Member.TheVariants as members
 use Rattle.jc_script.specs.declared.fault.ScriptFault.{ScriptFault}
 use Rattle.jc_script.specs.declared.fault.ScriptFault.TheVariants.{NotJson, NotObject, Bad}
-use Rattle.jc_script.specs.Faults.{◌>>=◌}
 use Rattle.jc_script.specs.Live.{id_of}
 
 -- a text as `Value::from_slice` reads it: bytes that are not UTF-8 are no JSON
@@ -45,7 +46,7 @@ member_name members.Argument = codes "arg"
 
 -- a member that is needed, as f takes it
 abbrev pub needed : {A : Type 0} → (Data → Option A) → ℕ → Member → Data → Result A ScriptFault
-needed f n m d = ok_or (option_and_then f (get (member_name m) d)) (Bad n m)
+needed f n m d = first.needed f (Bad n m) (get (member_name m) d)
 
 abbrev pub whole : Data → Option ℕ
 whole d = option_and_then as_u64 (as_number d)

@@ -5,10 +5,10 @@ use Rattle.serde_json.specs.Data.{Data}
 use Rattle.serde_json.specs.Find.{as_bool}
 use Rattle.jc_model.specs.declared.call.Call.{Call}
 use Rattle.jc_model.specs.declared.call.Call.TheVariants as calls
+use Rattle.jc_config.specs.FirstFault.{◌>>=◌}
 use Rattle.jc_script.specs.declared.fault.Member.TheVariants as members
 use Rattle.jc_script.specs.declared.fault.ScriptFault.{ScriptFault}
 use Rattle.jc_script.specs.declared.fault.ScriptFault.TheVariants.{Bad}
-use Rattle.jc_script.specs.Faults.{◌>>=◌}
 use Rattle.jc_script.specs.Member.{needed, whole_below, key, keys, pairs, value}
 
 -- a call's name in a script and in a report

@@ -110,6 +110,10 @@ abbrev pub group : Option (Vec (Bor Entry) Global) → List Entry
 group None = []
 group (Some entries) = map (λ e. e.now) entries.items
 
+-- each cache has its own of these entries in its group
+abbrev pub AreGrouped : List Entry → (ℕ → Option (Vec (Bor Entry) Global)) → Type 0
+AreGrouped entries groups = (id : ℕ) → group (groups id) ≡ entries_of id entries
+
 abbrev pub header : List ℕ → List ℕ
 header name = codes "cache " ++ name ++ codes "\n"
 

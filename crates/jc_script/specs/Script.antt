@@ -5,10 +5,10 @@ use Rattle.std.specs.List.{slice_split, list_all}
 use Rattle.jc_model.specs.declared.config.CacheConfig.{CacheConfig}
 use Rattle.jc_model.specs.Limits.{text_bytes}
 use Rattle.jc_model.specs.Runs.{Lives, opened_from}
+use Rattle.jc_config.specs.FirstFault.{◌>>=◌}
 use Rattle.jc_script.specs.declared.fault.ScriptFault.{ScriptFault}
 use Rattle.jc_script.specs.declared.fault.ScriptFault.TheVariants.{TooLong}
 use Rattle.jc_script.specs.declared.line.Line.{Line}
-use Rattle.jc_script.specs.Faults.{◌>>=◌}
 use Rattle.jc_script.specs.Line.{line_of}
 use Rattle.jc_script.specs.Live.{after_line}
 use Rattle.jc_script.specs.Member.{object_of}

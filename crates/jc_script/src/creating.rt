@@ -1,8 +1,7 @@
 //! The members of a line that creates a cache, by the rules of a configuration's.
 ghost use Rattle.std.specs.Prelude.{◌≡◌};
 ghost use Rattle.jc_script.specs.declared.fault.Member.TheVariants as members;
-ghost use Rattle.jc_script.specs.Member.{whole};
-ghost use Rattle.jc_script.specs.Creating.{asks_to_create, cache_name, capacity, missing, policy_of, creating, expiry_or_eternal};
+ghost use Rattle.jc_script.specs.Creating.{asks_to_create, cache_name, capacity, policy_of, creating, expiry_or_eternal};
 ghost use Rattle.jc_script.specs.Reading.{Reads, ReadsMember, object_in};
 
 use crate::fault::{Member, ScriptFault};
@@ -58,30 +57,9 @@ impl<'o, 'a> Reader<'o, 'a> {
         let member = Member::Expiry;
         match self.member(member) {
             None => Ok(ExpiryKind::Eternal),
-            Some(value) => match text_in(value).and_then(ExpiryKind::of) {
-                Some(kind) => Ok(kind),
-                None => Err(self.bad(member)),
-            },
-        }
-    }
-
-    fn duration(&self) -> Result<u64, ScriptFault>
-        ensures { ReadsMember whole members.Duration self.now result }
-    {
-        let member = Member::Duration;
-        match self.member(member).and_then(whole_in) {
-            Some(duration) => Ok(duration),
-            None => Err(self.bad(member)),
-        }
-    }
-
-    fn no_duration(&self) -> Result<(), ScriptFault>
-        ensures { Reads (λ n. missing n members.Duration) self.now result }
-    {
-        let member = Member::Duration;
-        match self.member(member) {
-            None => Ok(()),
-            Some(_) => Err(self.bad(member)),
+            Some(value) => text_in(value)
+                .and_then(ExpiryKind::of)
+                .ok_or(self.bad(member)),
         }
     }
 
@@ -91,12 +69,9 @@ impl<'o, 'a> Reader<'o, 'a> {
         ensures { Reads policy_of self.now result }
     {
         let kind = self.expiry()?;
-        if kind == ExpiryKind::Eternal {
-            self.no_duration()?;
-            return Ok(Policy::Eternal);
-        }
-        let duration = self.duration()?;
-        Ok(kind.with_duration(duration))
+        let member = Member::Duration;
+        let duration = self.member(member).map(whole_in);
+        kind.policy(duration).ok_or(self.bad(member))
     }
 }
 

@@ -52,8 +52,10 @@ fn follow_create(
     managed: &mut Vec<Managed>,
 ) -> Result<Live, OutOfMemory>
     ensures live { IfOk result (AreAfter live (lines.Create session config.now)) }
-    ensures lives { OnOk result (AddsLives live (lines.Create session config.now) lives.old.items lives.new.items) }
-    ensures managed { OnOk result (AddsManaged live (lines.Create session config.now) managed.old.items managed.new.items) }
+    ensures lives { OnOk result (AddsLives live (lines.Create session config.now)
+        lives.old.items lives.new.items) }
+    ensures managed { OnOk result (AddsManaged live (lines.Create session config.now)
+        managed.old.items managed.new.items) }
 {
     let refusal = live.refusal(config);
     if refusal.is_none() {
@@ -81,7 +83,8 @@ fn follow_destroy(
 ) -> Result<Live, OutOfMemory>
     requires { IsLive (lives_in live) id }
     ensures live { IfOk result (AreAfter live (lines.Destroy session id)) }
-    ensures managed { OnOk result (AddsManaged live (lines.Destroy session id) managed.old.items managed.new.items) }
+    ensures managed { OnOk result (AddsManaged live (lines.Destroy session id)
+        managed.old.items managed.new.items) }
 {
     let Some(name) = live.name(id) else {
         unreachable!()

@@ -1,8 +1,7 @@
 //! Entries by cache.
-ghost use Rattle.std.specs.Prelude.{◌≡◌, ℕ, nat_eq, IfOk};
+ghost use Rattle.std.specs.Prelude.{nat_eq, IfOk};
 ghost use Rattle.indexmap.specs.IndexMap.{get};
-ghost use Rattle.jc_model.specs.Legal.{entries_of};
-ghost use Rattle.jc_script.specs.Report.{group};
+ghost use Rattle.jc_script.specs.Report.{AreGrouped};
 
 use indexmap::IndexMap;
 use jc_model::event::Entry;
@@ -13,7 +12,7 @@ pub fn grouped<'e>(
     alloc: Global,
     entries: &'e [Entry],
 ) -> Result<IndexMap<usize, Vec<&'e Entry>>, AllocError>
-    ensures { IfOk result (λ groups. (id : ℕ) → group (get nat_eq groups id) ≡ entries_of id entries.now) }
+    ensures { IfOk result (λ groups. AreGrouped entries.now (get nat_eq groups)) }
 {
     let mut groups = IndexMap::new(alloc);
     for entry in entries {

@@ -68,7 +68,8 @@ fn pair(
     first: &Value<'_>,
     second: &Value<'_>,
 ) -> Result<Option<(Key, value::Value)>, AllocError>
-    ensures { IfOk result (λ o. o ≡ pair_of (item (data_in first.now) (item (data_in second.now) no_items))) }
+    ensures { IfOk result (λ o. o
+        ≡ pair_of (item (data_in first.now) (item (data_in second.now) no_items))) }
 {
     match key_in(first) {
         None => Ok(None),

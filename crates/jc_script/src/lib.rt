@@ -23,9 +23,13 @@ mod tree;
 
 pub use fault::{Member, ScriptFault};
 pub use following::{Followed, follow, same_lives};
+pub use groups::grouped;
 pub use line::{Line, LineCall};
 pub use managed::{ManageOp, Managed};
+pub use managed_text::name_of_op;
+pub use operation::name_of;
 pub use parse::read_json;
-pub use reply::reply_text;
-pub use report_text::report;
-pub use script::read_script;
+pub use quote::quote_text;
+pub use reply::{name_of_hook, push_number, reply_text};
+pub use report_text::{name_of_kind, report};
+pub use script::{is_blank, pieces, read_script};

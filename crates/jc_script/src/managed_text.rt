@@ -8,7 +8,8 @@ use crate::reply::push_spaced;
 use jc_model::event::CreateRefusal;
 use std::alloc::{AllocError, Global};
 
-fn name_of_op(op: ManageOp) -> &'static str
+/// The word of a line that creates or destroys.
+pub fn name_of_op(op: ManageOp) -> &'static str
     ensures { result.now ≡ op_text op }
 {
     match op {

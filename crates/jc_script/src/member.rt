@@ -69,7 +69,8 @@ impl<'o, 'a> Reader<'o, 'a> {
 
     /// The name of what the line asks for.
     pub fn op(&self) -> Result<&'a str, ScriptFault>
-        ensures { Gives (λ name. name.now) result (needed as_str self.now.line members.Op (object_in self.now)) }
+        ensures { Gives (λ name. name.now) result
+            (needed as_str self.now.line members.Op (object_in self.now)) }
     {
         let member = Member::Op;
         match self.member(member).and_then(text_in) {

@@ -7,7 +7,7 @@ use serde_json::Value;
 use std::alloc::{AllocError, Global};
 
 /// A text as a JSON string.
-fn quote(alloc: Global, text: &str) -> Result<String, AllocError>
+pub fn quote_text(alloc: Global, text: &str) -> Result<String, AllocError>
     ensures { IfOk result (λ s. string_bytes s ≡ quoted text.now) }
 {
     Value::String(String::from_str(alloc, text)?).to_string(alloc)
@@ -18,7 +18,7 @@ fn show(alloc: Global, bytes: &[u8]) -> Result<String, AllocError>
     ensures { IfOk result (λ s. string_bytes s ≡ bytes_text bytes.now) }
 {
     match std::str::from_utf8(bytes) {
-        Ok(text) => quote(alloc, text),
+        Ok(text) => quote_text(alloc, text),
         Err(_) => {
             let mut shown = String::from_str(alloc, "hex:")?;
             shown.push_str(hex::encode(alloc, bytes)?.as_str())?;

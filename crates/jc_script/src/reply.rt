@@ -85,7 +85,8 @@ fn push_results(
     text: &mut String,
     results: &[(Key, Result<Value, ProcessorFault>)],
 ) -> Result<(), AllocError>
-    ensures { OnOk result (Appends (codes "results" ++ flat_map result_text results.now) text.old text.new) }
+    ensures { OnOk result (Appends (codes "results" ++ flat_map result_text results.now)
+        text.old text.new) }
 {
     text.push_str("results")?;
     for of_key in results {
@@ -112,7 +113,8 @@ fn push_counts(alloc: Global, text: &mut String, counts: &Counts) -> Result<(), 
     push_number(alloc, text, counts.evictions)
 }
 
-fn name_of_hook(by: &By) -> &'static str
+/// What kind of callback it was.
+pub fn name_of_hook(by: &By) -> &'static str
     ensures { result.now ≡ by_text by.now }
 {
     match by {

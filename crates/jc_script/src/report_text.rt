@@ -16,7 +16,8 @@ use jc_model::event::{End, Entry, Life};
 use jc_model::transcript::Transcript;
 use std::alloc::{AllocError, Global};
 
-fn name_of_kind(kind: &Kind) -> &'static str
+/// What a listener was told of an entry.
+pub fn name_of_kind(kind: &Kind) -> &'static str
     ensures { result.now ≡ kind_text kind.now }
 {
     match kind {
@@ -85,7 +86,8 @@ fn push_entry(alloc: Global, report: &mut String, entry: &Entry) -> Result<(), A
 }
 
 fn push_group(alloc: Global, report: &mut String, group: &[&Entry]) -> Result<(), AllocError>
-    ensures { OnOk result (Appends (flat_map entry_text (map (λ e. e.now) group.now)) report.old report.new) }
+    ensures { OnOk result (Appends (flat_map entry_text (map (λ e. e.now) group.now))
+        report.old report.new) }
 {
     for entry in group {
         push_entry(alloc, report, entry)?;
@@ -107,7 +109,8 @@ fn push_cache(
     name: &str,
     entries: Option<&Vec<&Entry>>,
 ) -> Result<(), AllocError>
-    ensures { OnOk result (Appends (life_text name.now (group (option_copied entries.entry))) report.old report.new) }
+    ensures { OnOk result (Appends (life_text name.now (group (option_copied entries.entry)))
+        report.old report.new) }
 {
     push_header(report, name)?;
     match entries {
@@ -122,7 +125,9 @@ fn push_life(
     life: &Life,
     groups: &IndexMap<usize, Vec<&Entry>>,
 ) -> Result<(), AllocError>
-    ensures { OnOk result (Appends (life_text life.now.config.name (group (get nat_eq groups.now life.now.id))) report.old report.new) }
+    ensures { OnOk result (Appends
+        (life_text life.now.config.name (group (get nat_eq groups.now life.now.id)))
+        report.old report.new) }
 {
     let id = life.id.number() as usize;
     push_cache(alloc, report, life.config.name.text(), groups.get(&id))

@@ -1,5 +1,5 @@
 //! A whole script.
-ghost use Rattle.std.specs.Prelude.{◌≡◌, ◌<◌, ◌∷◌, length, IfSome, IfOk};
+ghost use Rattle.std.specs.Prelude.{◌≡◌, ◌<◌, ◌∷◌, length, map, IfSome, IfOk};
 ghost use Rattle.std.specs.List.{slice_split, list_all};
 ghost use Rattle.jc_model.specs.Runs.{opened_from};
 ghost use Rattle.jc_script.specs.Faults.{Gives};
@@ -21,7 +21,7 @@ use jc_model::event::CacheId;
 use jc_model::limits::TEXT_BYTES;
 use json::Scratch;
 use memchr::memchr;
-use std::alloc::Global;
+use std::alloc::{AllocError, Global};
 
 /// The line of a session that names a live cache.
 #[tactic(auto, unfolding(crate::specs::Line::on_cache, crate::specs::Line::calling))]
@@ -76,12 +76,20 @@ fn read_piece(
     )
 }
 
-fn is_blank(piece: &[u8]) -> bool
+/// Whether a line has spaces, tabs and carriage returns alone.
+pub fn is_blank(piece: &[u8]) -> bool
     ensures { result ≡ is_blank piece.now }
 {
     piece
         .iter()
         .all(|b| *b == b' ' || *b == b'\t' || *b == b'\r')
+}
+
+/// The bytes, cut at each line feed.
+pub fn pieces(alloc: Global, bytes: &[u8]) -> Result<Vec<&[u8]>, AllocError>
+    ensures { IfOk result (λ v. map (λ piece. piece.now) v.items ≡ slice_split is_feed bytes.now) }
+{
+    bytes.split(|b| *b == b'\n').collect(alloc)
 }
 
 /// The bytes before the first line feed, and those after it if there is one.

@@ -1,6 +1,6 @@
 -- A line is read by the members that its op needs or may have, and by no other.
 use Rattle.std.proofs.Common.{◌≡◌, ℕ, List, [], ◌∷◌, ◌++◌, Bool, true, false, Option, Some, Result, Ok, Err, refl, sym, ap, ◌∙◌, subst, codes}
-use Rattle.std.specs.Prelude.{option_and_then, if◌then◌else◌, ⊤}
+use Rattle.std.specs.Prelude.{option_and_then, option_map, if◌then◌else◌, ⊤}
 use Rattle.std.specs.Option.{ok_or}
 use Rattle.std.specs.Str.{bytes_eq}
 use Rattle.std.proofs.lemmas.Slice.Eq.{bytes_eq-Decides}
@@ -10,15 +10,15 @@ use Rattle.jc_model.specs.Limits.{sessions}
 use Rattle.jc_model.specs.Runs.{Lives}
 use Rattle.jc_model.specs.declared.call.Call.{Call}
 use Rattle.jc_model.specs.declared.call.Call.TheVariants as calls
-use Rattle.jc_config.specs.declared.members.ExpiryKind.{ExpiryKind}
-use Rattle.jc_config.specs.declared.members.ExpiryKind.TheVariants.{Eternal, Created, Accessed, Modified, Touched}
+use Rattle.jc_config.specs.declared.members.ExpiryKind.TheVariants.{Eternal}
+use Rattle.jc_config.specs.FirstFault.{◌>>=◌, found_or}
+use Rattle.jc_config.specs.Kinds.{policy_in}
 use Rattle.jc_script.specs.declared.fault.Member.{Member}
 use Rattle.jc_script.specs.declared.fault.Member.TheVariants as members
 use Rattle.jc_script.specs.declared.fault.ScriptFault.{ScriptFault}
 use Rattle.jc_script.specs.declared.fault.ScriptFault.TheVariants.{Bad}
 use Rattle.jc_script.specs.declared.line.Line.TheVariants.{Destroy}
-use Rattle.jc_script.specs.Creating.{is_create, asks_to_create, cache_name, capacity, expiry, found_or, missing_by, policy_by, policy_of, creating}
-use Rattle.jc_script.specs.Faults.{◌>>=◌}
+use Rattle.jc_script.specs.Creating.{is_create, asks_to_create, cache_name, capacity, expiry, policy_of, creating}
 use Rattle.jc_script.specs.Line.{calling, on_cache, line_of}
 use Rattle.jc_script.specs.Live.{processors_at}
 use Rattle.jc_script.specs.Member.{member_name, needed, whole, whole_below, cache, key, keys, pairs, value}
@@ -191,14 +191,8 @@ module _ (n : ℕ) (d d' : Data) where
     policy_same : Same members.Expiry → Same members.Duration → policy_of n d ≡ policy_of n d'
     unfolding policy_of
     policy_same kind duration =
-        then_same _ _ _ _ (ap (λ (o : Option Data). found_or Eternal expiry n members.Expiry o) kind) by_kind
-      where
-        by_kind : (kind : ExpiryKind) → policy_by kind n d ≡ policy_by kind n d'
-        by_kind Eternal = then_same _ _ _ _ (ap (λ (o : Option Data). missing_by n members.Duration o) duration) (λ x. refl)
-        by_kind Created = then_same _ _ _ _ (same whole members.Duration duration) (λ x. refl)
-        by_kind Accessed = then_same _ _ _ _ (same whole members.Duration duration) (λ x. refl)
-        by_kind Modified = then_same _ _ _ _ (same whole members.Duration duration) (λ x. refl)
-        by_kind Touched = then_same _ _ _ _ (same whole members.Duration duration) (λ x. refl)
+        then_same _ _ _ _ (ap (λ (o : Option Data). found_or Eternal expiry (Bad n members.Expiry) o) kind) (λ k.
+        ap (λ (o : Option Data). ok_or (policy_in k (option_map whole o)) (Bad n members.Duration)) duration)
 
     creating_same : (s : ℕ) → bytes_eq op (codes "create") ≡ true → creating s n d ≡ creating s n d'
     unfolding creating has_member

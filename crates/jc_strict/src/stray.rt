@@ -1,16 +1,15 @@
 //! The first line of a script with a member that its op does not need.
 
-ghost use Rattle.std.specs.Prelude.{◌≡◌, IfOk, map, option_map, string_bytes};
-ghost use Rattle.std.specs.List.{slice_split, list_all};
+ghost use Rattle.std.specs.Prelude.{◌≡◌, IfOk, option_map, string_bytes};
+ghost use Rattle.std.specs.List.{list_all};
 ghost use Rattle.std.specs.BTreeMap.{keys};
 ghost use Rattle.serde_json.specs.View.{view, members_view};
 ghost use Rattle.jc_script.specs.Member.{json_of};
-ghost use Rattle.jc_script.specs.Script.{is_feed};
 ghost use Rattle.jc_strict.specs.Members.{has_member};
 ghost use Rattle.jc_strict.specs.Stray.{all_known, op_of, knows_members, is_known, stray_line};
 
 use crate::members::has_member;
-use jc_script::read_json;
+use jc_script::{pieces, read_json};
 use serde_json::{Map, Value};
 use std::alloc::{AllocError, Global};
 
@@ -53,13 +52,6 @@ fn is_known(alloc: Global, piece: &[u8]) -> Result<bool, AllocError>
         Some(line) => Ok(knows_members(&line)),
         None => Ok(true),
     }
-}
-
-/// The bytes, cut at each line feed.
-fn pieces(alloc: Global, bytes: &[u8]) -> Result<Vec<&[u8]>, AllocError>
-    ensures { IfOk result (λ v. map (λ piece. piece.now) v.items ≡ slice_split is_feed bytes.now) }
-{
-    bytes.split(|b| *b == b'\n').collect(alloc)
 }
 
 /// The first line, counted from 1, with a member that its op does not need.
