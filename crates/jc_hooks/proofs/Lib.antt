@@ -1,3 +1,4 @@
 pub mod Stated
 pub mod Wanting
 pub mod InTurn
+pub mod Behind

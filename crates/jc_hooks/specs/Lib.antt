@@ -5,5 +5,6 @@ pub mod Processors
 pub mod Stated
 pub mod Tallies
 pub mod Asking
+pub mod Answering
 pub mod Turns
 pub mod Suits

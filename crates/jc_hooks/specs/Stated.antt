@@ -19,6 +19,10 @@ IsFunction {X} {Y} may f = (x : X) (y : Y) → ∥ may x y ∥₁ ↔ (y ≡ f x
 abbrev pub AnswersBy : {X Y : Type 0} → (X → Y → Type 0) → Type 0
 AnswersBy {X} {Y} may = (f : X → Y) × IsFunction may f
 
+-- this is the one function by which is answered so
+abbrev pub IsOnlyFunction : {X Y : Type 0} → (X → Y → Type 0) → (X → Y) → Type 0
+IsOnlyFunction {X} {Y} may g = (f : X → Y) → IsFunction may f → g ≡ f
+
 IsFunction-prop : {X Y : Type 0} → ((y z : Y) → IsProp (y ≡ z)) → (may : X → Y → Type 0) (f : X → Y) → IsProp (IsFunction may f)
 IsFunction-prop set may f = Π_prop (λ x. Π_prop (λ y. ×_prop (→_prop (set y (f x))) (→_prop ∥∥₁_prop)))
 

@@ -1,10 +1,8 @@
 //! Asking a cache's callbacks. One that is not there fails.
-ghost use Rattle.std.specs.Prelude.{◌≡◌, ◌∷◌, List, IsTrue, IfOk, slice_get, option_map};
-ghost use Rattle.jc_model.specs.declared.call.Answer.{Answer as Given};
-ghost use Rattle.jc_model.specs.declared.call.Request.{Request as Asked};
+ghost use Rattle.std.specs.Prelude.{◌≡◌, ◌∷◌, [], IsTrue, IfOk, slice_get};
 ghost use Rattle.jc_model.specs.declared.call.Request.TheVariants.{Write, Delete};
 ghost use Rattle.jc_model.specs.Run.{for_write, fits};
-ghost use Rattle.jc_hooks.specs.Asking.{load_by, verdict_by, MayGiveBy};
+ghost use Rattle.jc_hooks.specs.Asking.{load_by, verdict_by, lent_value, GivesAnswers};
 
 use crate::answer::{load_answer, process_answer, write_answer};
 use crate::loader::Loader;
@@ -38,7 +36,8 @@ pub fn ask_processor<P: Processor>(
     value: Option<&Value>,
     argument: &Value,
 ) -> Result<Answer, OutOfMemory>
-    ensures { IfOk result (λ a. a ≡ verdict_by P.verdict_of (slice_get processors.now number) (option_map (λ r. r.now) value.entry) argument.now) }
+    ensures { IfOk result (λ a. a ≡ verdict_by P.verdict_of
+        (slice_get processors.now number) (lent_value value.entry) argument.now) }
 {
     match processors.get(number as usize) {
         Some(processor) => Ok(process_answer(processor.process(alloc, value, argument)?)),
@@ -54,7 +53,8 @@ pub fn ask_to_write<W: Writer>(
     value: &Value,
 ) -> Result<Answer, OutOfMemory>
     ensures kind { IfOk result (λ a. IsTrue (fits for_write a)) }
-    ensures stated { IfOk result (λ a. (rest : List (Asked × Given)) → MayGiveBy W.may writer.new rest → MayGiveBy W.may writer.old ((Write key.now value.now, a) ∷ rest)) }
+    ensures stated { IfOk result (λ a.
+        GivesAnswers W.may writer.old writer.new ((Write key.now value.now, a) ∷ [])) }
 {
     match writer {
         Some(writer) => Ok(write_answer(writer.write(alloc, key, value)?)),
@@ -69,7 +69,8 @@ pub fn ask_to_delete<W: Writer>(
     key: &Key,
 ) -> Result<Answer, OutOfMemory>
     ensures kind { IfOk result (λ a. IsTrue (fits for_write a)) }
-    ensures stated { IfOk result (λ a. (rest : List (Asked × Given)) → MayGiveBy W.may writer.new rest → MayGiveBy W.may writer.old ((Delete key.now, a) ∷ rest)) }
+    ensures stated { IfOk result (λ a.
+        GivesAnswers W.may writer.old writer.new ((Delete key.now, a) ∷ [])) }
 {
     match writer {
         Some(writer) => Ok(write_answer(writer.delete(alloc, key)?)),

@@ -2,14 +2,10 @@
 //!
 //! The caller boxes the closure. Beside it stands the one function by which it answers where memory suffices.
 
-ghost use Rattle.std.specs.Prelude.{◌≡◌, ℕ, Bool, List, Option, Result, Ok};
-ghost use Rattle.jc_model.specs.declared.call.Notice.{Notice as Told};
-ghost use Rattle.jc_model.specs.declared.call.Verdict.{Verdict};
-ghost use Rattle.jc_model.specs.declared.call.ProcessorFault.{ProcessorFault};
+ghost use Rattle.std.specs.Prelude.{◌≡◌, Ok};
 ghost use Rattle.std.specs.Coded.{Coded-set, coded_bool};
-ghost use Rattle.jc_hooks.specs.declared.loader.Loaded.{Loaded};
 ghost use Rattle.jc_hooks.specs.Codes.{loaded_code, verdict_code};
-ghost use Rattle.jc_hooks.specs.Stated.{IsFunction, AnswersBy, AnswersBy-prop, MayAdmit, MayLoad, MayProcess};
+ghost use Rattle.jc_hooks.specs.Stated.{IsOnlyFunction, AnswersBy, AnswersBy-prop, MayAdmit, MayLoad, MayProcess};
 
 use crate::filter::Filter;
 use crate::loader::{Loaded, Loader};
@@ -37,7 +33,8 @@ impl ClosureLoader {
     pub fn new(closure: LoadClosure) -> ClosureLoader
         requires callable { LoadClosure.IsAlwaysCallable closure }
         requires answers { AnswersBy (MayLoad (λ a k l. LoadClosure.post closure a k (Ok l))) }
-        ensures { (f : List ℕ → Loaded) → IsFunction (MayLoad (λ a k l. LoadClosure.post closure a k (Ok l))) f → result.answers.0 ≡ f }
+        ensures { IsOnlyFunction (MayLoad (λ a k l. LoadClosure.post closure a k (Ok l)))
+            result.answers.0 }
     {
         ClosureLoader { closure }
     }
@@ -82,7 +79,8 @@ impl ClosureProcessor {
         requires callable { ProcessClosure.IsAlwaysCallable closure }
         requires answers { AnswersBy (MayProcess (λ a v p r. ProcessClosure.post closure a v p (Ok r))) }
         ensures wants { result.wants_value ≡ wants_value }
-        ensures answers { (f : Option (List ℕ) × List ℕ → Result Verdict ProcessorFault) → IsFunction (MayProcess (λ a v p r. ProcessClosure.post closure a v p (Ok r))) f → result.answers.0 ≡ f }
+        ensures answers { IsOnlyFunction (MayProcess (λ a v p r. ProcessClosure.post closure a v p (Ok r)))
+            result.answers.0 }
     {
         ClosureProcessor {
             wants_value,
@@ -139,7 +137,7 @@ impl ClosureFilter {
     pub fn new(closure: FilterClosure) -> ClosureFilter
         requires callable { FilterClosure.IsAlwaysCallable closure }
         requires answers { AnswersBy (MayAdmit (λ n b. FilterClosure.post closure n b)) }
-        ensures { (f : Told → Bool) → IsFunction (MayAdmit (λ n b. FilterClosure.post closure n b)) f → result.answers.0 ≡ f }
+        ensures { IsOnlyFunction (MayAdmit (λ n b. FilterClosure.post closure n b)) result.answers.0 }
     {
         ClosureFilter { closure }
     }

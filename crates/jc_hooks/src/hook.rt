@@ -10,14 +10,15 @@ use jc_model::call::Notice;
 /// notices it stated before for the notice that it hears followed by the list. It takes no memory and cannot fail.
 /// `ListenerHook` alone hears, so no listener stands in a list without its filter.
 pub trait Hearer: Drop + Send {
-    ghost use Rattle.std.specs.Prelude.{◌≡◌, ℕ, List, ◌∷◌};
+    ghost use Rattle.std.specs.Prelude.{ℕ, List};
     ghost use Rattle.jc_model.specs.declared.call.Notice.{Notice};
+    ghost use Rattle.jc_hooks.specs.Asking.{MovesOnBy};
 
     ghost state_after: { Self → List Notice → List ℕ };
 
     /// Hears of one change.
     fn hear(&mut self, notice: &Notice)
-        ensures stated { (rest : List Notice) → state_after self.new rest ≡ state_after self.old (notice.now ∷ rest) };
+        ensures stated { MovesOnBy (state_after self.old) (state_after self.new) notice.now };
 }
 
 /// A listener that is told what its filter admits, as JSR 107 registers one (`CacheEntryListenerConfiguration`). It
@@ -43,15 +44,16 @@ impl<K> ListenerHook<AdmitAll, K> {
 }
 
 impl<F: Filter, K: Listener> Hearer for ListenerHook<F, K> {
-    ghost use Rattle.std.specs.Prelude.{◌≡◌, ◌∷◌, List, true, false};
-    ghost use Rattle.jc_model.specs.declared.call.Notice.{Notice};
-    ghost use Rattle.jc_hooks.specs.Asking.{admitted};
+    ghost use Rattle.std.specs.Prelude.{◌≡◌, true, false};
+    ghost use Rattle.jc_hooks.specs.Asking.{hook_state, MovesOnBy};
 
-    ghost state_after = { λ h notices. K.state_after h.listener (admitted (F.lets h.filter) notices) };
+    ghost state_after = { hook_state F.lets K.state_after };
 
     fn hear(&mut self, notice: &Notice)
-        ensures stated { (rest : List Notice) → K.state_after self.new.listener (admitted (F.lets self.new.filter) rest) ≡ K.state_after self.old.listener (admitted (F.lets self.old.filter) (notice.now ∷ rest)) }
-        ensures admitted { F.lets self.old.filter notice.now ≡ true → (rest : List Notice) → K.state_after self.new.listener rest ≡ K.state_after self.old.listener (notice.now ∷ rest) }
+        ensures stated { MovesOnBy (hook_state F.lets K.state_after self.old)
+            (hook_state F.lets K.state_after self.new) notice.now }
+        ensures admitted { F.lets self.old.filter notice.now ≡ true → MovesOnBy
+            (K.state_after self.old.listener) (K.state_after self.new.listener) notice.now }
         ensures refused { F.lets self.old.filter notice.now ≡ false → self.new ≡ self.old }
         ensures filter { self.new.filter ≡ self.old.filter }
     {

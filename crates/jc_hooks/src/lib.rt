@@ -6,6 +6,7 @@
 #![tactic(auto)]
 
 mod answer;
+mod answering;
 mod asking;
 mod cache_hooks;
 mod closure;
@@ -24,6 +25,7 @@ mod unasked;
 mod writer;
 
 pub use answer::{load_answer, process_answer, write_answer};
+pub use answering::answer_request;
 pub use asking::{ask_loader, ask_processor, ask_to_delete, ask_to_write};
 pub use cache_hooks::CacheHooks;
 pub use closure::{

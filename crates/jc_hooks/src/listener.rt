@@ -8,14 +8,15 @@ use jc_model::call::Notice;
 /// own way. To be told a notice moves it on by that notice: what it then states for a list is what it stated before for
 /// the notice followed by the list.
 pub trait Listener: Drop + Send {
-    ghost use Rattle.std.specs.Prelude.{◌≡◌, ℕ, List, ◌∷◌};
+    ghost use Rattle.std.specs.Prelude.{ℕ, List};
     ghost use Rattle.jc_model.specs.declared.call.Notice.{Notice};
+    ghost use Rattle.jc_hooks.specs.Asking.{MovesOnBy};
 
     ghost state_after: { Self → List Notice → List ℕ };
 
     /// Tells it of one change.
     fn tell(&mut self, notice: &Notice)
-        ensures stated { (rest : List Notice) → state_after self.new rest ≡ state_after self.old (notice.now ∷ rest) };
+        ensures stated { MovesOnBy (state_after self.old) (state_after self.new) notice.now };
 }
 
 impl Listener for Box<dyn Listener> {

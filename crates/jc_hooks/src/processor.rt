@@ -1,6 +1,7 @@
 //! Entry processors: code that reads, sets or removes one entry and answers for the call.
 
-ghost use Rattle.std.specs.Prelude.{◌≡◌, IfOk, option_map};
+ghost use Rattle.std.specs.Prelude.{◌≡◌, IfOk};
+ghost use Rattle.jc_hooks.specs.Asking.{lent_value};
 
 use jc_model::OutOfMemory;
 use jc_model::call::{ProcessorFault, Verdict};
@@ -12,9 +13,10 @@ use std::alloc::Global;
 /// `value` is the entry's value, or nothing where there is no entry, or where the processor does not want it.
 /// Where memory suffices it answers by a function of value and argument.
 pub trait Processor: Drop + Send + Sync {
-    ghost use Rattle.std.specs.Prelude.{◌≡◌, ℕ, Bool, List, Option, option_map, Result, IfOk};
+    ghost use Rattle.std.specs.Prelude.{◌≡◌, ℕ, Bool, List, Option, Result, IfOk};
     ghost use Rattle.jc_model.specs.declared.call.Verdict.{Verdict};
     ghost use Rattle.jc_model.specs.declared.call.ProcessorFault.{ProcessorFault};
+    ghost use Rattle.jc_hooks.specs.Asking.{lent_value};
 
     ghost wants: { Self → Bool };
 
@@ -31,7 +33,8 @@ pub trait Processor: Drop + Send + Sync {
         value: Option<&Value>,
         argument: &Value,
     ) -> Result<Result<Verdict, ProcessorFault>, OutOfMemory>
-        ensures stated { IfOk result (λ v. v ≡ verdict_of self.now (option_map (λ r. r.now) value.entry) argument.now) };
+        ensures stated { IfOk result (λ v.
+            v ≡ verdict_of self.now (lent_value value.entry) argument.now) };
 }
 
 impl Processor for Box<dyn Processor> {
@@ -55,7 +58,7 @@ impl Processor for Box<dyn Processor> {
 
 /// A further handle of the same value.
 pub(crate) fn shared(value: Option<&Value>) -> Result<Option<Value>, OutOfMemory>
-    ensures { IfOk result (λ v. v ≡ option_map (λ r. r.now) value.entry) }
+    ensures { IfOk result (λ v. v ≡ lent_value value.entry) }
 {
     match value {
         Some(value) => Ok(Some(value.share()?)),

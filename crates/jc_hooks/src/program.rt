@@ -1,7 +1,8 @@
 //! The callbacks of the program.
 
-ghost use Rattle.std.specs.Prelude.{◌≡◌, ◌≤◌, IfOk, length, option_map};
+ghost use Rattle.std.specs.Prelude.{◌≡◌, ◌≤◌, IfOk, length};
 ghost use Rattle.jc_model.specs.Limits.{value_bytes};
+ghost use Rattle.jc_hooks.specs.Asking.{lent_value};
 ghost use Rattle.jc_hooks.specs.Program.{begins, bytes_of, appended};
 
 use crate::cache_hooks::CacheHooks;
@@ -80,7 +81,7 @@ impl Writer for CheckWriter {
 }
 
 fn bytes_of<'a>(value: Option<&'a Value>) -> &'a [u8]
-    ensures same { result.now ≡ bytes_of (option_map (λ r. r.now) value.entry) }
+    ensures same { result.now ≡ bytes_of (lent_value value.entry) }
     ensures limit { length result.now ≤ value_bytes }
 {
     match value {
@@ -95,7 +96,7 @@ fn append(
     value: Option<&Value>,
     argument: &Value,
 ) -> Result<Result<Verdict, ProcessorFault>, OutOfMemory>
-    ensures { IfOk result (λ v. v ≡ appended (option_map (λ r. r.now) value.entry) argument.now) }
+    ensures { IfOk result (λ v. v ≡ appended (lent_value value.entry) argument.now) }
 {
     let given = bytes_of(value);
     let added = argument.bytes();

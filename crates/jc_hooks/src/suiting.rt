@@ -42,7 +42,8 @@ pub fn first_unsuited<L: Loader, W: Writer, P: Processor, K: Hearer>(
     configs: &[CacheConfig],
     hooks: &[CacheHooks<L, W, P, K>],
 ) -> Option<usize>
-    ensures first { MatchOption result (AllSuit P.wants configs.now hooks.now) (λ place. DifferFirst P.wants configs.now hooks.now place) }
+    ensures first { MatchOption result (AllSuit P.wants configs.now hooks.now)
+        (DifferFirst P.wants configs.now hooks.now) }
     ensures within { IfSome result (λ place. place ≤ length configs.now) }
 {
     for (place, config) in configs.iter().enumerate() {

@@ -1,7 +1,6 @@
 //! Telling the listeners of a cache, each notice in the order in which they were registered.
-ghost use Rattle.std.specs.Prelude.{◌≡◌, ◌<◌, ◌+◌, ◌^◌, ◌++◌, ◌∷◌, List, length};
-ghost use Rattle.jc_model.specs.declared.call.Notice.{Notice as Told};
-ghost use Rattle.jc_hooks.specs.Asking.{states_after};
+ghost use Rattle.std.specs.Prelude.{◌≡◌, ◌<◌, ◌+◌, ◌^◌, ◌∷◌, [], length};
+ghost use Rattle.jc_hooks.specs.Asking.{TellsAll};
 ghost use Rattle.jc_hooks.specs.Turns.{HasTold};
 
 use crate::hook::Hearer;
@@ -12,7 +11,7 @@ use jc_model::call::Notice;
 fn tell<K: Hearer>(listeners: &mut [K], turn: Turn<K>, notice: &Notice) -> Turn<K>
     requires starts { HasTold turn (length listeners.old) turn.notices }
     requires fits { turn.notices + 1 < 2 ^ 64 }
-    ensures told { (rest : List Told) → states_after K.state_after listeners.new rest ≡ states_after K.state_after listeners.old (notice.now ∷ rest) }
+    ensures told { TellsAll K.state_after listeners.old listeners.new (notice.now ∷ []) }
     ensures order { HasTold result (length listeners.old) (turn.notices + 1) }
 {
     let mut turn = turn;
@@ -25,7 +24,7 @@ fn tell<K: Hearer>(listeners: &mut [K], turn: Turn<K>, notice: &Notice) -> Turn<
 /// Tells each notice to all listeners before the next one, in the order in which they were registered. It hands out the
 /// turn that it came to, which says so.
 pub fn tell_all<K: Hearer>(listeners: &mut [K], notices: &[Notice]) -> Turn<K>
-    ensures told { (rest : List Told) → states_after K.state_after listeners.new rest ≡ states_after K.state_after listeners.old (notices.now ++ rest) }
+    ensures told { TellsAll K.state_after listeners.old listeners.new notices.now }
     ensures order { HasTold result (length listeners.old) (length notices.now) }
 {
     let mut turn = Turn::first(listeners.len());
