@@ -78,7 +78,8 @@ fn step_on(key: &Key, op: Op) -> Result<Option<KeyCall>, OutOfMemory>
 
 /// The step of a call on one key, which shares the call's values; another call has none.
 pub fn key_step(call: &Call) -> Result<Option<KeyCall>, OutOfMemory>
-    ensures { (c : CacheConfig) (now : ℕ) (p : Progress) → IfOk result (λ step. step ≡ key_step (plan c now call.now p)) }
+    ensures { (c : CacheConfig) (now : ℕ) (p : Progress)
+        → IfOk result (λ step. step ≡ key_step (plan c now call.now p)) }
 {
     match call {
         Call::Get(key) => step_on(key, Op::Get),

@@ -1,8 +1,9 @@
 //! The transcript: the lives of all caches in order of id, and the calls that have begun, in the order of their
 //! beginning.
-ghost use Rattle.std.specs.Prelude.{◌≡◌, ◌<◌, ◌++◌, ◌∷◌, [], length, Some, slice_get, slice_set, List, IfOk, IfErr, OnOk, OnErr, MatchOption};
-ghost use Rattle.jc_model.specs.Legal.{History, with_answer};
-ghost use Rattle.jc_model.specs.declared.call.Answer.{Answer};
+ghost use Rattle.std.specs.Prelude.{◌≡◌, ◌<◌, ◌++◌, ◌∷◌, [], length, List, IfOk, IfErr, OnOk, OnErr, MatchOption};
+ghost use Rattle.jc_model.specs.Legal.{History};
+ghost use Rattle.jc_model.specs.Lists.{TakesLast};
+ghost use Rattle.jc_model.specs.Entries.{AddsAnswer, SetsEnd, SetsTold, TakesAnswer};
 ghost use Rattle.jc_model.specs.declared.event.Entry.{Entry};
 ghost use Rattle.jc_model.specs.declared.event.Life.{Life};
 
@@ -57,7 +58,8 @@ impl Transcript {
 
     /// The call that has begun last.
     pub fn last(&self) -> Option<&Entry>
-        ensures { MatchOption result (self.now.entries ≡ []) (λ e. (before : List Entry) × (self.now.entries ≡ before ++ e.now ∷ [])) }
+        ensures { MatchOption result (self.now.entries ≡ [])
+            (λ e. (before : List Entry) × (self.now.entries ≡ before ++ e.now ∷ [])) }
     {
         self.entries.last()
     }
@@ -73,7 +75,7 @@ impl Transcript {
 
     /// Takes the last life back.
     pub fn pop_life(&mut self) -> Option<Life>
-        ensures lives { MatchOption result (self.old.lives ≡ [] × self.new.lives ≡ []) (λ life. self.old.lives ≡ self.new.lives ++ life ∷ []) }
+        ensures lives { TakesLast result self.old.lives self.new.lives }
         ensures entries { self.new.entries ≡ self.old.entries }
     {
         self.lives.pop()
@@ -94,7 +96,7 @@ impl Transcript {
 
     /// Takes the last call back.
     pub fn pop(&mut self) -> Option<Entry>
-        ensures entries { MatchOption result (self.old.entries ≡ [] × self.new.entries ≡ []) (λ e. self.old.entries ≡ self.new.entries ++ e ∷ []) }
+        ensures entries { TakesLast result self.old.entries self.new.entries }
         ensures lives { self.new.lives ≡ self.old.lives }
     {
         self.entries.pop()
@@ -103,7 +105,7 @@ impl Transcript {
     /// Adds an answer to the call at a place.
     pub fn push_answer(&mut self, place: usize, answer: Answer) -> Result<(), OutOfMemory>
         requires { place < length self.old.entries }
-        ensures ok { OnOk result ((e : Entry) → slice_get self.old.entries place ≡ Some e → self.new ≡ record self.old { entries = slice_set self.old.entries place (with_answer answer e) }) }
+        ensures ok { OnOk result (AddsAnswer place answer self.old self.new) }
         ensures err { OnErr result (self.new ≡ self.old) }
     {
         let entry = &mut self.entries[place];
@@ -113,7 +115,7 @@ impl Transcript {
     /// Takes the last answer to the call at a place back.
     pub fn pop_answer(&mut self, place: usize)
         requires { place < length self.old.entries }
-        ensures { (e : Entry) (a : Answer) → slice_get self.old.entries place ≡ Some (with_answer a e) → self.new ≡ record self.old { entries = slice_set self.old.entries place e } }
+        ensures { TakesAnswer place self.old self.new }
     {
         let entry = &mut self.entries[place];
         entry.answers.pop();
@@ -122,7 +124,7 @@ impl Transcript {
     /// Sets what was told of the call at a place.
     pub fn set_told(&mut self, place: usize, told: Sequence<Notice>)
         requires { place < length self.old.entries }
-        ensures { (e : Entry) → slice_get self.old.entries place ≡ Some e → self.new ≡ record self.old { entries = slice_set self.old.entries place (record e { told = told }) } }
+        ensures { SetsTold place told self.old self.new }
     {
         let entry = &mut self.entries[place];
         entry.told = told;
@@ -131,7 +133,7 @@ impl Transcript {
     /// Sets how the call at a place ended.
     pub fn set_end(&mut self, place: usize, end: End)
         requires { place < length self.old.entries }
-        ensures { (e : Entry) → slice_get self.old.entries place ≡ Some e → self.new ≡ record self.old { entries = slice_set self.old.entries place (record e { end = end }) } }
+        ensures { SetsEnd place end self.old self.new }
     {
         let entry = &mut self.entries[place];
         entry.end = end;
