@@ -57,6 +57,10 @@ ComesTo c run (Waiting request s) k = WaitsOn c (progress_of k s.notices) reques
 abbrev pub ComesFrom : Kept → Run → Next Waits (Reply × Noted) → Kept → Type 0
 ComesFrom old run next new = ComesTo old.config run next new
 
+-- the run has ended with this reply and these notices, from this cache to that one
+abbrev pub EndsFrom : Kept → Run → Kept → Reply × Noted → Type 0
+EndsFrom old run new e = run ≡ ended (progress_of new e.1.told) e.0
+
 -- A call that begins on a cache.
 
 abbrev pub plan_in : Kept → ℕ → Call → Plan

@@ -2,14 +2,14 @@
 //!
 //! A call first makes the memory that it may need. Where memory is refused, nothing has changed; from there on it can't
 //! be refused. It ends with its reply and its notices, or waits for one answer.
-ghost use Rattle.std.specs.Prelude.{◌≡◌, true, false, IfOk, IfErr, OnErr, IsOk};
+ghost use Rattle.std.specs.Prelude.{◌≡◌, true, false, None, IfOk, IfErr, IfSome, OnErr, IsOk};
 ghost use Rattle.jc_model.specs.declared.config.CacheConfig.{CacheConfig};
 ghost use Rattle.jc_model.specs.Changes.{begun};
 ghost use Rattle.jc_model.specs.Run.{Run, ended, fits};
 ghost use Rattle.jc_model.specs.Whole.{is_at_once, is_free};
 ghost use Rattle.jc_state.specs.Kept.{Kept, state_of, IsTied, FoundRow, Remains, IsUnmoved};
 ghost use Rattle.jc_ops.specs.Stepped.{StepsTo};
-ghost use Rattle.jc_bulk.specs.Calls.{ComesTo, ComesFrom, IsSuspendedIn, plan_in};
+ghost use Rattle.jc_bulk.specs.Calls.{ComesTo, ComesFrom, EndsFrom, IsSuspendedIn, plan_in};
 ghost use Rattle.jc_bulk.specs.Calls.{one_run, many_run, call_run, answered_run};
 
 use crate::bulk::{Ahead, BulkStep, go_on, go_on_after};
@@ -23,7 +23,7 @@ use jc_model::table::key_step;
 use jc_model::thrice::Thrice;
 use jc_ops::step::reply::{done, truth};
 use jc_ops::step::{KeyStep, Next};
-use jc_ops::supply::Supply;
+use jc_ops::supply::{Supply, asks_no_one};
 use jc_ring::ring::Ring;
 use jc_rows::rows::Rows;
 use jc_state::notices::Notices;
@@ -91,6 +91,69 @@ fn start_key<R: Rows, G: Ring>(
     let supply = Supply::for_step(state, rows, &mut notices, now, row, &step)?;
     let next = KeyStep::start(state, rows, &mut notices, now, step, row, supply);
     Ok(on_one_key(alloc, next, notices))
+}
+
+/// What a call on one key or on many ends with where it is on one and asks no one: its reply and its notices.
+fn end_steps_at_once<R: Rows, G: Ring>(
+    alloc: Global,
+    state: &mut CacheState<G>,
+    rows: &mut R,
+    now: u64,
+    call: &Call,
+) -> Result<Option<(Thrice<Reply>, Notices)>, OutOfMemory>
+    requires tied { IsTied (R.contents rows.old) state.old }
+    requires steps { is_at_once (plan_in state.old now call.now) ≡ false }
+    ensures remains { Remains (R.contents rows.old) state.old (R.contents rows.new) state.new }
+    ensures ended { IfOk result (λ at_once. IfSome at_once
+        (EndsFrom state.old (call_run state.old now call.now) state.new)) }
+    ensures none { IfOk result (λ at_once. at_once ≡ None →
+        IsUnmoved (R.contents rows.old) state.old (R.contents rows.new) state.new) }
+    ensures same { OnErr result
+        (IsUnmoved (R.contents rows.old) state.old (R.contents rows.new) state.new) }
+{
+    let Some(step) = key_step(call)? else {
+        return Ok(None);
+    };
+    if !asks_no_one(state.config(), &step.op) {
+        return Ok(None);
+    }
+    let row = state.find(rows, &step.key);
+    let mut notices = Notices::none(alloc);
+    let supply = Supply::for_step(state, rows, &mut notices, now, row, &step)?;
+    let reply = KeyStep::end_at_once(state, rows, &mut notices, now, step, row, supply);
+    Ok(Some((reply, notices)))
+}
+
+/// Makes a call on one key that asks no one, and so does not wait: its reply and its notices. Of any other call nothing,
+/// and nothing has changed; so also where memory is refused.
+///
+/// Most calls are such ones, and are to have no share in what a call that waits needs.
+pub fn end_at_once<R: Rows, G: Ring>(
+    alloc: Global,
+    state: &mut CacheState<G>,
+    rows: &mut R,
+    now: u64,
+    call: &Call,
+) -> Result<Option<(Thrice<Reply>, Notices)>, OutOfMemory>
+    requires tied { IsTied (R.contents rows.old) state.old }
+    ensures remains { Remains (R.contents rows.old) state.old (R.contents rows.new) state.new }
+    ensures ended { IfOk result (λ at_once. IfSome at_once
+        (EndsFrom state.old (call_run state.old now call.now) state.new)) }
+    ensures none { IfOk result (λ at_once. at_once ≡ None →
+        IsUnmoved (R.contents rows.old) state.old (R.contents rows.new) state.new) }
+    ensures same { OnErr result
+        (IsUnmoved (R.contents rows.old) state.old (R.contents rows.new) state.new) }
+    ensures free { is_free call.now ≡ true → IsOk result }
+{
+    if state.config().loader || state.config().writer {
+        return Ok(None);
+    }
+    match call {
+        Call::Contains(_) | Call::Stats | Call::ClearStats | Call::Clear | Call::Entries => {
+            Ok(None)
+        }
+        _ => end_steps_at_once(alloc, state, rows, now, call),
+    }
 }
 
 /// Begins a call on many keys.

@@ -9,6 +9,7 @@ ghost use Rattle.jc_model.specs.Whole.{is_free};
 ghost use Rattle.jc_model.specs.Runs.{begins, answers, destroyed_by};
 ghost use Rattle.jc_state.specs.Kept.{Kept};
 ghost use Rattle.jc_state.specs.Tied.{SameElsewhere};
+ghost use Rattle.jc_ops.specs.declared.step.Next.TheVariants as nexts;
 ghost use Rattle.jc_bulk.specs.Calls.{ComesTo};
 ghost use Rattle.jc_engine.specs.Advances.{of_start};
 ghost use Rattle.jc_engine.specs.Caches.{status_of};
@@ -20,7 +21,7 @@ ghost use Rattle.jc_engine.specs.Managed.{cache_in, turn_in, step_of, is_step, r
 ghost use Rattle.jc_engine.specs.Managed.{IsManaged, IsRefusalTo, IsRefusedFor};
 ghost use Rattle.jc_engine.specs.Managed.{Moves, Settled, Abandons};
 
-use jc_bulk::call::{CallNext, answer_call, start_call};
+use jc_bulk::call::{CallNext, answer_call, end_at_once, start_call};
 use jc_bulk::waits::Suspended;
 use jc_model::OutOfMemory;
 use jc_model::call::{Answer, Call, Reply, Request};
@@ -128,7 +129,21 @@ impl<G: Ring> Managed<G> {
         drop(mem::replace(&mut self.turn, turn));
     }
 
-    /// Goes on from what its call has come to. All notices are told before the reply.
+    /// Ends its call with this reply. All notices are told before it.
+    fn end(&mut self, reply: Thrice<Reply>, notices: Notices) -> Advance
+        requires idle { self.old.turn ≡ Idle }
+        ensures state { self.new.state ≡ self.old.state }
+        ensures settled { (c : CacheConfig) (run : Run) (k : Kept) →
+            ComesTo c run (nexts.Ended (reply, notices)) k → Settled c run k self.new.turn result }
+    {
+        if notices.is_empty() {
+            return Advance::Replied(reply);
+        }
+        self.stand_at(Turn::Telling(reply));
+        Advance::Told(notices)
+    }
+
+    /// Goes on from what its call has come to.
     fn settle(&mut self, next: CallNext) -> Advance
         requires idle { self.old.turn ≡ Idle }
         ensures state { self.new.state ≡ self.old.state }
@@ -136,13 +151,7 @@ impl<G: Ring> Managed<G> {
             ComesTo c run next k → Settled c run k self.new.turn result }
     {
         match next {
-            Next::Ended((reply, notices)) => {
-                if notices.is_empty() {
-                    return Advance::Replied(reply);
-                }
-                self.stand_at(Turn::Telling(reply));
-                Advance::Told(notices)
-            }
+            Next::Ended((reply, notices)) => self.end(reply, notices),
             Next::Waiting(request, suspended) => {
                 self.stand_at(Turn::Waiting(suspended));
                 Advance::Asked(request)
@@ -195,8 +204,10 @@ impl<G: Ring> Managed<G> {
         }
     }
 
-    /// Begins a call that may begin. Only memory can refuse it, before any change.
-    fn start_allowed<R: Rows>(
+    /// Begins a call that may begin, and may have to wait. It is never inlined: what does not wait is to have no share in
+    /// what this needs.
+    #[inline(never)]
+    fn start_waiting<R: Rows>(
         &mut self,
         alloc: Global,
         rows: &mut R,
@@ -218,6 +229,34 @@ impl<G: Ring> Managed<G> {
     {
         match start_call(alloc, &mut self.state, rows, now, call) {
             Ok(next) => Ok(self.settle(next)),
+            Err(_) => Err(Cause::OutOfMemory),
+        }
+    }
+
+    /// Begins a call that may begin. Only memory can refuse it, before any change.
+    fn start_allowed<R: Rows>(
+        &mut self,
+        alloc: Global,
+        rows: &mut R,
+        now: u64,
+        call: &Call,
+    ) -> Result<Advance, Cause>
+        requires managed { IsManaged (R.contents rows.old) self.old.state.id self.old }
+        requires allowed { is_step (reply_to (cache_in self.old) (begins now call.now)) ≡ true }
+        ensures config { self.new.state.config ≡ self.old.state.config }
+        ensures managed_after { IsManaged (R.contents rows.new) self.old.state.id self.new }
+        ensures elsewhere { SameElsewhere self.old.state.id
+            (R.contents rows.old) (R.contents rows.new) }
+        ensures ok { IfOk result (λ advance.
+            Moves (cache_in self.old) (begins now call.now) advance (cache_in self.new)) }
+        ensures err { IfErr result (λ cause. cause ≡ Cause.OutOfMemory) }
+        ensures free { is_free call.now ≡ true → IsOk result }
+        ensures same { OnErr result (self.new ≡ self.old) }
+        ensures table { OnErr result (R.contents rows.new ≡ R.contents rows.old) }
+    {
+        match end_at_once(alloc, &mut self.state, rows, now, call) {
+            Ok(Some((reply, notices))) => Ok(self.end(reply, notices)),
+            Ok(None) => self.start_waiting(alloc, rows, now, call),
             Err(_) => Err(Cause::OutOfMemory),
         }
     }

@@ -365,7 +365,9 @@ impl<R: Rows, G: Ring> Recorded<R, G> {
         ensures legal { IsLegal result }
     {
         let Recorded {
-            engine, journal, ..
+            engine,
+            journal,
+            ..
         } = self;
         drop(engine);
         journal.transcript

@@ -2,6 +2,7 @@
 use Rattle.jc_ops.proofs.Names.{◌≡◌, ◌<◌, ◌≤◌, ◌+◌, arith, ℕ, Bool, true, false, if◌then◌else◌, List, common_steps, Option, Some, None, is_some, option_map, Answer, KeyCall, Op, Request, CacheConfig}
 use Rattle.jc_ops.proofs.Names.{Line, Item, Progress, purge, find_row, ended, resume, is_written, loaded_by, live_in, ended_by, step, waiting, Run, KeyWait, key_run, value_of, RowMap, Kept, Stays, Noted, is_shown}
 use Rattle.jc_ops.proofs.Names.{line_at, is_invoke, is_load, shows, told_of, told_on, first_request, StepWaits, IsWaiting, waits_first}
+use Rattle.jc_ops.specs.Lines.{asks_no_one}
 use Rattle.jc_model.specs.Step.{carried}
 use Rattle.jc_model.specs.declared.call.By.TheVariants.{Writer}
 use Rattle.jc_model.specs.declared.call.Reply.TheVariants.{Fault}
@@ -80,3 +81,7 @@ module _ (c : CacheConfig) (now : ℕ) (k : List ℕ) (o : Op) (p : Progress) wh
       pub writer_agreed : (a : Answer) (stored : Option (List ℕ)) → is_invoke o ≡ false → IsWaiting c p (waits_first now call) → is_load l.asks ≡ false → is_written a ≡ true → stored ≡ value_of o →
           (shows o ≡ true → (x : Item) → find_row k p ≡ Some x → given ≡ Some x.value) → resume (key_run c p (waits_first now call)) a ≡ ended_by c now k l (find_row k p) stored shown p
       writer_agreed a stored plain w writes agreed store at = rw is (agrees a stored shown (waits_purged c p (waits_first now call) w) plain w (rw is at writes) agreed store (show at plain))
+
+-- an operation that asks no one has no first request
+pub unasked : (c : CacheConfig) (k : List ℕ) (o : Op) (l : Line) (live : Option (List ℕ)) → asks_no_one c o ≡ true → first_request c k o l.asks live ≡ None
+unasked c k o l live none = grind (arith, common_steps)

@@ -122,6 +122,10 @@ abbrev pub first_request : CacheConfig → List ℕ → Op → Ask → Option (L
 first_request c k o asks live =
     elim (invoked_by o) [ None ↦ asks_hook c k asks (value_of o) | Some i ↦ Some (asks_processor c k i.0 i.1 live) ]
 
+-- whether a step of this operation asks no one, whatever its line
+abbrev pub asks_no_one : CacheConfig → Op → Bool
+asks_no_one c o = if c.loader then false else (if c.writer then false else (if is_invoke o then false else true))
+
 -- the value that the loader gave
 abbrev pub loaded_value : Answer → Option (List ℕ)
 loaded_value (Loaded v) = v

@@ -7,9 +7,11 @@ mod line;
 pub mod reply;
 mod request;
 
-ghost use Rattle.std.specs.Prelude.{◌≡◌, option_map};
-ghost use Rattle.jc_state.specs.Kept.{IsTied, Stays, FoundRow};
+ghost use Rattle.std.specs.Prelude.{◌≡◌, true, option_map};
+ghost use Rattle.jc_model.specs.Run.{ended};
+ghost use Rattle.jc_state.specs.Kept.{progress_at, IsTied, Stays, FoundRow};
 ghost use Rattle.jc_ops.specs.Given.{loaded_in, verdict_in};
+ghost use Rattle.jc_ops.specs.Lines.{asks_no_one};
 ghost use Rattle.jc_ops.specs.Supply.{CoversIn, CoversAnswerIn, HasPlacesFor, HasRoom};
 ghost use Rattle.jc_ops.specs.Supply.{most_told_in, adds_in, adds_at_in};
 ghost use Rattle.jc_ops.specs.Stepped.{StepsFrom, StaysAt, WaitsIn};
@@ -17,7 +19,7 @@ ghost use Rattle.jc_ops.specs.Stepped.{waits_first, step_run, answer_run};
 
 use crate::step::change::At;
 use crate::step::invoke::{Invocation, answer_invoke};
-use crate::step::line::{answer_line, begin};
+use crate::step::line::{answer_line, begin, end_at_once};
 use crate::supply::Supply;
 use jc_model::call::{Answer, KeyCall, Op, Reply, Request, Verdict};
 use jc_model::thrice::Thrice;
@@ -139,6 +141,38 @@ impl KeyStep {
             row,
         };
         begin(state, rows, notices, &at, op, supply)
+    }
+
+    /// The same of a step that asks no one, and so ends: its reply.
+    pub fn end_at_once<R: Rows, G: Ring>(
+        state: &mut CacheState<G>,
+        rows: &mut R,
+        notices: &mut Notices,
+        now: u64,
+        call: KeyCall,
+        row: Option<u32>,
+        supply: Supply,
+    ) -> Thrice<Reply>
+        requires tied { IsTied (R.contents rows.old) state.old }
+        requires row { FoundRow call.key state.old row }
+        requires places { HasPlacesFor state.old now call notices.old }
+        requires covered { CoversIn state.old.config.writer state.old call supply }
+        requires room { HasRoom (adds_in state.old now call) (R.spare rows.old) }
+        requires unasked { asks_no_one state.old.config call.op ≡ true }
+        ensures stays { Stays 1 (most_told_in state.old now call)
+            (R.contents rows.old) (R.spare rows.old) state.old notices.old
+            (R.contents rows.new) (R.spare rows.new) state.new notices.new }
+        ensures ended { step_run state.old notices.old now call
+            ≡ ended (progress_at state.new notices.new) result }
+    {
+        let row = state.purge(rows, notices, now, row);
+        let KeyCall { key, op } = call;
+        let at = At {
+            moment: now,
+            key,
+            row,
+        };
+        end_at_once(state, rows, notices, &at, &op, supply)
     }
 
     /// Goes on with the answer to the request for which the step waits, where the key has this row. It takes no memory

@@ -18,7 +18,7 @@ use crate::step::KeyStep;
 use crate::supply::needs::{
     adds, adds_at, handed, handed_by, is_invoke, shows, shows_loaded, stored_by, stored_now,
 };
-pub use crate::supply::needs::{creates, most_notices, takes_value};
+pub use crate::supply::needs::{asks_no_one, creates, most_notices, takes_value};
 use jc_model::OutOfMemory;
 use jc_model::call::{Answer, KeyCall, Op, Verdict};
 use jc_model::config::CacheConfig;

@@ -82,7 +82,10 @@ impl<'a, N: Name, L: Loader, W: Writer, P: Processor, K: Hearer> Session<'a, N, 
         ensures { own_log result ≡ log_of self }
     {
         let Session {
-            number, own, pass, ..
+            number,
+            own,
+            pass,
+            ..
         } = self;
         drop(pass);
         SessionLog {

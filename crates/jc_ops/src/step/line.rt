@@ -1,12 +1,12 @@
 //! A step of a line of the case table: as it begins, and at the answer of its writer or loader.
 ghost use Rattle.std.specs.Prelude.{◌≡◌, ◌<◌, ℕ, List, true, false, Some, None, option_map};
 ghost use Rattle.jc_model.specs.declared.call.KeyCall.{KeyCall};
-ghost use Rattle.jc_model.specs.Run.{is_written, loaded_by};
+ghost use Rattle.jc_model.specs.Run.{ended, is_written, loaded_by};
 ghost use Rattle.jc_model.specs.Step.{live_in};
 ghost use Rattle.jc_state.specs.Noted.{HasPlaces, StoredIsTold, stored_value};
-ghost use Rattle.jc_state.specs.Kept.{key_row, IsTied, Stays, FoundRow};
+ghost use Rattle.jc_state.specs.Kept.{key_row, progress_at, IsTied, Stays, FoundRow};
 ghost use Rattle.jc_ops.specs.At.{is_there, PurgesNothing, call_at, wait_at, told_at, heard_run};
-ghost use Rattle.jc_ops.specs.Lines.{is_invoke, is_load, is_shown, line_at, told_on};
+ghost use Rattle.jc_ops.specs.Lines.{asks_no_one, is_invoke, is_load, is_shown, line_at, told_on};
 ghost use Rattle.jc_ops.specs.Supply.{CoversIn, CoversAnswerIn, OnLoaded, HasRoom, adds, adds_at};
 ghost use Rattle.jc_ops.specs.Stepped.{StepsFrom, StaysAt, WaitsIn, step_run, answer_run};
 
@@ -15,7 +15,7 @@ use crate::step::reply::fault;
 use crate::step::request::first_request;
 use crate::step::{KeyStep, Next};
 use crate::supply::Supply;
-use jc_model::call::{Answer, By, KeyCall, Op};
+use jc_model::call::{Answer, By, KeyCall, Op, Reply};
 use jc_model::table::{Ask, Line, absent_line, expected, live_line, otherwise};
 use jc_model::thrice::Thrice;
 use jc_model::value::Value;
@@ -121,6 +121,37 @@ pub(super) fn begin<R: Rows, G: Ring>(
             Next::Ended(end(state, rows, notices, at, line, stored, shown))
         }
     }
+}
+
+/// The same of a step that asks no one, and so ends.
+pub(super) fn end_at_once<R: Rows, G: Ring>(
+    state: &mut CacheState<G>,
+    rows: &mut R,
+    notices: &mut Notices,
+    at: &At,
+    op: &Op,
+    supply: Supply,
+) -> Thrice<Reply>
+    requires tied { IsTied (R.contents rows.old) state.old }
+    requires row { FoundRow at.now.key state.old at.now.row }
+    requires places { HasPlaces state.old.config (told_on (is_there at.now) op.now) notices.old }
+    requires covered { CoversIn state.old.config.writer state.old
+        (call_at at.now op.now) supply }
+    requires room { HasRoom (adds (is_there at.now) state.old.config.writer op.now)
+        (R.spare rows.old) }
+    requires purged { PurgesNothing state.old notices.old at.now }
+    requires unasked { asks_no_one state.old.config op.now ≡ true }
+    ensures stays { Stays 1 (told_on (is_there at.now) op.now)
+        (R.contents rows.old) (R.spare rows.old) state.old notices.old
+        (R.contents rows.new) (R.spare rows.new) state.new notices.new }
+    ensures ended { step_run state.old notices.old at.now.moment (call_at at.now op.now)
+        ≡ ended (progress_at state.new notices.new) result }
+{
+    let Supply { stored, shown, .. } = supply;
+    let there = at.row.is_some();
+    let line = line_at(op, live_at(state, at));
+    let shown = where_there(there, shown);
+    end(state, rows, notices, at, line, stored, shown)
 }
 
 /// The loader's answer to a line that loads.

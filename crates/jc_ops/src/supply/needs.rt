@@ -2,7 +2,7 @@
 ghost use Rattle.std.specs.Prelude.{◌≡◌, if◌then◌else◌, None, option_map};
 ghost use Rattle.jc_model.specs.Table.{value_of};
 ghost use Rattle.jc_ops.specs.Lines.{is_shown, stores, handed, shows, shows_loaded, takes_value};
-ghost use Rattle.jc_ops.specs.Lines.{creates, is_invoke, told_of, told_by, most_told};
+ghost use Rattle.jc_ops.specs.Lines.{asks_no_one, creates, is_invoke, told_of, told_by, most_told};
 ghost use Rattle.jc_ops.specs.Verdicts.{stores_by, hands_by};
 ghost use Rattle.jc_ops.specs.Supply.{adds, adds_loaded, adds_by, adds_at};
 
@@ -24,6 +24,13 @@ pub(super) fn is_invoke(op: &Op) -> bool
     ensures { result ≡ is_invoke op.now }
 {
     matches!(op, Op::Invoke { .. })
+}
+
+/// Whether a step of this operation asks no one, whatever its line.
+pub fn asks_no_one(config: &CacheConfig, op: &Op) -> bool
+    ensures { result ≡ asks_no_one config.now op.now }
+{
+    !config.loader && !config.writer && !is_invoke(op)
 }
 
 /// Whether an operation replies the live value.
