@@ -1,11 +1,16 @@
 -- A put: one search, or two and a doubling between them.
-use Rattle.std.specs.Prelude.{◌≡◌, ℕ, List, Option}
+use Rattle.std.specs.Prelude.{◌≡◌, ℕ, ◌*◌, ◌≤◌, List, Option}
 use Rattle.jc_place.specs.declared.place.Place.{Place}
 use Rattle.jc_cuckoo.specs.declared.held.Work.{Work}
 use Rattle.jc_rows.specs.Images.{Image}
 use Rattle.jc_cuckoo.specs.Search.{IsLastResort}
 use Rattle.jc_cuckoo.specs.Table.{Table, IsTold, Searches, Tells, no_work}
 use Rattle.jc_cuckoo.specs.Double.{Doubles, IsDoubled}
+
+-- what a put does at most: two searches, each over 256 slots, and five moves; a search looks at one slot at least
+abbrev pub IsWorkOfPut : Work → Type 0
+IsWorkOfPut work =
+    (work.searches ≤ 2) × (work.searches ≤ work.looked) × (work.looked ≤ 256 * work.searches) × (work.moves ≤ 5)
 
 -- one search over a table; then as many images as rows were moved, and the last one
 pub record Tries {P M : Type 0} (placing : P → ℕ → List ℕ → Place) (told : M → Option (List Image)) (place : ℕ × List ℕ) (from : Work) (before after : Table P M) : Type 0 where

@@ -44,6 +44,12 @@ pub record HasSlots {P M N : Type 0} (table : Table P M) (at : ℕ) (twice : Tab
 pub record NeedsStash (placing : ℕ → List ℕ → Place) (n : ℕ) (cells : List (Option Held)) : Type 0 where
   pub full : (i : ℕ) (h : Held) → 4 * n ≤ i → cell cells i ≡ Some h → IsFull cells (first_bucket placing n (place_of h)) × IsFull cells (second_bucket placing n (place_of h))
 
+-- where each row of the stash had, each still has
+abbrev pub KeepsStashNeeded : {P M : Type 0} → (P → ℕ → List ℕ → Place) → Table P M → Table P M → Type 0
+KeepsStashNeeded placing before after =
+    NeedsStash (placing before.placer) before.buckets before.cells
+    → NeedsStash (placing before.placer) after.buckets after.cells
+
 -- it has the rows of all slots and of the first cells of the stash
 pub record HasStash {P M N : Type 0} (placing : P → ℕ → List ℕ → Place) (table : Table P M) (at : ℕ) (twice : Table P N) : Type 0 where
   pub placer : twice.placer ≡ table.placer
@@ -52,6 +58,10 @@ pub record HasStash {P M N : Type 0} (placing : P → ℕ → List ℕ → Place
   pub short : length twice.cells ≤ 4 * table.buckets + at
   pub covers : Covers (image_of table.buckets table.cells) (image_of twice.buckets twice.cells)
   pub needed : NeedsStash (placing table.placer) twice.buckets twice.cells
+
+-- it has room for twice as many slots, the rows of the stash, and as many rows more
+abbrev pub HasRoomForStash : {P M N : Type 0} → Table P M → Table P N → Type 0
+HasRoomForStash table twice = 4 * table.buckets + length table.cells + table.room ≤ twice.room + length twice.cells
 
 -- these are the rows of the stash, each behind a number
 pub record HoldsStash (buckets : ℕ) (cells : List (Option Held)) (rows : List (ℕ × Held)) : Type 0 where

@@ -3,10 +3,10 @@ ghost use Rattle.std.specs.Prelude.{◌≡◌, ℕ, Option, ◌+◌, ◌-◌, �
 ghost use Rattle.std.specs.List.{swap_remove};
 ghost use Rattle.std.specs.Vec.{vec_capacity};
 ghost use Rattle.std.specs.FinMap as map;
-ghost use Rattle.jc_cuckoo.specs.Cells.{cell, rows_in, Dropped, IsBucketOf, IsOnce, place_of, row_of};
+ghost use Rattle.jc_cuckoo.specs.Cells.{cell, rows_in, Dropped, IsBucketOf, IsOnce, place_of};
 ghost use Rattle.jc_cuckoo.specs.Index.{IsIndexed, free};
 ghost use Rattle.jc_cuckoo.specs.Images.{Covers};
-ghost use Rattle.jc_cuckoo.specs.Table.{longest, Follows, Touches, image};
+ghost use Rattle.jc_cuckoo.specs.Table.{longest, AddsRow, Follows, RenewsRow, Touches, image};
 
 use crate::cuckoo::Cuckoo;
 use crate::held::Held;
@@ -57,7 +57,8 @@ fn take_out(cells: &mut Vec<Option<Held>>, index: &mut StashIndex, at: usize, he
     requires once { IsOnce cells.old.items }
     ensures dropped { Dropped cells.old.items cells.new.items at }
     ensures swapped { (last : Option Held) × (cells.new.items ≡ swap_remove cells.old.items at last) }
-    ensures index { (n : ℕ) → 4 * n ≤ at → IsIndexed n cells.old.items index.old → IsIndexed n cells.new.items index.new }
+    ensures index { (n : ℕ) → 4 * n ≤ at
+        → IsIndexed n cells.old.items index.old → IsIndexed n cells.new.items index.new }
     ensures capacity { vec_capacity cells.new ≡ vec_capacity cells.old }
     ensures room { free index.old ≤ free index.new }
 {
@@ -78,7 +79,7 @@ impl<P: Placer + Drop, M: Mirror> Cuckoo<P, M> {
         requires tag { tag ≡ (P.placing self.old.placer held.id held.key).tag }
         requires absent { map.get (rows_in self.old.cells) (place_of held) ≡ None }
         ensures cells { self.new.cells ≡ slice_set self.old.cells at (Some held) }
-        ensures rows { rows_in self.new.cells ≡ map.insert (rows_in self.old.cells) (place_of held) (row_of held) }
+        ensures rows { AddsRow held self.old self.new }
         ensures room { self.new.room ≡ self.old.room }
         ensures follows { Follows M.images self.old self.new }
         ensures covers { Covers (image self.old) (image self.new) }
@@ -96,7 +97,7 @@ impl<P: Placer + Drop, M: Mirror> Cuckoo<P, M> {
         requires room { 0 < self.old.room }
         requires absent { map.get (rows_in self.old.cells) (place_of held) ≡ None }
         ensures cells { self.new.cells ≡ self.old.cells ++ Some held ∷ [] }
-        ensures rows { rows_in self.new.cells ≡ map.insert (rows_in self.old.cells) (place_of held) (row_of held) }
+        ensures rows { AddsRow held self.old self.new }
         ensures room { self.old.room ≤ self.new.room + 1 }
         ensures follows { Follows M.images self.old self.new }
         ensures covers { Covers (image self.old) (image self.new) }
@@ -165,9 +166,10 @@ impl<P: Placer + Drop, M: Mirror> Cuckoo<P, M> {
     pub(crate) fn renew(&mut self, at: usize, held: Held, expiry: Expiry)
         requires slot { at < 4 * self.old.buckets }
         requires held { cell self.old.cells at ≡ Some held }
-        ensures rows { rows_in self.new.cells ≡ map.insert (rows_in self.old.cells) (place_of held) (held.row, expiry) }
+        ensures rows { RenewsRow held expiry self.old self.new }
         ensures room { self.new.room ≡ self.old.room }
-        ensures touches { Touches M.images self.old self.new (place_of held) (Some (place_of held, expiry)) }
+        ensures touches { Touches M.images self.old self.new (place_of held)
+            (Some (place_of held, expiry)) }
     {
         let renewed = Held {
             id: held.id,
@@ -185,9 +187,10 @@ impl<P: Placer + Drop, M: Mirror> Cuckoo<P, M> {
     pub(crate) fn renew_stashed(&mut self, at: usize, held: Held, expiry: Expiry)
         requires stash { 4 * self.old.buckets ≤ at }
         requires held { cell self.old.cells at ≡ Some held }
-        ensures rows { rows_in self.new.cells ≡ map.insert (rows_in self.old.cells) (place_of held) (held.row, expiry) }
+        ensures rows { RenewsRow held expiry self.old self.new }
         ensures room { self.new.room ≡ self.old.room }
-        ensures touches { Touches M.images self.old self.new (place_of held) (Some (place_of held, expiry)) }
+        ensures touches { Touches M.images self.old self.new (place_of held)
+            (Some (place_of held, expiry)) }
     {
         self.cells[at] = Some(Held {
             id: held.id,

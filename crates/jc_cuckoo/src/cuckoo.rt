@@ -1,13 +1,13 @@
 //! The table.
-ghost use Rattle.std.specs.Prelude.{◌≡◌, ◌+◌, ◌-◌, ◌*◌, ◌/◌, ◌<◌, ◌≤◌, None, true, false, IfOk, IfErr, ◌↔◌, min, IfSome, replicate};
+ghost use Rattle.std.specs.Prelude.{◌≡◌, ◌+◌, ◌-◌, ◌*◌, ◌<◌, ◌≤◌, None, true, false, IfOk, IfErr, ◌↔◌, min, replicate};
 ghost use Rattle.std.specs.Vec.{vec_capacity};
 ghost use Rattle.std.specs.FinMap as map;
 ghost use Rattle.jc_place.specs.Place.{IsTableSize};
 ghost use Rattle.jc_cuckoo.specs.declared.cuckoo.TableRefusal.TheVariants.{BadBuckets};
 ghost use Rattle.jc_cuckoo.specs.Cells.{rows_in};
 ghost use Rattle.jc_rows.specs.Images.{Shows};
-ghost use Rattle.jc_cuckoo.specs.Images.{image_of};
-ghost use Rattle.jc_cuckoo.specs.Table.{longest, no_work, IsMirrored, image};
+ghost use Rattle.jc_cuckoo.specs.Images.{blank_image};
+ghost use Rattle.jc_cuckoo.specs.Table.{longest, no_work, HasParts, IsMirrorOf, image};
 
 use crate::held::{Held, Work};
 use crate::index::StashIndex;
@@ -42,9 +42,18 @@ impl<P: Placer + Drop, M: Mirror> Model for Cuckoo<P, M> {
 
     ghost Value = { Table P M };
 
-    ghost view = { λ t. record { placer = t.placer; mirror = t.mirror; buckets = t.buckets; cells = t.cells.items; room = min (min (vec_capacity t.cells) longest - vec_len t.cells) (free t.index); work = t.work } };
+    ghost view = { λ t. record {
+      placer = t.placer;
+      mirror = t.mirror;
+      buckets = t.buckets;
+      cells = t.cells.items;
+      room = min (min (vec_capacity t.cells) longest - vec_len t.cells) (free t.index);
+      work = t.work;
+    } };
 
-    ghost invariant = { λ t. IsTable (P.placing t.placer) (M.placing t.mirror) (M.images t.mirror) t.buckets t.tags.items t.cells.items t.held × IsIndexed t.buckets t.cells.items t.index };
+    ghost invariant = { λ t. IsTable (P.placing t.placer) (M.placing t.mirror) (M.images t.mirror)
+        t.buckets t.tags.items t.cells.items t.held
+        × IsIndexed t.buckets t.cells.items t.index };
 }
 
 /// The most buckets of a table.
@@ -99,10 +108,11 @@ impl<P: Placer + Drop, M: Mirror> Cuckoo<P, M> {
         mirror: M,
         buckets: u32,
     ) -> Result<Cuckoo<P, M>, TableRefusal>
-        requires mirror { IfSome (M.images mirror) (λ is. IsMirrored (P.placing placer) (M.placing mirror) is (image_of buckets (replicate (4 * buckets) None))) }
+        requires mirror { IsMirrorOf (M.images mirror) (M.placing mirror)
+            (P.placing placer) (blank_image buckets) }
         ensures empty { IfOk result (λ table. rows_in table.cells ≡ map.empty) }
         ensures slots { IfOk result (λ table. table.cells ≡ replicate (4 * buckets) None) }
-        ensures parts { IfOk result (λ table. (table.placer ≡ placer) × (table.mirror ≡ mirror) × (table.buckets ≡ buckets)) }
+        ensures parts { IfOk result (λ table. HasParts placer mirror buckets table) }
         ensures work { IfOk result (λ table. table.work ≡ no_work) }
         ensures size { IfOk result (λ table. IsTableSize buckets) }
         ensures refused { IfErr result (λ refusal. refusal ≡ BadBuckets ↔ (IsTableSize buckets → ⊥)) }
@@ -125,10 +135,11 @@ impl<P: Placer + Drop, M: Mirror> Cuckoo<P, M> {
         stash: usize,
     ) -> Result<Cuckoo<P, M>, OutOfMemory>
         requires size { IsTableSize buckets }
-        requires mirror { IfSome (M.images mirror) (λ is. IsMirrored (P.placing placer) (M.placing mirror) is (image_of buckets (replicate (4 * buckets) None))) }
+        requires mirror { IsMirrorOf (M.images mirror) (M.placing mirror)
+            (P.placing placer) (blank_image buckets) }
         requires stash { 4 * buckets + stash ≤ longest }
         ensures empty { IfOk result (λ table. table.cells ≡ replicate (4 * buckets) None) }
-        ensures parts { IfOk result (λ table. (table.placer ≡ placer) × (table.mirror ≡ mirror) × (table.buckets ≡ buckets)) }
+        ensures parts { IfOk result (λ table. HasParts placer mirror buckets table) }
         ensures room { IfOk result (λ table. stash ≤ table.room) }
         ensures work { IfOk result (λ table. table.work ≡ no_work) }
     {
@@ -154,9 +165,10 @@ impl<P: Placer + Drop, M: Mirror> Cuckoo<P, M> {
 
     /// The same table, which tells another mirror from now on.
     pub fn with_mirror<N: Mirror>(self, mirror: N) -> Cuckoo<P, N>
-        requires mirror { IfSome (N.images mirror) (λ is. IsMirrored (P.placing self.placer) (N.placing mirror) is (image self)) }
+        requires mirror { IsMirrorOf (N.images mirror) (N.placing mirror)
+            (P.placing self.placer) (image self) }
         ensures rows { (result.cells ≡ self.cells) × (result.room ≡ self.room) }
-        ensures parts { (result.placer ≡ self.placer) × (result.mirror ≡ mirror) × (result.buckets ≡ self.buckets) }
+        ensures parts { HasParts self.placer mirror self.buckets result }
         ensures work { result.work ≡ self.work }
     {
         Cuckoo {

@@ -2,8 +2,8 @@
 ghost use Rattle.std.specs.Prelude.{◌≡◌, ◌+◌, ◌*◌, ◌/◌, ◌≤◌, ◌<◌, None, Some, IfOk, OnOk, length, true, false, replicate};
 ghost use Rattle.std.specs.FinMap as map;
 ghost use Rattle.jc_place.specs.Place.{IsTableSize};
-ghost use Rattle.jc_cuckoo.specs.Cells.{cell, rows_in, place_of, row_of, IsBucketOf, IsFull};
-ghost use Rattle.jc_cuckoo.specs.Double.{IsAdded, IsBlank, IsDoubled, IsFilled, IsLeft, IsWaiting, HasSlots, HasStash, HoldsStash, NeedsStash, Doubles};
+ghost use Rattle.jc_cuckoo.specs.Cells.{rows_in, place_of, IsBucketOf, IsFull};
+ghost use Rattle.jc_cuckoo.specs.Double.{IsAdded, IsBlank, IsDoubled, IsFilled, IsLeft, IsWaiting, HasRoomForStash, HasSlots, HasStash, HoldsStash, KeepsStashNeeded, Doubles};
 ghost use Rattle.jc_cuckoo.specs.Table.{IsTold, image};
 ghost use Rattle.jc_cuckoo.specs.Images.{grown};
 
@@ -97,7 +97,7 @@ impl<P: Placer + Drop, M: Mirror> Cuckoo<P, M> {
         requires room { 0 < self.old.room }
         requires absent { map.get (rows_in self.old.cells) (place_of held) ≡ None }
         ensures added { IsAdded self.old self.new held }
-        ensures needed { NeedsStash (P.placing self.old.placer) self.old.buckets self.old.cells → NeedsStash (P.placing self.old.placer) self.new.buckets self.new.cells }
+        ensures needed { KeepsStashNeeded P.placing self.old self.new }
     {
         let place = self.placer.place(held.id, &held.key);
         let first = rest(place.first, self.buckets);
@@ -140,7 +140,7 @@ impl<P: Placer + Drop, M: Mirror> Cuckoo<P, M> {
     /// Brings the rows of the stash into a table of twice as many buckets, in the order in which they came.
     fn bring_stash(&self, twice: &mut Cuckoo<P, NoMirror>) -> Result<(), OutOfMemory>
         requires stash { HasStash P.placing self.now (4 * self.now.buckets) twice.old }
-        requires room { 4 * self.now.buckets + length self.now.cells + self.now.room ≤ twice.old.room + length twice.old.cells }
+        requires room { HasRoomForStash self.now twice.old }
         ensures { OnOk result (IsDoubled P.placing self.now twice.new) }
     {
         let waiting = self.waiting()?;

@@ -1,7 +1,8 @@
 //! The cell in which a key's row stands.
-ghost use Rattle.std.specs.Prelude.{◌≡◌, ◌+◌, ◌-◌, ◌*◌, ◌/◌, ◌<◌, None, Some, MatchOption, length};
+ghost use Rattle.std.specs.Prelude.{◌≡◌, ◌+◌, ◌-◌, ◌<◌, None, Some, MatchOption, length};
 ghost use Rattle.std.specs.FinMap as map;
-ghost use Rattle.jc_cuckoo.specs.Cells.{cell, rows_in, IsSought, RowAt};
+ghost use Rattle.jc_cuckoo.specs.Cells.{rows_in, IsSought, RowAt};
+ghost use Rattle.jc_cuckoo.specs.Table.{IsSoughtInStash};
 
 use crate::cuckoo::Cuckoo;
 use crate::held::Held;
@@ -31,7 +32,7 @@ impl<P: Placer + Drop, M: Mirror> Cuckoo<P, M> {
 
     /// The cell of the stash in which a key's row stands.
     fn seek_stashed(&self, id: CacheId, key: &Key) -> Option<usize>
-        ensures { IsSought self.now.cells (4 * self.now.buckets) (length self.now.cells) (id, key.now) result }
+        ensures { IsSoughtInStash self.now (id, key.now) result }
     {
         if self.cells.len() == self.tags.len() {
             return None;
@@ -48,7 +49,8 @@ impl<P: Placer + Drop, M: Mirror> Cuckoo<P, M> {
 
     /// A key's row, and the cell in which it stands.
     pub(crate) fn seek_row(&self, id: CacheId, key: &Key) -> Option<(usize, &Held)>
-        ensures { MatchOption result (map.get (rows_in self.now.cells) (id, key.now) ≡ None) (λ found. RowAt self.now.cells (id, key.now) (found.0, found.1.now)) }
+        ensures { MatchOption result (map.get (rows_in self.now.cells) (id, key.now) ≡ None)
+            (λ found. RowAt self.now.cells (id, key.now) (found.0, found.1.now)) }
     {
         match self.seek(id, key) {
             Some(at) => match &self.cells[at] {

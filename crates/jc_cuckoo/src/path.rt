@@ -3,7 +3,8 @@ ghost use Rattle.std.specs.Prelude.{◌≡◌, ◌≢◌, ◌⊎◌, ◌+◌, �
 ghost use Rattle.std.specs.FinMap as map;
 ghost use Rattle.jc_cuckoo.specs.Cells.{cell, rows_in, place_of};
 ghost use Rattle.jc_cuckoo.specs.Table.{Extends, Searches, Settles, Stays};
-ghost use Rattle.jc_cuckoo.specs.Search.{IsQueue, IsSearched, IsExhausted, IsCounted, Grows, IsEnd, bucket_at, looked_slot};
+ghost use Rattle.jc_cuckoo.specs.Search.{Grows, IsEnd, bucket_at, looked_slot};
+ghost use Rattle.jc_cuckoo.specs.Paths.{CountsFrom, HasSameStart, HasSearchLeft, IsExhaustedFrom, IsQueueOf, IsSearchedTo, LooksAtSome};
 
 use crate::cuckoo::Cuckoo;
 use crate::held::{Held, Work};
@@ -19,12 +20,12 @@ impl<P: Placer + Drop, M: Mirror> Cuckoo<P, M> {
     /// the slot that the search comes to after so many.
     #[tactic(auto, using(jc_place::proofs::Other::counts))]
     pub(crate) fn reach(&self, queue: &mut Queue, looked: usize)
-        requires queue { IsQueue (P.placing self.now.placer) self.now.buckets self.now.cells queue.old }
-        requires searched { IsSearched (P.placing self.now.placer) self.now.buckets self.now.cells queue.old looked }
+        requires queue { IsQueueOf P.placing self.now queue.old }
+        requires searched { IsSearchedTo P.placing self.now queue.old looked }
         requires looked { looked < 4 * queue.old.count }
         requires row { cell self.now.cells (looked_slot queue.old looked) ≢ None }
-        ensures queue { IsQueue (P.placing self.now.placer) self.now.buckets self.now.cells queue.new }
-        ensures searched { IsSearched (P.placing self.now.placer) self.now.buckets self.now.cells queue.new (looked + 1) }
+        ensures queue { IsQueueOf P.placing self.now queue.new }
+        ensures searched { IsSearchedTo P.placing self.now queue.new (looked + 1) }
         ensures grows { Grows queue.old queue.new }
     {
         let head = looked / 4;
@@ -46,15 +47,16 @@ impl<P: Placer + Drop, M: Mirror> Cuckoo<P, M> {
 
     /// Looks for a path, 256 slots at most: the bucket of the queue in which it ends, and that bucket's empty slot.
     pub(crate) fn search(&self, queue: &mut Queue, work: &mut Work) -> Option<(usize, usize)>
-        requires queue { IsQueue (P.placing self.now.placer) self.now.buckets self.now.cells queue.old }
+        requires queue { IsQueueOf P.placing self.now queue.old }
         requires start { queue.old.count ≡ 2 }
         requires work { (work.old.searches ≤ 1) × (work.old.looked ≤ 256) }
-        ensures queue { IsQueue (P.placing self.now.placer) self.now.buckets self.now.cells queue.new }
-        ensures buckets { (bucket_at queue.new 0 ≡ bucket_at queue.old 0) × (bucket_at queue.new 1 ≡ bucket_at queue.old 1) }
-        ensures counted { IsCounted (P.placing self.now.placer) self.now.buckets self.now.cells (bucket_at queue.old 0) (bucket_at queue.old 1) work.old work.new }
-        ensures looked { (work.old.looked < work.new.looked) × (work.new.looked ≤ work.old.looked + 256) }
+        ensures queue { IsQueueOf P.placing self.now queue.new }
+        ensures buckets { HasSameStart queue.old queue.new }
+        ensures counted { CountsFrom P.placing self.now queue.old work.old work.new }
+        ensures looked { LooksAtSome work.old work.new }
         ensures moves { work.new.moves ≡ work.old.moves }
-        ensures found { MatchOption result (IsExhausted (P.placing self.now.placer) self.now.buckets self.now.cells (bucket_at queue.old 0) (bucket_at queue.old 1)) (λ found. IsEnd self.now.cells queue.new found) }
+        ensures found { MatchOption result (IsExhaustedFrom P.placing self.now queue.old)
+            (λ found. IsEnd self.now.cells queue.new found) }
     {
         work.count_search();
         let mut looked = 0;
@@ -84,7 +86,7 @@ impl<P: Placer + Drop, M: Mirror> Cuckoo<P, M> {
     /// Moves the rows on a path, each into the slot that the one before it left, the last one first. It returns the
     /// slot that is empty then, and how many rows it moved.
     pub(crate) fn displace(&mut self, queue: &Queue, end: usize, empty: usize) -> (usize, u32)
-        requires queue { IsQueue (P.placing self.old.placer) self.old.buckets self.old.cells queue.now }
+        requires queue { IsQueueOf P.placing self.old queue.now }
         requires end { IsEnd self.old.cells queue.now (end, empty) }
         ensures rows { rows_in self.new.cells ≡ rows_in self.old.cells }
         ensures slot { result.0 < 4 * self.old.buckets }
@@ -119,11 +121,12 @@ impl<P: Placer + Drop, M: Mirror> Cuckoo<P, M> {
     #[tactic(auto, using(jc_place::proofs::Other::counts))]
     pub(crate) fn settle(&mut self, held: Held) -> bool
         requires absent { map.get (rows_in self.old.cells) (place_of held) ≡ None }
-        requires work { (self.old.work.searches ≤ 1) × (self.old.work.looked ≤ 256) × (self.old.work.moves ≡ 0) }
+        requires work { HasSearchLeft self.old.work }
         ensures settled { result ≡ true → Settles M.images self.old self.new held }
-        ensures stays { result ≡ false → Stays (P.placing self.old.placer) self.old self.new (place_of held) }
+        ensures stays { result ≡ false
+            → Stays (P.placing self.old.placer) self.old self.new (place_of held) }
         ensures counted { Searches P.placing self.old (place_of held) self.old.work self.new.work }
-        ensures looked { (self.old.work.looked < self.new.work.looked) × (self.new.work.looked ≤ self.old.work.looked + 256) }
+        ensures looked { LooksAtSome self.old.work self.new.work }
     {
         let place = self.placer.place(held.id, &held.key);
         let first = rest(place.first, self.buckets);

@@ -1,11 +1,10 @@
 //! The table as the rows of all caches.
-ghost use Rattle.std.specs.Prelude.{◌≡◌, ◌⊎◌, ℕ, ◌+◌, ◌-◌, ◌*◌, ◌/◌, ◌≤◌, ◌<◌, None, Some, IsSome, IsOk, OnOk, option_map};
+ghost use Rattle.std.specs.Prelude.{◌≡◌, ◌⊎◌, ℕ, ◌+◌, ◌-◌, ◌≤◌, ◌<◌, None, Some, IsSome, IsOk, OnOk};
 ghost use Rattle.std.specs.FinMap as map;
-ghost use Rattle.jc_rows.specs.Rows.{with_expiry};
-ghost use Rattle.jc_cuckoo.specs.Cells.{rows_in, IsPlaced};
-ghost use Rattle.jc_cuckoo.specs.Table.{IsStill, Touches, no_work};
-ghost use Rattle.jc_cuckoo.specs.Attempts.{Tries, TriesTwice};
-ghost use Rattle.jc_cuckoo.specs.Search.{IsLastResort};
+ghost use Rattle.jc_rows.specs.Rows.{HasRoomFor, number_at, with_expiry};
+ghost use Rattle.jc_cuckoo.specs.Cells.{rows_in};
+ghost use Rattle.jc_cuckoo.specs.Table.{HasInSlot, IsStill, MayStash, Touches, no_work};
+ghost use Rattle.jc_cuckoo.specs.Attempts.{IsWorkOfPut, Tries, TriesTwice};
 
 use crate::cuckoo::Cuckoo;
 use crate::held::{Held, Work};
@@ -42,9 +41,10 @@ impl<P: Placer + Drop, M: Mirror> Rows for Cuckoo<P, M> {
 
     fn make_room(&mut self, n: usize) -> Result<(), OutOfMemory>
         ensures same { rows_in self.new.cells ≡ rows_in self.old.cells }
-        ensures ok { OnOk result (n ≤ map.len (rows_in self.new.cells) + self.new.room) }
-        ensures succeeds { n ≤ map.len (rows_in self.old.cells) + self.old.room → IsOk result }
-        ensures there { n ≤ map.len (rows_in self.old.cells) + self.old.room → self.new.room ≡ self.old.room }
+        ensures ok { OnOk result (HasRoomFor n (rows_in self.new.cells) self.new.room) }
+        ensures succeeds { HasRoomFor n (rows_in self.old.cells) self.old.room → IsOk result }
+        ensures there { HasRoomFor n (rows_in self.old.cells) self.old.room
+            → self.new.room ≡ self.old.room }
         ensures kept { self.old.room ≤ self.new.room }
         ensures still { IsStill self.old self.new }
     {
@@ -77,9 +77,10 @@ impl<P: Placer + Drop, M: Mirror> Rows for Cuckoo<P, M> {
 
         // Each slot that a search looked at is counted. As many images on the way as rows were moved, and one before
         // them where the buckets doubled; none of them has the new row. Then the last one.
-        ensures images { Tries P.placing M.images (id, key) no_work self.old self.new ⊎ TriesTwice P.placing M.images (id, key) self.old self.new }
-        ensures work { (self.new.work.searches ≤ 2) × (self.new.work.searches ≤ self.new.work.looked) × (self.new.work.looked ≤ 256 * self.new.work.searches) × (self.new.work.moves ≤ 5) }
-        ensures stash { IsPlaced self.new.buckets self.new.cells (id, key) ⊎ IsLastResort (P.placing self.new.placer) self.new.buckets self.new.cells (id, key) }
+        ensures images { Tries P.placing M.images (id, key) no_work self.old self.new
+            ⊎ TriesTwice P.placing M.images (id, key) self.old self.new }
+        ensures work { IsWorkOfPut self.new.work }
+        ensures stash { HasInSlot self.new (id, key) ⊎ MayStash P.placing self.new (id, key) }
         ensures placer { self.new.placer ≡ self.old.placer }
     {
         let held = Held {
@@ -107,7 +108,7 @@ impl<P: Placer + Drop, M: Mirror> Rows for Cuckoo<P, M> {
     }
 
     fn remove(&mut self, id: CacheId, key: &Key) -> Option<u32>
-        ensures found { result ≡ option_map (λ row. row.0) (map.get (rows_in self.old.cells) (id, key.now)) }
+        ensures found { result ≡ number_at (rows_in self.old.cells) (id, key.now) }
         ensures removed { rows_in self.new.cells ≡ map.remove (rows_in self.old.cells) (id, key.now) }
         ensures kept { self.old.room ≤ self.new.room }
         ensures touches { Touches M.images self.old self.new (id, key.now) None }
@@ -136,7 +137,9 @@ impl<P: Placer + Drop, M: Mirror> Rows for Cuckoo<P, M> {
         ensures touches { Touches M.images self.old self.new (id, key.now) (Some ((id, key.now), expiry)) }
 
         // What changes nothing tells no image.
-        ensures still { (row : ℕ) → map.get (rows_in self.old.cells) (id, key.now) ≡ Some (row, expiry) → self.new ≡ self.old }
+        ensures still { (row : ℕ)
+            → map.get (rows_in self.old.cells) (id, key.now) ≡ Some (row, expiry)
+            → self.new ≡ self.old }
     {
         let slots = self.slots();
         if let Some((at, held)) = self.seek_row(id, key) {

@@ -1,5 +1,5 @@
 -- Images of the table, as lookups may see them: no row numbers, and of the stash only its count.
-use Rattle.std.specs.Prelude.{◌≡◌, ℕ, ◌+◌, List, [], ◌∷◌, slice_index_or, Option, Some, None, is_some, count_by}
+use Rattle.std.specs.Prelude.{◌≡◌, ℕ, ◌+◌, true, Bool, List, [], ◌∷◌, slice_index_or, Option, Some, None, is_some, count_by}
 use Rattle.std.specs.FinMap.{get, len}
 use Rattle.jc_model.specs.declared.config.Expiry.{Expiry}
 use Rattle.jc_rows.specs.Rows.{RowMap}
@@ -20,6 +20,10 @@ abbrev pub last_image : List Image → Image
 last_image [] = record { buckets = 0; slots = []; stash = 0 }
 last_image (image ∷ []) = image
 last_image (image ∷ next ∷ images) = last_image (next ∷ images)
+
+-- a watcher has met the table, and this image is the last that it has seen
+abbrev pub SeesLast : Image → List Image → Bool → Type 0
+SeesLast image seen met = (last_image seen ≡ image) × (met ≡ true)
 
 -- an image shows rows: it places some of them, each with its expiry, its count is the number of the others, and where
 -- there are none it places all

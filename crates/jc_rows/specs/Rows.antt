@@ -1,5 +1,5 @@
 -- What the table of rows holds.
-use Rattle.std.specs.Prelude.{ℕ, List, Option, Some, None}
+use Rattle.std.specs.Prelude.{ℕ, ◌+◌, ◌≤◌, List, Option, Some, None, option_map}
 use Rattle.std.specs.declared.cmp.Ordering.{Ordering}
 use Rattle.std.specs.Ordering.{nat_cmp, ordering_then}
 use Rattle.std.specs.Cmp.Lexicographic.{slice_cmp}
@@ -13,6 +13,14 @@ place_cmp x y = ordering_then (nat_cmp x.0 y.0) (slice_cmp nat_cmp x.1 y.1)
 -- from a place to a row number and an expiry
 abbrev pub RowMap : Type 0
 RowMap = map.FinMap place_cmp (ℕ × Expiry)
+
+-- the number of the row at a place, if there is one
+abbrev pub number_at : RowMap → ℕ × List ℕ → Option ℕ
+number_at m place = option_map (λ row. row.0) (map.get m place)
+
+-- so many rows in all fit, where there is room for this many more
+abbrev pub HasRoomFor : ℕ → RowMap → ℕ → Type 0
+HasRoomFor n m spare = n ≤ map.len m + spare
 
 -- the map, where the row found at a place has another expiry
 abbrev pub with_expiry_at : RowMap → ℕ × List ℕ → Expiry → Option (ℕ × Expiry) → RowMap

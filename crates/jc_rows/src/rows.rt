@@ -1,7 +1,7 @@
 //! The table of rows: a finite map from a cache and a key to a row number and an expiry.
-ghost use Rattle.std.specs.Prelude.{◌≡◌, ℕ, ◌+◌, ◌<◌, ◌≤◌, None, IsSome, IsOk, OnOk, option_map};
+ghost use Rattle.std.specs.Prelude.{◌≡◌, ℕ, ◌+◌, ◌<◌, ◌≤◌, None, IsSome, IsOk, OnOk};
 ghost use Rattle.std.specs.FinMap as map;
-ghost use Rattle.jc_rows.specs.Rows.{RowMap, with_expiry};
+ghost use Rattle.jc_rows.specs.Rows.{HasRoomFor, RowMap, number_at, with_expiry};
 
 use jc_model::OutOfMemory;
 use jc_model::config::Expiry;
@@ -25,14 +25,15 @@ pub trait Rows: Drop {
     /// the room stay as they were.
     fn make_room(&mut self, n: usize) -> Result<(), OutOfMemory>
         ensures same { contents self.new ≡ contents self.old }
-        ensures ok { OnOk result (n ≤ map.len (contents self.new) + spare self.new) }
-        ensures succeeds { n ≤ map.len (contents self.old) + spare self.old → IsOk result }
-        ensures there { n ≤ map.len (contents self.old) + spare self.old → spare self.new ≡ spare self.old }
+        ensures ok { OnOk result (HasRoomFor n (contents self.new) (spare self.new)) }
+        ensures succeeds { HasRoomFor n (contents self.old) (spare self.old) → IsOk result }
+        ensures there { HasRoomFor n (contents self.old) (spare self.old)
+            → spare self.new ≡ spare self.old }
         ensures kept { spare self.old ≤ spare self.new };
 
     /// The number of a key's row, or `None` where the cache has no row of this key.
     fn find(&self, id: CacheId, key: &Key) -> Option<u32>
-        ensures { result ≡ option_map (λ row. row.0) (map.get (contents self.now) (id, key.now)) };
+        ensures { result ≡ number_at (contents self.now) (id, key.now) };
 
     /// Adds a row. It needs room, and takes no memory.
     fn put(&mut self, id: CacheId, key: Key, row: u32, expiry: Expiry)
@@ -43,7 +44,7 @@ pub trait Rows: Drop {
 
     /// Takes a key's row out, and returns its number.
     fn remove(&mut self, id: CacheId, key: &Key) -> Option<u32>
-        ensures found { result ≡ option_map (λ row. row.0) (map.get (contents self.old) (id, key.now)) }
+        ensures found { result ≡ number_at (contents self.old) (id, key.now) }
         ensures removed { contents self.new ≡ map.remove (contents self.old) (id, key.now) }
         ensures kept { spare self.old ≤ spare self.new };
 

@@ -1,7 +1,7 @@
 //! A table of rows whose images others may watch.
-ghost use Rattle.std.specs.Prelude.{◌≡◌, true, false, IfOk, OnOk, OnErr};
+ghost use Rattle.std.specs.Prelude.{◌≡◌, false, IfOk, OnOk, OnErr};
 ghost use mathlib.Core.List.{IsPrefix};
-ghost use Rattle.jc_rows.specs.Images.{Shows, last_image};
+ghost use Rattle.jc_rows.specs.Images.{SeesLast, Shows};
 
 use crate::rows::Rows;
 use jc_model::OutOfMemory;
@@ -26,13 +26,13 @@ pub trait Watched: Rows {
     fn watch(&mut self) -> Result<Self::Watcher, OutOfMemory>
         ensures same { self.new ≡ self.old }
         ensures shows { Shows (Self.contents self.old) (image self.old) }
-        ensures watcher { IfOk result (λ w. (last_image (seen w) ≡ image self.old) × (met w ≡ true)) };
+        ensures watcher { IfOk result (λ w. SeesLast (image self.old) (seen w) (met w)) };
 
     /// The watcher sees the last image. It is one of this table's; where memory runs out, it has seen what it had.
     fn meet(&mut self, watcher: &mut Self::Watcher) -> Result<(), OutOfMemory>
         ensures same { self.new ≡ self.old }
         ensures shows { Shows (Self.contents self.old) (image self.old) }
         ensures front { IsPrefix (seen watcher.old) (seen watcher.new) }
-        ensures met { OnOk result ((last_image (seen watcher.new) ≡ image self.old) × (met watcher.new ≡ true)) }
+        ensures met { OnOk result (SeesLast (image self.old) (seen watcher.new) (met watcher.new)) }
         ensures refused { OnErr result ((seen watcher.new ≡ seen watcher.old) × (met watcher.new ≡ false)) };
 }

@@ -1,4 +1,4 @@
-use Rattle.std.proofs.Common.{◌≡◌, ℕ, ◌%◌, ◌*◌, ◌/◌}
+use Rattle.std.proofs.Common.{◌≡◌, ℕ, ◌*◌, ◌/◌}
 use Rattle.jc_cuckoo.specs.Cells.{place_of, IsBucketOf}
 use Rattle.jc_cuckoo.proofs.Blank.{first_heir, second_heir, never_full, still_blank, surely}
 use Rattle.jc_cuckoo.proofs.cuckoo.Cuckoo.bring.Goals as goal
