@@ -2,7 +2,7 @@
 ghost use Rattle.std.specs.Prelude.{◌≡◌, ◌+◌, ◌*◌, ◌/◌, ◌≤◌, ◌<◌, None, Some, IfOk, OnOk, length, true, false, replicate};
 ghost use Rattle.std.specs.FinMap as map;
 ghost use Rattle.jc_place.specs.Place.{IsTableSize};
-ghost use Rattle.jc_cuckoo.specs.Cells.{cell, rows_in, place_of, row_of, IsBucketOf, IsFull};
+ghost use Rattle.jc_cuckoo.specs.Cells.{rows_in, place_of, IsBucketOf, IsFull};
 ghost use Rattle.jc_cuckoo.specs.Double.{IsAdded, IsBlank, IsDoubled, IsFilled, IsLeft, IsWaiting, HasRoomForStash, HasSlots, HasStash, HoldsStash, KeepsStashNeeded, Doubles};
 ghost use Rattle.jc_cuckoo.specs.Table.{IsTold, image};
 ghost use Rattle.jc_cuckoo.specs.Images.{grown};

@@ -1,7 +1,7 @@
 //! The cell in which a key's row stands.
-ghost use Rattle.std.specs.Prelude.{◌≡◌, ◌+◌, ◌-◌, ◌*◌, ◌/◌, ◌<◌, None, Some, MatchOption, length};
+ghost use Rattle.std.specs.Prelude.{◌≡◌, ◌+◌, ◌-◌, ◌<◌, None, Some, MatchOption, length};
 ghost use Rattle.std.specs.FinMap as map;
-ghost use Rattle.jc_cuckoo.specs.Cells.{cell, rows_in, IsSought, RowAt};
+ghost use Rattle.jc_cuckoo.specs.Cells.{rows_in, IsSought, RowAt};
 ghost use Rattle.jc_cuckoo.specs.Table.{IsSoughtInStash};
 
 use crate::cuckoo::Cuckoo;

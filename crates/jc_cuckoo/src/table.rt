@@ -1,5 +1,5 @@
 //! The table as the rows of all caches.
-ghost use Rattle.std.specs.Prelude.{◌≡◌, ◌⊎◌, ℕ, ◌+◌, ◌-◌, ◌*◌, ◌/◌, ◌≤◌, ◌<◌, None, Some, IsSome, IsOk, OnOk};
+ghost use Rattle.std.specs.Prelude.{◌≡◌, ◌⊎◌, ℕ, ◌+◌, ◌-◌, ◌≤◌, ◌<◌, None, Some, IsSome, IsOk, OnOk};
 ghost use Rattle.std.specs.FinMap as map;
 ghost use Rattle.jc_rows.specs.Rows.{HasRoomFor, number_at, with_expiry};
 ghost use Rattle.jc_cuckoo.specs.Cells.{rows_in};

@@ -1,14 +1,17 @@
 -- The writer's index and a reader's pass, as their contracts see them, and what is kept of their fields.
-use Rattle.std.specs.Prelude.{◌≡◌, ℕ, ◌*◌, Bool, true, List, map, replicate, Some, None}
+use Rattle.std.specs.Prelude.{◌≡◌, ℕ, ◌*◌, Bool, true, List, [], ◌∷◌, map, replicate, Some, None}
 use Rattle.atomic_table.specs.Seated.{TableId}
 use Rattle.jc_place.specs.Place.{IsTableSize}
-use Rattle.jc_stripes.specs.Stripes.{desk_of, glance_of, last_of}
+use Rattle.jc_cuckoo.specs.Images.{blank_image}
+use Rattle.jc_stripes.specs.Stripes.{Changes, IsCommitted, desk_of, glance_of, last_of}
 use Rattle.jc_stripes.specs.declared.lineage.Lineage.{Lineage}
 use Rattle.jc_stripes.specs.declared.member.Member.{Member}
-use Rattle.jc_rows.specs.Images.{Image}
+use Rattle.jc_rows.specs.Images.{Image, last_image}
 use Rattle.jc_index.specs.Layout.{bucket_slots, table_words}
 use Rattle.jc_index.specs.declared.placed.Placed.{Placed}
 use Rattle.jc_index.specs.Spelling.{IsSpelt, image_in}
+use Rattle.jc_index.specs.Batches.{Write}
+use Rattle.jc_index.specs.Changes.{stripes_of_commit}
 
 -- the committed images, the last one last; the versions of the newest table; and its name, which its passes carry
 pub record Index (P : Type 0) : Type 0 where
@@ -52,6 +55,25 @@ module _ {P : Type 0} where
     begun = (glance_of member.reader.seat.me.0).begun;
     checked = (glance_of member.reader.seat.me.0).checked;
   }
+
+  -- an index has one image, without rows
+  abbrev pub IsBlankIndex : P → ℕ → Index P → Type 0
+  IsBlankIndex placer buckets index =
+      (index.images ≡ blank_image buckets ∷ []) × (index.placer ≡ placer) × (index.buckets ≡ buckets)
+
+  -- the versions that the commit of these slots and of the stash's count takes were opened and shut
+  abbrev pub CommitsVersions : List Write → ℕ → Index P → Index P → Type 0
+  CommitsVersions writes stash old new =
+      Changes IsCommitted (stripes_of_commit writes (last_image old.images).stash stash) old.versions new.versions
+
+  -- a pass has met an index, and has seen all its images
+  abbrev pub HasMet : Index P → Passing P → Type 0
+  HasMet index pass =
+      (pass.met ≡ true) × (pass.images ≡ index.images) × (pass.placer ≡ index.placer) × (pass.buckets ≡ index.buckets)
+
+  -- its last meeting is what it was
+  abbrev pub HasSameMeeting : Passing P → Passing P → Type 0
+  HasSameMeeting old new = (new.met ≡ old.met) × (new.placer ≡ old.placer) × (new.buckets ≡ old.buckets)
 
   -- the newest table's words are the last image
   pub record IsIndex (placer : P) (buckets count : ℕ) (lineage : Lineage (Placed P)) : Type 0 where

@@ -3,5 +3,7 @@ pub mod Spelling
 pub mod Found
 pub mod Versions
 pub mod Batches
+pub mod Changes
 pub mod Passes
 pub mod Indexes
+pub mod Lookups

@@ -1,14 +1,19 @@
 -- What a reader's steps tell.
-use Rattle.std.specs.Prelude.{◌≡◌, ◌≢◌, ◌⊎◌, ℕ, suc, ◌+◌, ◌*◌, ◌%◌, ◌^◌, true, false, List, [], ◌∷◌, map, slice_index, Option, None, Some}
+use Rattle.std.specs.Prelude.{◌≡◌, ◌≢◌, ◌⊎◌, ℕ, suc, ◌+◌, ◌*◌, ◌%◌, ◌^◌, ◌<◌, Bool, true, false, List, [], ◌∷◌, map, slice_index, Option, None, Some}
 use mathlib.Core.List.{IsPrefix}
 use Rattle.atomic_table.specs.declared.shared.Seat.{Seat}
 use Rattle.jc_stripes.specs.declared.board.View.{View}
-use Rattle.jc_stripes.specs.Stripes.{ReadsIn, SomeOdd, glance, glance_of, stripes_in}
+use Rattle.jc_stripes.specs.Stripes.{ReadsIn, SomeOdd, Stayed, glance, glance_of, stripes_in}
+use Rattle.jc_stripes.specs.Seats.{StripesSeat}
 use Rattle.jc_stripes.specs.declared.reader.Reader.{Reader}
-use Rattle.jc_rows.specs.Images.{Image, Shown}
-use Rattle.jc_index.specs.Layout.{bucket_slots, slot_place}
+use Rattle.jc_place.specs.declared.place.Place.{Place}
+use Rattle.jc_rows.specs.Images.{Image, Shown, last_image}
+use Rattle.jc_index.specs.declared.placed.Placed.{Placed}
+use Rattle.jc_index.specs.declared.sought.Sought.{Sought}
+use Rattle.jc_index.specs.Layout.{bucket_slots, slot_place, table_words}
+use Rattle.jc_index.specs.Found.{answer, first_seen, found, or_else, seen}
 use Rattle.jc_index.specs.Versions.{read_for}
-use Rattle.jc_index.specs.Spelling.{image_in, group_of, key_words_at, slot_at, words_of_slot, slot_words_at}
+use Rattle.jc_index.specs.Spelling.{buckets_of, image_in, group_of, key_of, key_words_at, slot_at, words_of_slot, slot_words_at}
 
 -- Only the notes changed. Words that fit the notes under these versions now fitted them before, and meet this
 pub record IsNoted {L : Type 0} (js : List ℕ) (s t : Seat (Unit {0}) (View L)) (P : List ℕ → Type 0) : Type 0 where
@@ -32,7 +37,51 @@ IsSpeltIn words bucket = IsSpeltAt words (bucket_slots * bucket) × IsSpeltAt wo
 abbrev pub bucket_at : List ℕ → ℕ → List (Option Shown)
 bucket_at words bucket = slot_at words (bucket_slots * bucket) ∷ slot_at words (bucket_slots * bucket + 1) ∷ slot_at words (bucket_slots * bucket + 2) ∷ slot_at words (bucket_slots * bucket + 3) ∷ []
 
--- the images that a reader has seen, the last one last
+-- the cache and the key that are sought
+abbrev pub place_sought : Sought → ℕ × List ℕ
+place_sought sought = (sought.id, key_of sought.words)
+
+module _ {P : Type 0} where
+  -- the law of a seat places them in these two buckets of its table
+  abbrev pub HasBuckets : (P → ℕ → List ℕ → Place) → StripesSeat (Placed P) → Sought → ℕ → ℕ → Type 0
+  HasBuckets placing seat sought one two =
+      (l : Placed P) × (seat.me.0.law ≡ Some l) × (table_words l.buckets ≡ seat.table_id.words)
+      × (buckets_of (placing l.placer) l.buckets (place_sought sought) ≡ (one, two))
+      × (one < l.buckets) × (two < l.buckets)
+
+-- what these slots tell of the key
+abbrev pub seen_among : Sought → List (Option Shown) → Option Bool
+seen_among sought slots = first_seen sought.id (key_of sought.words) sought.moment slots
+
+-- what the slots of two buckets do
+abbrev pub seen_in_buckets : Sought → List ℕ → ℕ → ℕ → Option Bool
+seen_in_buckets sought words one two =
+    or_else (seen_among sought (bucket_at words one)) (seen_among sought (bucket_at words two))
+
+-- What a look at words finds, where these spell an image.
+
+-- the first word of a slot that holds the key
+abbrev pub FindsHead : Sought → ℕ → Option ℕ → List ℕ → Type 0
+FindsHead sought slot head words = IsSpeltAt words slot → IsHeadAt sought.id sought.words words slot head
+
+-- what a slot tells of it
+abbrev pub FindsInSlot : Sought → ℕ → Option Bool → List ℕ → Type 0
+FindsInSlot sought slot live words =
+    IsSpeltAt words slot → live ≡ seen sought.id (key_of sought.words) sought.moment (slot_at words slot)
+
+-- what a bucket does
+abbrev pub FindsInBucket : Sought → ℕ → Option Bool → List ℕ → Type 0
+FindsInBucket sought bucket live words = IsSpeltIn words bucket → live ≡ seen_among sought (bucket_at words bucket)
+
+-- what two buckets and the stash's count do
+abbrev pub FindsInBuckets : Sought → ℕ → ℕ → Option Bool → List ℕ → Type 0
+FindsInBuckets sought one two live words =
+    IsSpeltIn words one → IsSpeltIn words two
+    → live ≡ answer (seen_in_buckets sought words one two) (slice_index words 0)
+
+-- What a reader has seen and read.
+
+-- the images, the last one last
 abbrev pub images_of : {L : Type 0} → Reader L → List Image
 images_of r = map image_in r.seat.me.0.front
 
@@ -45,6 +94,10 @@ checked_of r = (glance_of r.seat.me.0).checked
 abbrev pub lookups_of : {L : Type 0} → Reader L → ℕ
 lookups_of r = r.seat.me.0.lookups
 
+-- what the last image says of the key
+abbrev pub found_in : {L : Type 0} → Reader L → Sought → Option Bool
+found_in r sought = found (last_image (images_of r)) sought.id (key_of sought.words) sought.moment
+
 -- a lookup of a key of these two buckets: which versions it read twice, and what else became of the reader
 pub record IsLookup {L : Type 0} (place : ℕ × ℕ) (before after : Reader L) : Type 0 where
   pub stripes : stripes_in (begun_of after) ≡ read_for place
@@ -55,6 +108,10 @@ pub record IsLookup {L : Type 0} (place : ℕ × ℕ) (before after : Reader L) 
   pub law : after.seat.me.0.law ≡ before.seat.me.0.law
   pub settled : (glance_of after.seat.me.0).settled ≡ true
 
--- why a lookup may be unsure: a version was odd, or did not stay
+-- where a lookup is sure, each version was even and stayed
+abbrev pub HasStayed : {L : Type 0} → Reader L → Type 0
+HasStayed r = Stayed (begun_of r) (checked_of r)
+
+-- why it may be unsure: one was odd, or did not stay
 abbrev pub Moved : {L : Type 0} → Reader L → Type 0
 Moved r = SomeOdd (begun_of r) ⊎ (begun_of r ≢ checked_of r)

@@ -1,5 +1,5 @@
 -- The words that spell an image.
-use Rattle.std.specs.Prelude.{◌≡◌, ℕ, zero, suc, ◌+◌, ◌-◌, ◌*◌, ◌/◌, ◌%◌, ◌^◌, List, [], ◌∷◌, ◌++◌, length, take, drop, replicate, slice_index, if◌then◌else◌, nat_lt, Option, Some, None}
+use Rattle.std.specs.Prelude.{◌≡◌, ℕ, zero, suc, ◌+◌, ◌-◌, ◌*◌, ◌/◌, ◌%◌, ◌^◌, List, [], ◌∷◌, ◌++◌, length, take, drop, replicate, slice_index, if◌then◌else◌, nat_lt, All, Option, Some, None, option_map}
 use Rattle.std.specs.Int.{to_le_bytes, w64}
 use Rattle.jc_model.specs.Key.{words_of}
 use Rattle.jc_model.specs.declared.config.Expiry.{Expiry}
@@ -7,7 +7,8 @@ use Rattle.jc_model.specs.declared.config.Expiry.TheVariants.{Never, At}
 use Rattle.jc_place.specs.declared.place.Place.{Place}
 use Rattle.jc_cuckoo.specs.Cells.{first_bucket, second_bucket}
 use Rattle.jc_rows.specs.Images.{Image, Shown}
-use Rattle.jc_cuckoo.specs.Images.{IsImage}
+use Rattle.jc_cuckoo.specs.declared.held.Held.{Held}
+use Rattle.jc_cuckoo.specs.Images.{IsImage, shown}
 use Rattle.jc_model.specs.Limits.{key_words}
 use Rattle.jc_stripes.specs.Layout.{common}
 use Rattle.jc_index.specs.Layout.{bucket_words, moment_place, slot_place, slot_words, stripe_of}
@@ -87,6 +88,10 @@ slot_at words slot = slot_in (slot_words_at words slot)
 -- the words of a slot spell it, and nothing else
 abbrev pub IsCoded : Option Shown → Type 0
 IsCoded x = slot_in (words_of_slot x) ≡ x
+
+-- the words of each of these slots spell it
+abbrev pub AreCoded : List (Option Held) → Type 0
+AreCoded slots = All (λ s. IsCoded (option_map shown s)) slots
 
 -- so many buckets, spelt in the one way
 pub record IsSpelt (buckets : ℕ) (words : List ℕ) : Type 0 where

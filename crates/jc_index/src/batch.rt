@@ -1,7 +1,8 @@
 //! The words that a commit sets.
-ghost use Rattle.std.specs.Prelude.{◌≡◌, ◌+◌, ◌<◌, ◌≤◌, ◌^◌, [], ◌∷◌, ◌++◌, take};
+ghost use Rattle.std.specs.Prelude.{◌≡◌, ◌+◌, ◌<◌, ◌≤◌, ◌^◌, [], ◌∷◌};
 ghost use Rattle.jc_index.specs.Layout.{most_writes, slot_words};
 ghost use Rattle.jc_index.specs.Batches.{placed_at};
+ghost use Rattle.jc_index.specs.Changes.{AddsWrites, writes_in};
 
 use crate::layout::{MOST_WRITES, SLOT_WORDS};
 
@@ -15,7 +16,7 @@ pub(crate) struct Batch {
 impl Batch {
     /// No words.
     pub(crate) fn new() -> Batch
-        ensures { (take result.length result.writes ≡ []) × (result.length ≡ 0) }
+        ensures { (writes_in result ≡ []) × (result.length ≡ 0) }
     {
         Batch {
             writes: [(0, 0); MOST_WRITES],
@@ -26,7 +27,7 @@ impl Batch {
     /// One word more.
     pub(crate) fn push(&mut self, place: usize, value: u64)
         requires { self.old.length < most_writes }
-        ensures { (take self.new.length self.new.writes ≡ take self.old.length self.old.writes ++ (place, value) ∷ []) × (self.new.length ≡ self.old.length + 1) }
+        ensures { AddsWrites ((place, value) ∷ []) 1 self.old self.new }
     {
         self.writes[self.length] = (place, value);
         self.length += 1;
@@ -35,7 +36,7 @@ impl Batch {
     /// The words of a slot more.
     pub(crate) fn push_slot(&mut self, first: usize, words: [u64; SLOT_WORDS])
         requires { (self.old.length + slot_words ≤ most_writes) × (first + slot_words < 2 ^ 63) }
-        ensures { (take self.new.length self.new.writes ≡ take self.old.length self.old.writes ++ placed_at first words) × (self.new.length ≡ self.old.length + slot_words) }
+        ensures { AddsWrites (placed_at first words) slot_words self.old self.new }
     {
         for k in 0..SLOT_WORDS {
             self.push(first + k, words[k]);
@@ -45,7 +46,7 @@ impl Batch {
     /// The words, each with its place.
     pub(crate) fn writes(&self) -> &[(usize, u64)]
         requires { self.now.length ≤ most_writes }
-        ensures { result.now ≡ take self.now.length self.now.writes }
+        ensures { result.now ≡ writes_in self.now }
     {
         &self.writes[..self.length]
     }

@@ -1,11 +1,11 @@
 //! What a commit sets, and which versions it takes.
 ghost use Rattle.std.specs.Prelude.{◌≡◌, ◌⊎◌, ◌+◌, ◌*◌, ◌<◌, ◌≤◌, ◌++◌, ℕ, List, All, Some, None, take, length};
-ghost use Rattle.jc_stripes.specs.Stripes.{Covered, set_all};
-ghost use Rattle.jc_cuckoo.specs.Images.{written};
+ghost use Rattle.jc_stripes.specs.Stripes.{Covered};
 ghost use Rattle.jc_stripes.specs.Layout.{version_count};
-ghost use Rattle.jc_index.specs.Layout.{bucket_slots, most_writes, slot_words, table_words};
+ghost use Rattle.jc_index.specs.Layout.{most_writes, slot_words};
 ghost use Rattle.jc_index.specs.Spelling.{IsCoded, IsSpelt, group_of, image_in};
 ghost use Rattle.jc_index.specs.Batches.{count_batch, count_for, is_some, shows, slot_batch, stripes_for};
+ghost use Rattle.jc_index.specs.Changes.{ArePlacesOf, AreSlotsOf, SpellsWritten, stripes_of_commit, stripes_taken, writes_in};
 
 use crate::batch::Batch;
 use crate::layout::{BUCKET_SLOTS, SLOT_WORDS};
@@ -24,7 +24,7 @@ pub(crate) struct Change {
 /// The words of these slots.
 fn gathered(writes: &[(u32, Option<Held>)]) -> Batch
     requires few { length writes.now ≤ 2 }
-    ensures batch { take result.length result.writes ≡ slot_batch writes.now }
+    ensures batch { writes_in result ≡ slot_batch writes.now }
     ensures length { result.length ≡ slot_words * length writes.now }
     ensures coded { All (λ w. IsCoded (shows w)) writes.now }
 {
@@ -66,8 +66,8 @@ fn count_of(slots: usize, old: u32, stash: u32) -> Option<u32>
 fn changed(writes: &[(u32, Option<Held>)], count: Option<u32>) -> Change
     requires few { length writes.now ≤ 2 }
     ensures fits { (result.batch.length ≤ most_writes) × (result.taken ≤ 3) }
-    ensures batch { take result.batch.length result.batch.writes ≡ slot_batch writes.now ++ count_batch count }
-    ensures stripes { take result.taken result.stripes ≡ stripes_for writes.now (is_some count) }
+    ensures batch { writes_in result.batch ≡ slot_batch writes.now ++ count_batch count }
+    ensures stripes { stripes_taken result ≡ stripes_for writes.now (is_some count) }
     ensures coded { All (λ w. IsCoded (shows w)) writes.now }
 {
     let mut batch = gathered(writes);
@@ -97,12 +97,15 @@ impl Change {
     pub(crate) fn of(writes: &[(u32, Option<Held>)], old: u32, stash: u32) -> Change
         requires { length writes.now ≤ 2 }
         ensures fits { (result.batch.length ≤ most_writes) × (result.taken ≤ 3) }
-        ensures stripes { take result.taken result.stripes ≡ stripes_for writes.now (is_some (count_for (length writes.now) old stash)) }
-        ensures some { 0 < length (take result.batch.length result.batch.writes) }
-        ensures few { All (λ j. j < version_count) (take result.taken result.stripes) }
-        ensures covered { Covered group_of (take result.taken result.stripes) (take result.batch.length result.batch.writes) }
-        ensures inside { (buckets : ℕ) → All (λ w. w.0 < bucket_slots * buckets) writes.now → All (λ w. version_count + w.0 < table_words buckets) (take result.batch.length result.batch.writes) }
-        ensures image { (buckets : ℕ) (words : List ℕ) → All (λ w. w.0 < bucket_slots * buckets) writes.now → IsSpelt buckets words → (image_in words).stash ≡ old → IsSpelt buckets (set_all words (take result.batch.length result.batch.writes)) × (image_in (set_all words (take result.batch.length result.batch.writes)) ≡ written (image_in words) writes.now stash) }
+        ensures stripes { stripes_taken result ≡ stripes_of_commit writes.now old stash }
+        ensures some { 0 < length (writes_in result.batch) }
+        ensures few { All (λ j. j < version_count) (stripes_taken result) }
+        ensures covered { Covered group_of (stripes_taken result) (writes_in result.batch) }
+        ensures inside { (buckets : ℕ)
+            → AreSlotsOf buckets writes.now → ArePlacesOf buckets (writes_in result.batch) }
+        ensures image { (buckets : ℕ) (words : List ℕ) → AreSlotsOf buckets writes.now
+            → IsSpelt buckets words → (image_in words).stash ≡ old
+            → SpellsWritten buckets writes.now stash words (writes_in result.batch) }
     {
         let count = count_of(writes.len(), old, stash);
         changed(writes, count)
@@ -111,7 +114,7 @@ impl Change {
     /// The versions.
     pub(crate) fn stripes(&self) -> &[usize]
         requires { self.now.taken ≤ 3 }
-        ensures { result.now ≡ take self.now.taken self.now.stripes }
+        ensures { result.now ≡ stripes_taken self.now }
     {
         &self.stripes[..self.taken]
     }
@@ -119,7 +122,7 @@ impl Change {
     /// The words, each with its place.
     pub(crate) fn writes(&self) -> &[(usize, u64)]
         requires { self.now.batch.length ≤ most_writes }
-        ensures { result.now ≡ take self.now.batch.length self.now.batch.writes }
+        ensures { result.now ≡ writes_in self.now.batch }
     {
         self.batch.writes()
     }

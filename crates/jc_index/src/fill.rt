@@ -1,9 +1,9 @@
 //! The words of a new table.
-ghost use Rattle.std.specs.Prelude.{◌≡◌, ◌*◌, ◌≤◌, ◌∷◌, ◌++◌, IfOk, All, length, option_map, replicate};
-ghost use Rattle.jc_cuckoo.specs.Images.{grown, shown};
+ghost use Rattle.std.specs.Prelude.{◌≡◌, ◌*◌, ◌≤◌, ◌∷◌, ◌++◌, IfOk, length, replicate};
+ghost use Rattle.jc_cuckoo.specs.Images.{grown};
 ghost use Rattle.jc_stripes.specs.Layout.{versions_at};
 ghost use Rattle.jc_index.specs.Layout.{bucket_slots, bucket_words};
-ghost use Rattle.jc_index.specs.Spelling.{IsCoded, encoded};
+ghost use Rattle.jc_index.specs.Spelling.{AreCoded, encoded};
 
 use crate::layout::{BUCKET_WORDS, HEADER_WORDS, SLOT_WORDS};
 use crate::slot::words_of_slot;
@@ -19,7 +19,8 @@ pub(crate) fn filled(
     stash: u32,
 ) -> Result<Vec<u64>, OutOfMemory>
     requires { length slots.now ≤ bucket_slots * 65536 }
-    ensures { IfOk result (λ v. (v.items ≡ versions_at 0 ++ encoded (grown slots.now stash)) × All (λ s. IsCoded (option_map shown s)) slots.now) }
+    ensures { IfOk result (λ v. (v.items ≡ versions_at 0 ++ encoded (grown slots.now stash))
+        × AreCoded slots.now) }
 {
     let mut words = vec![in alloc; 0; VERSION_COUNT]?;
     words.reserve(1 + SLOT_WORDS * slots.len())?;
@@ -34,7 +35,8 @@ pub(crate) fn filled(
 /// Versions that are this number, and the words of an image with empty slots.
 pub(crate) fn blank(alloc: Global, buckets: u32, start: u64) -> Result<Vec<u64>, OutOfMemory>
     requires { buckets ≤ 65536 }
-    ensures { IfOk result (λ v. v.items ≡ versions_at start ++ 0 ∷ replicate (bucket_words * buckets) 0) }
+    ensures { IfOk result
+        (λ v. v.items ≡ versions_at start ++ 0 ∷ replicate (bucket_words * buckets) 0) }
 {
     let mut words = vec![in alloc; start; VERSION_COUNT]?;
     words.resize(HEADER_WORDS + BUCKET_WORDS * buckets as usize, 0)?;

@@ -1,11 +1,9 @@
 //! What a lookup reads between its versions.
-ghost use Rattle.std.specs.Prelude.{◌≡◌, ◌+◌, ◌*◌, ◌/◌, ◌<◌, ◌≤◌, false, List, ℕ, slice_index};
+ghost use Rattle.std.specs.Prelude.{◌≡◌, ◌+◌, ◌*◌, ◌/◌, ◌≤◌, false, List, ℕ};
 ghost use Rattle.jc_stripes.specs.Stripes.{Among, glance_of};
 ghost use Rattle.jc_stripes.specs.Layout.{common};
 ghost use Rattle.jc_index.specs.Layout.{bucket_slots, header_words, slot_words, stripe_of, table_words};
-ghost use Rattle.jc_index.specs.Spelling.{key_of, slot_at};
-ghost use Rattle.jc_index.specs.Found.{answer, first_seen, or_else, seen};
-ghost use Rattle.jc_index.specs.Passes.{IsHeadAt, IsNoted, IsSpeltAt, IsSpeltIn, bucket_at};
+ghost use Rattle.jc_index.specs.Passes.{FindsHead, FindsInBucket, FindsInBuckets, FindsInSlot, IsNoted};
 
 use crate::layout::{BUCKET_SLOTS, MOMENT_PLACE, SLOT_WORDS};
 use crate::placed::Placed;
@@ -20,7 +18,8 @@ fn head_at<P: Placer>(reader: &mut Reader<Placed<P>>, slot: usize, sought: &Soug
     requires young { (glance_of reader.old.seat.me.0).settled ≡ false }
     ensures same { reader.new.seat.table_id ≡ reader.old.seat.table_id }
     ensures young { (glance_of reader.new.seat.me.0).settled ≡ false }
-    ensures noted { (js : List ℕ) → Among (stripe_of (slot / bucket_slots)) js → IsNoted js reader.old.seat reader.new.seat (λ words. IsSpeltAt words slot → IsHeadAt sought.now.id sought.now.words words slot result) }
+    ensures noted { (js : List ℕ) → Among (stripe_of (slot / bucket_slots)) js
+        → IsNoted js reader.old.seat reader.new.seat (FindsHead sought.now slot result) }
 {
     let first = SLOT_WORDS * slot + 1;
     let head = reader.note(first);
@@ -45,7 +44,8 @@ fn look_slot<P: Placer>(
     requires young { (glance_of reader.old.seat.me.0).settled ≡ false }
     ensures same { reader.new.seat.table_id ≡ reader.old.seat.table_id }
     ensures young { (glance_of reader.new.seat.me.0).settled ≡ false }
-    ensures noted { (js : List ℕ) → Among (stripe_of (slot / bucket_slots)) js → IsNoted js reader.old.seat reader.new.seat (λ words. IsSpeltAt words slot → result ≡ seen sought.now.id (key_of sought.now.words) sought.now.moment (slot_at words slot)) }
+    ensures noted { (js : List ℕ) → Among (stripe_of (slot / bucket_slots)) js
+        → IsNoted js reader.old.seat reader.new.seat (FindsInSlot sought.now slot result) }
 {
     let Some(head) = head_at(reader, slot, sought) else {
         return None;
@@ -67,7 +67,8 @@ fn look_bucket<P: Placer>(
     requires young { (glance_of reader.old.seat.me.0).settled ≡ false }
     ensures same { reader.new.seat.table_id ≡ reader.old.seat.table_id }
     ensures young { (glance_of reader.new.seat.me.0).settled ≡ false }
-    ensures noted { (js : List ℕ) → Among (stripe_of bucket) js → IsNoted js reader.old.seat reader.new.seat (λ words. IsSpeltIn words bucket → result ≡ first_seen sought.now.id (key_of sought.now.words) sought.now.moment (bucket_at words bucket)) }
+    ensures noted { (js : List ℕ) → Among (stripe_of bucket) js
+        → IsNoted js reader.old.seat reader.new.seat (FindsInBucket sought.now bucket result) }
 {
     let first = BUCKET_SLOTS * bucket;
     for slot in first..first + BUCKET_SLOTS {
@@ -91,7 +92,9 @@ pub(crate) fn look<P: Placer>(
     requires young { (glance_of reader.old.seat.me.0).settled ≡ false }
     ensures same { reader.new.seat.table_id ≡ reader.old.seat.table_id }
     ensures young { (glance_of reader.new.seat.me.0).settled ≡ false }
-    ensures noted { (js : List ℕ) → Among (stripe_of one) js → Among (stripe_of two) js → Among common js → IsNoted js reader.old.seat reader.new.seat (λ words. IsSpeltIn words one → IsSpeltIn words two → result ≡ answer (or_else (first_seen sought.now.id (key_of sought.now.words) sought.now.moment (bucket_at words one)) (first_seen sought.now.id (key_of sought.now.words) sought.now.moment (bucket_at words two))) (slice_index words 0)) }
+    ensures noted { (js : List ℕ)
+        → Among (stripe_of one) js → Among (stripe_of two) js → Among common js
+        → IsNoted js reader.old.seat reader.new.seat (FindsInBuckets sought.now one two result) }
 {
     let first = look_bucket(reader, one, sought);
     if first.is_some() {

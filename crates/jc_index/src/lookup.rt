@@ -1,14 +1,12 @@
 //! A lookup that never waits.
-ghost use Rattle.std.specs.Prelude.{◌≡◌, ◌⊎◌, ◌%◌, ◌<◌, Bool, true, false, length, Some, None};
+ghost use Rattle.std.specs.Prelude.{◌≡◌, ◌⊎◌, ◌%◌, Bool, true, false, length, Some, None};
 ghost use Rattle.jc_place.specs.Place.{IsTableSize};
-ghost use Rattle.jc_stripes.specs.Stripes.{Stayed, glance_of};
-ghost use Rattle.jc_rows.specs.Images.{last_image};
+ghost use Rattle.jc_stripes.specs.Stripes.{glance_of};
 ghost use Rattle.jc_index.specs.Layout.{table_words};
 ghost use Rattle.jc_index.specs.Spelling.{buckets_of, key_of};
-ghost use Rattle.jc_index.specs.Found.{found};
 ghost use Rattle.jc_index.specs.declared.lookup.Lookup.TheVariants.{Sure, Unsure};
 ghost use Rattle.jc_index.specs.Versions.{versions_of};
-ghost use Rattle.jc_index.specs.Passes.{IsLookup, Moved, begun_of, checked_of, images_of};
+ghost use Rattle.jc_index.specs.Passes.{HasBuckets, HasStayed, IsLookup, Moved, found_in, place_sought};
 
 use crate::look::look;
 use crate::placed::{Placed, buckets_of};
@@ -37,12 +35,12 @@ fn probe<P: Placer>(
     two: usize,
     sought: &Sought,
 ) -> (bool, Option<bool>)
-    requires law { (l : Placed P) × (reader.old.seat.me.0.law ≡ Some l) × (table_words l.buckets ≡ reader.old.seat.table_id.words) × (buckets_of (P.placing l.placer) l.buckets (sought.now.id, key_of sought.now.words) ≡ (one, two)) × (one < l.buckets) × (two < l.buckets) }
+    requires law { HasBuckets P.placing reader.old.seat sought.now one two }
     requires stripes { stripes.now ≡ versions_of one two true }
     requires alike { length versions.old ≡ length stripes.now }
     requires rests { (glance_of reader.old.seat.me.0).settled ≡ true }
-    ensures sure { result.0 ≡ true → found (last_image (images_of reader.new)) sought.now.id (key_of sought.now.words) sought.now.moment ≡ result.1 }
-    ensures stays { result.0 ≡ true → Stayed (begun_of reader.new) (checked_of reader.new) }
+    ensures sure { result.0 ≡ true → found_in reader.new sought.now ≡ result.1 }
+    ensures stays { result.0 ≡ true → HasStayed reader.new }
     ensures unsure { result.0 ≡ false → Moved reader.new }
     ensures reads { IsLookup (one, two) reader.old reader.new }
 {
@@ -79,10 +77,11 @@ pub(crate) fn look_up<P: Placer>(
     requires wide { table_words buckets ≡ reader.old.seat.table_id.words }
     requires size { IsTableSize buckets }
     requires rests { (glance_of reader.old.seat.me.0).settled ≡ true }
-    ensures sure { (b : Bool) → result ≡ Sure b → found (last_image (images_of reader.new)) sought.now.id (key_of sought.now.words) sought.now.moment ≡ Some b }
-    ensures stays { (b : Bool) → result ≡ Sure b → Stayed (begun_of reader.new) (checked_of reader.new) }
-    ensures unsure { result ≡ Unsure → Moved reader.new ⊎ (found (last_image (images_of reader.new)) sought.now.id (key_of sought.now.words) sought.now.moment ≡ None) }
-    ensures reads { IsLookup (buckets_of (P.placing placer.now) buckets (sought.now.id, key_of sought.now.words)) reader.old reader.new }
+    ensures sure { (b : Bool) → result ≡ Sure b → found_in reader.new sought.now ≡ Some b }
+    ensures stays { (b : Bool) → result ≡ Sure b → HasStayed reader.new }
+    ensures unsure { result ≡ Unsure → Moved reader.new ⊎ (found_in reader.new sought.now ≡ None) }
+    ensures reads { IsLookup (buckets_of (P.placing placer.now) buckets (place_sought sought.now))
+        reader.old reader.new }
 {
     let (one, two) = buckets_of(placer, buckets, sought.id, key);
     let (first, second) = (one % STRIPE_COUNT, two % STRIPE_COUNT);

@@ -1,9 +1,8 @@
 //! The name of an index, and words that have none yet.
-ghost use Rattle.std.specs.Prelude.{◌≡◌, ◌*◌, ◌%◌, [], ◌∷◌, None, IfOk, replicate};
+ghost use Rattle.std.specs.Prelude.{◌≡◌, ◌%◌, IfOk};
 ghost use Rattle.jc_place.specs.Place.{IsTableSize};
-ghost use Rattle.jc_cuckoo.specs.Images.{image_of};
 ghost use Rattle.jc_stripes.specs.Layout.{versions_at};
-ghost use Rattle.jc_index.specs.Layout.{bucket_slots};
+ghost use Rattle.jc_index.specs.Indexes.{IsBlankIndex};
 
 use crate::fill::blank;
 use crate::placed::Placed;
@@ -50,7 +49,7 @@ impl<P: Placer + Drop> Unnamed<P> {
     /// One empty image of so many buckets. All versions begin at 0.
     pub fn new(alloc: Global, placer: P, buckets: u32) -> Result<Unnamed<P>, OutOfMemory>
         requires { IsTableSize buckets }
-        ensures words { IfOk result (λ w. (w.images ≡ image_of buckets (replicate (bucket_slots * buckets) None) ∷ []) × (w.placer ≡ placer) × (w.buckets ≡ buckets)) }
+        ensures words { IfOk result (λ w. IsBlankIndex placer buckets w) }
         ensures versions { IfOk result (λ w. w.versions ≡ versions_at 0) }
     {
         Unnamed::starting_at(alloc, placer, buckets, 0)
@@ -66,7 +65,7 @@ impl<P: Placer + Drop> Unnamed<P> {
     ) -> Result<Unnamed<P>, OutOfMemory>
         requires size { IsTableSize buckets }
         requires even { start % 2 ≡ 0 }
-        ensures words { IfOk result (λ w. (w.images ≡ image_of buckets (replicate (bucket_slots * buckets) None) ∷ []) × (w.placer ≡ placer) × (w.buckets ≡ buckets)) }
+        ensures words { IfOk result (λ w. IsBlankIndex placer buckets w) }
         ensures versions { IfOk result (λ w. w.versions ≡ versions_at start) }
     {
         let words = blank(alloc.clone()?, buckets, start)?;

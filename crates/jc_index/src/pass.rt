@@ -1,12 +1,10 @@
 //! A reader of the index.
-ghost use Rattle.std.specs.Prelude.{◌≡◌, ◌⊎◌, ◌≢◌, suc, Bool, true, false, None, Some, IfOk, IfErr};
+ghost use Rattle.std.specs.Prelude.{◌≡◌, suc, Bool, true, false, Some, IfOk, IfErr};
 ghost use mathlib.Core.List.{IsPrefix};
-ghost use Rattle.jc_stripes.specs.Stripes.{SomeOdd, Stayed, stripes_in};
-ghost use Rattle.jc_rows.specs.Images.{last_image};
-ghost use Rattle.jc_index.specs.Spelling.{buckets_of};
-ghost use Rattle.jc_index.specs.Found.{found};
+ghost use Rattle.jc_stripes.specs.Stripes.{Stayed};
 ghost use Rattle.jc_index.specs.declared.lookup.Lookup.TheVariants.{Sure, Unsure};
-ghost use Rattle.jc_index.specs.Versions.{read_for};
+ghost use Rattle.jc_index.specs.Indexes.{HasMet, HasSameMeeting};
+ghost use Rattle.jc_index.specs.Lookups.{MayBeUnsure, ReadsStripes, found_by};
 
 use crate::lookup::{Lookup, look_up};
 use crate::naming::Naming;
@@ -38,20 +36,22 @@ impl<N: Naming, P: Placer + Drop> Model for Pass<N, P> {
 
     ghost view = { λ p. passing_of p.placer p.buckets p.met p.member };
 
-    ghost invariant = { λ p. IsPassing p.placer p.buckets p.member × (p.member.follower.seat.table_id ≡ N.name) };
+    ghost invariant = { λ p. IsPassing p.placer p.buckets p.member
+        × (p.member.follower.seat.table_id ≡ N.name) };
 }
 
 impl<N: Naming, P: Placer + Drop> Pass<N, P> {
     /// Whether a key is there and live, without waiting. It is sure only of the last image that it has seen.
     pub fn lookup(&mut self, id: CacheId, key: &Key, now: u64) -> Lookup
-        ensures sure { (b : Bool) → result ≡ Sure b → found (last_image self.new.images) id key.now now ≡ Some b }
+        ensures sure { (b : Bool) → result ≡ Sure b → found_by self.new id key.now now ≡ Some b }
         ensures stays { (b : Bool) → result ≡ Sure b → Stayed self.new.begun self.new.checked }
         ensures unmet { self.old.met ≡ false → (result ≡ Unsure) × (self.new ≡ self.old) }
-        ensures unsure { result ≡ Unsure → (self.old.met ≡ false) ⊎ ((SomeOdd self.new.begun ⊎ (self.new.begun ≢ self.new.checked)) ⊎ (found (last_image self.new.images) id key.now now ≡ None)) }
-        ensures stripes { self.old.met ≡ true → (stripes_in self.new.begun ≡ read_for (buckets_of (P.placing self.old.placer) self.old.buckets (id, key.now))) × (stripes_in self.new.checked ≡ stripes_in self.new.begun) }
+        ensures unsure { result ≡ Unsure → MayBeUnsure self.old self.new id key.now now }
+        ensures stripes { self.old.met ≡ true
+            → ReadsStripes P.placing self.old self.new id key.now }
         ensures counted { self.old.met ≡ true → self.new.lookups ≡ suc self.old.lookups }
         ensures front { IsPrefix self.old.images self.new.images }
-        ensures same { (self.new.met ≡ self.old.met) × (self.new.placer ≡ self.old.placer) × (self.new.buckets ≡ self.old.buckets) }
+        ensures same { HasSameMeeting self.old self.new }
     {
         if !self.met {
             return Lookup::Unsure;
@@ -71,7 +71,7 @@ impl<N: Naming, P: Placer + Drop> Pass<N, P> {
     pub fn meet(&mut self, words: &mut Words<N, P>) -> Result<(), OutOfMemory>
         ensures words { words.new ≡ words.old }
         ensures front { IsPrefix self.old.images self.new.images }
-        ensures met { IfOk result (λ _. (self.new.met ≡ true) × (self.new.images ≡ words.old.images) × (self.new.placer ≡ words.old.placer) × (self.new.buckets ≡ words.old.buckets)) }
+        ensures met { IfOk result (λ _. HasMet words.old self.new) }
         ensures counted { IfOk result (λ _. self.new.lookups ≡ 0) }
         ensures refused { IfErr result (λ _. self.new ≡ record self.old { met = false }) }
     {

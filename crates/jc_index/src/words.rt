@@ -1,11 +1,8 @@
 //! The index as its writer has it.
-ghost use Rattle.std.specs.Prelude.{◌≡◌, ◌*◌, ◌<◌, ◌≤◌, [], ◌∷◌, ◌++◌, true, All, Some, IfOk, OnErr, OnOk, length};
+ghost use Rattle.std.specs.Prelude.{◌≡◌, ◌*◌, ◌≤◌, Some, IfOk, OnErr, OnOk, length};
 ghost use Rattle.jc_stripes.specs.Layout.{versions_at};
-ghost use Rattle.jc_stripes.specs.Stripes.{Changes, IsCommitted};
-ghost use Rattle.jc_rows.specs.Images.{last_image};
-ghost use Rattle.jc_cuckoo.specs.Images.{IsGrowth, IsImage, grown, written};
-ghost use Rattle.jc_index.specs.Layout.{bucket_slots};
-ghost use Rattle.jc_index.specs.Batches.{count_for, is_some, stripes_for};
+ghost use Rattle.jc_cuckoo.specs.Mirrors.{AddsGrownImage, AddsWrittenImage, SlotsMakeGrowth, WritesFitLast, WritesMakeImage};
+ghost use Rattle.jc_index.specs.Indexes.{CommitsVersions, HasMet};
 
 use crate::change::Change;
 use crate::fill::filled;
@@ -37,14 +34,15 @@ impl<N: Naming, P: Placer + Drop> Model for Words<N, P> {
 
     ghost view = { λ w. index_of w.placer w.buckets w.lineage };
 
-    ghost invariant = { λ w. IsIndex w.placer w.buckets w.count w.lineage × (w.lineage.keeper.seat.table_id ≡ N.name) };
+    ghost invariant = { λ w. IsIndex w.placer w.buckets w.count w.lineage
+        × (w.lineage.keeper.seat.table_id ≡ N.name) };
 }
 
 impl<N: Naming, P: Placer + Drop> Words<N, P> {
     /// A pass that has seen all images, and made no lookup.
     pub fn pass(&mut self) -> Result<Pass<N, P>, OutOfMemory>
         ensures same { self.new ≡ self.old }
-        ensures pass { IfOk result (λ p. (p.images ≡ self.old.images) × (p.met ≡ true) × (p.placer ≡ self.old.placer) × (p.buckets ≡ self.old.buckets)) }
+        ensures pass { IfOk result (λ p. HasMet self.old p) }
         ensures counted { IfOk result (λ p. p.lookups ≡ 0) }
     {
         let member = self.lineage.member()?;
@@ -69,11 +67,12 @@ impl<N: Naming, P: Placer + Drop> Mirror for Words<N, P> {
     /// slot is written.
     fn commit(&mut self, writes: &[(u32, Option<Held>)], stash: u32)
         requires few { length writes.now ≤ 2 }
-        requires inside { All (λ w. w.0 < bucket_slots * (last_image self.old.images).buckets) writes.now }
-        requires image { IsImage (P.placing self.old.placer) (written (last_image self.old.images) writes.now stash) }
-        ensures images { Some self.new.images ≡ Some (self.old.images ++ written (last_image self.old.images) writes.now stash ∷ []) }
+        requires inside { WritesFitLast writes.now (Some self.old.images) }
+        requires image { WritesMakeImage (P.placing self.old.placer) writes.now stash
+            (Some self.old.images) }
+        ensures images { AddsWrittenImage writes.now stash (Some self.old.images) (Some self.new.images) }
         ensures placing { P.placing self.new.placer ≡ P.placing self.old.placer }
-        ensures versions { Changes IsCommitted (stripes_for writes.now (is_some (count_for (length writes.now) (last_image self.old.images).stash stash))) self.old.versions self.new.versions }
+        ensures versions { CommitsVersions writes.now stash self.old self.new }
         ensures same { (self.new.placer ≡ self.old.placer) × (self.new.buckets ≡ self.old.buckets) }
     {
         let change = Change::of(writes, self.count, stash);
@@ -84,8 +83,10 @@ impl<N: Naming, P: Placer + Drop> Mirror for Words<N, P> {
     /// The image is the first of a new table, whose versions all begin at 0. The old table's readers are unsure from
     /// then on.
     fn grow(&mut self, slots: &[Option<Held>], stash: u32) -> Result<(), OutOfMemory>
-        requires growth { IsGrowth (P.placing self.old.placer) (last_image self.old.images) slots.now stash }
-        ensures images { OnOk result (Some self.new.images ≡ Some (self.old.images ++ grown slots.now stash ∷ [])) }
+        requires growth { SlotsMakeGrowth (P.placing self.old.placer) slots.now stash
+            (Some self.old.images) }
+        ensures images { OnOk result
+            (AddsGrownImage slots.now stash (Some self.old.images) (Some self.new.images)) }
         ensures buckets { OnOk result (self.new.buckets ≡ 2 * self.old.buckets) }
         ensures versions { OnOk result (self.new.versions ≡ versions_at 0) }
         ensures refused { OnErr result (Some self.new.images ≡ Some self.old.images) }

@@ -1,6 +1,6 @@
 -- What is known of live caches, by number.
-use Rattle.std.specs.Prelude.{ℕ, List, [], ◌∷◌, length, map, sum}
-use Rattle.std.specs.Prelude.{Option}
+use Rattle.std.specs.Prelude.{◌≡◌, ℕ, List, [], ◌∷◌, ◌++◌, length, map, sum}
+use Rattle.std.specs.Prelude.{Option, Some}
 use Rattle.std.specs.Option.{option_map}
 use Rattle.std.specs.List.{list_any}
 use Rattle.std.specs.Str.{bytes_eq}
@@ -23,6 +23,10 @@ member_of c = record { name = c.name; capacity = c.capacity }
 
 abbrev pub members_of : Lives → List (Option Member)
 members_of lives = map (option_map (λ k. member_of k.config)) lives
+
+-- a live cache more, under the next number
+abbrev pub AddsMember : List ℕ → ℕ → List (Option Member) → List (Option Member) → Type 0
+AddsMember name capacity old new = new ≡ old ++ Some (record { name = name; capacity = capacity }) ∷ []
 
 -- how many rows they may have together
 abbrev pub rows_of : List (Option Member) → ℕ

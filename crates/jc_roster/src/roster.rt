@@ -1,9 +1,9 @@
 //! What a manager knows of its live caches: their names, numbers and capacities.
-ghost use Rattle.std.specs.Prelude.{◌≡◌, ◌≤◌, ◌<◌, ◌+◌, ◌∷◌, ◌++◌, [], Some, None, IfOk, OnOk, OnErr, length, map, slice_set};
+ghost use Rattle.std.specs.Prelude.{◌≡◌, ◌≤◌, ◌<◌, ◌+◌, [], Some, None, IfOk, OnOk, OnErr, length, map, slice_set};
 ghost use Rattle.jc_model.specs.Limits.{most_ids, most_rows_together};
 ghost use Rattle.jc_model.specs.Places.{at_place, all_there, none_before};
 ghost use Rattle.jc_model.specs.Runs.{refusal_among};
-ghost use Rattle.jc_roster.specs.Members.{Member, rows_of, id_named, create_refusal_in};
+ghost use Rattle.jc_roster.specs.Members.{AddsMember, Member, rows_of, id_named, create_refusal_in};
 
 use jc_model::OutOfMemory;
 use jc_model::config::CacheConfig;
@@ -45,7 +45,9 @@ impl Model for Roster {
 
     ghost view = { λ r. spread r.next 0 r.order.items (members r.names.items r.capacities.items) };
 
-    ghost invariant = { λ r. IsRoster (spread r.next 0 r.order.items (members r.names.items r.capacities.items)) r.next r.order.items r.names.items r.capacities.items (get bytes_eq r.ids) r.total };
+    ghost invariant = { λ r. IsRoster
+        (spread r.next 0 r.order.items (members r.names.items r.capacities.items))
+        r.next r.order.items r.names.items r.capacities.items (get bytes_eq r.ids) r.total };
 }
 
 impl Roster {
@@ -113,7 +115,7 @@ impl Roster {
         requires ids { length self.old < most_ids }
         requires new { id_named name self.old ≡ None }
         requires rows { rows_of self.old + capacity ≤ most_rows_together }
-        ensures ok { OnOk result (self.new ≡ self.old ++ Some (record { name = name; capacity = capacity }) ∷ []) }
+        ensures ok { OnOk result (AddsMember name capacity self.old self.new) }
         ensures number { IfOk result (λ number. number ≡ length self.old) }
         ensures err { OnErr result (self.new ≡ self.old) }
     {

@@ -21,14 +21,16 @@ pub struct Lineage<L: Law + Drop> {
     pub keeper: Keeper<StripesSeat<L>>,
     pub retired: Vec<Retired<L>>,
     pub writer: Writer<L>,
-    pub ghost listed: { tables keeper.seat.me.0.items ≡ outgrown_tables retired.items ++ writer.seat.table_id ∷ [] },
+    pub ghost listed: { tables keeper.seat.me.0.items
+        ≡ outgrown_tables retired.items ++ writer.seat.table_id ∷ [] },
     pub ghost earlier: { AreEarlier writer.seat.me.0.front retired.items },
 }
 
 fn hear_at<L: Law + Drop>(writers: &mut Vec<Retired<L>>, generation: usize, reader: Reader<L>)
     requires { slice_get (outgrown_tables writers.old.items) generation ≡ Some reader.seat.table_id }
     ensures same { outgrown writers.new.items ≡ outgrown writers.old.items }
-    ensures seen { (front : Front) → AreEarlier front writers.old.items → IsPrefix reader.seat.me.0.front front }
+    ensures seen { (front : Front)
+        → AreEarlier front writers.old.items → IsPrefix reader.seat.me.0.front front }
 {
     let writer = &mut writers[generation];
     writer.hear(reader);
@@ -66,7 +68,8 @@ impl<L: Law + Drop> Lineage<L> {
         requires sized { length words.now.items < 2 ^ 63 }
         requires lawful { L.admits law.now (content_of words.now.items) }
         ensures name { self.new.keeper.seat.table_id ≡ self.old.keeper.seat.table_id }
-        ensures ok { IfOk result (λ _. ExtendsFront law.now words.now.items self.old.writer.seat self.new.writer.seat) }
+        ensures ok { IfOk result (λ _. ExtendsFront law.now words.now.items
+            self.old.writer.seat self.new.writer.seat) }
         ensures versions { IfOk result (λ _. versions_of self.new.writer.seat ≡ versions_at 0) }
         ensures refused { IfErr result (λ _. KnowsSame self.old.writer.seat self.new.writer.seat) }
     {
@@ -112,7 +115,8 @@ impl<L: Law + Drop> Lineage<L> {
     /// The reader goes on at the newest table, with the writer's front. Where it is refused, it stays as it was.
     pub fn meet(&mut self, member: &mut Member<L>) -> Result<(), AllocError>
         requires { member.old.follower.seat.table_id ≡ self.old.keeper.seat.table_id }
-        ensures name { HasSameTable self.old.keeper.seat self.new.keeper.seat × HasSameTable member.old.follower.seat member.new.follower.seat }
+        ensures name { HasSameTable self.old.keeper.seat self.new.keeper.seat
+            × HasSameTable member.old.follower.seat member.new.follower.seat }
         ensures writer { IsSameButTold self.old.writer.seat self.new.writer.seat }
         ensures front { FrontIsPrefix member.old.reader.seat member.new.reader.seat }
         ensures met { IfOk result (λ _. HasMet self.old.writer.seat member.new.reader.seat) }

@@ -12,5 +12,6 @@ pub struct Member<L: Law + Drop> {
     pub reader: Reader<L>,
     pub follower: Follower<StripesSeat<L>>,
     pub generation: usize,
-    pub ghost listed: { slice_get (tables follower.seat.me.0.items) generation ≡ Some reader.seat.table_id },
+    pub ghost listed: { slice_get (tables follower.seat.me.0.items) generation
+        ≡ Some reader.seat.table_id },
 }

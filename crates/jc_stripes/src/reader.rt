@@ -48,9 +48,12 @@ impl<L: Law> Reader<L> {
         ensures same { self.new.seat.table_id ≡ self.old.seat.table_id }
         ensures view { AddsCheck stripe result self.old.seat self.new.seat }
         ensures front { FrontIsPrefix self.old.seat self.new.seat }
-        ensures later { (glance_at self.old.seat).settled ≡ true → HasSameFront self.old.seat self.new.seat }
+        ensures later { (glance_at self.old.seat).settled ≡ true
+            → HasSameFront self.old.seat self.new.seat }
         ensures shows { CheckShows L.group stripe result self.old.seat self.new.seat }
-        ensures lawful { (l : L) → HasLaw l self.old.seat → (glance_at self.old.seat).settled ≡ false → L.admits l (last_words self.new.seat) }
+        ensures lawful { (l : L) → HasLaw l self.old.seat
+            → (glance_at self.old.seat).settled ≡ false
+            → L.admits l (last_words self.new.seat) }
     {
         self.board.shared.load::<Check<L>>(&mut self.seat, stripe)
     }

@@ -20,7 +20,8 @@ pub struct Writer<L: Law> {
     pub seat: StripesSeat<L>,
     versions: [u64; VERSION_COUNT],
     pub ghost seated: { seat.table_id ≡ (arc_value board).shared.table_id },
-    pub ghost sized: { (seat.table_id.words ≡ version_count + length (last_of seat.me.0.front)) × (seat.table_id.words < 2 ^ 63) },
+    pub ghost sized: { (seat.table_id.words ≡ version_count + length (last_of seat.me.0.front))
+        × (seat.table_id.words < 2 ^ 63) },
     pub ghost empty: { seat.me.1 ≡ [] },
     pub ghost fits: { (j : ℕ) → slice_index versions j < 2 ^ 64 },
     pub ghost settled: { (j : ℕ) → slice_index versions j % 2 ≡ 1 → slice_index versions j + 1 ≡ 2 ^ 64 },
@@ -108,7 +109,8 @@ impl<L: Law> Writer<L> {
     /// A reader that has seen the front. It is refused where the count of owners is full.
     pub fn reader(&mut self) -> Result<Reader<L>, AllocError>
         ensures same { HasSameTable self.old.seat self.new.seat × HasSameView self.old.seat self.new.seat }
-        ensures reader { IfOk result (λ r. HasSameTable self.old.seat r.seat × IsShared self.old.seat r.seat) }
+        ensures reader { IfOk result
+            (λ r. HasSameTable self.old.seat r.seat × IsShared self.old.seat r.seat) }
     {
         let board = Arc::try_clone(&self.board)?;
         let seat = self.board.shared.split_seat::<Share>(&mut self.seat);
