@@ -24,6 +24,7 @@ use Rattle.jc_shared.specs.declared.fault.CallFault.{CallFault}
 use Rattle.jc_shared.specs.declared.fault.CallFault.TheVariants as faults
 use Rattle.jc_model.specs.Asking.{AsksOf}
 use Rattle.jc_hooks.specs.Asking.{states_after}
+use Rattle.jc_hooks.proofs.Behind.{tells_more}
 use Rattle.jc_shared.specs.declared.hooks.LockedHooks.{LockedHooks}
 use Rattle.jc_shared.specs.Serving.{told_behind, TellsOnce, Tells, TellsOn, Serves}
 use Rattle.jc_shared.specs.Stated.{Stated, AreStated, IsStatedBy}
@@ -57,16 +58,16 @@ module _ {W K : Type 0} (state_after : K → List Notice → List ℕ) where
 
   -- they were told the first notices of the call
   pub tells_first : (old new : LockedHooks W K) (told told' : List Notice) → told ≡ [] → Tells state_after old new told' → TellsOn state_after old new told told'
-  tells_first old new told told' none now = λ first h rest.
-      now rest ∙ h (told' ++ rest) ∙ ap (λ (ns : List Notice). states_after state_after first.listeners.items (ns ++ (told' ++ rest))) none
+  tells_first old new told told' none now = λ first h.
+      tells_more state_after first.listeners.items old.listeners.items new.listeners.items [] told' (subst (Tells state_after first old) none h) now
 
   -- by a request
   pub served_on : (may : W → List (Request × Answer) → Type 0) (old new : LockedHooks W K) (q : Request) (a : Answer) (told : List Notice) → TellsOnce q told → Serves may state_after old new q a → TellsOn state_after old new told (told_behind q told)
-  served_on may old new (Tell notices) a told once s = tells_first old new told notices once s.0
+  served_on may old new (Tell notices) a told once s = tells_first old new told notices once s.1
   served_on may old new (Write key value) a told once s = tells_nothing old new told told s.1 refl
   served_on may old new (Delete key) a told once s = tells_nothing old new told told s.1 refl
-  served_on may old new (Load key) a told once s = tells_nothing old new told told (ap (λ (h : LockedHooks W K). h.listeners) s) refl
-  served_on may old new (Process key n value argument) a told once s = tells_nothing old new told told (ap (λ (h : LockedHooks W K). h.listeners) s) refl
+  served_on may old new (Load key) a told once s = tells_nothing old new told told s.1 refl
+  served_on may old new (Process key n value argument) a told once s = tells_nothing old new told told s.1 refl
 
 -- a tenure tells nothing
 pub goes_untold : (configs : List CacheConfig) (d e : Entry) (pass : Sight) (step : Step) → GoesOn configs d step e pass → e.told ≡ d.told

@@ -5,6 +5,7 @@ pub mod Livings
 pub mod Asked
 pub mod Comparing
 pub mod Walking
+pub mod Callbacks
 pub mod Carrying
 pub mod GivingUp
 pub mod Writing

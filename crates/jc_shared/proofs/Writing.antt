@@ -1,10 +1,11 @@
 -- What the writer has answered, from one moment to the next.
-use Rattle.std.proofs.Common.{◌≡◌, ℕ, false, IsTrue, List, [], ◌∷◌, ◌++◌, Option, Some, None, refl, sym, ap, ◌∙◌, subst, append_assoc, append-nil}
+use Rattle.std.proofs.Common.{◌≡◌, ℕ, false, IsTrue, List, [], ◌∷◌, ◌++◌, Option, Some, None, refl, sym, ap, ◌∙◌, subst, append-nil}
 use Rattle.std.specs.List.{filter}
 use Rattle.std.proofs.lemmas.Bool.{false≢true}
 use Rattle.std.proofs.lemmas.List.{map_push}
 use Rattle.std.proofs.lemmas.List.Elements.{All-push, filter-append}
-use Rattle.jc_hooks.specs.Asking.{MayGiveBy}
+use Rattle.jc_hooks.specs.Asking.{MayGiveBy, GivesAnswers}
+use Rattle.jc_hooks.proofs.Behind.{gives_more}
 use Rattle.jc_model.specs.declared.call.Answer.{Answer}
 use Rattle.jc_model.specs.declared.call.Answer.TheVariants.{Loaded, LoadFailed, Written, WriteFailed, Processed, Told}
 use Rattle.jc_model.specs.declared.call.Notice.{Notice}
@@ -85,11 +86,11 @@ module _ {W K : Type 0} (may : W → List (Request × Answer) → Type 0) where
 
   module _ (state_after : K → List Notice → List ℕ) (old new : LockedHooks W K) (answers : List Answer) where
     -- the writer has given one answer more
-    writes_more : (q : Request) (a : Answer) → IsTrue (is_write q) → IsTrue (fits for_write a) → ((rest : List (Request × Answer)) → MayGiveBy may new.writer rest → MayGiveBy may old.writer ((q, a) ∷ rest)) → WritesOn may old new answers (answers ++ a ∷ [])
+    writes_more : (q : Request) (a : Answer) → IsTrue (is_write q) → IsTrue (fits for_write a) → GivesAnswers may old.writer new.writer ((q, a) ∷ []) → WritesOn may old new answers (answers ++ a ∷ [])
     writes_more q a is fit gave first h = record {
       given = h.given ++ (q, a) ∷ [];
       are = is_one_more answers a q h.given fit is h.are;
-      stated = λ rest m. subst (MayGiveBy may first.writer) (sym (append_assoc h.given ((q, a) ∷ []) rest)) (h.stated ((q, a) ∷ rest) (gave rest m));
+      stated = gives_more may first.writer old.writer new.writer h.given ((q, a) ∷ []) h.stated gave;
     }
 
     -- or was not asked
@@ -103,9 +104,9 @@ module _ {W K : Type 0} (may : W → List (Request × Answer) → Type 0) where
     by_request : (q : Request) (a : Answer) → IsTrue (is_answer_to q a) → Serves may state_after old new q a → WritesOn may old new answers (answers ++ a ∷ [])
     by_request (Write key value) a fit s = writes_more (Write key value) a refl fit s.0
     by_request (Delete key) a fit s = writes_more (Delete key) a refl fit s.0
-    by_request (Load key) a fit s = writes_none a (not_loaded a fit) (ap (λ (h : LockedHooks W K). h.writer) s)
-    by_request (Process key n value argument) a fit s = writes_none a (not_processed a fit) (ap (λ (h : LockedHooks W K). h.writer) s)
-    by_request (Tell notices) a fit s = writes_none a (not_told a fit) s.1
+    by_request (Load key) a fit s = writes_none a (not_loaded a fit) s.0
+    by_request (Process key n value argument) a fit s = writes_none a (not_processed a fit) s.0
+    by_request (Tell notices) a fit s = writes_none a (not_told a fit) s.0
 
     pub takes_in : (q : Request) (answers' : List Answer) → TakesIn may state_after old new q answers answers' → WritesOn may old new answers answers'
     takes_in q answers' t = subst (WritesOn may old new answers) (sym t.added) (by_request q t.answer t.fits t.serves)

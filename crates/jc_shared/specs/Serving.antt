@@ -1,7 +1,8 @@
 -- What a call does to the callbacks that it uses alone.
 use Rattle.std.specs.Prelude.{◌≡◌, ℕ, Bool, true, false, IsTrue, List, [], ◌∷◌, ◌++◌, map, ⊤}
 use Rattle.std.specs.List.{filter, All}
-use Rattle.jc_hooks.specs.Asking.{MayGiveBy, states_after}
+use Rattle.jc_hooks.specs.Answering.{AsksWriter}
+use Rattle.jc_hooks.specs.Asking.{MayGiveBy, GivesAnswers, TellsAll}
 use Rattle.jc_model.specs.declared.call.Answer.{Answer}
 use Rattle.jc_model.specs.declared.call.Answer.TheVariants.{Written, WriteFailed}
 use Rattle.jc_model.specs.declared.call.Notice.{Notice}
@@ -39,23 +40,21 @@ pub record AreWritten (answers : List Answer) (given : List (Request × Answer))
 module _ {W K : Type 0} (state_after : K → List Notice → List ℕ) where
   -- the listeners were told these notices, and no others
   abbrev pub Tells : LockedHooks W K → LockedHooks W K → List Notice → Type 0
-  Tells old new notices = (rest : List Notice) → states_after state_after new.listeners.items rest ≡ states_after state_after old.listeners.items (notices ++ rest)
+  Tells old new notices = TellsAll state_after old.listeners.items new.listeners.items notices
+
+  -- they were told what a request tells, and are left alone by one that tells nothing
+  abbrev pub TellsBy : LockedHooks W K → LockedHooks W K → Request → Type 0
+  TellsBy old new (Tell notices) = Tells old new notices
+  TellsBy old new _ = new.listeners ≡ old.listeners
 
   -- where they had been told what a call had told, they have been told what it has told now
   abbrev pub TellsOn : LockedHooks W K → LockedHooks W K → List Notice → List Notice → Type 0
   TellsOn old new told told' = (first : LockedHooks W K) → Tells first old told → Tells first new told'
 
 module _ {W K : Type 0} (may : W → List (Request × Answer) → Type 0) (state_after : K → List Notice → List ℕ) where
-  -- the writer answered this request so
-  abbrev pub Writes : LockedHooks W K → LockedHooks W K → Request → Answer → Type 0
-  Writes old new request a = (rest : List (Request × Answer)) → MayGiveBy may new.writer rest → MayGiveBy may old.writer ((request, a) ∷ rest)
-
   -- the writer writes and deletes, the listeners are told, and each is left alone by what is not for it
   abbrev pub Serves : LockedHooks W K → LockedHooks W K → Request → Answer → Type 0
-  Serves old new (Tell notices) a = Tells state_after old new notices × (new.writer ≡ old.writer)
-  Serves old new (Write key value) a = Writes old new (Write key value) a × (new.listeners ≡ old.listeners)
-  Serves old new (Delete key) a = Writes old new (Delete key) a × (new.listeners ≡ old.listeners)
-  Serves old new _ a = new ≡ old
+  Serves old new request a = AsksWriter may old.writer new.writer request a × TellsBy state_after old new request
 
   -- the callbacks answered this request, and their answer is the next one
   pub record TakesIn (old new : LockedHooks W K) (request : Request) (answers answers' : List Answer) : Type 0 where
@@ -75,7 +74,7 @@ module _ {W K : Type 0} (may : W → List (Request × Answer) → Type 0) where
   pub record HasWritten (first new : LockedHooks W K) (answers : List Answer) : Type 0 where
     pub given : List (Request × Answer)
     pub are : AreWritten answers given
-    pub stated : (rest : List (Request × Answer)) → MayGiveBy may new.writer rest → MayGiveBy may first.writer (given ++ rest)
+    pub stated : GivesAnswers may first.writer new.writer given
 
   -- where it had given a call's answers, it has given those that the call has now
   abbrev pub WritesOn : LockedHooks W K → LockedHooks W K → List Answer → List Answer → Type 0

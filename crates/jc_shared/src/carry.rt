@@ -17,10 +17,7 @@ use crate::keeping::Keeping;
 use crate::manager::Manager;
 use crate::name::Name;
 use crate::tables::TablePass;
-use jc_hooks::{
-    Hearer, Loader, Processor, Writer, ask_loader, ask_processor, ask_to_delete, ask_to_write,
-    tell_all,
-};
+use jc_hooks::{Hearer, Loader, Processor, Writer, answer_request, tell_all};
 use jc_model::OutOfMemory;
 use jc_model::call::{Answer, Reply, Request};
 use jc_model::event::{Entry, Step};
@@ -82,28 +79,14 @@ impl<N: Name, L: Loader, W: Writer, P: Processor, K: Hearer, J: Keeping> Manager
         ensures served { IfOk result (Serves W.may K.state_after hooks.old hooks.new request.now) }
         ensures untold { OnErr result (hooks.new.listeners ≡ hooks.old.listeners) }
     {
-        let alloc = self.alloc;
-        match request {
-            Request::Load(key) => ask_loader(alloc, &asked.loader, key),
-            Request::Write(key, value) => ask_to_write(alloc, &mut hooks.writer, key, value),
-            Request::Delete(key) => ask_to_delete(alloc, &mut hooks.writer, key),
-            Request::Process {
-                key: _,
-                processor,
-                value,
-                argument,
-            } => ask_processor(
-                alloc,
-                asked.processors.as_slice(),
-                *processor,
-                value.as_ref(),
-                argument,
-            ),
-            Request::Tell(notices) => {
-                tell_all(hooks.listeners.as_mut_slice(), notices.items());
-                Ok(Answer::Told)
-            }
-        }
+        answer_request(
+            self.alloc,
+            &asked.loader,
+            asked.processors.as_slice(),
+            &mut hooks.writer,
+            hooks.listeners.as_mut_slice(),
+            request,
+        )
     }
 
     /// Brings the draft's call on by the callbacks' answer to a request, which the draft then has. An answer that was
