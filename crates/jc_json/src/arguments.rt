@@ -62,7 +62,7 @@ fn push_processor(
 ) -> Result<(), AllocError>
     ensures { OnOk result (Appends (processor_members processor argument.now) text.old text.new) }
 {
-    push_number_member(alloc, text, "processor", u64::from(processor))?;
+    push_number_member(text, "processor", u64::from(processor))?;
     push_bytes_member(alloc, text, "argument", argument.bytes())
 }
 

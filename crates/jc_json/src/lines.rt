@@ -64,8 +64,8 @@ impl<'e> Left<'e> {
 fn push_asked(alloc: Global, text: &mut String, entry: &Entry) -> Result<(), AllocError>
     ensures { OnOk result (Appends (asked_json entry.now) text.old text.new) }
 {
-    push_number_member(alloc, text, "id", u64::from(entry.id.number()))?;
-    push_number_member(alloc, text, "at", entry.at)?;
+    push_number_member(text, "id", u64::from(entry.id.number()))?;
+    push_number_member(text, "at", entry.at)?;
     push_next(text, "op")?;
     push_word(text, name_of(&entry.call))?;
     push_arguments(alloc, text, &entry.call)

@@ -21,22 +21,17 @@ pub fn push_head(
     ensures { OnOk result (Appends (head_json number session cache.now) text.old text.new) }
 {
     push_first(text, "line")?;
-    push_number(alloc, text, number as u64)?;
-    push_number_member(alloc, text, "session", u64::from(session))?;
+    push_number(text, number as u64)?;
+    push_number_member(text, "session", u64::from(session))?;
     push_next(text, "cache")?;
     push_text(alloc, text, cache)
 }
 
-fn push_id(
-    alloc: Global,
-    text: &mut String,
-    refusal: Option<CreateRefusal>,
-    id: u64,
-) -> Result<(), AllocError>
+fn push_id(text: &mut String, refusal: Option<CreateRefusal>, id: u64) -> Result<(), AllocError>
     ensures { OnOk result (Appends (id_json refusal id) text.old text.new) }
 {
     match refusal {
-        None => push_number(alloc, text, id),
+        None => push_number(text, id),
         Some(_) => text.push_str("null"),
     }
 }
@@ -83,7 +78,7 @@ pub fn push_managed(
 {
     push_head(alloc, text, number, managed.session, managed.name.text())?;
     push_next(text, "id")?;
-    push_id(alloc, text, managed.refusal, id)?;
+    push_id(text, managed.refusal, id)?;
     push_next(text, "op")?;
     push_word(text, name_of_op(managed.op))?;
     push_next(text, "reply")?;

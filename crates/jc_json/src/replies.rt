@@ -92,61 +92,52 @@ fn push_results(
 
 /// Adds the counters behind the hits, each by its name.
 #[tactic(auto, unfolding(crate::specs::Replies::other_counters))]
-pub fn push_other_counters(
-    alloc: Global,
-    text: &mut String,
-    counts: &Counts,
-) -> Result<(), AllocError>
+pub fn push_other_counters(text: &mut String, counts: &Counts) -> Result<(), AllocError>
     ensures { OnOk result (Appends (other_counters counts.now) text.old text.new) }
 {
-    push_number_member(alloc, text, "misses", counts.misses)?;
-    push_number_member(alloc, text, "puts", counts.puts)?;
-    push_number_member(alloc, text, "removals", counts.removals)?;
-    push_number_member(alloc, text, "evictions", counts.evictions)
+    push_number_member(text, "misses", counts.misses)?;
+    push_number_member(text, "puts", counts.puts)?;
+    push_number_member(text, "removals", counts.removals)?;
+    push_number_member(text, "evictions", counts.evictions)
 }
 
-fn push_counters(alloc: Global, text: &mut String, counts: &Counts) -> Result<(), AllocError>
+fn push_counters(text: &mut String, counts: &Counts) -> Result<(), AllocError>
     ensures { OnOk result (Appends (counters_json counts.now) text.old text.new) }
 {
     push_first(text, "hits")?;
-    push_number(alloc, text, counts.hits)?;
-    push_other_counters(alloc, text, counts)?;
+    push_number(text, counts.hits)?;
+    push_other_counters(text, counts)?;
     text.push_str("}")
 }
 
 #[tactic(auto, unfolding(crate::specs::Replies::valued_json))]
-fn push_counted(alloc: Global, text: &mut String, counts: &Counts) -> Result<(), AllocError>
+fn push_counted(text: &mut String, counts: &Counts) -> Result<(), AllocError>
     ensures { OnOk result (Appends (valued_json (codes "counted") (counters_json counts.now))
         text.old text.new) }
 {
     push_kind(text, "counted")?;
     push_next(text, "value")?;
-    push_counters(alloc, text, counts)?;
+    push_counters(text, counts)?;
     text.push_str("}")
 }
 
-fn push_after(alloc: Global, text: &mut String, done: Option<u32>) -> Result<(), AllocError>
+fn push_after(text: &mut String, done: Option<u32>) -> Result<(), AllocError>
     ensures { OnOk result (Appends (after_json done) text.old text.new) }
 {
     match done {
         None => text.push_str("null"),
-        Some(keys) => push_number(alloc, text, u64::from(keys)),
+        Some(keys) => push_number(text, u64::from(keys)),
     }
 }
 
-fn push_fault(
-    alloc: Global,
-    text: &mut String,
-    by: &By,
-    done: Option<u32>,
-) -> Result<(), AllocError>
+fn push_fault(text: &mut String, by: &By, done: Option<u32>) -> Result<(), AllocError>
     ensures { OnOk result (Appends (fault_json by.now done) text.old text.new) }
 {
     push_kind(text, "fault")?;
     push_next(text, "by")?;
     push_word(text, name_of_hook(by))?;
     push_next(text, "after")?;
-    push_after(alloc, text, done)?;
+    push_after(text, done)?;
     text.push_str("}")
 }
 
@@ -160,8 +151,8 @@ fn push_reply(alloc: Global, text: &mut String, reply: &Reply) -> Result<(), All
         Reply::Found(found) => push_found(alloc, text, found),
         Reply::Listed(pairs) => push_listed(alloc, text, pairs.items()),
         Reply::Results(results) => push_results(alloc, text, results.items()),
-        Reply::Counted(counts) => push_counted(alloc, text, counts),
-        Reply::Fault { by, done } => push_fault(alloc, text, by, *done),
+        Reply::Counted(counts) => push_counted(text, counts),
+        Reply::Fault { by, done } => push_fault(text, by, *done),
     }
 }
 

@@ -14,22 +14,22 @@ use jc_model::event::{Entry, Life};
 use jc_script::{grouped, push_number};
 use std::alloc::{AllocError, Global};
 
-fn push_digits(alloc: Global, text: &mut String, number: u64) -> Result<(), AllocError>
+fn push_digits(text: &mut String, number: u64) -> Result<(), AllocError>
     ensures { OnOk result (Appends (four_digits number) text.old text.new) }
 {
-    push_number(alloc, text, number / 1_000 % 10)?;
-    push_number(alloc, text, number / 100 % 10)?;
-    push_number(alloc, text, number / 10 % 10)?;
-    push_number(alloc, text, number % 10)
+    push_number(text, number / 1_000 % 10)?;
+    push_number(text, number / 100 % 10)?;
+    push_number(text, number / 10 % 10)?;
+    push_number(text, number % 10)
 }
 
 /// Adds so many ten-thousandths.
-fn push_fraction(alloc: Global, text: &mut String, number: u64) -> Result<(), AllocError>
+fn push_fraction(text: &mut String, number: u64) -> Result<(), AllocError>
     ensures { OnOk result (Appends (fraction_json number) text.old text.new) }
 {
-    push_number(alloc, text, number / 10_000)?;
+    push_number(text, number / 10_000)?;
     text.push_str(".")?;
-    push_digits(alloc, text, number)
+    push_digits(text, number)
 }
 
 /// Ten-thousandths that the hits are of what was looked up, rounded down.
@@ -43,13 +43,13 @@ fn ten_thousandths(hits: u64, misses: u64) -> u64
 
 /// Adds the hits in what was looked up.
 #[tactic(auto, unfolding(crate::specs::Totals::ratio_json))]
-fn push_ratio(alloc: Global, text: &mut String, hits: u64, misses: u64) -> Result<(), AllocError>
+fn push_ratio(text: &mut String, hits: u64, misses: u64) -> Result<(), AllocError>
     ensures { OnOk result (Appends (ratio_json hits misses) text.old text.new) }
 {
     if hits == 0 && misses == 0 {
         return text.push_str("null");
     }
-    push_fraction(alloc, text, ten_thousandths(hits, misses))
+    push_fraction(text, ten_thousandths(hits, misses))
 }
 
 /// Adds the object of a life with these counters.
@@ -64,11 +64,11 @@ fn push_life(
 {
     push_first(text, "cache")?;
     push_text(alloc, text, life.config.name.text())?;
-    push_number_member(alloc, text, "id", u64::from(life.id.number()))?;
-    push_number_member(alloc, text, "hits", counts.hits)?;
-    push_other_counters(alloc, text, counts)?;
+    push_number_member(text, "id", u64::from(life.id.number()))?;
+    push_number_member(text, "hits", counts.hits)?;
+    push_other_counters(text, counts)?;
     push_next(text, "hit_ratio")?;
-    push_ratio(alloc, text, counts.hits, counts.misses)?;
+    push_ratio(text, counts.hits, counts.misses)?;
     text.push_str("}\n")
 }
 

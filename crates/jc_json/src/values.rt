@@ -53,16 +53,11 @@ pub fn push_word(text: &mut String, word: &str) -> Result<(), AllocError>
 }
 
 /// Adds a member that is a number.
-pub fn push_number_member(
-    alloc: Global,
-    text: &mut String,
-    name: &str,
-    number: u64,
-) -> Result<(), AllocError>
+pub fn push_number_member(text: &mut String, name: &str, number: u64) -> Result<(), AllocError>
     ensures { OnOk result (Appends (number_member name.now number) text.old text.new) }
 {
     push_next(text, name)?;
-    push_number(alloc, text, number)
+    push_number(text, number)
 }
 
 /// Adds a text as a JSON string.

@@ -6,7 +6,7 @@ ghost use Rattle.jc_script.specs.Report.{op_text, answer_text, managed_line, man
 use crate::managed::{ManageOp, Managed};
 use crate::reply::push_spaced;
 use jc_model::event::CreateRefusal;
-use std::alloc::{AllocError, Global};
+use std::alloc::AllocError;
 
 /// The word of a line that creates or destroys.
 pub fn name_of_op(op: ManageOp) -> &'static str
@@ -34,10 +34,10 @@ fn text_of_answer(refusal: Option<CreateRefusal>) -> &'static str
     }
 }
 
-fn push_line(alloc: Global, report: &mut String, line: &Managed) -> Result<(), AllocError>
+fn push_line(report: &mut String, line: &Managed) -> Result<(), AllocError>
     ensures { OnOk result (Appends (managed_line line.now) report.old report.new) }
 {
-    push_spaced(alloc, report, line.session as u64)?;
+    push_spaced(report, line.session as u64)?;
     report.push_str(name_of_op(line.op))?;
     report.push_str(" ")?;
     report.push_str(line.name.text())?;
@@ -46,26 +46,22 @@ fn push_line(alloc: Global, report: &mut String, line: &Managed) -> Result<(), A
     report.push_str("\n")
 }
 
-fn push_lines(alloc: Global, report: &mut String, lines: &[Managed]) -> Result<(), AllocError>
+fn push_lines(report: &mut String, lines: &[Managed]) -> Result<(), AllocError>
     ensures { OnOk result (Appends (flat_map managed_line lines.now) report.old report.new) }
 {
     for line in lines {
-        push_line(alloc, report, line)?;
+        push_line(report, line)?;
     }
     Ok(())
 }
 
 /// Adds what became of the lines that created and destroyed caches; nothing where there were none.
-pub fn push_managed(
-    alloc: Global,
-    report: &mut String,
-    managed: &[Managed],
-) -> Result<(), AllocError>
+pub fn push_managed(report: &mut String, managed: &[Managed]) -> Result<(), AllocError>
     ensures { OnOk result (Appends (managed_text managed.now) report.old report.new) }
 {
     if managed.is_empty() {
         return Ok(());
     }
     report.push_str("manager\n")?;
-    push_lines(alloc, report, managed)
+    push_lines(report, managed)
 }

@@ -4,16 +4,18 @@ ghost use Rattle.std.specs.List.{flat_map};
 ghost use Rattle.jc_script.specs.Report.{found_text, key_text, pair_text, answered_text, result_text, spaced, counts_text, by_text, done_text, reply_text, Appends};
 
 use crate::quote::push_bytes;
+use itoa::Buffer;
 use jc_model::call::{By, Counts, ProcessorFault, Reply};
 use jc_model::key::Key;
 use jc_model::value::Value;
 use std::alloc::{AllocError, Global};
 
 /// Adds a number in decimal digits.
-pub fn push_number(alloc: Global, text: &mut String, number: u64) -> Result<(), AllocError>
+pub fn push_number(text: &mut String, number: u64) -> Result<(), AllocError>
     ensures { OnOk result (Appends (decimal number) text.old text.new) }
 {
-    text.push_str(number.to_string(alloc)?.as_str())
+    let mut digits = Buffer::new();
+    text.push_str(digits.format(number))
 }
 
 fn push_found(alloc: Global, text: &mut String, found: &Option<Value>) -> Result<(), AllocError>
@@ -96,21 +98,21 @@ fn push_results(
 }
 
 /// Adds a number and a space.
-pub fn push_spaced(alloc: Global, text: &mut String, number: u64) -> Result<(), AllocError>
+pub fn push_spaced(text: &mut String, number: u64) -> Result<(), AllocError>
     ensures { OnOk result (Appends (spaced number) text.old text.new) }
 {
-    push_number(alloc, text, number)?;
+    push_number(text, number)?;
     text.push_str(" ")
 }
 
-fn push_counts(alloc: Global, text: &mut String, counts: &Counts) -> Result<(), AllocError>
+fn push_counts(text: &mut String, counts: &Counts) -> Result<(), AllocError>
     ensures { OnOk result (Appends (counts_text counts.now) text.old text.new) }
 {
-    push_spaced(alloc, text, counts.hits)?;
-    push_spaced(alloc, text, counts.misses)?;
-    push_spaced(alloc, text, counts.puts)?;
-    push_spaced(alloc, text, counts.removals)?;
-    push_number(alloc, text, counts.evictions)
+    push_spaced(text, counts.hits)?;
+    push_spaced(text, counts.misses)?;
+    push_spaced(text, counts.puts)?;
+    push_spaced(text, counts.removals)?;
+    push_number(text, counts.evictions)
 }
 
 /// What kind of callback it was.
@@ -124,14 +126,14 @@ pub fn name_of_hook(by: &By) -> &'static str
     }
 }
 
-fn push_done(alloc: Global, text: &mut String, done: Option<u32>) -> Result<(), AllocError>
+fn push_done(text: &mut String, done: Option<u32>) -> Result<(), AllocError>
     ensures { OnOk result (Appends (done_text done) text.old text.new) }
 {
     match done {
         None => Ok(()),
         Some(keys) => {
             text.push_str(" after ")?;
-            push_number(alloc, text, keys as u64)
+            push_number(text, keys as u64)
         }
     }
 }
@@ -147,11 +149,11 @@ pub fn push_reply(alloc: Global, text: &mut String, reply: &Reply) -> Result<(),
         Reply::Found(found) => push_found(alloc, text, found),
         Reply::Listed(pairs) => push_pairs(alloc, text, pairs.items()),
         Reply::Results(results) => push_results(alloc, text, results.items()),
-        Reply::Counted(counts) => push_counts(alloc, text, counts),
+        Reply::Counted(counts) => push_counts(text, counts),
         Reply::Fault { by, done } => {
             text.push_str("fault ")?;
             text.push_str(name_of_hook(by))?;
-            push_done(alloc, text, *done)
+            push_done(text, *done)
         }
     }
 }

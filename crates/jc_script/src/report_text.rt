@@ -36,7 +36,7 @@ fn push_event(
 ) -> Result<(), AllocError>
     ensures { OnOk result (Appends (event_text session notice.now) report.old report.new) }
 {
-    push_number(alloc, report, session as u64)?;
+    push_number(report, session as u64)?;
     report.push_str(" event ")?;
     report.push_str(name_of_kind(&notice.kind))?;
     report.push_str(" ")?;
@@ -71,7 +71,7 @@ fn push_end(alloc: Global, report: &mut String, end: &End) -> Result<(), AllocEr
 fn push_call(alloc: Global, report: &mut String, entry: &Entry) -> Result<(), AllocError>
     ensures { OnOk result (Appends (call_text entry.now) report.old report.new) }
 {
-    push_spaced(alloc, report, entry.session as u64)?;
+    push_spaced(report, entry.session as u64)?;
     report.push_str(name_of(&entry.call))?;
     report.push_str(" ")?;
     push_end(alloc, report, &entry.end)?;
@@ -159,6 +159,6 @@ pub fn report(
 {
     let mut report = String::new(alloc);
     push_lives(alloc, &mut report, transcript.lives(), transcript.entries())?;
-    push_managed(alloc, &mut report, managed)?;
+    push_managed(&mut report, managed)?;
     Ok(report)
 }
