@@ -1,5 +1,5 @@
 -- Lists that part, and sessions that differ.
-use Rattle.std.proofs.Common.{◌≡◌, ◌≢◌, ℕ, ◌+◌, ◌-◌, ◌<◌, ◌≤◌, Bool, true, false, if◌then◌else◌, List, [], ◌∷◌, ◌++◌, length, take, length-append, Option, Some, None, Result, Err, inl, inr, refl, sym, ◌∙◌, ap, subst, arith, append-nil}
+use Rattle.std.proofs.Common.{◌≡◌, ◌≢◌, ℕ, ◌+◌, ◌-◌, ◌<◌, ◌≤◌, Bool, true, false, if◌then◌else◌, List, [], ◌∷◌, ◌++◌, length, take, length-append, Option, Some, None, Result, Ok, Err, inl, inr, refl, sym, ◌∙◌, ap, subst, arith, append-nil}
 use Rattle.std.specs.Prelude.{slice_get, ltb, ◌==◌, IfErr}
 use Rattle.std.specs.List.{All}
 use Rattle.std.proofs.lemmas.List.Elements.{filter-append, All-head, All-tail, All-cons}
@@ -135,5 +135,6 @@ cannot_close configs given logs t StillOpen legal begins h = inr (record { given
 cannot_close configs given logs t (Differs session place) legal begins h = inr (record { given = given; transcript = t; legal = legal; begins = begins; fails = h })
 cannot_close configs given logs t OutOfMemory legal begins h = absurd h
 
-pub passed_on : {T : Type 0} (P : CloseFault → Type 0) (r : Result T CloseFault) (fault : CloseFault) → (y : CloseFault) × (r ≡ Err y) × (y ≡ fault) → P fault → IfErr r P
-passed_on P r fault passed h = subst (λ s. IfErr s P) (sym passed.1) (subst P (sym passed.2) h)
+pub fault_weaker : {T : Type 0} (P Q : CloseFault → Type 0) (r : Result T CloseFault) → ((fault : CloseFault) → P fault → Q fault) → IfErr r P → IfErr r Q
+fault_weaker P Q (Ok x) weaker h = h
+fault_weaker P Q (Err fault) weaker h = weaker fault h

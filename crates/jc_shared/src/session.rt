@@ -79,7 +79,7 @@ impl<'a, N: Name, L: Loader, W: Writer, P: Processor, K: Hearer> Logged
 impl<'a, N: Name, L: Loader, W: Writer, P: Processor, K: Hearer> Session<'a, N, L, W, P, K> {
     /// What it has kept of its calls. The session ends, and borrows its manager no longer.
     pub fn into_log(self) -> SessionLog
-        ensures { own_log result ≡ log_of self }
+        ensures { own_log result ≡ log_of self.entry }
     {
         let Session {
             number,
