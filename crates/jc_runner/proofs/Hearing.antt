@@ -1,5 +1,5 @@
 -- What callbacks have answered, one after the other.
-use Rattle.std.proofs.Common.{◌≡◌, ℕ, List, [], ◌∷◌, ◌++◌, Option, Some, None, Result, refl, sym, ap, ◌∙◌, subst, append_assoc}
+use Rattle.std.proofs.Common.{◌≡◌, ℕ, List, [], ◌∷◌, ◌++◌, Option, Some, None, Result, refl, sym, ap, ◌∙◌, subst}
 use Rattle.std.proofs.lemmas.List.Elements.{filter-append}
 use Rattle.std.proofs.lemmas.Grind.{flat_map-append}
 use Rattle.jc_model.specs.declared.call.Answer.{Answer}
@@ -10,7 +10,8 @@ use Rattle.jc_model.specs.declared.call.Verdict.{Verdict}
 use Rattle.jc_model.specs.Run.{told_by}
 use Rattle.jc_hooks.specs.declared.cache_hooks.CacheHooks.{CacheHooks}
 use Rattle.jc_hooks.specs.declared.loader.Loaded.{Loaded}
-use Rattle.jc_hooks.specs.Asking.{MayGiveBy, states_after}
+use Rattle.jc_hooks.specs.Asking.{GivesAnswers, TellsAll}
+use Rattle.jc_hooks.proofs.Behind.{gives_more, tells_more}
 use Rattle.jc_shared.specs.Serving.{is_write}
 use Rattle.jc_runner.specs.Answering.{written_in, notices_in, AllStated, Heard, HeardAt}
 use Rattle.jc_runner.specs.Hooks.{HasNone}
@@ -41,13 +42,9 @@ module _ {L W P K : Type 0} (load_of : L → List ℕ → Loaded) (may : W → L
     processors = y.processors ∙ x.processors;
     stated = all_append h.loader h.processors.items xs ys x.stated
         (subst (λ (ps : List P). AllStatedHere h.loader ps ys) x.processors (subst (λ (o : Option L). AllStatedHere o h1.processors.items ys) x.loader y.stated));
-    writes = λ rest m.
-        let both : MayGiveBy may h.writer (written_in xs ++ (written_in ys ++ rest)) = x.writes (written_in ys ++ rest) (y.writes rest m) in
-        let joined : written_in xs ++ (written_in ys ++ rest) ≡ written_in (xs ++ ys) ++ rest = sym (append_assoc (written_in xs) (written_in ys) rest) ∙ ap (λ (ws : List (Request × Answer)). ws ++ rest) (sym (written-append xs ys)) in
-        subst (MayGiveBy may h.writer) joined both;
-    tells = λ rest.
-        let joined : notices_in xs ++ (notices_in ys ++ rest) ≡ notices_in (xs ++ ys) ++ rest = sym (append_assoc (notices_in xs) (notices_in ys) rest) ∙ ap (λ (ns : List Notice). ns ++ rest) (sym (notices-append xs ys)) in
-        y.tells rest ∙ x.tells (notices_in ys ++ rest) ∙ ap (states_after state_after h.listeners.items) joined;
+    writes = subst (GivesAnswers may h.writer h2.writer) (sym (written-append xs ys)) (gives_more may h.writer h1.writer h2.writer (written_in xs) (written_in ys) x.writes y.writes);
+    tells = subst (TellsAll state_after h.listeners.items h2.listeners.items) (sym (notices-append xs ys))
+        (tells_more state_after h.listeners.items h1.listeners.items h2.listeners.items (notices_in xs) (notices_in ys) x.tells y.tells);
   }
 
   -- of the callbacks of a cache that has them or has none

@@ -7,10 +7,7 @@ ghost use Rattle.jc_runner.specs.Hooks.{AreSuited, HasNone, asked_of};
 pub mod named;
 
 use jc_config::Settings;
-use jc_hooks::{
-    CacheHooks, Hearer, Loader, Processor, Writer, ask_loader, ask_processor, ask_to_delete,
-    ask_to_write, first_unsuited, tell_all,
-};
+use jc_hooks::{CacheHooks, Hearer, Loader, Processor, Writer, answer_request, first_unsuited};
 use jc_model::OutOfMemory;
 use jc_model::call::{Answer, Request};
 use std::alloc::Global;
@@ -53,25 +50,12 @@ pub fn answer<L: Loader, W: Writer, P: Processor, K: Hearer>(
     ensures heard { IfOk result (λ a. Heard L.load_of W.may P.verdict_of K.state_after
         hooks.old hooks.new ((request, a) ∷ [])) }
 {
-    match request {
-        Request::Load(key) => ask_loader(alloc, &hooks.loader, &key),
-        Request::Write(key, value) => ask_to_write(alloc, &mut hooks.writer, &key, &value),
-        Request::Delete(key) => ask_to_delete(alloc, &mut hooks.writer, &key),
-        Request::Process {
-            key: _,
-            processor,
-            value,
-            argument,
-        } => ask_processor(
-            alloc,
-            hooks.processors.as_slice(),
-            processor,
-            value.as_ref(),
-            &argument,
-        ),
-        Request::Tell(notices) => {
-            tell_all(hooks.listeners.as_mut_slice(), notices.items());
-            Ok(Answer::Told)
-        }
-    }
+    answer_request(
+        alloc,
+        &hooks.loader,
+        hooks.processors.as_slice(),
+        &mut hooks.writer,
+        hooks.listeners.as_mut_slice(),
+        &request,
+    )
 }

@@ -73,6 +73,12 @@ impl<N: Name, L: Loader, W: Writer, P: Processor, K: Hearer, J: Keeping> Manager
         }
     }
 
+    /// Lets the manager go, with all that it keeps, and compares nothing. A crate that calls this need not know how its
+    /// parts are let go.
+    pub fn discard(self) {
+        drop(self);
+    }
+
     /// The loader and the processors of a cache of the opening, which stand beside all locks.
     pub(crate) fn opened(&self, id: CacheId) -> Option<&SharedHooks<L, P>>
         ensures stated { IfSome result (λ h. AreOf L.load_of P.verdict_of N.stated id h.now) }

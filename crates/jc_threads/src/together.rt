@@ -124,12 +124,22 @@ pub fn transcribed<
     ensures managed { IfOk result (λ t. AreManaged N.configs lines.items t.refusals.items) }
 {
     let mut refusals = Vec::new(alloc);
-    let logs = made_by_sessions(rt, alloc, &manager, gate, workers, &mut refusals, lines)?;
+    let made = made_by_sessions(rt, alloc, &manager, gate, workers, &mut refusals, lines);
+    let logs = match made {
+        Ok(logs) => logs,
+        Err(fault) => {
+            manager.discard();
+            return Err(fault);
+        }
+    };
     match manager.into_transcript(logs.as_slice()) {
         Ok(transcript) => Ok(Transcription {
             transcript,
             refusals,
         }),
-        Err((fault, _)) => Err(WorkFault::from(fault)),
+        Err((fault, manager)) => {
+            manager.discard();
+            Err(WorkFault::from(fault))
+        }
     }
 }
