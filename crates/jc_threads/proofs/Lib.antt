@@ -1,4 +1,5 @@
 pub mod Lists
+pub mod Batched
 pub mod Making
 pub mod Dealt
 pub mod Gathered

@@ -45,7 +45,7 @@ impl Batches {
     pub(crate) fn is_empty(&self) -> bool
         ensures { IsTrue result ↔ (self.now ≡ []) }
     {
-        self.last.is_empty()
+        self.last.as_slice().is_empty()
     }
 
     /// Adds a call behind all others.
