@@ -81,16 +81,10 @@ impl<'a, N: Name, L: Loader, W: Writer, P: Processor, K: Hearer> Session<'a, N, 
     pub fn into_log(self) -> SessionLog
         ensures { own_log result ≡ log_of self.entry }
     {
-        let Session {
-            number,
-            own,
-            pass,
-            ..
-        } = self;
-        drop(pass);
+        drop(self.pass);
         SessionLog {
-            number,
-            own: own.entries,
+            number: self.number,
+            own: self.own.entries,
         }
     }
 }
