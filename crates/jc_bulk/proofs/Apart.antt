@@ -7,7 +7,7 @@ use Rattle.std.specs.List.{list_any}
 use Rattle.std.specs.Str.{bytes_eq}
 use Rattle.std.proofs.lemmas.Slice.Eq.{bytes_eq-Decides}
 use Rattle.jc_model.specs.Lists.{distinct, AreKeys}
-use Rattle.jc_bulk.proofs.Names.{KeyCall, Op, same_op, put_each, remove_each, Lacks, HasDistinctKeys, Item, keys_in, IsNone, AreApart}
+use Rattle.jc_bulk.proofs.Names.{KeyCall, Op, same_op, put_each, remove_each, LacksKey, HasDistinctKeys, Item, keys_in, IsNone, AreApart}
 use Rattle.jc_bulk.proofs.Rows.{keys_of}
 
 is_none : (k : List ℕ) (ks : List (List ℕ)) → list_any (λ y. bytes_eq y k) ks ≡ false → IsNone k ks
@@ -28,7 +28,7 @@ put_keys ps = simp map-map
 pub keys_apart : (calls : List KeyCall) (keys : List (List ℕ)) → keys_in calls ≡ keys → AreKeys keys → AreApart (keys_in calls)
 keys_apart calls keys same h = rw same (are_apart keys (grind (arith, common_steps, h)))
 
-lacks_none : (k : List ℕ) (ring : List Item) → Lacks k ring → IsNone k (keys_of ring)
+lacks_none : (k : List ℕ) (ring : List Item) → LacksKey k ring → IsNone k (keys_of ring)
 lacks_none k [] l = tt
 lacks_none k (x ∷ xs) l = ((λ same. l.0 (sym same)), lacks_none k xs l.1)
 

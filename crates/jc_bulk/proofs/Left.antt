@@ -6,7 +6,7 @@ use Rattle.std.specs.Str.{bytes_eq}
 use Rattle.std.proofs.lemmas.Slice.Eq.{bytes_eq-Decides}
 use Rattle.jc_model.proofs.Rings.{room_in}
 use Rattle.jc_model.proofs.Keeps.{step-keeps}
-use Rattle.jc_bulk.proofs.Names.{KeyCall, CacheConfig, Item, passed, stops_at, before_stop, from_stop, turned, row_of, with_row, Progress, step, Throughout, Answer, Notice, Reply, Run, resume, HasDistinctKeys, KeyWait, key_run, Kept, items_of, StepsTo, Covers, Provided, calls_in, keys_in, IsNone, AreCovered}
+use Rattle.jc_bulk.proofs.Names.{KeyCall, CacheConfig, Item, passed, stops_at, before_stop, from_stop, turned, row_of, with_row, Progress, step, Throughout, Answer, Reply, Run, resume, HasDistinctKeys, KeyWait, key_run, StepsTo, Covers, Provided, calls_in, keys_in, IsNone, AreCovered}
 use Rattle.jc_model.proofs.Everywhere.{at_each-resume, at_each-answered}
 use Rattle.jc_ops.specs.declared.step.Next.{Next}
 use Rattle.jc_ops.specs.declared.step.Next.TheVariants.{Ended, Waiting}
@@ -98,17 +98,17 @@ covered-stays c k old new (p ∷ ps) none d stay v = (covers-stays c.writer c p.
 
 -- Where a step has come to, the rows of other keys are as they were.
 
-stepped-fits : (c : CacheConfig) (run : Run) (next : Next KeyWait Reply) (s : Kept) (told : List Notice) (q : List ℕ) (o : Option (List ℕ)) → StepsTo c run next s told → Throughout (λ t. Fits q o t.ring) run → Fits q o (items_of s.cells)
-stepped-fits c run (Ended reply) s told q o e h = rw e at h
-stepped-fits c run (Waiting request w) s told q o e h = (rw e.run_is at h).0
+stepped-fits : (c : CacheConfig) (run : Run) (next : Next KeyWait Reply) (p : Progress) (q : List ℕ) (o : Option (List ℕ)) → StepsTo c run next p → Throughout (λ t. Fits q o t.ring) run → Fits q o p.state.ring
+stepped-fits c run (Ended reply) p q o e h = rw e at h
+stepped-fits c run (Waiting request w) p q o e h = (rw e.run_is at h).0
 
-pub covered_at_start : (c : CacheConfig) (now : ℕ) (call : KeyCall) (p : Progress) (next : Next KeyWait Reply) (s : Kept) (told : List Notice) (rest : List Provided) → StepsTo c (step c now call p) next s told → IsNone call.key (keys_in (calls_in rest)) → HasDistinctKeys p.state.ring → AreCovered c p.state.ring rest → AreCovered c (items_of s.cells) rest
-covered_at_start c now call p next s told rest e none d =
-    covered-stays c call.key p.state.ring (items_of s.cells) rest none d (λ q differ o h. stepped-fits c (step c now call p) next s told q o e (step-fits c now q o call p differ h))
+pub covered_at_start : (c : CacheConfig) (now : ℕ) (call : KeyCall) (p : Progress) (next : Next KeyWait Reply) (after : Progress) (rest : List Provided) → StepsTo c (step c now call p) next after → IsNone call.key (keys_in (calls_in rest)) → HasDistinctKeys p.state.ring → AreCovered c p.state.ring rest → AreCovered c after.state.ring rest
+covered_at_start c now call p next after rest e none d =
+    covered-stays c call.key p.state.ring after.state.ring rest none d (λ q differ o h. stepped-fits c (step c now call p) next after q o e (step-fits c now q o call p differ h))
 
-pub covered_at_answer : (c : CacheConfig) (p : Progress) (w : KeyWait) (a : Answer) (next : Next KeyWait Reply) (s : Kept) (told : List Notice) (rest : List Provided) → StepsTo c (resume (key_run c p w) a) next s told → IsNone w.call.key (keys_in (calls_in rest)) → HasDistinctKeys p.state.ring → AreCovered c p.state.ring rest → AreCovered c (items_of s.cells) rest
-covered_at_answer c p w a next s told rest e none d =
-    covered-stays c w.call.key p.state.ring (items_of s.cells) rest none d (λ q differ o h. stepped-fits c (resume (key_run c p w) a) next s told q o e
+pub covered_at_answer : (c : CacheConfig) (p : Progress) (w : KeyWait) (a : Answer) (next : Next KeyWait Reply) (after : Progress) (rest : List Provided) → StepsTo c (resume (key_run c p w) a) next after → IsNone w.call.key (keys_in (calls_in rest)) → HasDistinctKeys p.state.ring → AreCovered c p.state.ring rest → AreCovered c after.state.ring rest
+covered_at_answer c p w a next after rest e none d =
+    covered-stays c w.call.key p.state.ring after.state.ring rest none d (λ q differ o h. stepped-fits c (resume (key_run c p w) a) next after q o e
     (at_each-resume _ _ (key_run c p w) a (at_each-answered _ _ (step c w.now w.call p) w.given (step-fits c w.now q o w.call p differ h))))
 
 -- One step more.

@@ -2,6 +2,5 @@ pub mod Names
 pub mod Left
 pub mod Ready
 pub mod EachStep
-pub mod TiedKeys
 pub mod Rows
 pub mod Apart

@@ -2,7 +2,7 @@
 use Rattle.std.proofs.Common.{◌≡◌, ◌<◌, ◌+◌, ℕ, suc, zero, Some, List, [], ◌∷◌, ◌++◌, length, map, drop, get_or, refl, sym, arith, ◌≢◌, true, false, if◌then◌else◌, ◌∙◌}
 use Rattle.std.proofs.lemmas.Grind.{common_steps}
 use Rattle.std.proofs.lemmas.Slice.Eq.{bytes_eq-Decides}
-use Rattle.jc_bulk.proofs.Names.{CacheConfig, Item, row_of, is_live, Lacks, HasDistinctKeys, contents, live_value, pushed, with_row, after_access, Progress, hit, access, touch_each}
+use Rattle.jc_bulk.proofs.Names.{CacheConfig, Item, row_of, is_live, LacksKey, HasDistinctKeys, contents, live_value, pushed, with_row, after_access, Progress, hit, access, touch_each}
 
 abbrev pub keys_of : List Item → List (List ℕ)
 keys_of ring = map (λ x. x.key) ring
@@ -12,7 +12,7 @@ abbrev pub StillThere : List Item → List Item → Type 0
 StillThere [] ring = Unit {0}
 StillThere (x ∷ xs) ring = (row_of x.key ring ≡ Some x) × StillThere xs ring
 
-past_all : (y : Item) (ys xs : List Item) → Lacks y.key xs → StillThere xs ys → StillThere xs (y ∷ ys)
+past_all : (y : Item) (ys xs : List Item) → LacksKey y.key xs → StillThere xs ys → StillThere xs (y ∷ ys)
 past_all y ys [] l s = tt
 past_all y ys (x ∷ xs) l s = (grind (arith, common_steps, bytes_eq-Decides y.key x.key, l.0, s.0), past_all y ys xs l.1 s.1)
 
@@ -57,7 +57,7 @@ other_row : (x : Item) (k : List ℕ) (ring : List Item) → k ≢ x.key → row
 other_row x k [] d = refl
 other_row x k (y ∷ ys) d = grind (arith, common_steps, bytes_eq-Decides y.key x.key, bytes_eq-Decides x.key k, bytes_eq-Decides y.key k, other_row x k ys d)
 
-still_stored : (x : Item) (xs ring : List Item) → Lacks x.key xs → StillThere xs ring → StillThere xs (with_row x ring)
+still_stored : (x : Item) (xs ring : List Item) → LacksKey x.key xs → StillThere xs ring → StillThere xs (with_row x ring)
 still_stored x [] ring l s = tt
 still_stored x (y ∷ ys) ring l s = (other_row x y.key ring l.0 ∙ s.0, still_stored x ys ring l.1 s.1)
 

@@ -1,11 +1,11 @@
--- The steps that are ahead of a call, over a cache as it is.
+-- The steps that are ahead of a call, on a visit.
 use Rattle.std.specs.Prelude.{◌≡◌, ◌+◌, ◌≤◌, ℕ, true, List, ◌∷◌, length}
 use Rattle.jc_model.specs.declared.call.KeyCall.{KeyCall}
 use Rattle.jc_model.specs.declared.call.Reply.{Reply}
 use Rattle.jc_model.specs.Run.{Run}
 use Rattle.jc_model.specs.Whole.{after_key, each}
-use Rattle.jc_state.specs.Kept.{Kept, items_of, progress_at}
-use Rattle.jc_state.specs.Noted.{Noted, HasPlaces}
+use Rattle.jc_state.specs.Kept.{items_of}
+use Rattle.jc_state.specs.Visited.{Visited, HasPlacesIn, progress_in}
 use Rattle.jc_ops.specs.Supply.{most_told_in}
 use Rattle.jc_bulk.specs.declared.bulk.Ahead.{Ahead}
 use Rattle.jc_bulk.specs.declared.bulk.Provided.{Provided}
@@ -26,21 +26,21 @@ abbrev pub places_ahead : Ahead → ℕ
 places_ahead a = places_for a.needs.tells (length a.rest.items)
 
 -- each has its values
-abbrev pub AreCoveredIn : Kept → List Provided → Type 0
-AreCoveredIn k ps = AreCovered k.config (items_of k.cells) ps
+abbrev pub AreCoveredIn : Visited → List Provided → Type 0
+AreCoveredIn v ps = AreCovered v.cache.config (items_of v.cache.cells) ps
 
 -- and all that they may need is there
-abbrev pub AreReady : Kept → Noted → ℕ → Ahead → Type 0
-AreReady k s spare a = IsReady k.config (items_of k.cells) s spare a.rest.items a.sum a.needs
+abbrev pub AreReady : Visited → Ahead → Type 0
+AreReady v a = IsReady v.cache.config (items_of v.cache.cells) v.noted v.spare a.rest.items a.sum a.needs
 
 -- their run
-abbrev pub ahead_run : Kept → Noted → ℕ → Ahead → Run
-ahead_run k s now a = each k.config now (calls_ahead a) (sum_of a.sum) (progress_at k s)
+abbrev pub ahead_run : Visited → Ahead → Run
+ahead_run v a = each v.cache.config v.moment (calls_ahead a) (sum_of a.sum) (progress_in v)
 
 -- where they are behind a step on this key, which has ended with this reply
-abbrev pub behind_run : Kept → Noted → ℕ → List ℕ → Reply → Ahead → Run
-behind_run k s now key reply a =
-    after_key key (λ next q. each k.config now (calls_ahead a) next q) (sum_of a.sum) (progress_at k s) reply
+abbrev pub behind_run : Visited → List ℕ → Reply → Ahead → Run
+behind_run v key reply a =
+    after_key key (λ next q. each v.cache.config v.moment (calls_ahead a) next q) (sum_of a.sum) (progress_in v) reply
 
 -- the table has room for the rows that steps may add
 abbrev pub HasRoomForSteps : List KeyCall → ℕ → Type 0
@@ -49,8 +49,8 @@ HasRoomForSteps calls spare = any_creates calls ≡ true → length calls ≤ sp
 -- Of a call whose step waits, from that step on.
 
 -- places for all notices
-abbrev pub HasPlacesFrom : Kept → Bulk → Noted → Type 0
-HasPlacesFrom k b s = HasPlaces k.config (places_for b.needs.tells (length b.rest) + most_told_in k b.key.now b.key.call) s
+abbrev pub HasPlacesFrom : Bulk → Visited → Type 0
+HasPlacesFrom b v = HasPlacesIn (places_for b.needs.tells (length b.rest) + most_told_in v b.key.call) v
 
 -- the table has room for the rows that the steps may add
 abbrev pub HasRoomFrom : Bulk → ℕ → Type 0

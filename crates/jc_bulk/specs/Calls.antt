@@ -1,5 +1,5 @@
 -- What a call has come to.
-use Rattle.std.specs.Prelude.{◌≡◌, ℕ, List}
+use Rattle.std.specs.Prelude.{◌≡◌, List}
 use Rattle.jc_model.specs.declared.call.Answer.{Answer}
 use Rattle.jc_model.specs.declared.call.Call.{Call}
 use Rattle.jc_model.specs.declared.call.KeyCall.{KeyCall}
@@ -7,18 +7,16 @@ use Rattle.jc_model.specs.declared.call.Reply.{Reply}
 use Rattle.jc_model.specs.declared.call.Request.{Request}
 use Rattle.jc_model.specs.declared.config.CacheConfig.{CacheConfig}
 use Rattle.jc_model.specs.Bulk.{Sum, empty_sum}
-use Rattle.jc_model.specs.Changes.{Progress, begun}
+use Rattle.jc_model.specs.Changes.{Progress}
 use Rattle.jc_model.specs.Run.{Run, ended, waiting, resume, awaited_by}
-use Rattle.jc_model.specs.Step.{step}
 use Rattle.jc_model.specs.Suspended.{Wait, one, many, telling, key_run, bulk_run}
 use Rattle.jc_model.specs.Whole.{Plan, plan, steps_in, gathers, each, carried_out}
-use Rattle.jc_state.specs.Kept.{Kept, state_of, progress_of}
-use Rattle.jc_state.specs.Noted.{Noted}
+use Rattle.jc_state.specs.Visited.{Visited, progress_in}
 use Rattle.jc_ops.specs.declared.step.Next.{Next}
 use Rattle.jc_ops.specs.declared.step.Next.TheVariants.{Ended, Waiting}
 use Rattle.jc_ops.specs.Stepped.{IsWaiting}
 use Rattle.jc_bulk.specs.Provided.{AreCovered}
-use Rattle.jc_bulk.specs.Waits.{Waits}
+use Rattle.jc_bulk.specs.Waits.{Waits, moment_of}
 use Rattle.jc_bulk.specs.declared.bulk.Provided.{Provided}
 
 abbrev pub wait_run : CacheConfig → Progress → Wait → Run
@@ -48,49 +46,49 @@ pub record IsSuspended (c : CacheConfig) (p : Progress) (s : Waits) : Type 0 whe
   pub awaits : s.awaits ≡ awaited_by request
   pub held : IsHeld c p s.wait s.stock
 
--- the call does as its run, and the cache stands as the run says
-abbrev pub ComesTo : CacheConfig → Run → Next Waits (Reply × Noted) → Kept → Type 0
-ComesTo c run (Ended e) k = run ≡ ended (progress_of k e.1.told) e.0
-ComesTo c run (Waiting request s) k = WaitsOn c (progress_of k s.notices) request s run
+-- the call does as its run, and has come as far as the run says
+abbrev pub ComesTo : CacheConfig → Run → Next Waits Reply → Progress → Type 0
+ComesTo c run (Ended reply) p = run ≡ ended p reply
+ComesTo c run (Waiting request s) p = WaitsOn c p request s run
 
--- the same, from this cache to that one
-abbrev pub ComesFrom : Kept → Run → Next Waits (Reply × Noted) → Kept → Type 0
-ComesFrom old run next new = ComesTo old.config run next new
+-- On a visit.
 
--- the run has ended with this reply and these notices, from this cache to that one
-abbrev pub EndsFrom : Kept → Run → Kept → Reply × Noted → Type 0
-EndsFrom old run new e = run ≡ ended (progress_of new e.1.told) e.0
+-- the call does as its run
+abbrev pub ComesFrom : Visited → Run → Next Waits Reply → Visited → Type 0
+ComesFrom old run next new = ComesTo old.cache.config run next (progress_in new)
 
--- A call that begins on a cache.
+-- the run has ended with this reply
+abbrev pub EndsFrom : Run → Visited → Reply → Type 0
+EndsFrom run new reply = run ≡ ended (progress_in new) reply
 
-abbrev pub plan_in : Kept → ℕ → Call → Plan
-plan_in k now call = plan k.config now call (begun (state_of k))
+-- A call that begins.
+
+abbrev pub plan_in : Visited → Call → Plan
+plan_in v call = plan v.cache.config v.moment call (progress_in v)
 
 -- its steps on many keys
-abbrev pub steps_for : Kept → ℕ → Call → List KeyCall
-steps_for k now call = steps_in (plan_in k now call)
+abbrev pub steps_for : Visited → Call → List KeyCall
+steps_for v call = steps_in (plan_in v call)
 
 -- what is gathered before the first of them
-abbrev pub first_sum : Kept → ℕ → Call → Sum
-first_sum k now call = empty_sum (gathers (plan_in k now call))
+abbrev pub first_sum : Visited → Call → Sum
+first_sum v call = empty_sum (gathers (plan_in v call))
 
--- the run of a call on one key
-abbrev pub one_run : Kept → ℕ → KeyCall → Run
-one_run k now call = step k.config now call (begun (state_of k))
-
--- of one on many
-abbrev pub many_run : Kept → ℕ → Call → Run
-many_run k now call = each k.config now (steps_for k now call) (first_sum k now call) (begun (state_of k))
+-- the run of a call on many keys
+abbrev pub many_run : Visited → Call → Run
+many_run v call = each v.cache.config v.moment (steps_for v call) (first_sum v call) (progress_in v)
 
 -- and of any
-abbrev pub call_run : Kept → ℕ → Call → Run
-call_run k now call = carried_out k.config now (plan_in k now call) (begun (state_of k))
+abbrev pub call_run : Visited → Call → Run
+call_run v call = carried_out v.cache.config v.moment (plan_in v call) (progress_in v)
 
--- A suspended call, on a cache.
+-- A suspended call.
 
-abbrev pub IsSuspendedIn : Kept → Waits → Type 0
-IsSuspendedIn k s = IsSuspended k.config (progress_of k s.notices) s
+-- the call of this visit waits
+pub record IsSuspendedIn (v : Visited) (s : Waits) : Type 0 where
+  pub suspended : IsSuspended v.cache.config (progress_in v) s
+  pub moment : moment_of s.wait ≡ v.moment
 
 -- its run with the answer
-abbrev pub answered_run : Kept → Waits → Answer → Run
-answered_run k s a = resume (wait_run k.config (progress_of k s.notices) s.wait) a
+abbrev pub answered_run : Visited → Waits → Answer → Run
+answered_run v s a = resume (wait_run v.cache.config (progress_in v) s.wait) a

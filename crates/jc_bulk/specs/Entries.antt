@@ -1,9 +1,9 @@
 -- The entries of a cache.
 use Rattle.std.specs.Prelude.{◌≡◌, ℕ, if◌then◌else◌, List, Option, Some, None}
-use Rattle.jc_model.specs.Changes.{begun}
 use Rattle.jc_model.specs.State.{Item, row_of, is_live}
 use Rattle.jc_model.specs.Whole.{contents, touch_each}
-use Rattle.jc_state.specs.Kept.{Kept, items_of, state_of}
+use Rattle.jc_state.specs.Kept.{items_of}
+use Rattle.jc_state.specs.Visited.{Visited, progress_in}
 
 abbrev pub value_if_live : ℕ → Option Item → Option (List ℕ)
 value_if_live now None = None
@@ -14,9 +14,9 @@ abbrev pub live_value : ℕ → List ℕ → List Item → Option (List ℕ)
 live_value now k ring = value_if_live now (row_of k ring)
 
 -- the pairs of all live rows
-abbrev pub live_pairs : Kept → ℕ → List (List ℕ × List ℕ)
-live_pairs k now = contents k.config now (items_of k.cells)
+abbrev pub live_pairs : Visited → List (List ℕ × List ℕ)
+live_pairs v = contents v.cache.config v.moment (items_of v.cache.cells)
 
 -- of these rows each live one has been used, with a hit
-abbrev pub TouchesEach : Kept → ℕ → List Item → Kept → Type 0
-TouchesEach old now rows new = begun (state_of new) ≡ touch_each old.config now rows (begun (state_of old))
+abbrev pub TouchesEach : Visited → List Item → Visited → Type 0
+TouchesEach old rows new = progress_in new ≡ touch_each old.cache.config old.moment rows (progress_in old)

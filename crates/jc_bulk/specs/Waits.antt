@@ -1,8 +1,7 @@
 -- The plain data of a suspended call.
-use Rattle.std.specs.Prelude.{Bool, if◌then◌else◌, List}
-use Rattle.jc_model.specs.declared.call.Notice.{Notice}
+use Rattle.std.specs.Prelude.{ℕ, Bool, if◌then◌else◌, List}
 use Rattle.jc_model.specs.Run.{Awaited, for_load, for_write, for_process, for_tell}
-use Rattle.jc_model.specs.Suspended.{Wait, KeyWait, BulkWait, one, many}
+use Rattle.jc_model.specs.Suspended.{Wait, KeyWait, BulkWait, one, many, telling}
 use Rattle.jc_model.specs.Bulk.{Sum}
 use Rattle.jc_bulk.specs.declared.bulk.Needs.{Needs}
 use Rattle.jc_bulk.specs.declared.bulk.Provided.{Provided}
@@ -26,12 +25,17 @@ pub record Bulk : Type 0 where
   pub sum : Sum
   pub alone : Bool
 
--- what it awaits, what it has come to, its notices so far, and the steps after the one that waits with their values
+-- what it awaits, what it has come to, and the steps after the one that waits with their values
 pub record Waits : Type 0 where
   pub awaits : Awaited
   pub wait : Wait
-  pub notices : List Notice
   pub stock : List Provided
+
+-- the moment of its call
+abbrev pub moment_of : Wait → ℕ
+moment_of (one w) = w.now
+moment_of (many w) = w.key.now
+moment_of (telling reply) = 0
 
 abbrev pub bulk_wait : Bulk → BulkWait
 bulk_wait b = record { key = b.key; rest = calls_in b.rest; sum = b.sum }
@@ -39,5 +43,5 @@ bulk_wait b = record { key = b.key; rest = calls_in b.rest; sum = b.sum }
 abbrev pub wait_of : Bulk → Wait
 wait_of b = if b.alone then one b.key else many (bulk_wait b)
 
-abbrev pub waits_of : Awaited → Bulk → List Notice → Waits
-waits_of awaits b notices = record { awaits = awaits; wait = wait_of b; notices = notices; stock = b.rest }
+abbrev pub waits_of : Awaited → Bulk → Waits
+waits_of awaits b = record { awaits = awaits; wait = wait_of b; stock = b.rest }

@@ -3,8 +3,7 @@
 //! All that they need was made before the first of them, so none is refused. Where one waits for an answer, those after
 //! it keep their values: no other step changes the value of its key.
 ghost use Rattle.std.specs.Prelude.{◌≡◌, ◌≤◌, ◌∷◌, ℕ, true, List, [], length};
-ghost use Rattle.jc_state.specs.Kept.{IsTied, Remains};
-ghost use Rattle.jc_state.specs.Noted.{HasPlaces};
+ghost use Rattle.jc_state.specs.Visited.{IsSameVisit, HasPlacesIn};
 ghost use Rattle.jc_bulk.specs.Ahead.{IsAheadOf, AreCoveredIn, AreReady};
 ghost use Rattle.jc_bulk.specs.Ahead.{places_ahead, ahead_run, behind_run};
 ghost use Rattle.jc_bulk.specs.Calls.{ComesFrom};
@@ -14,15 +13,14 @@ use crate::call::CallNext;
 use crate::tally::{Tally, ends_call};
 use crate::waits::suspend;
 use jc_model::call::{KeyCall, Reply};
+use jc_model::copies::Copies;
 use jc_model::key::Key;
-use jc_model::thrice::Thrice;
 use jc_ops::step::reply::fault;
 use jc_ops::step::{KeyStep, Next};
 use jc_ops::supply::Supply;
 use jc_ring::ring::Ring;
 use jc_rows::rows::Rows;
-use jc_state::notices::Notices;
-use jc_state::state::CacheState;
+use jc_state::visit::Visit;
 use std::alloc::Global;
 use std::collections::VecDeque;
 use std::marker::Model;
@@ -96,71 +94,59 @@ impl Model for BulkStep {
 }
 
 /// Goes on with the steps that are left, until one waits or fails.
-pub(crate) fn go_on<R: Rows, G: Ring>(
-    state: &mut CacheState<G>,
-    rows: &mut R,
-    mut notices: Notices,
-    now: u64,
-    mut ahead: Ahead,
-) -> CallNext
-    requires tied { IsTied (R.contents rows.old) state.old }
-    requires ready { AreReady state.old notices (R.spare rows.old) ahead }
-    ensures remains { Remains (R.contents rows.old) state.old (R.contents rows.new) state.new }
-    ensures moved { ComesFrom state.old (ahead_run state.old notices now ahead) result state.new }
+pub(crate) fn go_on<R: Rows, G: Ring>(visit: &mut Visit<R, G>, mut ahead: Ahead) -> CallNext
+    requires ready { AreReady visit.old ahead }
+    ensures same { IsSameVisit visit.old visit.new }
+    ensures moved { ComesFrom visit.old (ahead_run visit.old ahead) result visit.new }
 {
     'steps: while let Some(Provided { call, supply }) = ahead.rest.pop_front() {
         let key = call.key;
-        let row = state.find(rows, &key);
-        match KeyStep::start(state, rows, &mut notices, now, call, row, supply) {
+        let row = visit.find(&key);
+        match KeyStep::start(visit, call, row, supply) {
             Next::Waiting(request, step) => {
                 let bulk = BulkStep {
                     step,
                     ahead,
                     alone: false,
                 };
-                return suspend(request, bulk, notices);
+                return suspend(request, bulk);
             }
             Next::Ended(reply) => {
                 if let Some(by) = ends_call(reply.first()) {
                     let done = ahead.sum.done;
                     drop((reply, ahead));
-                    return Next::Ended((fault(by, Some(done)), notices));
+                    return Next::Ended(fault(by, Some(done)));
                 }
                 ahead.sum.add(key, reply);
             }
         }
     }
-    Next::Ended((ahead.sum.into_reply(), notices))
+    Next::Ended(ahead.sum.into_reply())
 }
 
 /// Goes on after the step that waited has ended with this reply.
 pub(crate) fn go_on_after<R: Rows, G: Ring>(
-    state: &mut CacheState<G>,
-    rows: &mut R,
-    notices: Notices,
-    now: u64,
+    visit: &mut Visit<R, G>,
     key: Key,
-    reply: Thrice<Reply>,
+    reply: Copies<Reply>,
     mut ahead: Ahead,
 ) -> CallNext
-    requires tied { IsTied (R.contents rows.old) state.old }
     requires ahead { IsAheadOf key ahead }
-    requires covered { AreCoveredIn state.old ahead.rest.items }
-    requires places { HasPlaces state.old.config (places_ahead ahead) notices }
-    requires room { ahead.needs.adds ≡ true → length ahead.rest.items ≤ R.spare rows.old }
-    ensures remains { Remains (R.contents rows.old) state.old (R.contents rows.new) state.new }
-    ensures moved { ComesFrom state.old
-        (behind_run state.old notices now key reply ahead) result state.new }
+    requires covered { AreCoveredIn visit.old ahead.rest.items }
+    requires places { HasPlacesIn (places_ahead ahead) visit.old }
+    requires room { ahead.needs.adds ≡ true → length ahead.rest.items ≤ visit.old.spare }
+    ensures same { IsSameVisit visit.old visit.new }
+    ensures moved { ComesFrom visit.old (behind_run visit.old key reply ahead) result visit.new }
 {
     match ends_call(reply.first()) {
         Some(by) => {
             let done = ahead.sum.done;
             drop((reply, ahead));
-            Next::Ended((fault(by, Some(done)), notices))
+            Next::Ended(fault(by, Some(done)))
         }
         None => {
             ahead.sum.add(key, reply);
-            go_on(state, rows, notices, now, ahead)
+            go_on(visit, ahead)
         }
     }
 }

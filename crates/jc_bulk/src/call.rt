@@ -1,16 +1,17 @@
-//! One call on one cache, against the shared table.
+//! One call on one cache, on a visit.
 //!
 //! A call first makes the memory that it may need. Where memory is refused, nothing has changed; from there on it can't
-//! be refused. It ends with its reply and its notices, or waits for one answer.
+//! be refused. It ends with its reply, or waits for one answer; its notices are the visit's.
 ghost use Rattle.std.specs.Prelude.{◌≡◌, true, false, None, IfOk, IfErr, IfSome, OnErr, IsOk};
 ghost use Rattle.jc_model.specs.declared.config.CacheConfig.{CacheConfig};
-ghost use Rattle.jc_model.specs.Changes.{begun};
-ghost use Rattle.jc_model.specs.Run.{Run, ended, fits};
+ghost use Rattle.jc_model.specs.Changes.{Progress};
+ghost use Rattle.jc_model.specs.Run.{Run, fits};
 ghost use Rattle.jc_model.specs.Whole.{is_at_once, is_free};
-ghost use Rattle.jc_state.specs.Kept.{Kept, state_of, IsTied, FoundRow, Remains, IsUnmoved};
-ghost use Rattle.jc_ops.specs.Stepped.{StepsTo};
+ghost use Rattle.jc_state.specs.Kept.{FoundRow};
+ghost use Rattle.jc_state.specs.Visited.{IsSameVisit, IsUnchanged};
+ghost use Rattle.jc_ops.specs.Stepped.{StepsTo, step_run};
 ghost use Rattle.jc_bulk.specs.Calls.{ComesTo, ComesFrom, EndsFrom, IsSuspendedIn, plan_in};
-ghost use Rattle.jc_bulk.specs.Calls.{one_run, many_run, call_run, answered_run};
+ghost use Rattle.jc_bulk.specs.Calls.{many_run, call_run, answered_run};
 
 use crate::bulk::{Ahead, BulkStep, go_on, go_on_after};
 use crate::entries::entries;
@@ -19,46 +20,37 @@ use crate::tally::listed;
 use crate::waits::{Suspended, suspend};
 use jc_model::OutOfMemory;
 use jc_model::call::{Answer, Call, Counts, KeyCall, Reply, Request};
+use jc_model::copies::Copies;
 use jc_model::table::key_step;
-use jc_model::thrice::Thrice;
 use jc_ops::step::reply::{done, truth};
 use jc_ops::step::{KeyStep, Next};
 use jc_ops::supply::{Supply, asks_no_one};
 use jc_ring::ring::Ring;
 use jc_rows::rows::Rows;
-use jc_state::notices::Notices;
-use jc_state::state::CacheState;
+use jc_state::visit::Visit;
 use std::alloc::Global;
 
-/// What a call has come to: its reply and its notices, or the next request.
-pub type CallNext = Next<Suspended, (Thrice<Reply>, Notices)>;
+/// What a call has come to: its reply, or the next request.
+pub type CallNext = Next<Suspended>;
 
 /// The statistics as a reply.
-fn counted(counts: Counts) -> Thrice<Reply>
+fn counted(counts: Counts) -> Copies<Reply>
     ensures { result ≡ Reply.Counted counts }
 {
-    Thrice::new(
+    Copies::new(
         Reply::Counted(counts),
         Reply::Counted(counts),
         Reply::Counted(counts),
     )
 }
 
-/// A call that told nothing.
-fn ended(alloc: Global, reply: Thrice<Reply>) -> CallNext
-    ensures { (c : CacheConfig) → (run : Run) → (k : Kept) →
-        run ≡ ended (begun (state_of k)) reply → ComesTo c run result k }
-{
-    Next::Ended((reply, Notices::none(alloc)))
-}
-
 /// A call on one key, by what its step has come to.
-fn on_one_key(alloc: Global, next: Next<KeyStep>, notices: Notices) -> CallNext
-    ensures { (c : CacheConfig) → (run : Run) → (k : Kept) →
-        StepsTo c run next k notices.told → ComesTo c run result k }
+fn on_one_key(alloc: Global, next: Next<KeyStep>) -> CallNext
+    ensures { (c : CacheConfig) → (run : Run) → (p : Progress) →
+        StepsTo c run next p → ComesTo c run result p }
 {
     match next {
-        Next::Ended(reply) => Next::Ended((reply, notices)),
+        Next::Ended(reply) => Next::Ended(reply),
         Next::Waiting(request, step) => {
             let ahead = Ahead::none(alloc);
             let bulk = BulkStep {
@@ -66,7 +58,7 @@ fn on_one_key(alloc: Global, next: Next<KeyStep>, notices: Notices) -> CallNext
                 ahead,
                 alone: true,
             };
-            suspend(request, bulk, notices)
+            suspend(request, bulk)
         }
     }
 }
@@ -74,214 +66,165 @@ fn on_one_key(alloc: Global, next: Next<KeyStep>, notices: Notices) -> CallNext
 /// Begins a call on one key, which is this step, where the key has this row, if it has one.
 fn start_key<R: Rows, G: Ring>(
     alloc: Global,
-    state: &mut CacheState<G>,
-    rows: &mut R,
-    now: u64,
+    visit: &mut Visit<R, G>,
     row: Option<u32>,
     step: KeyCall,
 ) -> Result<CallNext, OutOfMemory>
-    requires tied { IsTied (R.contents rows.old) state.old }
-    requires row { FoundRow step.key state.old row }
-    ensures remains { Remains (R.contents rows.old) state.old (R.contents rows.new) state.new }
-    ensures ok { IfOk result (λ m. ComesFrom state.old (one_run state.old now step) m state.new) }
-    ensures same { OnErr result
-        (IsUnmoved (R.contents rows.old) state.old (R.contents rows.new) state.new) }
+    requires row { FoundRow step.key visit.old.cache row }
+    ensures same_visit { IsSameVisit visit.old visit.new }
+    ensures ok { IfOk result (λ next.
+        ComesFrom visit.old (step_run visit.old step) next visit.new) }
+    ensures same { OnErr result (IsUnchanged visit.old visit.new) }
 {
-    let mut notices = Notices::none(alloc);
-    let supply = Supply::for_step(state, rows, &mut notices, now, row, &step)?;
-    let next = KeyStep::start(state, rows, &mut notices, now, step, row, supply);
-    Ok(on_one_key(alloc, next, notices))
+    let supply = Supply::for_step(visit, row, &step)?;
+    let next = KeyStep::start(visit, step, row, supply);
+    Ok(on_one_key(alloc, next))
 }
 
-/// What a call on one key or on many ends with where it is on one and asks no one: its reply and its notices.
+/// What a call on one key or on many ends with where it is on one and asks no one: its reply.
 fn end_steps_at_once<R: Rows, G: Ring>(
-    alloc: Global,
-    state: &mut CacheState<G>,
-    rows: &mut R,
-    now: u64,
+    visit: &mut Visit<R, G>,
     call: &Call,
-) -> Result<Option<(Thrice<Reply>, Notices)>, OutOfMemory>
-    requires tied { IsTied (R.contents rows.old) state.old }
-    requires steps { is_at_once (plan_in state.old now call.now) ≡ false }
-    ensures remains { Remains (R.contents rows.old) state.old (R.contents rows.new) state.new }
+) -> Result<Option<Copies<Reply>>, OutOfMemory>
+    requires steps { is_at_once (plan_in visit.old call.now) ≡ false }
+    ensures same_visit { IsSameVisit visit.old visit.new }
     ensures ended { IfOk result (λ at_once. IfSome at_once
-        (EndsFrom state.old (call_run state.old now call.now) state.new)) }
-    ensures none { IfOk result (λ at_once. at_once ≡ None →
-        IsUnmoved (R.contents rows.old) state.old (R.contents rows.new) state.new) }
-    ensures same { OnErr result
-        (IsUnmoved (R.contents rows.old) state.old (R.contents rows.new) state.new) }
+        (EndsFrom (call_run visit.old call.now) visit.new)) }
+    ensures none { IfOk result (λ at_once. at_once ≡ None → IsUnchanged visit.old visit.new) }
+    ensures same { OnErr result (IsUnchanged visit.old visit.new) }
 {
     let Some(step) = key_step(call)? else {
         return Ok(None);
     };
-    if !asks_no_one(state.config(), &step.op) {
+    if !asks_no_one(visit.config(), &step.op) {
         return Ok(None);
     }
-    let row = state.find(rows, &step.key);
-    let mut notices = Notices::none(alloc);
-    let supply = Supply::for_step(state, rows, &mut notices, now, row, &step)?;
-    let reply = KeyStep::end_at_once(state, rows, &mut notices, now, step, row, supply);
-    Ok(Some((reply, notices)))
+    let row = visit.find(&step.key);
+    let supply = Supply::for_step(visit, row, &step)?;
+    Ok(Some(KeyStep::end_at_once(visit, step, row, supply)))
 }
 
-/// Makes a call on one key that asks no one, and so does not wait: its reply and its notices. Of any other call nothing,
-/// and nothing has changed; so also where memory is refused.
+/// Makes a call on one key that asks no one, and so does not wait: its reply. Of any other call nothing, and nothing has
+/// changed; so also where memory is refused.
 ///
 /// Most calls are such ones, and are to have no share in what a call that waits needs.
 pub fn end_at_once<R: Rows, G: Ring>(
-    alloc: Global,
-    state: &mut CacheState<G>,
-    rows: &mut R,
-    now: u64,
+    visit: &mut Visit<R, G>,
     call: &Call,
-) -> Result<Option<(Thrice<Reply>, Notices)>, OutOfMemory>
-    requires tied { IsTied (R.contents rows.old) state.old }
-    ensures remains { Remains (R.contents rows.old) state.old (R.contents rows.new) state.new }
+) -> Result<Option<Copies<Reply>>, OutOfMemory>
+    ensures same_visit { IsSameVisit visit.old visit.new }
     ensures ended { IfOk result (λ at_once. IfSome at_once
-        (EndsFrom state.old (call_run state.old now call.now) state.new)) }
-    ensures none { IfOk result (λ at_once. at_once ≡ None →
-        IsUnmoved (R.contents rows.old) state.old (R.contents rows.new) state.new) }
-    ensures same { OnErr result
-        (IsUnmoved (R.contents rows.old) state.old (R.contents rows.new) state.new) }
+        (EndsFrom (call_run visit.old call.now) visit.new)) }
+    ensures none { IfOk result (λ at_once. at_once ≡ None → IsUnchanged visit.old visit.new) }
+    ensures same { OnErr result (IsUnchanged visit.old visit.new) }
     ensures free { is_free call.now ≡ true → IsOk result }
 {
-    if state.config().loader || state.config().writer {
+    if visit.config().loader || visit.config().writer {
         return Ok(None);
     }
     match call {
         Call::Contains(_) | Call::Stats | Call::ClearStats | Call::Clear | Call::Entries => {
             Ok(None)
         }
-        _ => end_steps_at_once(alloc, state, rows, now, call),
+        _ => end_steps_at_once(visit, call),
     }
 }
 
 /// Begins a call on many keys.
 fn start_many<R: Rows, G: Ring>(
     alloc: Global,
-    state: &mut CacheState<G>,
-    rows: &mut R,
-    now: u64,
+    visit: &mut Visit<R, G>,
     call: &Call,
 ) -> Result<CallNext, OutOfMemory>
-    requires tied { IsTied (R.contents rows.old) state.old }
-    ensures remains { Remains (R.contents rows.old) state.old (R.contents rows.new) state.new }
-    ensures ok { IfOk result (λ m.
-        ComesFrom state.old (many_run state.old now call.now) m state.new) }
-    ensures same { OnErr result
-        (IsUnmoved (R.contents rows.old) state.old (R.contents rows.new) state.new) }
+    ensures same_visit { IsSameVisit visit.old visit.new }
+    ensures ok { IfOk result (λ next.
+        ComesFrom visit.old (many_run visit.old call.now) next visit.new) }
+    ensures same { OnErr result (IsUnchanged visit.old visit.new) }
 {
-    let mut notices = Notices::none(alloc);
-    let ahead = prepare(alloc, state, rows, &mut notices, now, call)?;
-    Ok(go_on(state, rows, notices, now, ahead))
+    let ahead = prepare(alloc, visit, call)?;
+    Ok(go_on(visit, ahead))
 }
 
 /// Begins a call that does a step on one key or on many.
 fn start_steps<R: Rows, G: Ring>(
     alloc: Global,
-    state: &mut CacheState<G>,
-    rows: &mut R,
-    now: u64,
+    visit: &mut Visit<R, G>,
     call: &Call,
 ) -> Result<CallNext, OutOfMemory>
-    requires tied { IsTied (R.contents rows.old) state.old }
-    requires steps { is_at_once (plan_in state.old now call.now) ≡ false }
-    ensures remains { Remains (R.contents rows.old) state.old (R.contents rows.new) state.new }
-    ensures ok { IfOk result (λ m.
-        ComesFrom state.old (call_run state.old now call.now) m state.new) }
-    ensures same { OnErr result
-        (IsUnmoved (R.contents rows.old) state.old (R.contents rows.new) state.new) }
+    requires steps { is_at_once (plan_in visit.old call.now) ≡ false }
+    ensures same_visit { IsSameVisit visit.old visit.new }
+    ensures ok { IfOk result (λ next.
+        ComesFrom visit.old (call_run visit.old call.now) next visit.new) }
+    ensures same { OnErr result (IsUnchanged visit.old visit.new) }
 {
     match key_step(call)? {
         Some(step) => {
-            let row = state.find(rows, &step.key);
-            start_key(alloc, state, rows, now, row, step)
+            let row = visit.find(&step.key);
+            start_key(alloc, visit, row, step)
         }
-        None => start_many(alloc, state, rows, now, call),
+        None => start_many(alloc, visit, call),
     }
 }
 
 /// Begins a call on a cache. Where memory is refused, nothing has changed; a call that takes none is not refused.
 pub fn start_call<R: Rows, G: Ring>(
     alloc: Global,
-    state: &mut CacheState<G>,
-    rows: &mut R,
-    now: u64,
+    visit: &mut Visit<R, G>,
     call: &Call,
 ) -> Result<CallNext, OutOfMemory>
-    requires tied { IsTied (R.contents rows.old) state.old }
-    ensures remains { Remains (R.contents rows.old) state.old (R.contents rows.new) state.new }
-    ensures ok { IfOk result (λ m.
-        ComesFrom state.old (call_run state.old now call.now) m state.new) }
-    ensures same { OnErr result
-        (IsUnmoved (R.contents rows.old) state.old (R.contents rows.new) state.new) }
+    ensures same_visit { IsSameVisit visit.old visit.new }
+    ensures ok { IfOk result (λ next.
+        ComesFrom visit.old (call_run visit.old call.now) next visit.new) }
+    ensures same { OnErr result (IsUnchanged visit.old visit.new) }
     ensures free { is_free call.now ≡ true → IsOk result }
 {
     match call {
-        Call::Contains(key) => Ok(ended(alloc, truth(state.holds(rows, key, now)))),
-        Call::Stats => Ok(ended(alloc, counted(state.counts()))),
+        Call::Contains(key) => Ok(Next::Ended(truth(visit.holds(key)))),
+        Call::Stats => Ok(Next::Ended(counted(visit.counts()))),
         Call::ClearStats => {
-            state.clear_counts();
-            Ok(ended(alloc, done()))
+            visit.clear_counts();
+            Ok(Next::Ended(done()))
         }
         Call::Clear => {
-            state.clear(rows);
-            Ok(ended(alloc, done()))
+            visit.clear();
+            Ok(Next::Ended(done()))
         }
-        Call::Entries => {
-            let pairs = entries(alloc, state, rows, now)?;
-            Ok(ended(alloc, listed(pairs)))
-        }
-        _ => start_steps(alloc, state, rows, now, call),
+        Call::Entries => Ok(Next::Ended(listed(entries(alloc, visit)?))),
+        _ => start_steps(alloc, visit, call),
     }
 }
 
 /// Gives a suspended call its answer. Where memory is refused, both are handed back, and nothing has changed.
 pub fn answer_call<R: Rows, G: Ring>(
-    state: &mut CacheState<G>,
-    rows: &mut R,
+    visit: &mut Visit<R, G>,
     suspended: Suspended,
     answer: Answer,
 ) -> Result<CallNext, (Suspended, Answer)>
-    requires tied { IsTied (R.contents rows.old) state.old }
     requires awaited { fits suspended.awaits answer ≡ true }
-    requires waits { IsSuspendedIn state.old suspended }
-    ensures remains { Remains (R.contents rows.old) state.old (R.contents rows.new) state.new }
-    ensures ok { IfOk result (λ m.
-        ComesFrom state.old (answered_run state.old suspended answer) m state.new) }
+    requires waits { IsSuspendedIn visit.old suspended }
+    ensures same_visit { IsSameVisit visit.old visit.new }
+    ensures ok { IfOk result (λ next.
+        ComesFrom visit.old (answered_run visit.old suspended answer) next visit.new) }
     ensures back { IfErr result (λ back. back ≡ (suspended, answer)) }
-    ensures same { OnErr result
-        (IsUnmoved (R.contents rows.old) state.old (R.contents rows.new) state.new) }
+    ensures same { OnErr result (IsUnchanged visit.old visit.new) }
 {
-    let Suspended {
-        bulk,
-        awaits,
-        mut notices,
-    } = suspended;
-    let row = state.find(rows, &bulk.step.call().key);
-    match prepare_answer(state, rows, &mut notices, row, &bulk, &answer) {
-        Err(_) => Err((
-            Suspended {
-                bulk,
-                awaits,
-                notices,
-            },
-            answer,
-        )),
+    let Suspended { bulk, awaits } = suspended;
+    let row = visit.find(&bulk.step.call().key);
+    match prepare_answer(visit, row, &bulk, &answer) {
+        Err(_) => Err((Suspended { bulk, awaits }, answer)),
         Ok(supply) => {
             let BulkStep { step, ahead, alone } = bulk;
-            let now = step.now();
             let key = step.call().key;
-            match step.answer(state, rows, &mut notices, answer, row, supply) {
+            match step.answer(visit, answer, row, supply) {
                 Next::Waiting(request, step) => {
                     let bulk = BulkStep { step, ahead, alone };
-                    Ok(suspend(request, bulk, notices))
+                    Ok(suspend(request, bulk))
                 }
                 Next::Ended(reply) => {
                     if alone {
-                        return Ok(Next::Ended((reply, notices)));
+                        return Ok(Next::Ended(reply));
                     }
-                    Ok(go_on_after(state, rows, notices, now, key, reply, ahead))
+                    Ok(go_on_after(visit, key, reply, ahead))
                 }
             }
         }

@@ -2,8 +2,8 @@
 ghost use Rattle.std.specs.Prelude.{◌≡◌, ◌+◌, ◌<◌, ◌∷◌, ◌++◌, [], IfOk};
 
 use jc_model::OutOfMemory;
+use jc_model::copies::Copies;
 use jc_model::list::Sequence;
-use jc_model::thrice::Thrice;
 use std::alloc::Global;
 use std::marker::Model;
 
@@ -50,7 +50,7 @@ impl<T> Lists<T> {
     }
 
     /// Adds an item. It needs room, and takes no memory.
-    pub fn push(&mut self, item: Thrice<T>)
+    pub fn push(&mut self, item: Copies<T>)
         requires { 0 < self.old.spare }
         ensures items { self.new.items ≡ self.old.items ++ item ∷ [] }
         ensures spare { self.new.spare + 1 ≡ self.old.spare }
@@ -62,7 +62,7 @@ impl<T> Lists<T> {
     }
 
     /// The lists.
-    pub fn into_lists(self) -> Thrice<Sequence<T>>
+    pub fn into_lists(self) -> Copies<Sequence<T>>
         ensures { result ≡ self.items }
     {
         let Lists {
@@ -70,7 +70,7 @@ impl<T> Lists<T> {
             second,
             third,
         } = self;
-        Thrice::new(
+        Copies::new(
             Sequence::new(first),
             Sequence::new(second),
             Sequence::new(third),

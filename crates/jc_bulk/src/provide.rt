@@ -4,10 +4,10 @@ ghost use Rattle.jc_model.specs.Bulk.{empty_sum};
 ghost use Rattle.jc_model.specs.declared.config.CacheConfig.{CacheConfig};
 ghost use Rattle.jc_model.specs.Changes.{Progress};
 ghost use Rattle.jc_model.specs.Whole.{plan, gathers};
-ghost use Rattle.jc_state.specs.Kept.{IsTied, FoundRow};
-ghost use Rattle.jc_state.specs.Noted.{HasPlaces};
+ghost use Rattle.jc_state.specs.Kept.{FoundRow};
+ghost use Rattle.jc_state.specs.Visited.{IsUnchanged, HasPlacesIn};
 ghost use Rattle.jc_ops.specs.Lines.{takes_value};
-ghost use Rattle.jc_ops.specs.Supply.{CoversAnswerIn, HasRoom, adds_at_in};
+ghost use Rattle.jc_ops.specs.Supply.{CoversAnswerIn, HasRoomAt};
 ghost use Rattle.jc_bulk.specs.Ahead.{calls_ahead, AreCoveredIn, AreReady, HasRoomForSteps};
 ghost use Rattle.jc_bulk.specs.Ahead.{HasPlacesFrom, HasRoomFrom};
 ghost use Rattle.jc_bulk.specs.Calls.{steps_for, first_sum};
@@ -19,11 +19,10 @@ use crate::steps::steps_of;
 use crate::tally::Tally;
 use jc_model::OutOfMemory;
 use jc_model::call::{Answer, Call, KeyCall};
-use jc_ops::supply::{Supply, creates, make_room, most_notices, takes_value};
+use jc_ops::supply::{Supply, creates, most_notices, takes_value};
 use jc_ring::ring::Ring;
 use jc_rows::rows::Rows;
-use jc_state::notices::Notices;
-use jc_state::state::CacheState;
+use jc_state::visit::Visit;
 use std::alloc::{AllocError, Global};
 use std::collections::VecDeque;
 
@@ -43,21 +42,20 @@ fn any_tells(calls: &[KeyCall]) -> bool
 
 /// Places for the notices of so many steps, and for so many notices more, where there are listeners. A step that may
 /// store tells at most of its expired row, its victim and its own.
-fn make_places<G: Ring>(
-    state: &CacheState<G>,
-    notices: &mut Notices,
+fn make_places<R: Rows, G: Ring>(
+    visit: &mut Visit<R, G>,
     needs: Needs,
     steps: usize,
     more: usize,
 ) -> Result<(), OutOfMemory>
-    ensures told { notices.new.told ≡ notices.old.told }
-    ensures places { OnOk result
-        (HasPlaces state.now.config (places_for needs.tells steps + more) notices.new) }
+    ensures same { visit.new ≡ record visit.old { noted = visit.new.noted } }
+    ensures told { visit.new.noted.told ≡ visit.old.noted.told }
+    ensures places { OnOk result (HasPlacesIn (places_for needs.tells steps + more) visit.new) }
 {
     let each = if needs.tells { 3 } else { 1 };
     match steps.checked_mul(each) {
         Some(places) => match places.checked_add(more) {
-            Some(places) => notices.reserve_for(state.config(), places),
+            Some(places) => visit.reserve_notices(places),
             None => Err(AllocError),
         },
         None => Err(AllocError),
@@ -65,12 +63,11 @@ fn make_places<G: Ring>(
 }
 
 /// The key's row, where the step's values are taken of it.
-fn row_for<R: Rows, G: Ring>(state: &CacheState<G>, rows: &R, call: &KeyCall) -> Option<u32>
-    requires tied { IsTied (R.contents rows.now) state.now }
-    ensures { takes_value call.now.op ≡ true → FoundRow call.now.key state.now result }
+fn row_for<R: Rows, G: Ring>(visit: &Visit<R, G>, call: &KeyCall) -> Option<u32>
+    ensures { takes_value call.now.op ≡ true → FoundRow call.now.key visit.now.cache result }
 {
     if takes_value(&call.op) {
-        state.find(rows, &call.key)
+        visit.find(&call.key)
     } else {
         None
     }
@@ -79,18 +76,16 @@ fn row_for<R: Rows, G: Ring>(state: &CacheState<G>, rows: &R, call: &KeyCall) ->
 /// The steps with their values.
 fn with_values<R: Rows, G: Ring>(
     alloc: Global,
-    state: &CacheState<G>,
-    rows: &R,
+    visit: &Visit<R, G>,
     calls: Vec<KeyCall>,
 ) -> Result<VecDeque<Provided>, OutOfMemory>
-    requires tied { IsTied (R.contents rows.now) state.now }
     ensures calls { IfOk result (λ rest. calls_in rest.items ≡ calls.items) }
-    ensures covered { IfOk result (λ rest. AreCoveredIn state.now rest.items) }
+    ensures covered { IfOk result (λ rest. AreCoveredIn visit.now rest.items) }
 {
     let mut rest = VecDeque::with_capacity(alloc, calls.len())?;
     for call in calls {
-        let row = row_for(state, rows, &call);
-        let supply = Supply::values_for(state, row, &call, state.config().writer)?;
+        let row = row_for(visit, &call);
+        let supply = Supply::values_for(visit, row, &call, visit.config().writer)?;
         rest.push_back(Provided { call, supply })?;
     }
     Ok(rest)
@@ -112,30 +107,25 @@ fn tally_for(alloc: Global, call: &Call, keys: usize) -> Result<Tally, OutOfMemo
 /// All that the steps of a call may need. Nothing has changed yet.
 pub fn prepare<R: Rows, G: Ring>(
     alloc: Global,
-    state: &CacheState<G>,
-    rows: &mut R,
-    notices: &mut Notices,
-    now: u64,
+    visit: &mut Visit<R, G>,
     call: &Call,
 ) -> Result<Ahead, OutOfMemory>
-    requires tied { IsTied (R.contents rows.old) state.now }
-    ensures same { R.contents rows.new ≡ R.contents rows.old }
-    ensures told { notices.new.told ≡ notices.old.told }
-    ensures asks { HasRoomForSteps (steps_for state.now now call.now) (R.spare rows.old) →
-        R.spare rows.new ≡ R.spare rows.old }
-    ensures steps { IfOk result (λ ahead. calls_ahead ahead ≡ steps_for state.now now call.now) }
-    ensures sum { IfOk result (λ ahead. sum_of ahead.sum ≡ first_sum state.now now call.now) }
-    ensures ready { IfOk result (λ ahead. AreReady state.now notices.new (R.spare rows.new) ahead) }
+    ensures same { IsUnchanged visit.old visit.new }
+    ensures asks { HasRoomForSteps (steps_for visit.old call.now) visit.old.spare →
+        visit.new.spare ≡ visit.old.spare }
+    ensures steps { IfOk result (λ ahead. calls_ahead ahead ≡ steps_for visit.old call.now) }
+    ensures sum { IfOk result (λ ahead. sum_of ahead.sum ≡ first_sum visit.old call.now) }
+    ensures ready { IfOk result (AreReady visit.new) }
 {
-    let calls = steps_of(alloc, state, rows, now, call)?;
+    let calls = steps_of(alloc, visit, call)?;
     let count = calls.len();
     let needs = Needs {
         adds: any_creates(calls.as_slice()),
         tells: any_tells(calls.as_slice()),
     };
-    make_places(state, notices, needs, count, 0)?;
-    make_room(rows, if needs.adds { count } else { 0 })?;
-    let rest = with_values(alloc, state, rows, calls)?;
+    make_places(visit, needs, count, 0)?;
+    visit.reserve_rows(if needs.adds { count } else { 0 })?;
+    let rest = with_values(alloc, visit, calls)?;
     let sum = tally_for(alloc, call, count)?;
     Ok(Ahead { rest, sum, needs })
 }
@@ -143,29 +133,25 @@ pub fn prepare<R: Rows, G: Ring>(
 /// What the step that waits may need at this answer, and the room that it and the steps after it may need. Their
 /// values were made when the call began.
 pub fn prepare_answer<R: Rows, G: Ring>(
-    state: &CacheState<G>,
-    rows: &mut R,
-    notices: &mut Notices,
+    visit: &mut Visit<R, G>,
     row: Option<u32>,
     bulk: &BulkStep,
     answer: &Answer,
 ) -> Result<Supply, OutOfMemory>
-    requires row { FoundRow bulk.now.key.call.key state.now row }
-    ensures same { R.contents rows.new ≡ R.contents rows.old }
-    ensures told { notices.new.told ≡ notices.old.told }
-    ensures places { OnOk result (HasPlacesFrom state.now bulk.entry.now notices.new) }
-    ensures room { OnOk result
-        (HasRoom (adds_at_in state.now bulk.entry.now.key answer.now) (R.spare rows.new)) }
-    ensures asks { HasRoom (adds_at_in state.now bulk.entry.now.key answer.now) (R.spare rows.old) →
-        HasRoomFrom bulk.entry.now (R.spare rows.old) → R.spare rows.new ≡ R.spare rows.old }
-    ensures rest_room { OnOk result (HasRoomFrom bulk.entry.now (R.spare rows.new)) }
-    ensures covers { IfOk result (λ s. CoversAnswerIn state.now bulk.entry.now.key answer.now s) }
+    requires row { FoundRow bulk.now.key.call.key visit.old.cache row }
+    ensures same { IsUnchanged visit.old visit.new }
+    ensures places { OnOk result (HasPlacesFrom bulk.entry.now visit.new) }
+    ensures room { OnOk result (HasRoomAt bulk.entry.now.key answer.now visit.new) }
+    ensures asks { HasRoomAt bulk.entry.now.key answer.now visit.old →
+        HasRoomFrom bulk.entry.now visit.old.spare → visit.new.spare ≡ visit.old.spare }
+    ensures rest_room { OnOk result (HasRoomFrom bulk.entry.now visit.new.spare) }
+    ensures covers { IfOk result (λ s. CoversAnswerIn visit.old bulk.entry.now.key answer.now s) }
 {
-    let supply = Supply::for_answer(state, rows, notices, row, &bulk.step, answer)?;
+    let supply = Supply::for_answer(visit, row, &bulk.step, answer)?;
     let steps = bulk.ahead.rest.len() + 1;
     let needs = bulk.ahead.needs;
     let own = most_notices(&bulk.step.call().op, false);
-    make_places(state, notices, needs, bulk.ahead.rest.len(), own)?;
-    make_room(rows, if needs.adds { steps } else { 0 })?;
+    make_places(visit, needs, bulk.ahead.rest.len(), own)?;
+    visit.reserve_rows(if needs.adds { steps } else { 0 })?;
     Ok(supply)
 }

@@ -1,7 +1,7 @@
 //! The steps of a call on many keys, in their order.
 ghost use Rattle.std.specs.Prelude.{◌≡◌, ◌<◌, ◌^◌, if◌then◌else◌, length, IfOk};
 ghost use Rattle.jc_model.specs.Bulk.{same_op, put_each, remove_each};
-ghost use Rattle.jc_state.specs.Kept.{items_of, IsTied};
+ghost use Rattle.jc_state.specs.Kept.{items_of};
 ghost use Rattle.jc_bulk.specs.Calls.{steps_for};
 ghost use Rattle.jc_bulk.specs.Each.{op_on_each};
 ghost use Rattle.jc_bulk.specs.Provided.{keys_in, AreApart};
@@ -11,7 +11,7 @@ use jc_model::call::{Call, KeyCall, Op};
 use jc_model::keys::{Keys, Pairs};
 use jc_ring::ring::Ring;
 use jc_rows::rows::Rows;
-use jc_state::state::CacheState;
+use jc_state::visit::Visit;
 use std::alloc::Global;
 
 /// What a call on many keys does on each of them.
@@ -77,17 +77,17 @@ fn removal(live: bool) -> Op
 /// A removal of each row, in the order of the ring.
 fn each_row<R: Rows, G: Ring>(
     alloc: Global,
-    state: &CacheState<G>,
-    rows: &R,
-    now: u64,
+    visit: &Visit<R, G>,
 ) -> Result<Vec<KeyCall>, OutOfMemory>
-    requires tied { IsTied (R.contents rows.now) state.now }
-    ensures { IfOk result (λ calls. calls.items ≡ remove_each now (items_of state.now.cells)) }
+    ensures steps { IfOk result (λ calls.
+        calls.items ≡ remove_each visit.now.moment (items_of visit.now.cache.cells)) }
+    ensures apart { IfOk result (λ calls. AreApart (keys_in calls.items)) }
+    ensures few { IfOk result (λ calls. length calls.items < 2 ^ 32) }
 {
-    let keys = state.keys(alloc)?;
+    let keys = visit.keys(alloc)?;
     let mut calls = Vec::with_capacity(alloc, keys.len())?;
     for key in &keys {
-        let op = removal(state.holds(rows, key, now));
+        let op = removal(visit.holds(key));
         calls.push(KeyCall { key: *key, op })?;
     }
     Ok(calls)
@@ -96,25 +96,20 @@ fn each_row<R: Rows, G: Ring>(
 /// The steps of a call on many keys, no two on one key.
 pub fn steps_of<R: Rows, G: Ring>(
     alloc: Global,
-    state: &CacheState<G>,
-    rows: &R,
-    now: u64,
+    visit: &Visit<R, G>,
     call: &Call,
 ) -> Result<Vec<KeyCall>, OutOfMemory>
-    requires tied { IsTied (R.contents rows.now) state.now }
-    ensures steps { IfOk result (λ calls. calls.items ≡ steps_for state.now now call.now) }
+    ensures steps { IfOk result (λ calls. calls.items ≡ steps_for visit.now call.now) }
     ensures apart { IfOk result (λ calls. AreApart (keys_in calls.items)) }
     ensures few { IfOk result (λ calls. length calls.items < 2 ^ 32) }
 {
-    // The number of rows is a `u32`, and so no more steps are made of them.
-    let _rows = state.len();
     match call {
         Call::GetAll(keys) => each_key(alloc, keys, call),
         Call::InvokeAll { keys, .. } => each_key(alloc, keys, call),
         Call::RemoveKeys(keys) => each_key(alloc, keys, call),
         Call::LoadAll { keys, .. } => each_key(alloc, keys, call),
         Call::PutAll(pairs) => each_put(alloc, pairs),
-        Call::RemoveAll => each_row(alloc, state, rows, now),
+        Call::RemoveAll => each_row(alloc, visit),
         _ => Ok(Vec::new(alloc)),
     }
 }

@@ -8,9 +8,9 @@ ghost use Rattle.jc_bulk.specs.Tallied.{HasRoomFor, UsesRoomForOne};
 use crate::lists::Lists;
 use jc_model::OutOfMemory;
 use jc_model::call::{By, ProcessorFault, Reply};
+use jc_model::copies::Copies;
 use jc_model::key::Key;
 use jc_model::list::Sequence;
-use jc_model::thrice::Thrice;
 use jc_model::value::Value;
 use jc_ops::step::reply::done;
 use std::alloc::Global;
@@ -63,76 +63,48 @@ fn processed(reply: Reply) -> Option<Result<Value, ProcessorFault>>
 }
 
 /// Adds a key with its part of the reply, where it has one.
-fn push<T: Drop>(
-    lists: &mut Lists<(Key, T)>,
-    key: Key,
-    first: Option<T>,
-    second: Option<T>,
-    third: Option<T>,
-)
+fn push<T: Drop>(lists: &mut Lists<(Key, T)>, key: Key, part: Copies<Option<T>>)
     requires room { 0 < lists.old.spare }
-    requires second { second ≡ first }
-    requires third { third ≡ first }
-    ensures items { lists.new.items ≡ pushed lists.old.items key first }
+    ensures items { lists.new.items ≡ pushed lists.old.items key part }
     ensures spare { lists.old.spare ≤ lists.new.spare + 1 }
 {
+    let (first, second, third) = part.into_three();
     if let (Some(first), Some(second), Some(third)) = (first, second, third) {
-        lists.push(Thrice::new((key, first), (key, second), (key, third)));
+        lists.push(Copies::new((key, first), (key, second), (key, third)));
     }
 }
 
 impl Collected {
     /// Adds a key's reply.
-    fn add(&mut self, key: Key, reply: Thrice<Reply>)
+    fn add(&mut self, key: Key, reply: Copies<Reply>)
         requires room { HasRoomFor 1 self.old }
         ensures gathered { gathered_in self.new ≡ gather key reply (gathered_in self.old) }
         ensures room { UsesRoomForOne self.old self.new }
     {
-        let (first, second, third) = reply.into_three();
         match self {
             Collected::Nothing => {}
-            Collected::Pairs(pairs) => {
-                push(pairs, key, found(first), found(second), found(third));
-            }
-            Collected::Results(results) => push(
-                results,
-                key,
-                processed(first),
-                processed(second),
-                processed(third),
-            ),
+            Collected::Pairs(pairs) => push(pairs, key, reply.map(found)),
+            Collected::Results(results) => push(results, key, reply.map(processed)),
         }
     }
 
     /// The reply after the last key.
-    fn into_reply(self) -> Thrice<Reply>
+    fn into_reply(self) -> Copies<Reply>
         ensures { result ≡ gathered_reply (gathered_in self) }
     {
         match self {
             Collected::Nothing => done(),
             Collected::Pairs(pairs) => listed(pairs.into_lists()),
-            Collected::Results(results) => {
-                let (first, second, third) = results.into_lists().into_three();
-                Thrice::new(
-                    Reply::Results(first),
-                    Reply::Results(second),
-                    Reply::Results(third),
-                )
-            }
+            Collected::Results(results) => results.into_lists().map(Reply::Results),
         }
     }
 }
 
 /// Pairs as a reply.
-pub fn listed(pairs: Thrice<Sequence<(Key, Value)>>) -> Thrice<Reply>
+pub fn listed(pairs: Copies<Sequence<(Key, Value)>>) -> Copies<Reply>
     ensures { result ≡ Reply.Listed pairs }
 {
-    let (first, second, third) = pairs.into_three();
-    Thrice::new(
-        Reply::Listed(first),
-        Reply::Listed(second),
-        Reply::Listed(third),
-    )
+    pairs.map(Reply::Listed)
 }
 
 impl Tally {
@@ -172,7 +144,7 @@ impl Tally {
     }
 
     /// Adds a key that is done, with its reply.
-    pub fn add(&mut self, key: Key, reply: Thrice<Reply>)
+    pub fn add(&mut self, key: Key, reply: Copies<Reply>)
         requires room { HasRoomFor 1 self.old.collected }
         requires few { self.old.done + 1 < 2 ^ 32 }
         ensures sum { sum_of self.new ≡ with_key key reply (sum_of self.old) }
@@ -184,7 +156,7 @@ impl Tally {
     }
 
     /// The reply after the last key.
-    pub fn into_reply(self) -> Thrice<Reply>
+    pub fn into_reply(self) -> Copies<Reply>
         ensures { result ≡ gathered_reply (gathered_in self.collected) }
     {
         self.collected.into_reply()

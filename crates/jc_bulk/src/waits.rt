@@ -1,13 +1,12 @@
 //! A call that waits for the answer to one request.
 ghost use Rattle.std.specs.Prelude.{◌≡◌};
 ghost use Rattle.jc_model.specs.Run.{awaited_by, fits};
-ghost use Rattle.jc_bulk.specs.Waits.{awaited, waits_of};
+ghost use Rattle.jc_bulk.specs.Waits.{awaited, moment_of, waits_of};
 
 use crate::bulk::BulkStep;
 use crate::call::CallNext;
 use jc_model::call::{Answer, Request};
 use jc_ops::step::Next;
-use jc_state::notices::Notices;
 use std::marker::Model;
 
 /// What kind of answer a suspended call awaits.
@@ -24,7 +23,6 @@ pub enum Awaits {
 pub struct Suspended {
     pub(crate) bulk: BulkStep,
     pub(crate) awaits: Awaits,
-    pub(crate) notices: Notices,
 }
 
 impl Model for Suspended {
@@ -32,7 +30,7 @@ impl Model for Suspended {
 
     ghost Value = { Waits };
 
-    ghost view = { λ s. waits_of (awaited s.awaits) s.bulk s.notices.told };
+    ghost view = { λ s. waits_of (awaited s.awaits) s.bulk };
 }
 
 /// What kind of answer a request awaits.
@@ -49,18 +47,11 @@ fn awaits_of(request: &Request) -> Awaits
 }
 
 /// A call that waits with this request.
-pub(crate) fn suspend(request: Request, bulk: BulkStep, notices: Notices) -> CallNext
-    ensures { result ≡ Next.Waiting request (waits_of (awaited_by request) bulk notices.told) }
+pub(crate) fn suspend(request: Request, bulk: BulkStep) -> CallNext
+    ensures { result ≡ Next.Waiting request (waits_of (awaited_by request) bulk) }
 {
     let awaits = awaits_of(&request);
-    Next::Waiting(
-        request,
-        Suspended {
-            bulk,
-            awaits,
-            notices,
-        },
-    )
+    Next::Waiting(request, Suspended { bulk, awaits })
 }
 
 impl Suspended {
@@ -76,16 +67,10 @@ impl Suspended {
         }
     }
 
-    /// Gives the call up: the notices that are left to be told.
-    pub fn into_notices(self) -> Notices
-        ensures { result.told ≡ self.notices }
+    /// The moment of its call.
+    pub fn moment(&self) -> u64
+        ensures { result ≡ moment_of self.now.wait }
     {
-        let Suspended {
-            bulk,
-            awaits: _,
-            notices,
-        } = self;
-        drop(bulk);
-        notices
+        self.bulk.step.now()
     }
 }

@@ -11,23 +11,23 @@ use Rattle.jc_seat.specs.declared.items.Part.{Part}
 use Rattle.jc_seat.specs.declared.status.Fault.{Fault}
 use Rattle.jc_seat.specs.declared.status.Status.{Status}
 use Rattle.jc_seat.specs.declared.status.Status.TheVariants.{Closed, Done, InUse, OutOfMemory}
-use Rattle.jc_seat.specs.Status.{number_of}
+use Rattle.jc_seat.specs.Status.{status_number}
 use Rattle.jc_seat.specs.Items.{Bytes}
 use Rattle.jc_seat.specs.Parts.{number_shown, part_shown, part_status}
-use Rattle.jc_seat.specs.Seated.{Seated, Answered, BeginsCall, BeginsCallOr, CreatesOr, ResumesCall, ResumesCallOr, shown_of}
+use Rattle.jc_seat.specs.Seated.{Seated, DoesWithStatus, BeginsCall, BeginsCallOr, CreatesOr, ResumesCall, ResumesCallOr, shown_of}
 use Rattle.jc_c.specs.declared.handle.Handle.{Handle}
 
 -- the number is that of a status with which the manager does this
-pub record Tells (does : Status → Seated → Type 0) (number : ℕ) (new : Seated) : Type 0 where
+pub record TellsStatus (does : Status → Seated → Type 0) (number : ℕ) (new : Seated) : Type 0 where
   pub status : Status
-  pub is : number ≡ number_of status
+  pub is : number ≡ status_number status
   pub done : does status new
 
 -- the manager behind a handle does this and stays there; of a handle without one that is told, and it stays so
 abbrev pub OnSeat : Option Seated → (Seated → Status → Seated → Type 0) → ℕ → Option Seated → Type 0
-OnSeat None does number held = (number ≡ number_of Closed) × (held ≡ None)
+OnSeat None does number held = (number ≡ status_number Closed) × (held ≡ None)
 OnSeat (Some old) does number None = ⊥
-OnSeat (Some old) does number (Some new) = Tells (does old) number new
+OnSeat (Some old) does number (Some new) = TellsStatus (does old) number new
 
 -- What the manager behind a handle does.
 
@@ -49,7 +49,7 @@ SeatResumesOr id said h number h' = OnSeat h.held (λ old status new. ResumesCal
 
 -- it does what the model says at this event
 abbrev pub SeatAnswers : Event → Handle → ℕ → Handle → Type 0
-SeatAnswers event h number h' = OnSeat h.held (λ old status new. Answered old event status new) number h'.held
+SeatAnswers event h number h' = OnSeat h.held (λ old status new. DoesWithStatus old event status new) number h'.held
 
 -- it creates the cache that bytes say, or memory was wanting
 abbrev pub SeatCreatesOr : Result CacheConfig Fault → ℕ → ℕ → Handle → ℕ → Handle → Type 0
@@ -70,19 +70,19 @@ SeatTellsPart part item id room h number h' = SeatTellsOf id (part_status part i
 -- Handles that are opened and closed, and what is seen of them.
 
 -- a manager without caches is made behind a handle without one, unless memory is wanting; a handle with one keeps it
-abbrev pub Opens : Option Seated → ℕ → Option Seated → Type 0
-Opens (Some old) number held = (number ≡ number_of InUse) × (held ≡ Some old)
-Opens None number None = number ≡ number_of OutOfMemory
-Opens None number (Some new) = (number ≡ number_of Done) × (new ≡ record { caches = []; shown = [] })
+abbrev pub OpensManager : Option Seated → ℕ → Option Seated → Type 0
+OpensManager (Some old) number held = (number ≡ status_number InUse) × (held ≡ Some old)
+OpensManager None number None = number ≡ status_number OutOfMemory
+OpensManager None number (Some new) = (number ≡ status_number Done) × (new ≡ record { caches = []; shown = [] })
 
 abbrev pub closing : Option Seated → Status
 closing None = Closed
 closing (Some old) = Done
 
 -- the caches, of which there are none without a manager
-abbrev pub caches_in : Option Seated → List (Option Cache)
-caches_in None = []
-caches_in (Some s) = s.caches
+abbrev pub caches_held : Option Seated → List (Option Cache)
+caches_held None = []
+caches_held (Some s) = s.caches
 
 -- what was shown last of a cache
 abbrev pub shown_in : ℕ → Option Seated → Option Outcome

@@ -3,7 +3,7 @@ ghost use Rattle.std.specs.Prelude.{Result, Ok, Err, None};
 ghost use Rattle.jc_model.specs.declared.call.Answer.{Answer as SomeAnswer};
 ghost use Rattle.jc_model.specs.declared.event.Event.TheVariants.{GiveUp};
 ghost use Rattle.jc_seat.specs.declared.status.Fault.{Fault as SomeFault};
-ghost use Rattle.jc_seat.specs.Calls.{loaded, processed};
+ghost use Rattle.jc_seat.specs.Calls.{loaded_answer, processed_answer};
 ghost use Rattle.jc_seat.specs.Reading.{IsRead};
 ghost use Rattle.jc_c.specs.Held.{SeatAnswers, SeatResumes, SeatResumesOr};
 
@@ -31,7 +31,7 @@ fn answer_call(alloc: Global, h: &mut Handle, id: u32, said: Result<Answer, Faul
 
 #[unsafe(no_mangle)]
 pub extern "C" fn jc_loaded(alloc: Global, h: &mut Handle, id: u32, value: &[u8]) -> u32
-    ensures { SeatResumesOr id (loaded value.now) h.old result h.new }
+    ensures { SeatResumesOr id (loaded_answer value.now) h.old result h.new }
 {
     answer_call(alloc, h, id, calls::loaded(alloc, value))
 }
@@ -74,7 +74,7 @@ pub extern "C" fn jc_processed(
     answers: u32,
     answer: &[u8],
 ) -> u32
-    ensures { SeatResumesOr id (processed action value.now answers answer.now) h.old result h.new }
+    ensures { SeatResumesOr id (processed_answer action value.now answers answer.now) h.old result h.new }
 {
     answer_call(
         alloc,

@@ -2,7 +2,7 @@
 ghost use Rattle.std.specs.Prelude.{Result};
 ghost use Rattle.jc_model.specs.declared.call.Call.{Call as SomeCall};
 ghost use Rattle.jc_seat.specs.declared.status.Fault.{Fault as SomeFault};
-ghost use Rattle.jc_seat.specs.Calls.{with_key, with_value, replace_if, remove_if, invoke};
+ghost use Rattle.jc_seat.specs.Calls.{call_with_key, call_with_value, replace_if, remove_if, invoke};
 ghost use Rattle.jc_seat.specs.Reading.{IsRead};
 ghost use Rattle.jc_c.specs.Held.{SeatBegins, SeatBeginsOr};
 
@@ -35,14 +35,14 @@ pub(crate) fn begin(
 
 #[unsafe(no_mangle)]
 pub extern "C" fn jc_get(alloc: Global, h: &mut Handle, id: u32, now: u64, key: &[u8]) -> u32
-    ensures { SeatBegins id now (with_key Call.Get key.now) h.old result h.new }
+    ensures { SeatBegins id now (call_with_key Call.Get key.now) h.old result h.new }
 {
     begin(alloc, h, id, now, calls::get(key))
 }
 
 #[unsafe(no_mangle)]
 pub extern "C" fn jc_contains(alloc: Global, h: &mut Handle, id: u32, now: u64, key: &[u8]) -> u32
-    ensures { SeatBegins id now (with_key Call.Contains key.now) h.old result h.new }
+    ensures { SeatBegins id now (call_with_key Call.Contains key.now) h.old result h.new }
 {
     begin(alloc, h, id, now, calls::contains(key))
 }
@@ -56,7 +56,7 @@ pub extern "C" fn jc_put(
     key: &[u8],
     value: &[u8],
 ) -> u32
-    ensures { SeatBeginsOr id now (with_value Call.Put key.now value.now) h.old result h.new }
+    ensures { SeatBeginsOr id now (call_with_value Call.Put key.now value.now) h.old result h.new }
 {
     begin(alloc, h, id, now, calls::put(alloc, key, value))
 }
@@ -70,7 +70,7 @@ pub extern "C" fn jc_get_and_put(
     key: &[u8],
     value: &[u8],
 ) -> u32
-    ensures { SeatBeginsOr id now (with_value Call.GetAndPut key.now value.now) h.old result h.new }
+    ensures { SeatBeginsOr id now (call_with_value Call.GetAndPut key.now value.now) h.old result h.new }
 {
     begin(alloc, h, id, now, calls::get_and_put(alloc, key, value))
 }
@@ -84,7 +84,7 @@ pub extern "C" fn jc_put_if_absent(
     key: &[u8],
     value: &[u8],
 ) -> u32
-    ensures { SeatBeginsOr id now (with_value Call.PutIfAbsent key.now value.now)
+    ensures { SeatBeginsOr id now (call_with_value Call.PutIfAbsent key.now value.now)
         h.old result h.new }
 {
     begin(alloc, h, id, now, calls::put_if_absent(alloc, key, value))
@@ -99,7 +99,7 @@ pub extern "C" fn jc_replace(
     key: &[u8],
     value: &[u8],
 ) -> u32
-    ensures { SeatBeginsOr id now (with_value Call.Replace key.now value.now) h.old result h.new }
+    ensures { SeatBeginsOr id now (call_with_value Call.Replace key.now value.now) h.old result h.new }
 {
     begin(alloc, h, id, now, calls::replace(alloc, key, value))
 }
@@ -134,7 +134,7 @@ pub extern "C" fn jc_get_and_replace(
     key: &[u8],
     value: &[u8],
 ) -> u32
-    ensures { SeatBeginsOr id now (with_value Call.GetAndReplace key.now value.now)
+    ensures { SeatBeginsOr id now (call_with_value Call.GetAndReplace key.now value.now)
         h.old result h.new }
 {
     begin(alloc, h, id, now, calls::get_and_replace(alloc, key, value))
@@ -142,7 +142,7 @@ pub extern "C" fn jc_get_and_replace(
 
 #[unsafe(no_mangle)]
 pub extern "C" fn jc_remove(alloc: Global, h: &mut Handle, id: u32, now: u64, key: &[u8]) -> u32
-    ensures { SeatBegins id now (with_key Call.Remove key.now) h.old result h.new }
+    ensures { SeatBegins id now (call_with_key Call.Remove key.now) h.old result h.new }
 {
     begin(alloc, h, id, now, calls::remove(key))
 }
@@ -169,7 +169,7 @@ pub extern "C" fn jc_get_and_remove(
     now: u64,
     key: &[u8],
 ) -> u32
-    ensures { SeatBegins id now (with_key Call.GetAndRemove key.now) h.old result h.new }
+    ensures { SeatBegins id now (call_with_key Call.GetAndRemove key.now) h.old result h.new }
 {
     begin(alloc, h, id, now, calls::get_and_remove(key))
 }

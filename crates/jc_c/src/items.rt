@@ -1,6 +1,6 @@
 //! What was shown last of a cache, copied into the caller's places.
 ghost use Rattle.std.specs.Prelude.{◌≡◌, length};
-ghost use Rattle.jc_seat.specs.Items.{filled, length_told};
+ghost use Rattle.jc_seat.specs.Items.{buffer_after, length_told};
 ghost use Rattle.jc_seat.specs.Parts.{count_shown, count_status, or_before, number_status};
 ghost use Rattle.jc_c.specs.Held.{SeatTellsOf, SeatTellsPart, number_shown_in, part_shown_in, shown_in};
 
@@ -55,7 +55,7 @@ fn copy(
 ) -> u32
     ensures same { h.new.held ≡ h.old.held }
     ensures status { SeatTellsPart part item id (length out.old) h.old result h.new }
-    ensures out { out.new ≡ filled (part_shown_in part item id h.old.held) out.old }
+    ensures out { out.new ≡ buffer_after (part_shown_in part item id h.old.held) out.old }
     ensures len { len.new ≡ length_told (part_shown_in part item id h.old.held) len.old }
 {
     let Some(seat) = h.take(alloc) else {
@@ -77,7 +77,7 @@ pub extern "C" fn jc_key(
 ) -> u32
     ensures same { h.new.held ≡ h.old.held }
     ensures status { SeatTellsPart Part.Key item id (length out.old) h.old result h.new }
-    ensures out { out.new ≡ filled (part_shown_in Part.Key item id h.old.held) out.old }
+    ensures out { out.new ≡ buffer_after (part_shown_in Part.Key item id h.old.held) out.old }
     ensures len { len.new ≡ length_told (part_shown_in Part.Key item id h.old.held) len.old }
 {
     copy(alloc, h, id, item, Part::Key, out, len)
@@ -94,7 +94,7 @@ pub extern "C" fn jc_value(
 ) -> u32
     ensures same { h.new.held ≡ h.old.held }
     ensures status { SeatTellsPart Part.Value item id (length out.old) h.old result h.new }
-    ensures out { out.new ≡ filled (part_shown_in Part.Value item id h.old.held) out.old }
+    ensures out { out.new ≡ buffer_after (part_shown_in Part.Value item id h.old.held) out.old }
     ensures len { len.new ≡ length_told (part_shown_in Part.Value item id h.old.held) len.old }
 {
     copy(alloc, h, id, item, Part::Value, out, len)
@@ -111,7 +111,7 @@ pub extern "C" fn jc_before(
 ) -> u32
     ensures same { h.new.held ≡ h.old.held }
     ensures status { SeatTellsPart Part.Before item id (length out.old) h.old result h.new }
-    ensures out { out.new ≡ filled (part_shown_in Part.Before item id h.old.held) out.old }
+    ensures out { out.new ≡ buffer_after (part_shown_in Part.Before item id h.old.held) out.old }
     ensures len { len.new ≡ length_told (part_shown_in Part.Before item id h.old.held) len.old }
 {
     copy(alloc, h, id, item, Part::Before, out, len)
@@ -128,7 +128,7 @@ pub extern "C" fn jc_argument(
 ) -> u32
     ensures same { h.new.held ≡ h.old.held }
     ensures status { SeatTellsPart Part.Argument item id (length out.old) h.old result h.new }
-    ensures out { out.new ≡ filled (part_shown_in Part.Argument item id h.old.held) out.old }
+    ensures out { out.new ≡ buffer_after (part_shown_in Part.Argument item id h.old.held) out.old }
     ensures len { len.new ≡ length_told (part_shown_in Part.Argument item id h.old.held) len.old }
 {
     copy(alloc, h, id, item, Part::Argument, out, len)

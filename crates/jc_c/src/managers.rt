@@ -1,10 +1,10 @@
 //! Managers, and caches that are created and destroyed.
 ghost use Rattle.std.specs.Prelude.{◌≡◌, None};
 ghost use Rattle.jc_model.specs.declared.event.Event.TheVariants.{Destroy};
-ghost use Rattle.jc_seat.specs.Parts.{or_before, find_status, found};
-ghost use Rattle.jc_seat.specs.Reading.{key_of, config_of};
-ghost use Rattle.jc_seat.specs.Status.{number_of};
-ghost use Rattle.jc_c.specs.Held.{Opens, SeatAnswers, SeatCreatesOr, SeatTells, caches_in, closing};
+ghost use Rattle.jc_seat.specs.Parts.{or_before, find_status, cache_found};
+ghost use Rattle.jc_seat.specs.Reading.{key_said, config_said};
+ghost use Rattle.jc_seat.specs.Status.{status_number};
+ghost use Rattle.jc_c.specs.Held.{OpensManager, SeatAnswers, SeatCreatesOr, SeatTells, caches_held, closing};
 
 use crate::handle::Handle;
 use jc_model::event::CacheId;
@@ -15,7 +15,7 @@ use std::alloc::Global;
 
 #[unsafe(no_mangle)]
 pub extern "C" fn jc_open(alloc: Global, h: &mut Handle, seed: u64) -> u32
-    ensures { Opens h.old.held result h.new.held }
+    ensures { OpensManager h.old.held result h.new.held }
 {
     if let Some(seat) = h.take(alloc) {
         h.put_in(seat);
@@ -36,7 +36,7 @@ pub extern "C" fn jc_open(alloc: Global, h: &mut Handle, seed: u64) -> u32
 #[unsafe(no_mangle)]
 pub extern "C" fn jc_close(alloc: Global, h: &mut Handle) -> u32
     ensures empty { h.new.held ≡ None }
-    ensures status { result ≡ number_of (closing h.old.held) }
+    ensures status { result ≡ status_number (closing h.old.held) }
 {
     match h.take(alloc) {
         Some(seat) => {
@@ -56,7 +56,7 @@ pub extern "C" fn jc_create(
     wants: &[u8],
     id: &mut u32,
 ) -> u32
-    ensures created { SeatCreatesOr (config_of name.now settings.now wants.now) id.old id.new
+    ensures created { SeatCreatesOr (config_said name.now settings.now wants.now) id.old id.new
         h.old result h.new }
     ensures closed { h.old.held ≡ None → id.new ≡ id.old }
 {
@@ -83,9 +83,9 @@ pub extern "C" fn jc_destroy(alloc: Global, h: &mut Handle, id: u32) -> u32
 #[unsafe(no_mangle)]
 pub extern "C" fn jc_find(alloc: Global, h: &mut Handle, name: &[u8], id: &mut u32) -> u32
     ensures same { h.new.held ≡ h.old.held }
-    ensures status { SeatTells (λ old. find_status (key_of name.now) old.caches)
+    ensures status { SeatTells (λ old. find_status (key_said name.now) old.caches)
         h.old result h.new }
-    ensures id { id.new ≡ or_before id.old (found (key_of name.now) (caches_in h.old.held)) }
+    ensures id { id.new ≡ or_before id.old (cache_found (key_said name.now) (caches_held h.old.held)) }
 {
     let Some(seat) = h.take(alloc) else {
         return Status::Closed.number();

@@ -1,6 +1,6 @@
 //! Calls on many keys, and on a whole cache.
 ghost use Rattle.std.specs.Prelude.{Ok};
-ghost use Rattle.jc_seat.specs.Calls.{with_keys, put_all, load_all, invoke_all};
+ghost use Rattle.jc_seat.specs.Calls.{call_with_keys, put_all, load_all, invoke_all};
 ghost use Rattle.jc_c.specs.Held.{SeatBegins, SeatBeginsOr};
 
 use crate::calls::begin;
@@ -19,7 +19,7 @@ pub extern "C" fn jc_get_all(
     lengths: &[u32],
     keys: &[u8],
 ) -> u32
-    ensures { SeatBeginsOr id now (with_keys Call.GetAll lengths.now keys.now) h.old result h.new }
+    ensures { SeatBeginsOr id now (call_with_keys Call.GetAll lengths.now keys.now) h.old result h.new }
 {
     begin(alloc, h, id, now, calls::get_all(alloc, lengths, keys))
 }
@@ -47,7 +47,7 @@ pub extern "C" fn jc_remove_keys(
     lengths: &[u32],
     keys: &[u8],
 ) -> u32
-    ensures { SeatBeginsOr id now (with_keys Call.RemoveKeys lengths.now keys.now)
+    ensures { SeatBeginsOr id now (call_with_keys Call.RemoveKeys lengths.now keys.now)
         h.old result h.new }
 {
     begin(alloc, h, id, now, calls::remove_keys(alloc, lengths, keys))

@@ -9,7 +9,7 @@ use Rattle.toml.specs.View.{members_view}
 use Rattle.toml.specs.Parse.{parse_document}
 use Rattle.toml.specs.declared.value.Value.{Value}
 use Rattle.jc_config.specs.Config.{document_of}
-use Rattle.jc_config.specs.Members.{all_known}
+use Rattle.jc_config.specs.Members.{table_members_are}
 
 pub document_is : (bytes : List ℕ) → IsUtf8 bytes → (o : Option Members) → parse_document bytes ≡ o → o ≡ document_of bytes
 unfolding document_of
@@ -20,6 +20,6 @@ unfolding document_of
 no_document bytes none =
     elim (is_utf8 bytes) as (λ b. is_utf8 bytes ≡ b → None ≡ (if b then parse_document bytes else None)) [ true ↦ λ e. absurd (none (IsUtf8-from_is_utf8 bytes e)) | false ↦ λ e. refl ] refl
 
-pub known_keys : (known : List ℕ → Bool) (es : List (String Global × Value)) → list_all (λ k. known (string_bytes k)) (map (λ e. e.0) es) ≡ all_known known (members_view es)
+pub known_keys : (known : List ℕ → Bool) (es : List (String Global × Value)) → list_all (λ k. known (string_bytes k)) (map (λ e. e.0) es) ≡ table_members_are known (members_view es)
 known_keys known [] = refl
 known_keys known (e ∷ es) = ap (λ b. known (string_bytes e.0) && b) (known_keys known es)

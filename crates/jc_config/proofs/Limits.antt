@@ -10,11 +10,11 @@ use Rattle.std.proofs.lemmas.List.{length-map}
 use Rattle.toml.specs.Data.{Data, Items, no_items, item, get, as_array}
 use Rattle.jc_model.specs.Lists.{distinct}
 use Rattle.jc_model.specs.Limits.{most_rows, most_listeners, most_caches, most_processors}
-use Rattle.jc_config.specs.Faults.{◌>>=◌, name_of}
+use Rattle.jc_config.specs.Faults.{◌>>=◌, config_member_name}
 use Rattle.jc_config.specs.Kinds.{loader_of, writer_of, processor_of, wants_value_of}
-use Rattle.jc_config.specs.Limits.{few_processors, names_in, rows_in, within_limits}
-use Rattle.jc_config.specs.Members.{number, name_text, text_kind, kinds_of, count_of, few_kinds, processor_list, needed, found_or, optional, policy_of, no_other_entry}
-use Rattle.jc_config.specs.Config.{cache_of, caches_of, duplicate_from, total_of, provided, check_names, check_totals}
+use Rattle.jc_config.specs.Limits.{few_processors, names_of_caches, total_capacity, within_limits}
+use Rattle.jc_config.specs.Members.{number, name_text, text_kind, kinds_of, count_of, few_kinds, processor_list, needed_table_member, table_member_or, optional, table_policy, no_other_entry}
+use Rattle.jc_config.specs.Config.{cache_of, caches_of, duplicate_from, total_of, fault_unless, check_names, check_totals}
 use Rattle.jc_config.specs.declared.fault.Member.TheVariants as members
 use Rattle.jc_config.specs.declared.fault.ConfigFault.{ConfigFault}
 use Rattle.jc_config.specs.declared.kinds.CacheSettings.{CacheSettings}
@@ -27,7 +27,7 @@ bind_ok (Err w) f y e = cc
 ok_same : {A : Type 0} (x y : A) → ◌≡◌ {A = Result A ConfigFault} (Ok x) (Ok y) → x ≡ y
 ok_same x y e = cc
 
-provided_ok : (b : Bool) (w : ConfigFault) (u : Unit {0}) → provided b w ≡ Ok u → b ≡ true
+provided_ok : (b : Bool) (w : ConfigFault) (u : Unit {0}) → fault_unless b w ≡ Ok u → b ≡ true
 provided_ok true w u e = refl
 provided_ok false w u e = cc
 
@@ -64,23 +64,23 @@ short_kinds v ks e =
     let (few, read) = if_some (nat_le (count_of items) most_processors) (kinds_of items) ks found in
     rw (kinds_count items ks read) at few
 
-short_or : (n : ℕ) (o : Option Data) (ks : List ProcessorKind) → found_or [] processor_list n members.Processors o ≡ Ok ks → nat_le (length ks) most_processors ≡ true
+short_or : (n : ℕ) (o : Option Data) (ks : List ProcessorKind) → table_member_or [] processor_list n members.Processors o ≡ Ok ks → nat_le (length ks) most_processors ≡ true
 short_or n None ks e = rw (← ok_same [] ks e) refl
 short_or n (Some v) ks e = short_kinds v ks (ok_or_some _ _ ks e)
 
 few_cache : (n : ℕ) (d : Data) (c : CacheSettings) → cache_of n d ≡ Ok c → few_processors c.config ≡ true
 unfolding cache_of
 few_cache n d c e =
-    let (name, e1, k1) = bind_ok (needed name_text n members.Name d) _ c e in
-    let (capacity, e2, k2) = bind_ok (needed (number 1 most_rows) n members.Capacity d) _ c k1 in
-    let (policy, e3, k3) = bind_ok (policy_of n d) _ c k2 in
+    let (name, e1, k1) = bind_ok (needed_table_member name_text n members.Name d) _ c e in
+    let (capacity, e2, k2) = bind_ok (needed_table_member (number 1 most_rows) n members.Capacity d) _ c k1 in
+    let (policy, e3, k3) = bind_ok (table_policy n d) _ c k2 in
     let (loader, e4, k4) = bind_ok (optional (text_kind loader_of) n members.Loader d) _ c k3 in
     let (writer, e5, k5) = bind_ok (optional (text_kind writer_of) n members.Writer d) _ c k4 in
-    let (kinds, e6, k6) = bind_ok (found_or [] processor_list n members.Processors (get (name_of members.Processors) d)) _ c k5 in
-    let (listeners, e7, k7) = bind_ok (found_or 0 (number 0 most_listeners) n members.Listeners (get (name_of members.Listeners) d)) _ c k6 in
+    let (kinds, e6, k6) = bind_ok (table_member_or [] processor_list n members.Processors (get (config_member_name members.Processors) d)) _ c k5 in
+    let (listeners, e7, k7) = bind_ok (table_member_or 0 (number 0 most_listeners) n members.Listeners (get (config_member_name members.Listeners) d)) _ c k6 in
     let (none, e8, k8) = bind_ok (no_other_entry n d) _ c k7 in
     let made = ok_same _ c k8 in
-    subst (λ (x : CacheSettings). few_processors x.config ≡ true) made (rw (length-map kinds wants_value_of) (short_or n (get (name_of members.Processors) d) kinds e6))
+    subst (λ (x : CacheSettings). few_processors x.config ≡ true) made (rw (length-map kinds wants_value_of) (short_or n (get (config_member_name members.Processors) d) kinds e6))
 
 few_caches : (n : ℕ) (ds : Items) (cs : List CacheSettings) → caches_of n ds ≡ Ok cs → list_all few_processors (map (λ c. c.config) cs) ≡ true
 few_caches n no_items cs e = subst (λ (xs : List CacheSettings). list_all few_processors (map (λ c. c.config) xs) ≡ true) (ok_same [] cs e) refl
@@ -121,17 +121,17 @@ checked_ok : (o : Option ℕ) (u : Unit {0}) → check_names o ≡ Ok u → o �
 checked_ok None u e = refl
 checked_ok (Some n) u e = absurd cc
 
-same_rows : (cs : List CacheSettings) → rows_in (map (λ c. c.config) cs) ≡ total_of cs
+same_rows : (cs : List CacheSettings) → total_capacity (map (λ c. c.config) cs) ≡ total_of cs
 same_rows [] = refl
 same_rows (c ∷ cs) = sum_by-cons (λ n. n) c.config.capacity (map (λ x. x.capacity) (map (λ x. x.config) cs)) ∙ ap (λ n. c.config.capacity + n) (same_rows cs)
 
-same_names : (cs : List CacheSettings) → names_in (map (λ c. c.config) cs) ≡ map (λ c. c.config.name) cs
+same_names : (cs : List CacheSettings) → names_of_caches (map (λ c. c.config) cs) ≡ map (λ c. c.config.name) cs
 same_names [] = refl
 same_names (c ∷ cs) = ap (λ names. c.config.name ∷ names) (same_names cs)
 
 pub limits_kept : (n : ℕ) (ds : Items) (cs : List CacheSettings) (u : Unit {0}) → caches_of n ds ≡ Ok cs → check_totals cs ≡ Ok u → within_limits (map (λ c. c.config) cs) ≡ true
 limits_kept n ds cs u read totals =
-    let (few, e, k) = bind_ok (provided (nat_le (length cs) most_caches) _) _ u totals in
+    let (few, e, k) = bind_ok (fault_unless (nat_le (length cs) most_caches) _) _ u totals in
     let (distinct, f, rows) = bind_ok (check_names (duplicate_from [] 1 (map (λ c. c.config.name) cs))) _ u k in
     rw (
       length-map cs (λ (c : CacheSettings). c.config),

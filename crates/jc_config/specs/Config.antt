@@ -8,7 +8,7 @@ use Rattle.toml.specs.Parse.{parse_document}
 use Rattle.jc_model.specs.Limits.{most_rows, most_caches, most_rows_together, text_bytes}
 use Rattle.jc_config.specs.FirstFault.{◌>>=◌}
 use Rattle.jc_config.specs.Kinds.{loader_of, writer_of, wants_value_of}
-use Rattle.jc_config.specs.Members.{number, name_text, text_kind, needed, optional, processors_or_none, listeners_or_none, policy_of, all_known, no_other_entry}
+use Rattle.jc_config.specs.Members.{number, name_text, text_kind, needed_table_member, optional, processors_or_none, listeners_or_none, table_policy, table_members_are, no_other_entry}
 use Rattle.jc_config.specs.declared.fault.Member.TheVariants as members
 use Rattle.jc_config.specs.declared.fault.ConfigFault.{ConfigFault}
 use Rattle.jc_config.specs.declared.fault.ConfigFault.TheVariants.{TooLong, NotToml, UnknownEntry, TooManyCaches, DuplicateName, TotalCapacity}
@@ -37,15 +37,15 @@ tables_at (Some d) = list_of_tables (as_array d)
 
 -- the list `cache`, empty where it is missing
 abbrev pub tables_of : Members → Result Items ConfigFault
-tables_of document = if all_known is_cache document then tables_at (get_member (codes "cache") document) else Err UnknownEntry
+tables_of document = if table_members_are is_cache document then tables_at (get_member (codes "cache") document) else Err UnknownEntry
 
 -- One table and all tables.
 
 unfoldable pub cache_of : ℕ → Data → Result CacheSettings ConfigFault
 cache_of n d = do
-  name ← needed name_text n members.Name d
-  capacity ← needed (number 1 most_rows) n members.Capacity d
-  policy ← policy_of n d
+  name ← needed_table_member name_text n members.Name d
+  capacity ← needed_table_member (number 1 most_rows) n members.Capacity d
+  policy ← table_policy n d
   loader ← optional (text_kind loader_of) n members.Loader d
   writer ← optional (text_kind writer_of) n members.Writer d
   kinds ← processors_or_none n d
@@ -79,22 +79,22 @@ abbrev pub check_names : Option ℕ → Result (Unit {0}) ConfigFault
 check_names None = Ok tt
 check_names (Some n) = Err (DuplicateName n)
 
-abbrev pub provided : Bool → ConfigFault → Result (Unit {0}) ConfigFault
-provided test fault = if test then Ok tt else Err fault
+abbrev pub fault_unless : Bool → ConfigFault → Result (Unit {0}) ConfigFault
+fault_unless test fault = if test then Ok tt else Err fault
 
 abbrev pub check_totals : List CacheSettings → Result (Unit {0}) ConfigFault
 check_totals caches = do
-  few ← provided (nat_le (length caches) most_caches) TooManyCaches
+  few ← fault_unless (nat_le (length caches) most_caches) TooManyCaches
   distinct ← check_names (duplicate_from [] 1 (map (λ c. c.config.name) caches))
-  provided (nat_le (total_of caches) most_rows_together) TotalCapacity
+  fault_unless (nat_le (total_of caches) most_rows_together) TotalCapacity
 
 -- the settings of caches, and the kinds of their callbacks in the same order
 abbrev pub configuration_with : List CacheSettings → Configuration
 configuration_with caches = record { settings = map (λ c. c.config) caches; hooks = map (λ c. c.hooks) caches }
 
-unfoldable pub configuration_of : List ℕ → Result Configuration ConfigFault
-configuration_of bytes = do
-  short ← provided (nat_le (length bytes) text_bytes) TooLong
+unfoldable pub configuration_in : List ℕ → Result Configuration ConfigFault
+configuration_in bytes = do
+  short ← fault_unless (nat_le (length bytes) text_bytes) TooLong
   document ← ok_or (document_of bytes) NotToml
   tables ← tables_of document
   caches ← caches_of 1 tables

@@ -8,21 +8,21 @@ use Rattle.jc_config.specs.declared.fault.ConfigFault.TheVariants.{OutOfMemory}
 pub use Rattle.jc_config.specs.FirstFault.{◌>>=◌}
 
 -- the fault is want of memory
-abbrev pub is_want : ConfigFault → Bool
-is_want OutOfMemory = true
-is_want _ = false
+abbrev pub config_wants_memory : ConfigFault → Bool
+config_wants_memory OutOfMemory = true
+config_wants_memory _ = false
 
 -- the result is that of the reading, as far as memory suffices
-abbrev pub Gives : {X Y : Type 0} → (X → Y) → Result X ConfigFault → Result Y ConfigFault → Type 0
-Gives seen result reading = GivesUnless is_want seen result reading
+abbrev pub GivesConfig : {X Y : Type 0} → (X → Y) → Result X ConfigFault → Result Y ConfigFault → Type 0
+GivesConfig seen result reading = GivesUnless config_wants_memory seen result reading
 
-abbrev pub name_of : Member → List ℕ
-name_of members.Name = codes "name"
-name_of members.Capacity = codes "capacity"
-name_of members.Expiry = codes "expiry"
-name_of members.Duration = codes "duration"
-name_of members.Loader = codes "loader"
-name_of members.Writer = codes "writer"
-name_of members.Processors = codes "processors"
-name_of members.Listeners = codes "listeners"
-name_of members.Entry = codes "entry"
+abbrev pub config_member_name : Member → List ℕ
+config_member_name members.Name = codes "name"
+config_member_name members.Capacity = codes "capacity"
+config_member_name members.Expiry = codes "expiry"
+config_member_name members.Duration = codes "duration"
+config_member_name members.Loader = codes "loader"
+config_member_name members.Writer = codes "writer"
+config_member_name members.Processors = codes "processors"
+config_member_name members.Listeners = codes "listeners"
+config_member_name members.Entry = codes "entry"

@@ -18,10 +18,10 @@ GivesUnless is_want seen (Ok x) reading = reading ≡ Ok (seen x)
 GivesUnless is_want seen (Err fault) reading = FailsUnless (is_want fault) fault reading
 
 -- a member that must be there, as f takes it
-abbrev pub needed : {F D A : Type 0} → (D → Option A) → F → Option D → Result A F
-needed f fault member = ok_or (option_and_then f member) fault
+abbrev pub needed_member : {F D A : Type 0} → (D → Option A) → F → Option D → Result A F
+needed_member f fault member = ok_or (option_and_then f member) fault
 
 -- a member that may be missing, which is then this
-abbrev pub found_or : {F D A : Type 0} → A → (D → Option A) → F → Option D → Result A F
-found_or a f fault None = Ok a
-found_or a f fault (Some d) = ok_or (f d) fault
+abbrev pub member_or : {F D A : Type 0} → A → (D → Option A) → F → Option D → Result A F
+member_or a f fault None = Ok a
+member_or a f fault (Some d) = ok_or (f d) fault

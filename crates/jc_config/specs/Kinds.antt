@@ -35,8 +35,8 @@ abbrev pub plain_cache : List ℕ → ℕ → Policy → CacheConfig
 plain_cache name capacity policy =
     record { name = name; capacity = capacity; policy = policy; loader = false; writer = false; processors = []; listeners = 0 }
 
-abbrev pub expiry_of : List ℕ → Option ExpiryKind
-expiry_of text =
+abbrev pub expiry_kind_of : List ℕ → Option ExpiryKind
+expiry_kind_of text =
     if bytes_eq text (codes "eternal") then Some Eternal else
     (if bytes_eq text (codes "created") then Some Created else
     (if bytes_eq text (codes "accessed") then Some Accessed else

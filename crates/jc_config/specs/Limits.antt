@@ -8,12 +8,12 @@ use Rattle.jc_model.specs.declared.config.CacheConfig.{CacheConfig}
 abbrev pub few_processors : CacheConfig → Bool
 few_processors c = nat_le (length c.processors) most_processors
 
-abbrev pub names_in : List CacheConfig → List (List ℕ)
-names_in caches = map (λ c. c.name) caches
+abbrev pub names_of_caches : List CacheConfig → List (List ℕ)
+names_of_caches caches = map (λ c. c.name) caches
 
-abbrev pub rows_in : List CacheConfig → ℕ
-rows_in caches = sum (map (λ c. c.capacity) caches)
+abbrev pub total_capacity : List CacheConfig → ℕ
+total_capacity caches = sum (map (λ c. c.capacity) caches)
 
 abbrev pub within_limits : List CacheConfig → Bool
 within_limits caches =
-    nat_le (length caches) most_caches && list_all few_processors caches && distinct (names_in caches) && nat_le (rows_in caches) most_rows_together
+    nat_le (length caches) most_caches && list_all few_processors caches && distinct (names_of_caches caches) && nat_le (total_capacity caches) most_rows_together

@@ -5,10 +5,10 @@ use Rattle.std.specs.Str.{bytes_eq}
 use Rattle.toml.specs.Data.{Data, Items, no_items, item, Members, no_members, member, get, as_str, as_integer, as_array, as_table}
 use Rattle.jc_model.specs.declared.config.Policy.{Policy}
 use Rattle.jc_model.specs.Limits.{most_processors, most_listeners}
-use Rattle.jc_config.specs.Faults.{name_of}
+use Rattle.jc_config.specs.Faults.{config_member_name}
 use Rattle.jc_config.specs.FirstFault as first
 use Rattle.jc_config.specs.FirstFault.{◌>>=◌}
-use Rattle.jc_config.specs.Kinds.{name_in, expiry_of, policy_in, processor_of}
+use Rattle.jc_config.specs.Kinds.{name_in, expiry_kind_of, policy_in, processor_of}
 use Rattle.jc_config.specs.declared.fault.Member.{Member}
 use Rattle.jc_config.specs.declared.fault.Member.TheVariants as members
 use Rattle.jc_config.specs.declared.fault.ConfigFault.{ConfigFault}
@@ -22,12 +22,12 @@ natural (pos n) = Some n
 natural (negsuc n) = None
 
 -- a whole number from 0
-abbrev pub whole : Data → Option ℕ
-whole d = option_and_then natural (as_integer d)
+abbrev pub whole_number : Data → Option ℕ
+whole_number d = option_and_then natural (as_integer d)
 
 -- a whole number between these, both included
 abbrev pub number : ℕ → ℕ → Data → Option ℕ
-number low high d = option_and_then (λ n. if nat_le low n && nat_le n high then Some n else None) (whole d)
+number low high d = option_and_then (λ n. if nat_le low n && nat_le n high then Some n else None) (whole_number d)
 
 abbrev pub name_text : Data → Option (List ℕ)
 name_text d = option_and_then name_in (as_str d)
@@ -53,50 +53,50 @@ abbrev pub processor_list : Data → Option (List ProcessorKind)
 processor_list d = option_and_then few_kinds (as_array d)
 
 -- a member that must be there
-abbrev pub needed : {A : Type 0} → (Data → Option A) → ℕ → Member → Data → Result A ConfigFault
-needed f n m d = first.needed f (Bad n m) (get (name_of m) d)
+abbrev pub needed_table_member : {A : Type 0} → (Data → Option A) → ℕ → Member → Data → Result A ConfigFault
+needed_table_member f n m d = first.needed_member f (Bad n m) (get (config_member_name m) d)
 
 -- a member that may be missing
-abbrev pub found_or : {A : Type 0} → A → (Data → Option A) → ℕ → Member → Option Data → Result A ConfigFault
-found_or a f n m found = first.found_or a f (Bad n m) found
+abbrev pub table_member_or : {A : Type 0} → A → (Data → Option A) → ℕ → Member → Option Data → Result A ConfigFault
+table_member_or a f n m found = first.member_or a f (Bad n m) found
 
 abbrev pub optional : {A : Type 0} → (Data → Option A) → ℕ → Member → Data → Result (Option A) ConfigFault
-optional f n m d = found_or None (λ x. option_map Some (f x)) n m (get (name_of m) d)
+optional f n m d = table_member_or None (λ x. option_map Some (f x)) n m (get (config_member_name m) d)
 
 -- the expiry, which is eternal where it is missing
-abbrev pub expiry_or_eternal : ℕ → Data → Result ExpiryKind ConfigFault
-expiry_or_eternal n d = found_or Eternal (text_kind expiry_of) n members.Expiry (get (name_of members.Expiry) d)
+abbrev pub table_expiry_or_eternal : ℕ → Data → Result ExpiryKind ConfigFault
+table_expiry_or_eternal n d = table_member_or Eternal (text_kind expiry_kind_of) n members.Expiry (get (config_member_name members.Expiry) d)
 
 -- the kinds of processors
 abbrev pub processors_or_none : ℕ → Data → Result (List ProcessorKind) ConfigFault
-processors_or_none n d = found_or [] processor_list n members.Processors (get (name_of members.Processors) d)
+processors_or_none n d = table_member_or [] processor_list n members.Processors (get (config_member_name members.Processors) d)
 
 -- how many listeners
 abbrev pub listeners_or_none : ℕ → Data → Result ℕ ConfigFault
-listeners_or_none n d = found_or 0 (number 0 most_listeners) n members.Listeners (get (name_of members.Listeners) d)
+listeners_or_none n d = table_member_or 0 (number 0 most_listeners) n members.Listeners (get (config_member_name members.Listeners) d)
 
-unfoldable pub policy_of : ℕ → Data → Result Policy ConfigFault
-policy_of n d = do
-  kind ← expiry_or_eternal n d
-  ok_or (policy_in kind (option_map whole (get (name_of members.Duration) d))) (Bad n members.Duration)
+unfoldable pub table_policy : ℕ → Data → Result Policy ConfigFault
+table_policy n d = do
+  kind ← table_expiry_or_eternal n d
+  ok_or (policy_in kind (option_map whole_number (get (config_member_name members.Duration) d))) (Bad n members.Duration)
 
 -- Entries.
 
-abbrev pub is_member : List ℕ → Bool
-is_member key =
+abbrev pub is_table_member : List ℕ → Bool
+is_table_member key =
     bytes_eq key (codes "name") || bytes_eq key (codes "capacity") || bytes_eq key (codes "expiry") || bytes_eq key (codes "duration")
     || bytes_eq key (codes "loader") || bytes_eq key (codes "writer") || bytes_eq key (codes "processors") || bytes_eq key (codes "listeners")
 
-abbrev pub all_known : (List ℕ → Bool) → Members → Bool
-all_known known no_members = true
-all_known known (member k d ms) = known k && all_known known ms
+abbrev pub table_members_are : (List ℕ → Bool) → Members → Bool
+table_members_are known no_members = true
+table_members_are known (member k d ms) = known k && table_members_are known ms
 
-abbrev pub knows_by : Option Members → Bool
-knows_by None = false
-knows_by (Some ms) = all_known is_member ms
+abbrev pub knows_table_by : Option Members → Bool
+knows_table_by None = false
+knows_table_by (Some ms) = table_members_are is_table_member ms
 
-abbrev pub knows_members : Data → Bool
-knows_members d = knows_by (as_table d)
+abbrev pub knows_table : Data → Bool
+knows_table d = knows_table_by (as_table d)
 
 abbrev pub no_other_entry : ℕ → Data → Result (Unit {0}) ConfigFault
-no_other_entry n d = if knows_members d then Ok tt else Err (Bad n members.Entry)
+no_other_entry n d = if knows_table d then Ok tt else Err (Bad n members.Entry)

@@ -4,8 +4,8 @@ ghost use Rattle.std.specs.Prelude.{◌≡◌, string_bytes};
 ghost use Rattle.std.specs.List.{list_all};
 ghost use Rattle.std.specs.BTreeMap.{keys};
 ghost use Rattle.toml.specs.View.{view, table_view};
-ghost use Rattle.jc_config.specs.Faults.{Gives};
-ghost use Rattle.jc_config.specs.Members.{is_member, all_known, knows_members, no_other_entry};
+ghost use Rattle.jc_config.specs.Faults.{GivesConfig};
+ghost use Rattle.jc_config.specs.Members.{is_table_member, table_members_are, knows_table, no_other_entry};
 ghost use Rattle.jc_config.specs.Config.{cache_of};
 
 use crate::fault::{ConfigFault, Member};
@@ -17,7 +17,7 @@ use std::alloc::Global;
 use toml::{Table, Value};
 
 fn is_member(name: &str) -> bool
-    ensures { result ≡ is_member name.now }
+    ensures { result ≡ is_table_member name.now }
 {
     name == "name"
         || name == "capacity"
@@ -30,19 +30,19 @@ fn is_member(name: &str) -> bool
 }
 
 fn has_member_keys(table: &Table) -> bool
-    ensures { result ≡ list_all (λ k. is_member (string_bytes k)) (keys table.now) }
+    ensures { result ≡ list_all (λ k. is_table_member (string_bytes k)) (keys table.now) }
 {
     table.keys().all(|key| is_member(key.as_str()))
 }
 
 fn knows_all(table: &Table) -> bool
-    ensures { result ≡ all_known is_member (table_view table.now) }
+    ensures { result ≡ table_members_are is_table_member (table_view table.now) }
 {
     has_member_keys(table)
 }
 
 fn knows_members(table: &Value) -> bool
-    ensures { result ≡ knows_members (view table.now) }
+    ensures { result ≡ knows_table (view table.now) }
 {
     match table.as_table() {
         Some(entries) => knows_all(entries),
@@ -51,7 +51,7 @@ fn knows_members(table: &Value) -> bool
 }
 
 fn no_other_entry(table: &Value, cache: usize) -> Result<(), ConfigFault>
-    ensures { Gives (λ x. x) result (no_other_entry cache (view table.now)) }
+    ensures { GivesConfig (λ x. x) result (no_other_entry cache (view table.now)) }
 {
     if knows_members(table) {
         Ok(())
@@ -66,7 +66,7 @@ fn no_other_entry(table: &Value, cache: usize) -> Result<(), ConfigFault>
 /// Reads the table of the cache with this number; the first bad member is the fault.
 #[tactic(auto, unfolding(crate::specs::Config::cache_of))]
 pub fn read_cache(alloc: Global, table: &Value, cache: usize) -> Result<CacheSettings, ConfigFault>
-    ensures { Gives (λ x. x) result (cache_of cache (view table.now)) }
+    ensures { GivesConfig (λ x. x) result (cache_of cache (view table.now)) }
 {
     let name = members::name(table, cache)?;
     let capacity = members::capacity(table, cache)?;

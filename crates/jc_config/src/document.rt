@@ -5,8 +5,8 @@ ghost use Rattle.std.specs.List.{list_all};
 ghost use Rattle.std.specs.BTreeMap.{keys};
 ghost use Rattle.toml.specs.View.{view, items_view, table_view};
 ghost use Rattle.toml.specs.Data.{get_member, as_array};
-ghost use Rattle.jc_config.specs.Faults.{Gives};
-ghost use Rattle.jc_config.specs.Members.{all_known};
+ghost use Rattle.jc_config.specs.Faults.{GivesConfig};
+ghost use Rattle.jc_config.specs.Members.{table_members_are};
 ghost use Rattle.jc_config.specs.Config.{document_of, is_cache, are_tables, list_of_tables, tables_of, caches_of};
 
 use crate::cache::read_cache;
@@ -41,7 +41,7 @@ fn has_cache_keys(document: &Table) -> bool
 }
 
 fn has_caches_alone(document: &Table) -> bool
-    ensures { result ≡ all_known is_cache (table_view document.now) }
+    ensures { result ≡ table_members_are is_cache (table_view document.now) }
 {
     has_cache_keys(document)
 }
@@ -65,7 +65,8 @@ fn cache_entry(document: &Table) -> Option<&Value>
 }
 
 fn list_of_tables(items: &[Value]) -> Result<&[Value], ConfigFault>
-    ensures { Gives (λ r. items_view r.now) result (list_of_tables (Some (items_view items.now))) }
+    ensures { GivesConfig (λ r. items_view r.now) result
+        (list_of_tables (Some (items_view items.now))) }
 {
     if are_tables(items) {
         Ok(items)
@@ -75,7 +76,7 @@ fn list_of_tables(items: &[Value]) -> Result<&[Value], ConfigFault>
 }
 
 fn tables_in(value: &Value) -> Result<&[Value], ConfigFault>
-    ensures { Gives (λ r. items_view r.now) result (list_of_tables (as_array (view value.now))) }
+    ensures { GivesConfig (λ r. items_view r.now) result (list_of_tables (as_array (view value.now))) }
 {
     match value.as_array() {
         Some(items) => list_of_tables(items.as_slice()),
@@ -85,7 +86,7 @@ fn tables_in(value: &Value) -> Result<&[Value], ConfigFault>
 
 /// The tables of the caches; a document without `cache` has none.
 pub fn tables(document: &Table) -> Result<&[Value], ConfigFault>
-    ensures { Gives (λ r. items_view r.now) result (tables_of (table_view document.now)) }
+    ensures { GivesConfig (λ r. items_view r.now) result (tables_of (table_view document.now)) }
 {
     if !has_caches_alone(document) {
         return Err(ConfigFault::UnknownEntry);
@@ -98,7 +99,7 @@ pub fn tables(document: &Table) -> Result<&[Value], ConfigFault>
 
 /// Reads the tables in order; the first that is bad is the fault.
 pub fn read_caches(alloc: Global, tables: &[Value]) -> Result<Vec<CacheSettings>, ConfigFault>
-    ensures { Gives (λ v. v.items) result (caches_of 1 (items_view tables.now)) }
+    ensures { GivesConfig (λ v. v.items) result (caches_of 1 (items_view tables.now)) }
 {
     let mut caches = Vec::new(alloc);
     for (i, table) in tables.iter().enumerate() {

@@ -1,7 +1,7 @@
 //! Why a configuration is refused.
 
 ghost use Rattle.std.specs.Prelude.{◌≡◌};
-ghost use Rattle.jc_config.specs.Faults.{name_of};
+ghost use Rattle.jc_config.specs.Faults.{config_member_name};
 ghost use Rattle.jc_config.specs.declared.fault.ConfigFault.TheVariants.{OutOfMemory};
 
 use std::alloc::{AllocError, AllocFailed};
@@ -43,7 +43,7 @@ pub enum ConfigFault {
 impl Member {
     /// The member's name in a table; `entry` for one that no table has.
     pub fn name(self) -> &'static str
-        ensures { result.now ≡ name_of self }
+        ensures { result.now ≡ config_member_name self }
     {
         match self {
             Member::Name => "name",

@@ -3,9 +3,9 @@
 ghost use Rattle.std.specs.Prelude.{◌≡◌, None, pos, option_map};
 ghost use Rattle.toml.specs.View.{view};
 ghost use Rattle.jc_model.specs.Limits.{most_rows};
-ghost use Rattle.jc_config.specs.Faults.{Gives};
-ghost use Rattle.jc_config.specs.Kinds.{expiry_of, with_duration, policy_in, loader_of, writer_of, processor_of};
-ghost use Rattle.jc_config.specs.Members.{number, whole, name_text, text_kind, optional, needed, expiry_or_eternal, listeners_or_none, policy_of};
+ghost use Rattle.jc_config.specs.Faults.{GivesConfig};
+ghost use Rattle.jc_config.specs.Kinds.{expiry_kind_of, with_duration, policy_in, loader_of, writer_of, processor_of};
+ghost use Rattle.jc_config.specs.Members.{number, whole_number, name_text, text_kind, optional, needed_table_member, table_expiry_or_eternal, listeners_or_none, table_policy};
 
 use crate::fault::{ConfigFault, Member};
 use crate::kinds::{LoaderKind, ProcessorKind, WriterKind};
@@ -28,7 +28,7 @@ pub enum ExpiryKind {
 impl ExpiryKind {
     /// The policy of that name, if there is one.
     pub fn of(text: &str) -> Option<ExpiryKind>
-        ensures { result ≡ expiry_of text.now }
+        ensures { result ≡ expiry_kind_of text.now }
     {
         match text {
             "eternal" => Some(ExpiryKind::Eternal),
@@ -106,7 +106,8 @@ impl ProcessorKind {
 
 /// Needed: 1 to 63 ASCII letters, digits, `-` or `_`, else `Bad`. That no other cache has it is checked later.
 pub fn name(table: &Value, cache: usize) -> Result<Key, ConfigFault>
-    ensures { Gives (λ x. x) result (needed name_text cache Member.Name (view table.now)) }
+    ensures { GivesConfig (λ x. x) result
+        (needed_table_member name_text cache Member.Name (view table.now)) }
 {
     let member = Member::Name;
     table
@@ -118,8 +119,8 @@ pub fn name(table: &Value, cache: usize) -> Result<Key, ConfigFault>
 
 /// Needed: rows, a TOML integer from 1 to 65,536, else `Bad`.
 pub fn capacity(table: &Value, cache: usize) -> Result<u32, ConfigFault>
-    ensures { Gives (λ x. x) result
-        (needed (number 1 most_rows) cache Member.Capacity (view table.now)) }
+    ensures { GivesConfig (λ x. x) result
+        (needed_table_member (number 1 most_rows) cache Member.Capacity (view table.now)) }
 {
     let member = Member::Capacity;
     match table.get(member.name()).and_then(Value::as_integer) {
@@ -129,7 +130,7 @@ pub fn capacity(table: &Value, cache: usize) -> Result<u32, ConfigFault>
 }
 
 fn expiry(table: &Value, cache: usize) -> Result<ExpiryKind, ConfigFault>
-    ensures { Gives (λ x. x) result (expiry_or_eternal cache (view table.now)) }
+    ensures { GivesConfig (λ x. x) result (table_expiry_or_eternal cache (view table.now)) }
 {
     let member = Member::Expiry;
     match table.get(member.name()) {
@@ -143,7 +144,7 @@ fn expiry(table: &Value, cache: usize) -> Result<ExpiryKind, ConfigFault>
 
 /// The whole number that a value is, if it is one.
 fn whole(value: &Value) -> Option<u64>
-    ensures { result ≡ whole (view value.now) }
+    ensures { result ≡ whole_number (view value.now) }
 {
     match value.as_integer() {
         Some(number) if number >= 0 => Some(number as u64),
@@ -152,9 +153,9 @@ fn whole(value: &Value) -> Option<u64>
 }
 
 /// The members `expiry` and `duration`.
-#[tactic(auto, unfolding(crate::specs::Members::policy_of))]
+#[tactic(auto, unfolding(crate::specs::Members::table_policy))]
 pub fn policy(table: &Value, cache: usize) -> Result<Policy, ConfigFault>
-    ensures { Gives (λ x. x) result (policy_of cache (view table.now)) }
+    ensures { GivesConfig (λ x. x) result (table_policy cache (view table.now)) }
 {
     let kind = expiry(table, cache)?;
     let member = Member::Duration;
@@ -165,7 +166,7 @@ pub fn policy(table: &Value, cache: usize) -> Result<Policy, ConfigFault>
 
 /// `"echo"`, or none where the member is missing; anything else is `Bad`.
 pub fn loader(table: &Value, cache: usize) -> Result<Option<LoaderKind>, ConfigFault>
-    ensures { Gives (λ x. x) result
+    ensures { GivesConfig (λ x. x) result
         (optional (text_kind loader_of) cache Member.Loader (view table.now)) }
 {
     let member = Member::Loader;
@@ -180,7 +181,7 @@ pub fn loader(table: &Value, cache: usize) -> Result<Option<LoaderKind>, ConfigF
 
 /// `"check"`, or none where the member is missing; anything else is `Bad`.
 pub fn writer(table: &Value, cache: usize) -> Result<Option<WriterKind>, ConfigFault>
-    ensures { Gives (λ x. x) result
+    ensures { GivesConfig (λ x. x) result
         (optional (text_kind writer_of) cache Member.Writer (view table.now)) }
 {
     let member = Member::Writer;
@@ -195,7 +196,7 @@ pub fn writer(table: &Value, cache: usize) -> Result<Option<WriterKind>, ConfigF
 
 /// How many listeners: a TOML integer from 0 to 8, else `Bad`; 0 where the member is missing.
 pub fn listeners(table: &Value, cache: usize) -> Result<u8, ConfigFault>
-    ensures { Gives (λ x. x) result (listeners_or_none cache (view table.now)) }
+    ensures { GivesConfig (λ x. x) result (listeners_or_none cache (view table.now)) }
 {
     let member = Member::Listeners;
     match table.get(member.name()) {

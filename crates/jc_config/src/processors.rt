@@ -2,7 +2,7 @@
 
 ghost use Rattle.std.specs.Prelude.{◌≡◌, IfOk, map, option_map};
 ghost use Rattle.toml.specs.View.{view, items_view};
-ghost use Rattle.jc_config.specs.Faults.{Gives};
+ghost use Rattle.jc_config.specs.Faults.{GivesConfig};
 ghost use Rattle.jc_config.specs.Kinds.{wants_value_of};
 ghost use Rattle.jc_config.specs.Members.{kinds_of, few_kinds, processor_list, processors_or_none};
 
@@ -51,7 +51,7 @@ pub fn processors(
     table: &Value,
     cache: usize,
 ) -> Result<Vec<ProcessorKind>, ConfigFault>
-    ensures { Gives (λ v. v.items) result (processors_or_none cache (view table.now)) }
+    ensures { GivesConfig (λ v. v.items) result (processors_or_none cache (view table.now)) }
 {
     let member = Member::Processors;
     match table.get(member.name()) {

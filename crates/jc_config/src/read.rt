@@ -1,8 +1,8 @@
 //! Reading a configuration.
 
 ghost use Rattle.std.specs.Prelude.{◌≡◌, true, IfOk, map};
-ghost use Rattle.jc_config.specs.Faults.{Gives};
-ghost use Rattle.jc_config.specs.Config.{configuration_with, configuration_of};
+ghost use Rattle.jc_config.specs.Faults.{GivesConfig};
+ghost use Rattle.jc_config.specs.Config.{configuration_with, configuration_in};
 ghost use Rattle.jc_config.specs.Limits.{within_limits};
 
 use crate::document::{parse, read_caches, tables};
@@ -33,7 +33,10 @@ fn split(
 }
 
 /// The configuration of caches that were read and that keep to what all caches together must keep to.
-fn configured(alloc: Global, caches: Vec<CacheSettings>) -> Result<Configuration, AllocError>
+fn make_configuration(
+    alloc: Global,
+    caches: Vec<CacheSettings>,
+) -> Result<Configuration, AllocError>
     requires { within_limits (map (λ c. c.config) caches.items) ≡ true }
     ensures { IfOk result (λ r. r ≡ configuration_with caches.items) }
 {
@@ -49,9 +52,9 @@ fn configured(alloc: Global, caches: Vec<CacheSettings>) -> Result<Configuration
 /// Faults come in this order: the text's length, its form, the document's entries, then table by table the
 /// members in `Member`'s order, then the number of caches, their names and their capacity together. Memory may
 /// be wanting at any point.
-#[tactic(auto, unfolding(crate::specs::Config::configuration_of))]
+#[tactic(auto, unfolding(crate::specs::Config::configuration_in))]
 pub fn read_config(alloc: Global, bytes: &[u8]) -> Result<Configuration, ConfigFault>
-    ensures read { Gives (λ r. r) result (configuration_of bytes.now) }
+    ensures read { GivesConfig (λ r. r) result (configuration_in bytes.now) }
 {
     if bytes.len() > TEXT_BYTES {
         return Err(ConfigFault::TooLong);
@@ -62,5 +65,5 @@ pub fn read_config(alloc: Global, bytes: &[u8]) -> Result<Configuration, ConfigF
     let tables = tables(&document)?;
     let caches = read_caches(alloc, tables)?;
     check_totals(alloc, &caches)?;
-    Ok(configured(alloc, caches)?)
+    Ok(make_configuration(alloc, caches)?)
 }

@@ -6,7 +6,7 @@ ghost use Rattle.std.specs.List.{All, list_all, list_any};
 ghost use Rattle.std.specs.Str.{bytes_eq};
 ghost use Rattle.jc_model.specs.Limits.{most_caches, most_processors, most_rows_together};
 ghost use Rattle.jc_model.specs.Lists.{distinct};
-ghost use Rattle.jc_config.specs.Limits.{few_processors, names_in, rows_in, within_limits};
+ghost use Rattle.jc_config.specs.Limits.{few_processors, names_of_caches, total_capacity, within_limits};
 
 use jc_model::config::CacheConfig;
 use jc_model::key::Key;
@@ -50,7 +50,7 @@ fn is_taken(name: &Key, caches: &[CacheConfig]) -> bool
 }
 
 fn have_own_names(caches: &[CacheConfig]) -> bool
-    ensures { result ≡ distinct (names_in caches.now) }
+    ensures { result ≡ distinct (names_of_caches caches.now) }
 {
     match caches {
         [] => true,
@@ -60,7 +60,7 @@ fn have_own_names(caches: &[CacheConfig]) -> bool
 
 /// Whether so many rows are enough for these caches.
 fn fit_into(caches: &[CacheConfig], rows: u64) -> bool
-    ensures { result ≡ nat_le (rows_in caches.now) rows }
+    ensures { result ≡ nat_le (total_capacity caches.now) rows }
 {
     let mut left = rows;
     for cache in caches {
@@ -106,8 +106,8 @@ impl Settings {
         ensures same { result.now ≡ self.now }
         ensures few { length self.now ≤ most_caches }
         ensures processors { All (λ c. length c.processors ≤ most_processors) self.now }
-        ensures named { distinct (names_in self.now) ≡ true }
-        ensures fits { rows_in self.now ≤ most_rows_together }
+        ensures named { distinct (names_of_caches self.now) ≡ true }
+        ensures fits { total_capacity self.now ≤ most_rows_together }
     {
         self.caches.items()
     }

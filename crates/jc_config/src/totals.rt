@@ -2,7 +2,7 @@
 
 ghost use Rattle.std.specs.Prelude.{◌≡◌, IfOk, [], map, nat_le};
 ghost use Rattle.jc_model.specs.Limits.{most_rows_together};
-ghost use Rattle.jc_config.specs.Faults.{Gives};
+ghost use Rattle.jc_config.specs.Faults.{GivesConfig};
 ghost use Rattle.jc_config.specs.Config.{duplicate_from, total_of, check_totals};
 
 use crate::fault::ConfigFault;
@@ -40,7 +40,7 @@ fn fits_in_all(caches: &[CacheSettings]) -> bool
 
 /// Their number, their names and their capacity, in this order.
 pub fn check_totals(alloc: Global, caches: &[CacheSettings]) -> Result<(), ConfigFault>
-    ensures { Gives (λ x. x) result (check_totals caches.now) }
+    ensures { GivesConfig (λ x. x) result (check_totals caches.now) }
 {
     if caches.len() > MOST_CACHES {
         return Err(ConfigFault::TooManyCaches);

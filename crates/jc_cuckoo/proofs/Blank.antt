@@ -9,7 +9,7 @@ use Rattle.jc_place.specs.Place.{IsTableSize, alternate_of}
 use Rattle.jc_place.proofs.Other.{counts, size_positive}
 use Rattle.jc_cuckoo.specs.declared.held.Held.{Held}
 use Rattle.jc_cuckoo.specs.Cells.{cell, IsBucketOf, IsFull, first_bucket, second_bucket}
-use Rattle.jc_cuckoo.specs.Double.{IsBlank, IsFilled}
+use Rattle.jc_cuckoo.specs.Double.{IsBlankFrom, IsFilled}
 use Rattle.jc_cuckoo.proofs.Twice.{first_half, second_half}
 
 -- a slot's bucket became part of this one, of twice as many
@@ -26,23 +26,23 @@ two_halves n b t below half = elim (cases_lt t n) [
 ]
 
 -- its slot that is as far on as the old one is empty
-free : (n at t : ℕ) (cs : List (Option Held)) → Heir n at t → IsBlank n cs at → cell cs (4 * t + at % 4) ≡ None
+free : (n at t : ℕ) (cs : List (Option Held)) → Heir n at t → IsBlankFrom n cs at → cell cs (4 * t + at % 4) ≡ None
 free n at t cs heir blank = let from = heir.from in let here = blank.blank at (omega arith) from in elim (two_halves n (at / 4) t heir.below heir.half) [
   | inl low ↦ (let e : 4 * t + at % 4 ≡ at = omega arith in ap (cell cs) e ∙ here.0)
   | inr high ↦ (let e : 4 * t + at % 4 ≡ 4 * n + at = omega arith in ap (cell cs) e ∙ here.1)
 ]
 
-pub never_full : (n at t : ℕ) (cs : List (Option Held)) → Heir n at t → IsBlank n cs at → IsFull cs t → ⊥
+pub never_full : (n at t : ℕ) (cs : List (Option Held)) → Heir n at t → IsBlankFrom n cs at → IsFull cs t → ⊥
 never_full n at t cs heir blank full = full.full (4 * t + at % 4) (omega arith) (omega arith) (free n at t cs heir blank)
 
 -- the slot that was filled is no later one
-filled_below : (n at t : ℕ) (cs ds : List (Option Held)) (h : Held) → Heir n at t → IsBlank n cs at → (f : IsFilled cs ds t h) → f.at ≤ 4 * t + at % 4
+filled_below : (n at t : ℕ) (cs ds : List (Option Held)) (h : Held) → Heir n at t → IsBlankFrom n cs at → (f : IsFilled cs ds t h) → f.at ≤ 4 * t + at % 4
 filled_below n at t cs ds h heir blank f = elim (cases_lt (4 * t + at % 4) f.at) [
   | inl past ↦ absurd (f.first.first (4 * t + at % 4) (omega arith) past (free n at t cs heir blank))
   | inr up ↦ up
 ]
 
-pub still_blank : (n at t : ℕ) (cs ds : List (Option Held)) (h : Held) → Heir n at t → IsBlank n cs at → IsFilled cs ds t h → IsBlank n ds (at + 1)
+pub still_blank : (n at t : ℕ) (cs ds : List (Option Held)) (h : Held) → Heir n at t → IsBlankFrom n cs at → IsFilled cs ds t h → IsBlankFrom n ds (at + 1)
 still_blank n at t cs ds h heir blank f = record {
   blank = λ j after below. (
       let old = blank.blank j (omega arith) below in
@@ -62,7 +62,7 @@ still_blank n at t cs ds h heir blank f = record {
       ));
 }
 
-pub blank_on : (n at : ℕ) (cs : List (Option Held)) → IsBlank n cs at → IsBlank n cs (at + 1)
+pub blank_on : (n at : ℕ) (cs : List (Option Held)) → IsBlankFrom n cs at → IsBlankFrom n cs (at + 1)
 blank_on n at cs blank = record { blank = λ j after below. blank.blank j (omega arith) below }
 
 pub filled_length : (cs ds : List (Option Held)) (t : ℕ) (h : Held) → IsFilled cs ds t h → length ds ≡ length cs

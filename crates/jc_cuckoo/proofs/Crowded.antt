@@ -6,11 +6,11 @@ use Rattle.std.proofs.lemmas.List.{get_or_append_left}
 use Rattle.jc_place.specs.declared.place.Place.{Place}
 use Rattle.jc_cuckoo.specs.declared.held.Held.{Held}
 use Rattle.jc_cuckoo.specs.declared.held.Work.{Work}
-use Rattle.jc_cuckoo.specs.Cells.{rows_in, place_of, first_bucket, second_bucket}
+use Rattle.jc_cuckoo.specs.Cells.{rows_in, held_place, first_bucket, second_bucket}
 use Rattle.jc_rows.specs.Images.{Image, last_image}
-use Rattle.jc_cuckoo.specs.Images.{Covers, AllKeep, image_of}
+use Rattle.jc_cuckoo.specs.Images.{CoversImage, AllKeep, image_of}
 use Rattle.jc_cuckoo.specs.Search.{IsLastResort, IsCounted}
-use Rattle.jc_cuckoo.specs.Table.{Table, Follows, IsTold, Searches, Settles, Tells, image, no_work}
+use Rattle.jc_cuckoo.specs.Table.{Table, Follows, TellsImage, Searches, SettlesRow, TellsImages, image, no_work}
 use Rattle.jc_cuckoo.specs.Double.{Doubles, IsDoubled, NeedsStash}
 use Rattle.jc_cuckoo.specs.Attempts.{Tries, TriesTwice}
 use Rattle.jc_cuckoo.proofs.LastResort.{last_resort_alike}
@@ -29,24 +29,24 @@ same_more told a b c s t = record { placer = t.placer ∙ s.placer; cells = t.ce
 image_same : {P M : Type 0} (told : M → Option (List Image)) (a b : Table P M) → Same told a b → image b ≡ image a
 image_same told a b same = ap₂ image_of same.buckets same.cells
 
-tells_before : {P M : Type 0} (told : M → Option (List Image)) (a b c : Table P M) (many : ℕ) → Same told a b → Tells told b c many → Tells told a c many
+tells_before : {P M : Type 0} (told : M → Option (List Image)) (a b c : Table P M) (many : ℕ) → Same told a b → TellsImages told b c many → TellsImages told a c many
 tells_before told a b c many same t = record {
   way = t.way;
   images = t.images ∙ ap (option_map (λ is. is ++ (t.way ++ image c ∷ []))) same.images;
   count = t.count;
   kept = subst (λ (l : List (Option Held)). AllKeep (rows_in l) (image a) t.way) same.cells (subst (λ (i : Image). AllKeep (rows_in b.cells) i t.way) (image_same told a b same) t.kept);
-  covers = subst (λ (i : Image). Covers (last_image (i ∷ t.way)) (image c)) (image_same told a b same) t.covers;
+  covers = subst (λ (i : Image). CoversImage (last_image (i ∷ t.way)) (image c)) (image_same told a b same) t.covers;
   shows = t.shows;
 }
 
 -- a row was put at the end of the stash: one image
-tells_stowed : {P M : Type 0} (told : M → Option (List Image)) (a b c : Table P M) → Same told a b → Follows told b c → Covers (image b) (image c) → Tells told a c 0
+tells_stowed : {P M : Type 0} (told : M → Option (List Image)) (a b c : Table P M) → Same told a b → Follows told b c → CoversImage (image b) (image c) → TellsImages told a c 0
 tells_stowed told a b c same follows covers = record {
   way = [];
   images = follows.images ∙ ap (option_map (λ is. is ++ image c ∷ [])) same.images;
   count = refl;
   kept = tt;
-  covers = subst (λ (i : Image). Covers i (image c)) (image_same told a b same) covers;
+  covers = subst (λ (i : Image). CoversImage i (image c)) (image_same told a b same) covers;
   shows = follows.shows;
 }
 
@@ -62,7 +62,7 @@ searches_before {P = P} placing told a b x from to same s =
 
 -- One search over a table that is the same as the first but for what was counted.
 
-pub tries_settled : {P M : Type 0} (placing : P → ℕ → List ℕ → Place) (told : M → Option (List Image)) (a b c : Table P M) (h : Held) (x : ℕ × List ℕ) (from : Work) → place_of h ≡ x → Same told a b → Searches placing b (place_of h) from c.work → Settles told b c h → Tries placing told x from a c
+pub tries_settled : {P M : Type 0} (placing : P → ℕ → List ℕ → Place) (told : M → Option (List Image)) (a b c : Table P M) (h : Held) (x : ℕ × List ℕ) (from : Work) → held_place h ≡ x → Same told a b → Searches placing b (held_place h) from c.work → SettlesRow told b c h → Tries placing told x from a c
 tries_settled placing told a b c h x from at same s settles = record {
   search = searches_before placing told a b x from c.work same (subst (λ (y : ℕ × List ℕ). Searches placing b y from c.work) at s);
   buckets = settles.buckets ∙ same.buckets;
@@ -70,11 +70,11 @@ tries_settled placing told a b c h x from at same s settles = record {
 }
 
 -- a search led nowhere, and then a row was put at the end of the stash
-pub tries_stowed : {P M : Type 0} (placing : P → ℕ → List ℕ → Place) (told : M → Option (List Image)) (a b c : Table P M) (h : Held) (x : ℕ × List ℕ) (from to : Work) → place_of h ≡ x → Searches placing a (place_of h) from to → c.work ≡ to → to.moves ≡ 0 → Same told a b → Follows told b c → Covers (image b) (image c) → Tries placing told x from a c
+pub tries_stowed : {P M : Type 0} (placing : P → ℕ → List ℕ → Place) (told : M → Option (List Image)) (a b c : Table P M) (h : Held) (x : ℕ × List ℕ) (from to : Work) → held_place h ≡ x → Searches placing a (held_place h) from to → c.work ≡ to → to.moves ≡ 0 → Same told a b → Follows told b c → CoversImage (image b) (image c) → Tries placing told x from a c
 tries_stowed placing told a b c h x from to at s work none same follows covers = record {
   search = subst (λ (w : Work). Searches placing a x from w) (sym work) (subst (λ (y : ℕ × List ℕ). Searches placing a y from to) at s);
   buckets = follows.buckets ∙ same.buckets;
-  images = subst (Tells told a c) (sym (ap (λ (w : Work). w.moves) work ∙ none)) (tells_stowed told a b c same follows covers);
+  images = subst (TellsImages told a c) (sym (ap (λ (w : Work). w.moves) work ∙ none)) (tells_stowed told a b c same follows covers);
 }
 
 -- no path led to an empty slot at first, and the buckets doubled
@@ -85,10 +85,10 @@ pub record Middle {P M : Type 0} (placing : P → ℕ → List ℕ → Place) (t
   pub work : c.work ≡ b.work
   pub allowed : Doubles b c
   pub doubled : IsDoubled placing b c
-  pub image : IsTold told b c
+  pub image : TellsImage told b c
 
-pub middle_of : {P M : Type 0} (placing : P → ℕ → List ℕ → Place) (told : M → Option (List Image)) (a b c : Table P M) (h : Held) (x : ℕ × List ℕ) → place_of h ≡ x → Same told a b → Searches placing a (place_of h) no_work b.work → IsLastResort (placing a.placer) a.buckets a.cells (place_of h)
-    → c.work ≡ b.work → Doubles b c → IsDoubled placing b c → IsTold told b c → Middle placing told a b c x
+pub middle_of : {P M : Type 0} (placing : P → ℕ → List ℕ → Place) (told : M → Option (List Image)) (a b c : Table P M) (h : Held) (x : ℕ × List ℕ) → held_place h ≡ x → Same told a b → Searches placing a (held_place h) no_work b.work → IsLastResort (placing a.placer) a.buckets a.cells (held_place h)
+    → c.work ≡ b.work → Doubles b c → IsDoubled placing b c → TellsImage told b c → Middle placing told a b c x
 middle_of placing told a b c h x at same first none work allowed doubled image = record {
   same = same;
   first = subst (λ (y : ℕ × List ℕ). Searches placing a y no_work b.work) at first;
@@ -113,7 +113,7 @@ doubled_same {P = P} placing told a b c same room d = record {
   rows = d.rows ∙ ap rows_in same.cells;
   stash = subst (λ (s : ℕ). length c.cells - 4 * c.buckets ≤ s) (ap₂ (λ (l : List (Option Held)) (n : ℕ). length l - 4 * n) same.cells same.buckets) d.stash;
   room = subst (λ (r : ℕ). r ≤ c.room) room d.room;
-  covers = subst (λ (i : Image). Covers i (image c)) (image_same told a b same) d.covers;
+  covers = subst (λ (i : Image). CoversImage i (image c)) (image_same told a b same) d.covers;
   needed = subst (λ (p : P). NeedsStash (placing p) c.buckets c.cells) same.placer d.needed;
 }
 

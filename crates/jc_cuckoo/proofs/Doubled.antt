@@ -6,12 +6,12 @@ use Rattle.std.proofs.lemmas.Bool.Decides.{eqb_tells}
 use Rattle.std.proofs.lemmas.List.{get_or-take, get_or_past, get_or-set_same, get_or-set_other, length-replicate}
 use Rattle.jc_model.specs.declared.config.Expiry.{Expiry}
 use Rattle.jc_cuckoo.specs.declared.held.Held.{Held}
-use Rattle.jc_cuckoo.specs.Cells.{place_of, row_of, cell, rows_in, first_bucket, second_bucket, IsFull}
-use Rattle.jc_rows.specs.Images.{Shown, slot}
-use Rattle.jc_cuckoo.specs.Images.{Covers, image_of, shown}
+use Rattle.jc_cuckoo.specs.Cells.{held_place, held_row, cell, rows_in, first_bucket, second_bucket, IsFull}
+use Rattle.jc_rows.specs.Images.{Shown, image_slot}
+use Rattle.jc_cuckoo.specs.Images.{CoversImage, image_of, shown_row}
 use Rattle.jc_cuckoo.specs.Table.{Table}
 use Rattle.jc_place.specs.declared.place.Place.{Place}
-use Rattle.jc_cuckoo.specs.Double.{IsAdded, IsBlank, IsDoubled, IsFilled, HasSlots, HasStash, NeedsStash}
+use Rattle.jc_cuckoo.specs.Double.{IsAdded, IsBlankFrom, IsDoubled, IsFilled, HasSlots, HasStash, NeedsStash}
 use Rattle.jc_cuckoo.proofs.Blank.{blank_on}
 use Rattle.jc_cuckoo.proofs.Cells.{IsOnce, Found, get_some, get_found}
 use Rattle.jc_cuckoo.proofs.Changes.{inside}
@@ -26,12 +26,12 @@ use Rattle.jc_cuckoo.proofs.Told.{behind, slot_is}
 
 pub rows_brought : {P M N : Type 0} (t : Table P M) (at : ℕ) (u v : Table P N) (h : Held) → IsOnce t.cells → at < length t.cells → cell t.cells at ≡ Some h → rows_in u.cells ≡ rows_in (take at t.cells) → IsAdded u v h → rows_in v.cells ≡ rows_in (take (at + 1) t.cells)
 rows_brought t at u v h once below is rows added =
-    added.rows ∙ (ap (λ m. map.insert m (place_of h) (row_of h)) rows ∙ sym (taken_some t.cells at h below once is))
+    added.rows ∙ (ap (λ m. map.insert m (held_place h) (held_row h)) rows ∙ sym (taken_some t.cells at h below once is))
 
-pub brought_absent : (cs ds : List (Option Held)) (at : ℕ) (h : Held) → IsOnce cs → at < length cs → cell cs at ≡ Some h → rows_in ds ≡ rows_in (take at cs) → map.get (rows_in ds) (place_of h) ≡ None
-brought_absent cs ds at h once below is rows = ap (λ m. map.get m (place_of h)) rows ∙ taken_absent cs at h below once is
+pub brought_absent : (cs ds : List (Option Held)) (at : ℕ) (h : Held) → IsOnce cs → at < length cs → cell cs at ≡ Some h → rows_in ds ≡ rows_in (take at cs) → map.get (rows_in ds) (held_place h) ≡ None
+brought_absent cs ds at h once below is rows = ap (λ m. map.get m (held_place h)) rows ∙ taken_absent cs at h below once is
 
-pub slot_brought : {P M N : Type 0} (t : Table P M) (at : ℕ) (u v : Table P N) (h : Held) → IsOnce t.cells → at < length t.cells → cell t.cells at ≡ Some h → HasSlots t at u → IsAdded u v h → length v.cells ≡ 8 * t.buckets → IsBlank t.buckets v.cells (at + 1) → HasSlots t (at + 1) v
+pub slot_brought : {P M N : Type 0} (t : Table P M) (at : ℕ) (u v : Table P N) (h : Held) → IsOnce t.cells → at < length t.cells → cell t.cells at ≡ Some h → HasSlots t at u → IsAdded u v h → length v.cells ≡ 8 * t.buckets → IsBlankFrom t.buckets v.cells (at + 1) → HasSlots t (at + 1) v
 slot_brought t at u v h once below is has added slots blank = record {
   placer = added.placer ∙ has.placer;
   buckets = added.buckets ∙ has.buckets;
@@ -71,7 +71,7 @@ stash_passed placing t at u below is has = record {
 
 -- none, all slots, all cells
 
-no_slots : (n at : ℕ) (cs ds : List (Option Held)) → ds ≡ replicate (8 * n) None → (rows_in ds ≡ rows_in (take 0 cs)) × (length ds ≡ 8 * n) × IsBlank n ds at
+no_slots : (n at : ℕ) (cs ds : List (Option Held)) → ds ≡ replicate (8 * n) None → (rows_in ds ≡ rows_in (take 0 cs)) × (length ds ≡ 8 * n) × IsBlankFrom n ds at
 unfolding rows_in
 no_slots n at cs ds empty = (
   ap rows_in empty ∙ rows_none (8 * n),
@@ -110,35 +110,35 @@ needs_filled p n m b cs ds h buckets below wide f needs =
     subst (λ (k : ℕ). NeedsStash p k ds) (sym buckets) (subst (NeedsStash p n) (sym f.cells) (record {
       full = λ i k past is. (
           let old = needs.full i k past (sym (get_or-set_other cs f.at i (Some h) None (λ e. omega arith)) ∙ is) in
-          (full_set cs f.at (first_bucket p n (place_of k)) h (omega arith) old.0, full_set cs f.at (second_bucket p n (place_of k)) h (omega arith) old.1));
+          (full_set cs f.at (first_bucket p n (held_place k)) h (omega arith) old.0, full_set cs f.at (second_bucket p n (held_place k)) h (omega arith) old.1));
     }))
 
-pub needs_stowed : (p : ℕ → List ℕ → Place) (n m : ℕ) (cs ds : List (Option Held)) (h : Held) → m ≡ n → ds ≡ cs ++ Some h ∷ [] → IsFull cs (first_bucket p n (place_of h)) → IsFull cs (second_bucket p n (place_of h)) → NeedsStash p n cs → NeedsStash p m ds
+pub needs_stowed : (p : ℕ → List ℕ → Place) (n m : ℕ) (cs ds : List (Option Held)) (h : Held) → m ≡ n → ds ≡ cs ++ Some h ∷ [] → IsFull cs (first_bucket p n (held_place h)) → IsFull cs (second_bucket p n (held_place h)) → NeedsStash p n cs → NeedsStash p m ds
 needs_stowed p n m cs ds h buckets cells first second needs =
     subst (λ (k : ℕ). NeedsStash p k ds) (sym buckets) (subst (NeedsStash p n) (sym cells) (record {
       full = λ i k past is. elim (eqb_tells i (length cs)) [
         | inl last ↦ (let both : Some h ≡ Some k = sym (changed_push cs (Some h)).now ∙ (ap (cell (cs ++ Some h ∷ [])) (sym last.1) ∙ is) in let one : h ≡ k = cc in
-            (full_pushed cs h (first_bucket p n (place_of k)) (subst (λ (y : Held). IsFull cs (first_bucket p n (place_of y))) one first), full_pushed cs h (second_bucket p n (place_of k)) (subst (λ (y : Held). IsFull cs (second_bucket p n (place_of y))) one second)))
+            (full_pushed cs h (first_bucket p n (held_place k)) (subst (λ (y : Held). IsFull cs (first_bucket p n (held_place y))) one first), full_pushed cs h (second_bucket p n (held_place k)) (subst (λ (y : Held). IsFull cs (second_bucket p n (held_place y))) one second)))
         | inr other ↦ (let old = needs.full i k past (sym ((changed_push cs (Some h)).rest i other.1) ∙ is) in
-            (full_pushed cs h (first_bucket p n (place_of k)) old.0, full_pushed cs h (second_bucket p n (place_of k)) old.1))
+            (full_pushed cs h (first_bucket p n (held_place k)) old.0, full_pushed cs h (second_bucket p n (held_place k)) old.1))
       ];
     }))
 
 -- each row of the first cells stands somewhere
 
-shown_again : (m : ℕ) (ds : List (Option Held)) (h : Held) (s : Shown) → length ds ≡ 4 * m → shown h ≡ s → Found ds (place_of h) (row_of h) → (j : ℕ) × (slot (image_of m ds) j ≡ Some s)
+shown_again : (m : ℕ) (ds : List (Option Held)) (h : Held) (s : Shown) → length ds ≡ 4 * m → shown_row h ≡ s → Found ds (held_place h) (held_row h) → (j : ℕ) × (image_slot (image_of m ds) j ≡ Some s)
 shown_again m ds h s long shows f =
     let below = inside ds f.stands.at f.held f.stands.is in
-    let same : shown f.held ≡ s = ap₂ (λ (x : ℕ × List ℕ) (y : ℕ × Expiry). (x, y.1)) f.at f.gives ∙ shows in
-    (f.stands.at, slot_is m ds f.stands.at (omega arith) (omega arith) ∙ (ap (option_map shown) f.stands.is ∙ ap (λ (x : Shown). Some x) same))
+    let same : shown_row f.held ≡ s = ap₂ (λ (x : ℕ × List ℕ) (y : ℕ × Expiry). (x, y.1)) f.at f.gives ∙ shows in
+    (f.stands.at, slot_is m ds f.stands.at (omega arith) (omega arith) ∙ (ap (option_map shown_row) f.stands.is ∙ ap (λ (x : Shown). Some x) same))
 
-covers_slots : (n : ℕ) (cs ds : List (Option Held)) → IsOnce cs → 4 * n ≤ length cs → rows_in ds ≡ rows_in (take (4 * n) cs) → length ds ≡ 8 * n → Covers (image_of n cs) (image_of (2 * n) ds)
+covers_slots : (n : ℕ) (cs ds : List (Option Held)) → IsOnce cs → 4 * n ≤ length cs → rows_in ds ≡ rows_in (take (4 * n) cs) → length ds ≡ 8 * n → CoversImage (image_of n cs) (image_of (2 * n) ds)
 covers_slots n cs ds once wide rows slots = record {
   kept = λ i s is. (
       let b = behind n cs i s wide is in
       let taken : cell (take (4 * n) cs) i ≡ Some b.held = get_or-take (4 * n) cs i None b.below ∙ b.is in
-      let held : map.get (rows_in ds) (place_of b.held) ≡ Some (row_of b.held) = ap (λ m. map.get m (place_of b.held)) rows ∙ get_some (take (4 * n) cs) i b.held (once_taken cs (4 * n) wide once) taken in
-      shown_again (2 * n) ds b.held s (omega arith) b.shows (get_found ds (place_of b.held) (row_of b.held) held));
+      let held : map.get (rows_in ds) (held_place b.held) ≡ Some (held_row b.held) = ap (λ m. map.get m (held_place b.held)) rows ∙ get_some (take (4 * n) cs) i b.held (once_taken cs (4 * n) wide once) taken in
+      shown_again (2 * n) ds b.held s (omega arith) b.shows (get_found ds (held_place b.held) (held_row b.held) held));
 }
 
 pub slots_all : {P M N : Type 0} (placing : P → ℕ → List ℕ → Place) (t : Table P M) (at : ℕ) (u : Table P N) → IsOnce t.cells → 4 * t.buckets ≤ length t.cells → at ≡ 4 * t.buckets → HasSlots t at u → HasStash placing t (4 * t.buckets) u
@@ -147,7 +147,7 @@ slots_all placing t at u once wide end has = record {
   buckets = has.buckets;
   rows = rows;
   short = let slots = has.slots in omega arith;
-  covers = subst (λ (m : ℕ). Covers (image_of t.buckets t.cells) (image_of m u.cells)) (sym has.buckets) (covers_slots t.buckets t.cells u.cells once wide rows has.slots);
+  covers = subst (λ (m : ℕ). CoversImage (image_of t.buckets t.cells) (image_of m u.cells)) (sym has.buckets) (covers_slots t.buckets t.cells u.cells once wide rows has.slots);
   needed = no_stash (placing t.placer) u.buckets u.cells (let slots = has.slots in let buckets = has.buckets in omega arith);
 }
   where

@@ -6,11 +6,11 @@ use Rattle.jc_place.specs.Place.{alternate_of}
 use Rattle.jc_cuckoo.specs.declared.held.Held.{Held}
 use Rattle.jc_cuckoo.specs.declared.queue.Queue.{Queue}
 use Rattle.jc_cuckoo.specs.Cells.{cell, IsFull}
-use Rattle.jc_cuckoo.specs.Search.{IsQueue, IsClosed, IsIn, IsAmong, IsExhausted, IsMove, Reaches, looked_slot, bucket_at, slot_at, parent_at, depth_at}
+use Rattle.jc_cuckoo.specs.Search.{IsQueue, IsClosed, IsIn, IsAmong, IsExhausted, IsMove, Reaches, looked_slot, queued_bucket, queued_slot, queued_parent, queued_depth}
 
 -- reached by so many moves, or 64 buckets are as near
 Arrives : Queue → ℕ → ℕ → Type 0
-Arrives q a k = IsIn q a k ⊎ ((q.count ≡ 64) × ((m : ℕ) → m < q.count → depth_at q m ≤ k))
+Arrives q a k = IsIn q a k ⊎ ((q.count ≡ 64) × ((m : ℕ) → m < q.count → queued_depth q m ≤ k))
 
 farther : (q : Queue) (a k l : ℕ) → k ≤ l → Arrives q a k → Arrives q a l
 unfolding Arrives
@@ -27,15 +27,15 @@ one_move p n cells q looked k b a closed all near i move =
     let head : j / 4 ≡ i.0 = omega arith in
     let part : j % 4 ≡ move.0 % 4 = omega arith in
     let low = i.1 in let deep = i.3 in
-    let at : looked_slot q j ≡ move.0 = ap₂ (λ (x y : ℕ). 4 * bucket_at q x + y) head part ∙ slot_of move.0 (bucket_at q i.0) (move.3 ∙ sym i.2) in
-    let depth : depth_at q (j / 4) ≡ depth_at q i.0 = ap (depth_at q) head in
-    let target : alternate_of n (p move.1.id move.1.key).tag (bucket_at q (j / 4)) ≡ a = ap (alternate_of n (p move.1.id move.1.key).tag) (ap (bucket_at q) head ∙ i.2) ∙ sym move.5 in
+    let at : looked_slot q j ≡ move.0 = ap₂ (λ (x y : ℕ). 4 * queued_bucket q x + y) head part ∙ slot_of move.0 (queued_bucket q i.0) (move.3 ∙ sym i.2) in
+    let depth : queued_depth q (j / 4) ≡ queued_depth q i.0 = ap (queued_depth q) head in
+    let target : alternate_of n (p move.1.id move.1.key).tag (queued_bucket q (j / 4)) ≡ a = ap (alternate_of n (p move.1.id move.1.key).tag) (ap (queued_bucket q) head ∙ i.2) ∙ sym move.5 in
     elim (closed.closed j move.1 (omega arith) (omega arith) (ap (cell cells) at ∙ move.4)) [
       | inl there ↦ inl (there.0, there.1, there.2 ∙ target, (let d = there.3 in omega arith))
       | inr wide ↦ inr (wide.0, λ m inside. (let d = wide.1 m inside in omega arith))
     ]
 
-arrives : (p : ℕ → List ℕ → Place) (n : ℕ) (cells : List (Option Held)) (q : Queue) (looked k a : ℕ) → IsQueue p n cells q → IsClosed p n cells q looked → 4 * q.count ≤ looked → k ≤ 5 → Reaches p n cells (bucket_at q 0) (bucket_at q 1) k a → Arrives q a k
+arrives : (p : ℕ → List ℕ → Place) (n : ℕ) (cells : List (Option Held)) (q : Queue) (looked k a : ℕ) → IsQueue p n cells q → IsClosed p n cells q looked → 4 * q.count ≤ looked → k ≤ 5 → Reaches p n cells (queued_bucket q 0) (queued_bucket q 1) k a → Arrives q a k
 unfolding Arrives
 arrives p n cells q looked zero a queue closed all near (inl e) = let some = queue.some in inl (0, omega arith, sym e, (let d = queue.first_depth in omega arith))
 arrives p n cells q looked zero a queue closed all near (inr e) = let some = queue.some in inl (1, omega arith, sym e, (let d = queue.second_depth in omega arith))
@@ -60,24 +60,24 @@ later p n cells one two k (suc d) b r = subst (λ (x : ℕ). Reaches p n cells o
 by_then : (p : ℕ → List ℕ → Place) (n : ℕ) (cells : List (Option Held)) (one two k l b : ℕ) → k ≤ l → Reaches p n cells one two k b → Reaches p n cells one two l b
 by_then p n cells one two k l b more r = let e : l - k + k ≡ l = omega arith in subst (λ (x : ℕ). Reaches p n cells one two x b) e (later p n cells one two k (l - k) b r)
 
-reached : (p : ℕ → List ℕ → Place) (n : ℕ) (cells : List (Option Held)) (q : Queue) (fuel m : ℕ) → m < fuel → IsQueue p n cells q → m < q.count → Reaches p n cells (bucket_at q 0) (bucket_at q 1) (depth_at q m) (bucket_at q m)
+reached : (p : ℕ → List ℕ → Place) (n : ℕ) (cells : List (Option Held)) (q : Queue) (fuel m : ℕ) → m < fuel → IsQueue p n cells q → m < q.count → Reaches p n cells (queued_bucket q 0) (queued_bucket q 1) (queued_depth q m) (queued_bucket q m)
 reached p n cells q zero m less queue low = absurd (omega arith)
 reached p n cells q (suc fuel) m less queue low = elim (cases_lt m 2) [
   | inl root ↦ start m root
   | inr two ↦ (let s = queue.steps m two low in let sp = s.parent in
-      let before = reached p n cells q fuel (parent_at q m) (omega arith) queue (omega arith) in
-      let deep : suc (depth_at q (parent_at q m)) ≡ depth_at q m = (let sd = s.depth in omega arith) in
-      let other : bucket_at q m ≡ alternate_of n (p s.held.id s.held.key).tag (bucket_at q (parent_at q m)) = s.other ∙ ap₂ (alternate_of n) s.tag s.slot in
-      subst (λ (x : ℕ). Reaches p n cells (bucket_at q 0) (bucket_at q 1) x (bucket_at q m)) deep
-      (inr (bucket_at q (parent_at q m), before, (slot_at q m, s.held, s.below, s.slot, s.is, other))))
+      let before = reached p n cells q fuel (queued_parent q m) (omega arith) queue (omega arith) in
+      let deep : suc (queued_depth q (queued_parent q m)) ≡ queued_depth q m = (let sd = s.depth in omega arith) in
+      let other : queued_bucket q m ≡ alternate_of n (p s.held.id s.held.key).tag (queued_bucket q (queued_parent q m)) = s.other ∙ ap₂ (alternate_of n) s.tag s.slot in
+      subst (λ (x : ℕ). Reaches p n cells (queued_bucket q 0) (queued_bucket q 1) x (queued_bucket q m)) deep
+      (inr (queued_bucket q (queued_parent q m), before, (queued_slot q m, s.held, s.below, s.slot, s.is, other))))
 ]
   where
-    start : (m : ℕ) → m < 2 → Reaches p n cells (bucket_at q 0) (bucket_at q 1) (depth_at q m) (bucket_at q m)
-    start zero root = by_then p n cells (bucket_at q 0) (bucket_at q 1) 0 (depth_at q 0) (bucket_at q 0) (omega arith) (inl refl)
-    start (suc zero) root = by_then p n cells (bucket_at q 0) (bucket_at q 1) 0 (depth_at q 1) (bucket_at q 1) (omega arith) (inr refl)
+    start : (m : ℕ) → m < 2 → Reaches p n cells (queued_bucket q 0) (queued_bucket q 1) (queued_depth q m) (queued_bucket q m)
+    start zero root = by_then p n cells (queued_bucket q 0) (queued_bucket q 1) 0 (queued_depth q 0) (queued_bucket q 0) (omega arith) (inl refl)
+    start (suc zero) root = by_then p n cells (queued_bucket q 0) (queued_bucket q 1) 0 (queued_depth q 1) (queued_bucket q 1) (omega arith) (inr refl)
     start (suc (suc m)) root = absurd (omega arith)
 
-pub last_resort : (p : ℕ → List ℕ → Place) (n : ℕ) (cells : List (Option Held)) (q : Queue) (looked : ℕ) → IsQueue p n cells q → IsClosed p n cells q looked → 4 * q.count ≤ looked → ((k : ℕ) → k < q.count → IsFull cells (bucket_at q k)) → IsExhausted p n cells (bucket_at q 0) (bucket_at q 1)
+pub last_resort : (p : ℕ → List ℕ → Place) (n : ℕ) (cells : List (Option Held)) (q : Queue) (looked : ℕ) → IsQueue p n cells q → IsClosed p n cells q looked → 4 * q.count ≤ looked → ((k : ℕ) → k < q.count → IsFull cells (queued_bucket q k)) → IsExhausted p n cells (queued_bucket q 0) (queued_bucket q 1)
 unfolding Arrives
 last_resort p n cells q looked queue closed all full = record {
   first = let some = queue.some in full 0 (omega arith);
@@ -99,17 +99,17 @@ last_resort p n cells q looked queue closed all full = record {
   ];
 }
   where
-    near : q.count ≡ 64 → (b a k : ℕ) → IsAmong q.buckets b → Reaches p n cells (bucket_at q 0) (bucket_at q 1) k a → (Reaches p n cells (bucket_at q 0) (bucket_at q 1) k b → ⊥) → IsAmong q.buckets a
+    near : q.count ≡ 64 → (b a k : ℕ) → IsAmong q.buckets b → Reaches p n cells (queued_bucket q 0) (queued_bucket q 1) k a → (Reaches p n cells (queued_bucket q 0) (queued_bucket q 1) k b → ⊥) → IsAmong q.buckets a
     near whole b a k i r never =
         let low = i.1 in let long = queue.wide.buckets in
         let inside : i.0 < q.count = omega arith in
-        let there : Reaches p n cells (bucket_at q 0) (bucket_at q 1) (depth_at q i.0) b = subst (Reaches p n cells (bucket_at q 0) (bucket_at q 1) (depth_at q i.0)) i.2 (reached p n cells q (suc i.0) i.0 (omega arith) queue inside) in
-        elim (cases_lt k (depth_at q i.0)) [
+        let there : Reaches p n cells (queued_bucket q 0) (queued_bucket q 1) (queued_depth q i.0) b = subst (Reaches p n cells (queued_bucket q 0) (queued_bucket q 1) (queued_depth q i.0)) i.2 (reached p n cells q (suc i.0) i.0 (omega arith) queue inside) in
+        elim (cases_lt k (queued_depth q i.0)) [
           | inl less ↦ (let limit = queue.near i.0 inside in elim (arrives p n cells q looked k a queue closed all (omega arith) r) [
             | inl f ↦ (f.0, (let fl = f.1 in omega arith), f.2)
             | inr w ↦ (let d = w.1 i.0 inside in absurd (omega arith))
           ])
-          | inr more ↦ absurd (never (by_then p n cells (bucket_at q 0) (bucket_at q 1) (depth_at q i.0) k b more there))
+          | inr more ↦ absurd (never (by_then p n cells (queued_bucket q 0) (queued_bucket q 1) (queued_depth q i.0) k b more there))
         ]
 
 -- The same where the stash is longer.

@@ -8,8 +8,8 @@ use Rattle.std.specs.FinMap as map
 use Rattle.std.proofs.lemmas.Bool.Decides.{eqb_tells}
 use Rattle.jc_cuckoo.specs.declared.held.Held.{Held}
 use Rattle.jc_cuckoo.specs.declared.index.StashIndex.{StashIndex}
-use Rattle.jc_cuckoo.specs.Cells.{Dropped, FoundIn, cell, place_of, row_of, rows_in}
-use Rattle.jc_cuckoo.specs.Index.{same_place, stands, IsAsBefore, IsElsewhereAsBefore, IsIndexed, IsOfNone}
+use Rattle.jc_cuckoo.specs.Cells.{DropsCell, IsFoundBetween, cell, held_place, held_row, rows_in}
+use Rattle.jc_cuckoo.specs.Index.{same_place, cell_in_stash, IsAsBefore, IsElsewhereAsBefore, IsIndexed, IsOfNone}
 use Rattle.jc_cuckoo.proofs.Cells.{IsOnce, get_some}
 use Rattle.jc_cuckoo.proofs.Empty.{none_there}
 use Rattle.jc_cuckoo.proofs.Sound.{changed_push, changed_set, inside}
@@ -45,7 +45,7 @@ where_ok (Ok x) is p = p
 where_ok (Err e) is p = cc
 
 -- a row that stands in the same cell of other cells
-still : {cs ds : List (Option Held)} {m j : ℕ} {place : ℕ × List ℕ} → FoundIn cs m (length cs) place j → cell ds j ≡ cell cs j → FoundIn ds m (length ds) place j
+still : {cs ds : List (Option Held)} {m j : ℕ} {place : ℕ × List ℕ} → IsFoundBetween cs m (length cs) place j → cell ds j ≡ cell cs j → IsFoundBetween ds m (length ds) place j
 still {ds = ds} {j = j} f same = record { above = f.above; below = inside ds j f.held (same ∙ f.is); held = f.held; is = same ∙ f.is; at = f.at }
 
 -- The index stays right.
@@ -60,7 +60,7 @@ indexed_none n cs m empty none = record {
 -- where the index tells the same
 pub indexed_same : {n : ℕ} {cs : List (Option Held)} {m m' : StashIndex} → IsAsBefore m m' → IsIndexed n cs m → IsIndexed n cs m'
 indexed_same same indexed = record {
-  stashed = λ i h behind is. same (place_of h) ∙ indexed.stashed i h behind is;
+  stashed = λ i h behind is. same (held_place h) ∙ indexed.stashed i h behind is;
   listed = λ place i is. indexed.listed place i (sym (same place) ∙ is);
 }
 
@@ -72,13 +72,13 @@ indexed_set {cs = cs} i v low within indexed = record {
 }
 
 -- where a row of the stash is another one of the same place
-pub indexed_replaced : {n : ℕ} {cs : List (Option Held)} {m : StashIndex} (i : ℕ) (h k : Held) → 4 * n ≤ i → cell cs i ≡ Some k → place_of h ≡ place_of k → IsIndexed n cs m → IsIndexed n (set cs i (Some h)) m
+pub indexed_replaced : {n : ℕ} {cs : List (Option Held)} {m : StashIndex} (i : ℕ) (h k : Held) → 4 * n ≤ i → cell cs i ≡ Some k → held_place h ≡ held_place k → IsIndexed n cs m → IsIndexed n (set cs i (Some h)) m
 indexed_replaced {cs = cs} {m = m} i h k behind is same indexed = record {
   stashed = λ j a after at. elim (eqb_tells j i) [
     | inl one ↦ (
         let e : Some a ≡ Some h = sym at ∙ (ap (cell (set cs i (Some h))) one.1 ∙ (changed_set cs i (Some h) (inside cs i k is)).now) in
         let f : a ≡ h = cc in
-        ap (stands m) (ap place_of f ∙ same) ∙ (indexed.stashed i k behind is ∙ ap (λ (x : ℕ). Some x) (sym one.1)))
+        ap (cell_in_stash m) (ap held_place f ∙ same) ∙ (indexed.stashed i k behind is ∙ ap (λ (x : ℕ). Some x) (sym one.1)))
     | inr away ↦ indexed.stashed j a after (sym ((changed_set cs i (Some h) (inside cs i k is)).rest j away.1) ∙ at)
   ];
   listed = λ place j told. (let f = indexed.listed place j told in elim (eqb_tells j i) [
@@ -86,26 +86,26 @@ indexed_replaced {cs = cs} {m = m} i h k behind is same indexed = record {
         let e : Some f.held ≡ Some k = sym f.is ∙ (ap (cell cs) one.1 ∙ is) in
         let g : f.held ≡ k = cc in
         let now : cell (set cs i (Some h)) j ≡ Some h = ap (cell (set cs i (Some h))) one.1 ∙ (changed_set cs i (Some h) (inside cs i k is)).now in
-        record { above = f.above; below = inside _ j h now; held = h; is = now; at = same ∙ (sym (ap place_of g) ∙ f.at) })
+        record { above = f.above; below = inside _ j h now; held = h; is = now; at = same ∙ (sym (ap held_place g) ∙ f.at) })
     | inr away ↦ still f ((changed_set cs i (Some h) (inside cs i k is)).rest j away.1)
   ]);
 }
 
 -- where a row came to the stash
-pub indexed_pushed : {n : ℕ} {cs : List (Option Held)} {m m' : StashIndex} (h : Held) → 4 * n ≤ length cs → IsOnce cs → map.get (rows_in cs) (place_of h) ≡ None → stands m' (place_of h) ≡ Some (length cs) → IsElsewhereAsBefore (place_of h) m m' → IsIndexed n cs m → IsIndexed n (cs ++ Some h ∷ []) m'
+pub indexed_pushed : {n : ℕ} {cs : List (Option Held)} {m m' : StashIndex} (h : Held) → 4 * n ≤ length cs → IsOnce cs → map.get (rows_in cs) (held_place h) ≡ None → cell_in_stash m' (held_place h) ≡ Some (length cs) → IsElsewhereAsBefore (held_place h) m m' → IsIndexed n cs m → IsIndexed n (cs ++ Some h ∷ []) m'
 indexed_pushed {cs = cs} {m' = m'} h wide once absent added others indexed = record {
   stashed = λ j k behind is. elim (eqb_tells j (length cs)) [
     | inl one ↦ (
         let e : Some k ≡ Some h = sym is ∙ (ap (cell (cs ++ Some h ∷ [])) one.1 ∙ (changed_push cs (Some h)).now) in
         let f : k ≡ h = cc in
-        ap (stands m') (ap place_of f) ∙ (added ∙ ap (λ (x : ℕ). Some x) (sym one.1)))
+        ap (cell_in_stash m') (ap held_place f) ∙ (added ∙ ap (λ (x : ℕ). Some x) (sym one.1)))
     | inr away ↦ (
         let there : cell cs j ≡ Some k = sym ((changed_push cs (Some h)).rest j away.1) ∙ is in
-        others (place_of k) (λ same. (let e : Some (row_of k) ≡ None = sym (get_some cs j k once there) ∙ (ap (map.get (rows_in cs)) same ∙ absent) in cc)) ∙ indexed.stashed j k behind there)
+        others (held_place k) (λ same. (let e : Some (held_row k) ≡ None = sym (get_some cs j k once there) ∙ (ap (map.get (rows_in cs)) same ∙ absent) in cc)) ∙ indexed.stashed j k behind there)
   ];
-  listed = λ place j told. elim (places_decide place (place_of h)) [
+  listed = λ place j told. elim (places_decide place (held_place h)) [
     | inl one ↦ (
-        let e : Some j ≡ Some (length cs) = sym told ∙ (ap (stands m') one ∙ added) in
+        let e : Some j ≡ Some (length cs) = sym told ∙ (ap (cell_in_stash m') one ∙ added) in
         let last : j ≡ length cs = cc in
         let now : cell (cs ++ Some h ∷ []) j ≡ Some h = ap (cell (cs ++ Some h ∷ [])) last ∙ (changed_push cs (Some h)).now in
         record { above = omega arith; below = inside _ j h now; held = h; is = now; at = sym one })
@@ -116,11 +116,11 @@ indexed_pushed {cs = cs} {m' = m'} h wide once absent added others indexed = rec
 }
 
 -- a row of another place stands in another cell
-apart : {cs : List (Option Held)} {n j : ℕ} {place : ℕ × List ℕ} (i : ℕ) (h : Held) → FoundIn cs n (length cs) place j → cell cs i ≡ Some h → place ≢ place_of h → j ≢ i
-apart {cs = cs} i h f is off e = (let s : Some f.held ≡ Some h = sym f.is ∙ (ap (cell cs) e ∙ is) in let g : f.held ≡ h = cc in off (sym f.at ∙ ap place_of g))
+apart : {cs : List (Option Held)} {n j : ℕ} {place : ℕ × List ℕ} (i : ℕ) (h : Held) → IsFoundBetween cs n (length cs) place j → cell cs i ≡ Some h → place ≢ held_place h → j ≢ i
+apart {cs = cs} i h f is off e = (let s : Some f.held ≡ Some h = sym f.is ∙ (ap (cell cs) e ∙ is) in let g : f.held ≡ h = cc in off (sym f.at ∙ ap held_place g))
 
 -- a row that stays is not the last one, where none took the place of the one that went
-short : {cs ds : List (Option Held)} {n i j : ℕ} {place : ℕ × List ℕ} → i < length cs → Dropped cs ds i → cell ds i ≡ None → FoundIn cs n (length cs) place j → j ≢ i → j + 1 < length cs
+short : {cs ds : List (Option Held)} {n i j : ℕ} {place : ℕ × List ℕ} → i < length cs → DropsCell cs ds i → cell ds i ≡ None → IsFoundBetween cs n (length cs) place j → j ≢ i → j + 1 < length cs
 short {cs = cs} {ds = ds} {i = i} {j = j} low dropped end f away = elim (eqb_tells (j + 1) (length cs)) [
   | inl one ↦ (
       let same = one.1 in
@@ -131,15 +131,15 @@ short {cs = cs} {ds = ds} {i = i} {j = j} low dropped end f away = elim (eqb_tel
 ]
 
 -- where the last row left the stash
-pub indexed_dropped : {n : ℕ} {cs ds : List (Option Held)} {m m' : StashIndex} (i : ℕ) (h : Held) → IsOnce cs → cell cs i ≡ Some h → Dropped cs ds i → stands m' (place_of h) ≡ None → IsElsewhereAsBefore (place_of h) m m' → cell ds i ≡ None → IsIndexed n cs m → IsIndexed n ds m'
+pub indexed_dropped : {n : ℕ} {cs ds : List (Option Held)} {m m' : StashIndex} (i : ℕ) (h : Held) → IsOnce cs → cell cs i ≡ Some h → DropsCell cs ds i → cell_in_stash m' (held_place h) ≡ None → IsElsewhereAsBefore (held_place h) m m' → cell ds i ≡ None → IsIndexed n cs m → IsIndexed n ds m'
 indexed_dropped {cs = cs} {ds = ds} {m' = m'} i h once is dropped gone others end indexed = record {
   stashed = λ j k behind at.
       let low = inside ds j k at in let shorter = dropped.shorter in
       let away : j ≢ i = λ e. (let never : Some k ≡ None = sym at ∙ (ap (cell ds) e ∙ end) in cc) in
       let there : cell cs j ≡ Some k = sym (dropped.rest j away (omega arith)) ∙ at in
-      others (place_of k) (λ same. away (once j i k h there is same)) ∙ indexed.stashed j k behind there;
-  listed = λ place j told. elim (places_decide place (place_of h)) [
-    | inl one ↦ (let e : Some j ≡ None = sym told ∙ (ap (stands m') one ∙ gone) in cc)
+      others (held_place k) (λ same. away (once j i k h there is same)) ∙ indexed.stashed j k behind there;
+  listed = λ place j told. elim (places_decide place (held_place h)) [
+    | inl one ↦ (let e : Some j ≡ None = sym told ∙ (ap (cell_in_stash m') one ∙ gone) in cc)
     | inr off ↦ (
         let f = indexed.listed place j (sym (others place off) ∙ told) in
         let away = apart i h f is off in
@@ -148,30 +148,30 @@ indexed_dropped {cs = cs} {ds = ds} {m' = m'} i h once is dropped gone others en
 }
 
 -- where the last one, another, took its place
-pub indexed_moved : {n : ℕ} {cs ds : List (Option Held)} {m m'' : StashIndex} (m' : StashIndex) (i : ℕ) (h k : Held) → IsOnce cs → cell cs i ≡ Some h → 4 * n ≤ i → Dropped cs ds i → stands m' (place_of h) ≡ None → IsElsewhereAsBefore (place_of h) m m' → cell ds i ≡ Some k → stands m'' (place_of k) ≡ Some i → IsElsewhereAsBefore (place_of k) m' m'' → IsIndexed n cs m → IsIndexed n ds m''
+pub indexed_moved : {n : ℕ} {cs ds : List (Option Held)} {m m'' : StashIndex} (m' : StashIndex) (i : ℕ) (h k : Held) → IsOnce cs → cell cs i ≡ Some h → 4 * n ≤ i → DropsCell cs ds i → cell_in_stash m' (held_place h) ≡ None → IsElsewhereAsBefore (held_place h) m m' → cell ds i ≡ Some k → cell_in_stash m'' (held_place k) ≡ Some i → IsElsewhereAsBefore (held_place k) m' m'' → IsIndexed n cs m → IsIndexed n ds m''
 indexed_moved {cs = cs} {ds = ds} {m'' = m''} m' i h k once is behind dropped gone others moved now rest indexed = record {
   stashed = λ j a after at. elim (eqb_tells j i) [
     | inl one ↦ (
         let e : Some a ≡ Some k = sym at ∙ (ap (cell ds) one.1 ∙ moved) in
         let f : a ≡ k = cc in
-        ap (stands m'') (ap place_of f) ∙ (now ∙ ap (λ (x : ℕ). Some x) (sym one.1)))
+        ap (cell_in_stash m'') (ap held_place f) ∙ (now ∙ ap (λ (x : ℕ). Some x) (sym one.1)))
     | inr away ↦ (
         let low = inside ds j a at in let under = inside ds i k moved in let shorter = dropped.shorter in
         let last : cell cs (length cs - 1) ≡ Some k = sym (dropped.moved (omega arith)) ∙ moved in
         let there : cell cs j ≡ Some a = sym (dropped.rest j away.1 (omega arith)) ∙ at in
-        rest (place_of a) (λ same. (let e : j ≡ length cs - 1 = once j (length cs - 1) a k there last same in omega arith))
-        ∙ (others (place_of a) (λ same. away.1 (once j i a h there is same)) ∙ indexed.stashed j a after there))
+        rest (held_place a) (λ same. (let e : j ≡ length cs - 1 = once j (length cs - 1) a k there last same in omega arith))
+        ∙ (others (held_place a) (λ same. away.1 (once j i a h there is same)) ∙ indexed.stashed j a after there))
   ];
-  listed = λ place j told. elim (places_decide place (place_of k)) [
+  listed = λ place j told. elim (places_decide place (held_place k)) [
     | inl one ↦ (
-        let e : Some j ≡ Some i = sym told ∙ (ap (stands m'') one ∙ now) in
+        let e : Some j ≡ Some i = sym told ∙ (ap (cell_in_stash m'') one ∙ now) in
         let same : j ≡ i = cc in
         let there : cell ds j ≡ Some k = ap (cell ds) same ∙ moved in
         record { above = omega arith; below = inside ds j k there; held = k; is = there; at = sym one })
     | inr off ↦ (
         let before = sym (rest place off) ∙ told in
-        elim (places_decide place (place_of h)) [
-          | inl one ↦ (let e : Some j ≡ None = sym before ∙ (ap (stands m') one ∙ gone) in cc)
+        elim (places_decide place (held_place h)) [
+          | inl one ↦ (let e : Some j ≡ None = sym before ∙ (ap (cell_in_stash m') one ∙ gone) in cc)
           | inr out ↦ (
               let f = indexed.listed place j (sym (others place out) ∙ before) in
               let under = inside ds i k moved in let shorter = dropped.shorter in let below = f.below in
@@ -184,8 +184,8 @@ indexed_moved {cs = cs} {ds = ds} {m'' = m''} m' i h k once is behind dropped go
 }
 
 -- a row that moved was listed
-pub listed_moved : {n : ℕ} {cs ds : List (Option Held)} {m : StashIndex} (m' : StashIndex) (i : ℕ) (h k : Held) → 4 * n ≤ i → IsOnce cs → cell cs i ≡ Some h → Dropped cs ds i → IsElsewhereAsBefore (place_of h) m m' → cell ds i ≡ Some k → IsIndexed n cs m → IsSome (stands m' (place_of k))
+pub listed_moved : {n : ℕ} {cs ds : List (Option Held)} {m : StashIndex} (m' : StashIndex) (i : ℕ) (h k : Held) → 4 * n ≤ i → IsOnce cs → cell cs i ≡ Some h → DropsCell cs ds i → IsElsewhereAsBefore (held_place h) m m' → cell ds i ≡ Some k → IsIndexed n cs m → IsSome (cell_in_stash m' (held_place k))
 listed_moved {cs = cs} {ds = ds} m' i h k behind once is dropped others moved indexed =
     let under = inside ds i k moved in let shorter = dropped.shorter in
     let last : cell cs (length cs - 1) ≡ Some k = sym (dropped.moved (omega arith)) ∙ moved in
-    ap is_some (others (place_of k) (λ same. (let e : length cs - 1 ≡ i = once (length cs - 1) i k h last is same in omega arith)) ∙ indexed.stashed (length cs - 1) k (omega arith) last)
+    ap is_some (others (held_place k) (λ same. (let e : length cs - 1 ≡ i = once (length cs - 1) i k h last is same in omega arith)) ∙ indexed.stashed (length cs - 1) k (omega arith) last)

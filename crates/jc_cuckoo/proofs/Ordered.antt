@@ -10,9 +10,9 @@ use Rattle.jc_place.specs.declared.place.Place.{Place}
 use Rattle.jc_rows.specs.Images.{Image}
 use Rattle.jc_cuckoo.specs.declared.held.Held.{Held}
 use Rattle.jc_cuckoo.specs.Cells.{cell, rows_in, IsOnce}
-use Rattle.jc_cuckoo.specs.Images.{Covers, image_of, shown}
+use Rattle.jc_cuckoo.specs.Images.{CoversImage, image_of, shown_row}
 use Rattle.std.specs.Option.{option_map}
-use Rattle.jc_cuckoo.specs.Double.{HasStash, HoldsStash, IsDoubled, IsWaiting, ordered}
+use Rattle.jc_cuckoo.specs.Double.{HasStash, HoldsStash, IsDoubled, AreStashRows, with_stash_rows}
 use Rattle.jc_cuckoo.specs.Table.{Table}
 use Rattle.jc_cuckoo.proofs.Cells.{Stands, moved}
 
@@ -85,27 +85,27 @@ rows_permuted cs ds permutes once = IsPermutation-keeps cs (λ l. IsOnce l × (r
 same_slots : (n : ℕ) (cs : List (Option Held)) (rows : List (ℕ × Held)) → 4 * n ≤ length cs → take (4 * n) (take (4 * n) cs ++ map (λ row. Some row.1) rows) ≡ take (4 * n) cs
 same_slots n cs rows wide = take-append-le (4 * n) (take (4 * n) cs) (map (λ row. Some row.1) rows) (let e = length-take-le (4 * n) cs wide in omega arith) ∙ take-take (4 * n) (4 * n) cs (omega arith)
 
-pub same_image : {P M : Type 0} (t : Table P M) (rows : List (ℕ × Held)) → IsWaiting t.buckets t.cells rows → image_of t.buckets (ordered t rows).cells ≡ image_of t.buckets t.cells
-same_image t rows waits = ap₂ (λ (l : List (Option Held)) (m : ℕ). record { buckets = t.buckets; slots = map (option_map shown) l; stash = m - 4 * t.buckets }) (same_slots t.buckets t.cells rows waits.wide) (length_permutation t.cells (ordered t rows).cells waits.permutes)
+pub same_image : {P M : Type 0} (t : Table P M) (rows : List (ℕ × Held)) → AreStashRows t.buckets t.cells rows → image_of t.buckets (with_stash_rows t rows).cells ≡ image_of t.buckets t.cells
+same_image t rows waits = ap₂ (λ (l : List (Option Held)) (m : ℕ). record { buckets = t.buckets; slots = map (option_map shown_row) l; stash = m - 4 * t.buckets }) (same_slots t.buckets t.cells rows waits.wide) (length_permutation t.cells (with_stash_rows t rows).cells waits.permutes)
 
-pub stash_ordered : {P M N : Type 0} (placing : P → ℕ → List ℕ → Place) (t : Table P M) (rows : List (ℕ × Held)) (u : Table P N) → IsWaiting t.buckets t.cells rows → HasStash placing t (4 * t.buckets) u → HasStash placing (ordered t rows) (4 * t.buckets) u
+pub stash_ordered : {P M N : Type 0} (placing : P → ℕ → List ℕ → Place) (t : Table P M) (rows : List (ℕ × Held)) (u : Table P N) → AreStashRows t.buckets t.cells rows → HasStash placing t (4 * t.buckets) u → HasStash placing (with_stash_rows t rows) (4 * t.buckets) u
 stash_ordered placing t rows u waits has = record {
   placer = has.placer;
   buckets = has.buckets;
   rows = has.rows ∙ sym (ap rows_in (same_slots t.buckets t.cells rows waits.wide));
   short = has.short;
-  covers = subst (λ (x : Image). Covers x (image_of u.buckets u.cells)) (sym (same_image t rows waits)) has.covers;
+  covers = subst (λ (x : Image). CoversImage x (image_of u.buckets u.cells)) (sym (same_image t rows waits)) has.covers;
   needed = has.needed;
 }
 
-pub doubled_ordered : {P M N : Type 0} (placing : P → ℕ → List ℕ → Place) (t : Table P M) (rows : List (ℕ × Held)) (u : Table P N) → IsWaiting t.buckets t.cells rows → IsDoubled placing (ordered t rows) u → IsDoubled placing t u
+pub doubled_ordered : {P M N : Type 0} (placing : P → ℕ → List ℕ → Place) (t : Table P M) (rows : List (ℕ × Held)) (u : Table P N) → AreStashRows t.buckets t.cells rows → IsDoubled placing (with_stash_rows t rows) u → IsDoubled placing t u
 doubled_ordered placing t rows u waits doubled = record {
   placer = doubled.placer;
   buckets = doubled.buckets;
-  rows = doubled.rows ∙ (rows_permuted t.cells (ordered t rows).cells waits.permutes waits.once).1;
-  stash = let long = length_permutation t.cells (ordered t rows).cells waits.permutes in let less = doubled.stash in omega arith;
+  rows = doubled.rows ∙ (rows_permuted t.cells (with_stash_rows t rows).cells waits.permutes waits.once).1;
+  stash = let long = length_permutation t.cells (with_stash_rows t rows).cells waits.permutes in let less = doubled.stash in omega arith;
   room = doubled.room;
-  covers = subst (λ (x : Image). Covers x (image_of u.buckets u.cells)) (same_image t rows waits) doubled.covers;
+  covers = subst (λ (x : Image). CoversImage x (image_of u.buckets u.cells)) (same_image t rows waits) doubled.covers;
   needed = doubled.needed;
 }
 
@@ -116,7 +116,7 @@ ordered_cell n cs rows at row wide below is =
     ∙ (ap (λ (i : ℕ). get_or (map (λ row. Some row.1) rows) i None) (let e : 4 * n + at - 4 * n ≡ at = omega arith in e)
     ∙ (get_or-map (λ row. Some row.1) rows at row None below ∙ ap (λ (row : ℕ × Held). Some row.1) (sym is)))
 
-pub waits_sorted : (n : ℕ) (cs : List (Option Held)) (rows sorted : List (ℕ × Held)) → HoldsStash n cs rows → IsPermutation rows sorted → IsWaiting n cs sorted
+pub waits_sorted : (n : ℕ) (cs : List (Option Held)) (rows sorted : List (ℕ × Held)) → HoldsStash n cs rows → IsPermutation rows sorted → AreStashRows n cs sorted
 waits_sorted n cs rows sorted holds permutes = record {
   once = holds.once;
   wide = holds.wide;
@@ -125,10 +125,10 @@ waits_sorted n cs rows sorted holds permutes = record {
 }
 
 -- a row of the list is one of the table's
-pub ordered_within : {P M : Type 0} (t : Table P M) (rows : List (ℕ × Held)) (at : ℕ) → IsWaiting t.buckets t.cells rows → at < length rows → 4 * t.buckets + at < length (ordered t rows).cells
+pub ordered_within : {P M : Type 0} (t : Table P M) (rows : List (ℕ × Held)) (at : ℕ) → AreStashRows t.buckets t.cells rows → at < length rows → 4 * t.buckets + at < length (with_stash_rows t rows).cells
 ordered_within t rows at waits below =
     let e = length-append (take (4 * t.buckets) t.cells) (map (λ row. Some row.1) rows) in let f = length-take-le (4 * t.buckets) t.cells waits.wide in let g = length-map rows (λ (row : ℕ × Held). Some row.1) in omega arith
 
-pub ordered_end : {P M : Type 0} (t : Table P M) (rows : List (ℕ × Held)) (at : ℕ) → IsWaiting t.buckets t.cells rows → at ≡ length rows → 4 * t.buckets + at ≡ length (ordered t rows).cells
+pub ordered_end : {P M : Type 0} (t : Table P M) (rows : List (ℕ × Held)) (at : ℕ) → AreStashRows t.buckets t.cells rows → at ≡ length rows → 4 * t.buckets + at ≡ length (with_stash_rows t rows).cells
 ordered_end t rows at waits end =
     let e = length-append (take (4 * t.buckets) t.cells) (map (λ row. Some row.1) rows) in let f = length-take-le (4 * t.buckets) t.cells waits.wide in let g = length-map rows (λ (row : ℕ × Held). Some row.1) in omega arith

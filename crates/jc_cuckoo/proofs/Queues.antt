@@ -7,15 +7,15 @@ use Rattle.jc_place.specs.Place.{alternate_of}
 use Rattle.jc_place.proofs.Other.{other_back}
 use Rattle.jc_cuckoo.specs.declared.held.Held.{Held}
 use Rattle.jc_cuckoo.specs.declared.queue.Queue.{Queue}
-use Rattle.jc_cuckoo.specs.Cells.{place_of, cell, IsFull, IsVacant, IsSound, IsBucketOf, first_bucket}
-use Rattle.jc_cuckoo.specs.Search.{IsQueue, IsStep, IsSized, Grows, looked_slot, bucket_at, slot_at, tag_at, parent_at, depth_at}
+use Rattle.jc_cuckoo.specs.Cells.{held_place, cell, IsFull, IsSlotVacant, AreSoundCells, IsBucketOf, first_bucket}
+use Rattle.jc_cuckoo.specs.Search.{IsQueue, IsStep, IsSized, Grows, looked_slot, queued_bucket, queued_slot, queued_tag, queued_parent, queued_depth}
 
 pub record Pushed (q r : Queue) (bucket slot tag parent : ℕ) : Type 0 where
   pub buckets : r.buckets ≡ set q.buckets q.count bucket
   pub slots : r.slots ≡ set q.slots q.count slot
   pub tags : r.tags ≡ set q.tags q.count tag
   pub parents : r.parents ≡ set q.parents q.count parent
-  pub depths : r.depths ≡ set q.depths q.count (depth_at q parent + 1)
+  pub depths : r.depths ≡ set q.depths q.count (queued_depth q parent + 1)
   pub count : r.count ≡ q.count + 1
 
 kept_at : (xs ys : List ℕ) (n v j : ℕ) → ys ≡ set xs n v → j < n → get_or ys j 0 ≡ get_or xs j 0
@@ -31,18 +31,18 @@ pub grows_pushed : (q r : Queue) (bucket slot tag parent : ℕ) → Pushed q r b
 grows_pushed q r bucket slot tag parent pushed = record {
   count = let c = pushed.count in omega arith;
   buckets = λ j below. kept_at q.buckets r.buckets q.count bucket j pushed.buckets below;
-  depths = λ j below. kept_at q.depths r.depths q.count (depth_at q parent + 1) j pushed.depths below;
+  depths = λ j below. kept_at q.depths r.depths q.count (queued_depth q parent + 1) j pushed.depths below;
 }
 
-pub queue_pushed : (p : ℕ → List ℕ → Place) (n : ℕ) (cells : List (Option Held)) (q r : Queue) (bucket slot tag parent : ℕ) (h : Held) → IsQueue p n cells q → Pushed q r bucket slot tag parent → q.count < 64 → parent < q.count → depth_at q parent < 5
-    → slot / 4 ≡ bucket_at q parent → slot < 4 * n → cell cells slot ≡ Some h → tag ≡ (p h.id h.key).tag → bucket ≡ alternate_of n tag (slot / 4) → bucket < n → IsBucketOf p n (place_of h) bucket → ((j : ℕ) → j < q.count → bucket_at q j ≢ bucket) → IsQueue p n cells r
+pub queue_pushed : (p : ℕ → List ℕ → Place) (n : ℕ) (cells : List (Option Held)) (q r : Queue) (bucket slot tag parent : ℕ) (h : Held) → IsQueue p n cells q → Pushed q r bucket slot tag parent → q.count < 64 → parent < q.count → queued_depth q parent < 5
+    → slot / 4 ≡ queued_bucket q parent → slot < 4 * n → cell cells slot ≡ Some h → tag ≡ (p h.id h.key).tag → bucket ≡ alternate_of n tag (slot / 4) → bucket < n → IsBucketOf p n (held_place h) bucket → ((j : ℕ) → j < q.count → queued_bucket q j ≢ bucket) → IsQueue p n cells r
 queue_pushed p n cells q r bucket slot tag parent h queue pushed room inside near at below is tagged other within home absent = record {
   wide = record {
     buckets = long q.buckets r.buckets q.count bucket pushed.buckets queue.wide.buckets;
     slots = long q.slots r.slots q.count slot pushed.slots queue.wide.slots;
     tags = long q.tags r.tags q.count tag pushed.tags queue.wide.tags;
     parents = long q.parents r.parents q.count parent pushed.parents queue.wide.parents;
-    depths = long q.depths r.depths q.count (depth_at q parent + 1) pushed.depths queue.wide.depths;
+    depths = long q.depths r.depths q.count (queued_depth q parent + 1) pushed.depths queue.wide.depths;
   };
   first_depth = (let s = queue.some in depth 0 (omega arith)) ∙ queue.first_depth;
   second_depth = (let s = queue.some in depth 1 (omega arith)) ∙ queue.second_depth;
@@ -50,19 +50,19 @@ queue_pushed p n cells q r bucket slot tag parent h queue pushed room inside nea
   few = let c = pushed.count in omega arith;
   below = λ j low. elim (cases_lt j q.count) [
     | inl old ↦ subst (λ (x : ℕ). x < n) (sym (buckets j old)) (queue.below j old)
-    | inr new ↦ subst (λ (x : ℕ). x < n) (sym (last j low new (λ x. bucket_at r x ≡ bucket) bucket_new)) within
+    | inr new ↦ subst (λ (x : ℕ). x < n) (sym (last j low new (λ x. queued_bucket r x ≡ bucket) bucket_new)) within
   ];
   near = λ j low. elim (cases_lt j q.count) [
     | inl old ↦ subst (λ (x : ℕ). x ≤ 5) (sym (depth j old)) (queue.near j old)
-    | inr new ↦ subst (λ (x : ℕ). x ≤ 5) (sym (last j low new (λ x. depth_at r x ≡ depth_at q parent + 1) depth_new)) (omega arith)
+    | inr new ↦ subst (λ (x : ℕ). x ≤ 5) (sym (last j low new (λ x. queued_depth r x ≡ queued_depth q parent + 1) depth_new)) (omega arith)
   ];
   apart = λ i j li lj same. elim (cases_lt i q.count) [
     | inl old ↦ elim (cases_lt j q.count) [
       | inl also ↦ queue.apart i j old also (sym (buckets i old) ∙ (same ∙ buckets j also))
-      | inr new ↦ absurd (absent i old (sym (buckets i old) ∙ (same ∙ last j lj new (λ x. bucket_at r x ≡ bucket) bucket_new)))
+      | inr new ↦ absurd (absent i old (sym (buckets i old) ∙ (same ∙ last j lj new (λ x. queued_bucket r x ≡ bucket) bucket_new)))
     ]
     | inr new ↦ elim (cases_lt j q.count) [
-      | inl old ↦ absurd (absent j old (sym (buckets j old) ∙ (sym same ∙ last i li new (λ x. bucket_at r x ≡ bucket) bucket_new)))
+      | inl old ↦ absurd (absent j old (sym (buckets j old) ∙ (sym same ∙ last i li new (λ x. queued_bucket r x ≡ bucket) bucket_new)))
       | inr also ↦ (let c = pushed.count in omega arith)
     ]
   ];
@@ -72,66 +72,66 @@ queue_pushed p n cells q r bucket slot tag parent h queue pushed room inside nea
   ];
 }
   where
-    buckets : (j : ℕ) → j < q.count → bucket_at r j ≡ bucket_at q j
+    buckets : (j : ℕ) → j < q.count → queued_bucket r j ≡ queued_bucket q j
     buckets j old = kept_at q.buckets r.buckets q.count bucket j pushed.buckets old
 
-    depth : (j : ℕ) → j < q.count → depth_at r j ≡ depth_at q j
-    depth j old = kept_at q.depths r.depths q.count (depth_at q parent + 1) j pushed.depths old
+    depth : (j : ℕ) → j < q.count → queued_depth r j ≡ queued_depth q j
+    depth j old = kept_at q.depths r.depths q.count (queued_depth q parent + 1) j pushed.depths old
 
-    bucket_new : bucket_at r q.count ≡ bucket
+    bucket_new : queued_bucket r q.count ≡ bucket
     bucket_new = new_at q.buckets r.buckets q.count bucket pushed.buckets (let w = queue.wide.buckets in omega arith)
 
-    slot_new : slot_at r q.count ≡ slot
+    slot_new : queued_slot r q.count ≡ slot
     slot_new = new_at q.slots r.slots q.count slot pushed.slots (let w = queue.wide.slots in omega arith)
 
-    tag_new : tag_at r q.count ≡ tag
+    tag_new : queued_tag r q.count ≡ tag
     tag_new = new_at q.tags r.tags q.count tag pushed.tags (let w = queue.wide.tags in omega arith)
 
-    parent_new : parent_at r q.count ≡ parent
+    parent_new : queued_parent r q.count ≡ parent
     parent_new = new_at q.parents r.parents q.count parent pushed.parents (let w = queue.wide.parents in omega arith)
 
-    depth_new : depth_at r q.count ≡ depth_at q parent + 1
-    depth_new = new_at q.depths r.depths q.count (depth_at q parent + 1) pushed.depths (let w = queue.wide.depths in omega arith)
+    depth_new : queued_depth r q.count ≡ queued_depth q parent + 1
+    depth_new = new_at q.depths r.depths q.count (queued_depth q parent + 1) pushed.depths (let w = queue.wide.depths in omega arith)
 
     last : (j : ℕ) → j < r.count → q.count ≤ j → (F : ℕ → Type 0) → F q.count → F j
     last j low new F at_count = (let c = pushed.count in let e : q.count ≡ j = omega arith in subst F e at_count)
 
     kept : (j : ℕ) → j < q.count → IsStep p n cells q j → IsStep p n cells r j
     kept j old s =
-        let parents : parent_at r j ≡ parent_at q j = kept_at q.parents r.parents q.count parent j pushed.parents old in
-        let slots : slot_at r j ≡ slot_at q j = kept_at q.slots r.slots q.count slot j pushed.slots old in
-        let tags : tag_at r j ≡ tag_at q j = kept_at q.tags r.tags q.count tag j pushed.tags old in
-        let earlier : parent_at q j < q.count = (let sp = s.parent in omega arith) in
+        let parents : queued_parent r j ≡ queued_parent q j = kept_at q.parents r.parents q.count parent j pushed.parents old in
+        let slots : queued_slot r j ≡ queued_slot q j = kept_at q.slots r.slots q.count slot j pushed.slots old in
+        let tags : queued_tag r j ≡ queued_tag q j = kept_at q.tags r.tags q.count tag j pushed.tags old in
+        let earlier : queued_parent q j < q.count = (let sp = s.parent in omega arith) in
         record {
           parent = subst (λ (x : ℕ). x < j) (sym parents) s.parent;
-          slot = ap (λ (x : ℕ). x / 4) slots ∙ (s.slot ∙ (sym (buckets (parent_at q j) earlier) ∙ ap (bucket_at r) (sym parents)));
+          slot = ap (λ (x : ℕ). x / 4) slots ∙ (s.slot ∙ (sym (buckets (queued_parent q j) earlier) ∙ ap (queued_bucket r) (sym parents)));
           below = subst (λ (x : ℕ). x < 4 * n) (sym slots) s.below;
           held = s.held;
           is = ap (cell cells) slots ∙ s.is;
           tag = tags ∙ s.tag;
           other = buckets j old ∙ (s.other ∙ ap₂ (λ (t x : ℕ). alternate_of n t (x / 4)) (sym tags) (sym slots));
-          home = subst (IsBucketOf p n (place_of s.held)) (sym (buckets j old)) s.home;
-          depth = depth j old ∙ (s.depth ∙ ap (λ (x : ℕ). x + 1) (sym (depth (parent_at q j) earlier) ∙ ap (depth_at r) (sym parents)));
+          home = subst (IsBucketOf p n (held_place s.held)) (sym (buckets j old)) s.home;
+          depth = depth j old ∙ (s.depth ∙ ap (λ (x : ℕ). x + 1) (sym (depth (queued_parent q j) earlier) ∙ ap (queued_depth r) (sym parents)));
         }
 
     step_new : IsStep p n cells r q.count
     step_new = record {
       parent = subst (λ (x : ℕ). x < q.count) (sym parent_new) inside;
-      slot = ap (λ (x : ℕ). x / 4) slot_new ∙ (at ∙ (sym (buckets parent inside) ∙ ap (bucket_at r) (sym parent_new)));
+      slot = ap (λ (x : ℕ). x / 4) slot_new ∙ (at ∙ (sym (buckets parent inside) ∙ ap (queued_bucket r) (sym parent_new)));
       below = subst (λ (x : ℕ). x < 4 * n) (sym slot_new) below;
       held = h;
       is = ap (cell cells) slot_new ∙ is;
       tag = tag_new ∙ tagged;
       other = bucket_new ∙ (other ∙ ap₂ (λ (t x : ℕ). alternate_of n t (x / 4)) (sym tag_new) (sym slot_new));
-      home = subst (IsBucketOf p n (place_of h)) (sym bucket_new) home;
-      depth = depth_new ∙ ap (λ (x : ℕ). x + 1) (sym (depth parent inside) ∙ ap (depth_at r) (sym parent_new));
+      home = subst (IsBucketOf p n (held_place h)) (sym bucket_new) home;
+      depth = depth_new ∙ ap (λ (x : ℕ). x + 1) (sym (depth parent inside) ∙ ap (queued_depth r) (sym parent_new));
     }
 
 -- the other bucket of a row is one of its two
-pub other_bucket : (p : ℕ → List ℕ → Place) (n : ℕ) (tags : List ℕ) (cs : List (Option Held)) (i : ℕ) (h : Held) → IsSound p n tags cs → i < 4 * n → cell cs i ≡ Some h → IsBucketOf p n (place_of h) (alternate_of n (p h.id h.key).tag (i / 4))
+pub other_bucket : (p : ℕ → List ℕ → Place) (n : ℕ) (tags : List ℕ) (cs : List (Option Held)) (i : ℕ) (h : Held) → AreSoundCells p n tags cs → i < 4 * n → cell cs i ≡ Some h → IsBucketOf p n (held_place h) (alternate_of n (p h.id h.key).tag (i / 4))
 other_bucket p n tags cs i h sound below is = elim (sound.placed i h below is) [
   | inl first ↦ inr (ap (alternate_of n (p h.id h.key).tag) first)
-  | inr second ↦ inl (ap (alternate_of n (p h.id h.key).tag) second ∙ other_back n (p h.id h.key).tag (first_bucket p n (place_of h)))
+  | inr second ↦ inl (ap (alternate_of n (p h.id h.key).tag) second ∙ other_back n (p h.id h.key).tag (first_bucket p n (held_place h)))
 ]
 
 -- a cell is empty, or it holds a row
@@ -146,35 +146,35 @@ row_there cs i some = go (cell cs i) refl
 
 -- the paths that are left, after the moves so far
 pub record Left (cs now : List (Option Held)) (q : Queue) (node : ℕ) : Type 0 where
-  pub rest : (j : ℕ) → 2 ≤ j → j ≤ node → cell now (slot_at q j) ≡ cell cs (slot_at q j)
+  pub rest : (j : ℕ) → 2 ≤ j → j ≤ node → cell now (queued_slot q j) ≡ cell cs (queued_slot q j)
 
-pub one_slot : (p : ℕ → List ℕ → Place) (n : ℕ) (cs : List (Option Held)) (q : Queue) (i j : ℕ) → IsQueue p n cs q → 2 ≤ i → i < q.count → 2 ≤ j → j < q.count → slot_at q i ≡ slot_at q j → i ≡ j
+pub one_slot : (p : ℕ → List ℕ → Place) (n : ℕ) (cs : List (Option Held)) (q : Queue) (i j : ℕ) → IsQueue p n cs q → 2 ≤ i → i < q.count → 2 ≤ j → j < q.count → queued_slot q i ≡ queued_slot q j → i ≡ j
 one_slot p n cs q i j queue ti li tj lj same =
     let a = queue.steps i ti li in let b = queue.steps j tj lj in
     let both : Some a.held ≡ Some b.held = sym a.is ∙ (ap (cell cs) same ∙ b.is) in
     let one : a.held ≡ b.held = cc in
-    let tags : tag_at q i ≡ tag_at q j = a.tag ∙ (ap (λ (h : Held). (p h.id h.key).tag) one ∙ sym b.tag) in
+    let tags : queued_tag q i ≡ queued_tag q j = a.tag ∙ (ap (λ (h : Held). (p h.id h.key).tag) one ∙ sym b.tag) in
     queue.apart i j li lj (a.other ∙ (ap₂ (λ (t s : ℕ). alternate_of n t (s / 4)) tags same ∙ sym b.other))
 
-pub left_over : (p : ℕ → List ℕ → Place) (n : ℕ) (cs now : List (Option Held)) (q : Queue) (node gap : ℕ) (h : Held) → IsQueue p n cs q → 2 ≤ node → node < q.count → Left cs now q node → IsVacant now (bucket_at q node) gap → slot_at q node < length now → Left cs (set (set now (slot_at q node) None) gap (Some h)) q (parent_at q node)
+pub left_over : (p : ℕ → List ℕ → Place) (n : ℕ) (cs now : List (Option Held)) (q : Queue) (node gap : ℕ) (h : Held) → IsQueue p n cs q → 2 ≤ node → node < q.count → Left cs now q node → IsSlotVacant now (queued_bucket q node) gap → queued_slot q node < length now → Left cs (set (set now (queued_slot q node) None) gap (Some h)) q (queued_parent q node)
 left_over p n cs now q node gap h queue two low left vacant inside = record {
   rest = λ j tj lj. (
       let s = queue.steps node two low in let sp = s.parent in
       let lower : j < node = omega arith in
       let a = queue.steps j tj (omega arith) in
-      let not_gap : slot_at q j ≡ gap → ⊥ = λ e. (let full : cell now gap ≡ Some a.held = ap (cell now) (sym e) ∙ (left.rest j tj (omega arith) ∙ a.is) in let empty = vacant.empty in cc) in
-      let not_slot : slot_at q j ≡ slot_at q node → ⊥ = λ e. (let one : j ≡ node = one_slot p n cs q j node queue tj (omega arith) two low e in omega arith) in
-      get_or-set_other (set now (slot_at q node) None) gap (slot_at q j) (Some h) None not_gap ∙ (get_or-set_other now (slot_at q node) (slot_at q j) None None not_slot ∙ left.rest j tj (omega arith)));
+      let not_gap : queued_slot q j ≡ gap → ⊥ = λ e. (let full : cell now gap ≡ Some a.held = ap (cell now) (sym e) ∙ (left.rest j tj (omega arith) ∙ a.is) in let empty = vacant.empty in cc) in
+      let not_slot : queued_slot q j ≡ queued_slot q node → ⊥ = λ e. (let one : j ≡ node = one_slot p n cs q j node queue tj (omega arith) two low e in omega arith) in
+      get_or-set_other (set now (queued_slot q node) None) gap (queued_slot q j) (Some h) None not_gap ∙ (get_or-set_other now (queued_slot q node) (queued_slot q j) None None not_slot ∙ left.rest j tj (omega arith)));
 }
 
-pub next_gap : (p : ℕ → List ℕ → Place) (n : ℕ) (cs now : List (Option Held)) (q : Queue) (node gap : ℕ) (h k : Held) → IsQueue p n cs q → 2 ≤ node → node < q.count → IsVacant now (bucket_at q node) gap → cell now (slot_at q node) ≡ Some k → slot_at q node < length now → IsVacant (set (set now (slot_at q node) None) gap (Some h)) (bucket_at q (parent_at q node)) (slot_at q node)
+pub next_gap : (p : ℕ → List ℕ → Place) (n : ℕ) (cs now : List (Option Held)) (q : Queue) (node gap : ℕ) (h k : Held) → IsQueue p n cs q → 2 ≤ node → node < q.count → IsSlotVacant now (queued_bucket q node) gap → cell now (queued_slot q node) ≡ Some k → queued_slot q node < length now → IsSlotVacant (set (set now (queued_slot q node) None) gap (Some h)) (queued_bucket q (queued_parent q node)) (queued_slot q node)
 next_gap p n cs now q node gap h k queue two low vacant is inside =
     let s = queue.steps node two low in
-    let not_gap : slot_at q node ≡ gap → ⊥ = λ f. (let full : cell now gap ≡ Some k = ap (cell now) (sym f) ∙ is in let empty = vacant.empty in cc) in
+    let not_gap : queued_slot q node ≡ gap → ⊥ = λ f. (let full : cell now gap ≡ Some k = ap (cell now) (sym f) ∙ is in let empty = vacant.empty in cc) in
     record {
-      above = quarter (slot_at q node) (bucket_at q (parent_at q node)) s.slot;
-      below = quarter_below (slot_at q node) (bucket_at q (parent_at q node)) s.slot;
-      empty = get_or-set_other (set now (slot_at q node) None) gap (slot_at q node) (Some h) None not_gap ∙ get_or-set_same now (slot_at q node) None None inside;
+      above = quarter (queued_slot q node) (queued_bucket q (queued_parent q node)) s.slot;
+      below = quarter_below (queued_slot q node) (queued_bucket q (queued_parent q node)) s.slot;
+      empty = get_or-set_other (set now (queued_slot q node) None) gap (queued_slot q node) (Some h) None not_gap ∙ get_or-set_same now (queued_slot q node) None None inside;
     }
   where
     quarter : (i b : ℕ) → i / 4 ≡ b → 4 * b ≤ i
@@ -183,8 +183,8 @@ next_gap p n cs now q node gap h k queue two low vacant is inside =
     quarter_below : (i b : ℕ) → i / 4 ≡ b → i < 4 * b + 4
     quarter_below i b e = omega arith
 
-pub queue_reached : (p : ℕ → List ℕ → Place) (n : ℕ) (tags : List ℕ) (cells : List (Option Held)) (q r : Queue) (bucket slot tag parent : ℕ) → IsSound p n tags cells → IsQueue p n cells q → Pushed q r bucket slot tag parent → q.count < 64 → parent < q.count → depth_at q parent < 5
-    → slot / 4 ≡ bucket_at q parent → cell cells slot ≢ None → tag ≡ get_or tags slot tag → bucket ≡ alternate_of n tag (bucket_at q parent) → bucket < n → ((j : ℕ) → j < q.count → bucket_at q j ≢ bucket) → IsQueue p n cells r
+pub queue_reached : (p : ℕ → List ℕ → Place) (n : ℕ) (tags : List ℕ) (cells : List (Option Held)) (q r : Queue) (bucket slot tag parent : ℕ) → AreSoundCells p n tags cells → IsQueue p n cells q → Pushed q r bucket slot tag parent → q.count < 64 → parent < q.count → queued_depth q parent < 5
+    → slot / 4 ≡ queued_bucket q parent → cell cells slot ≢ None → tag ≡ get_or tags slot tag → bucket ≡ alternate_of n tag (queued_bucket q parent) → bucket < n → ((j : ℕ) → j < q.count → queued_bucket q j ≢ bucket) → IsQueue p n cells r
 queue_reached p n tags cells q r bucket slot tag parent sound queue pushed room inside near at some read other within absent =
     let row = row_there cells slot some in
     let limit = queue.below parent inside in
@@ -194,18 +194,18 @@ queue_reached p n tags cells q r bucket slot tag parent sound queue pushed room 
     let alternate : bucket ≡ alternate_of n tag (slot / 4) = other ∙ ap (alternate_of n tag) (sym at) in
     let named : bucket ≡ alternate_of n (p row.0.id row.0.key).tag (slot / 4) = alternate ∙ ap (λ (t : ℕ). alternate_of n t (slot / 4)) tagged in
     queue_pushed p n cells q r bucket slot tag parent row.0 queue pushed room inside near at below row.1 tagged alternate within
-    (subst (IsBucketOf p n (place_of row.0)) (sym named) (other_bucket p n tags cells slot row.0 sound below row.1)) absent
+    (subst (IsBucketOf p n (held_place row.0)) (sym named) (other_bucket p n tags cells slot row.0 sound below row.1)) absent
 
 -- the row that is moved next
 pub record Moves (p : ℕ → List ℕ → Place) (n : ℕ) (q : Queue) (node : ℕ) (k : Held) : Type 0 where
-  pub below : slot_at q node < 4 * n
-  pub home : IsBucketOf p n (place_of k) (bucket_at q node)
-  pub tag : tag_at q node ≡ (p k.id k.key).tag
+  pub below : queued_slot q node < 4 * n
+  pub home : IsBucketOf p n (held_place k) (queued_bucket q node)
+  pub tag : queued_tag q node ≡ (p k.id k.key).tag
 
-pub left_row : (p : ℕ → List ℕ → Place) (n : ℕ) (cs now : List (Option Held)) (q : Queue) (node : ℕ) → IsQueue p n cs q → 2 ≤ node → node < q.count → Left cs now q node → (k : Held) × (cell now (slot_at q node) ≡ Some k)
+pub left_row : (p : ℕ → List ℕ → Place) (n : ℕ) (cs now : List (Option Held)) (q : Queue) (node : ℕ) → IsQueue p n cs q → 2 ≤ node → node < q.count → Left cs now q node → (k : Held) × (cell now (queued_slot q node) ≡ Some k)
 left_row p n cs now q node queue two low left = let s = queue.steps node two low in (s.held, left.rest node two (omega arith) ∙ s.is)
 
-pub moves_row : (p p' : ℕ → List ℕ → Place) (n n' : ℕ) (cs now : List (Option Held)) (q : Queue) (node : ℕ) (k : Held) → IsQueue p n cs q → p' ≡ p → n' ≡ n → 2 ≤ node → node < q.count → Left cs now q node → cell now (slot_at q node) ≡ Some k → Moves p' n' q node k
+pub moves_row : (p p' : ℕ → List ℕ → Place) (n n' : ℕ) (cs now : List (Option Held)) (q : Queue) (node : ℕ) (k : Held) → IsQueue p n cs q → p' ≡ p → n' ≡ n → 2 ≤ node → node < q.count → Left cs now q node → cell now (queued_slot q node) ≡ Some k → Moves p' n' q node k
 moves_row p p' n n' cs now q node k queue ep en two low left is =
     let s = queue.steps node two low in
     let both : Some s.held ≡ Some k = sym (left.rest node two (omega arith) ∙ s.is) ∙ is in
@@ -217,13 +217,13 @@ pub quarter_of : (i b : ℕ) → 4 * b ≤ i → i < 4 * b + 4 → i / 4 ≡ b
 quarter_of i b above below = omega arith
 
 -- each bucket all of whose slots were looked at is full
-pub all_full : (cells : List (Option Held)) (q : Queue) (looked k : ℕ) → ((j : ℕ) → j < looked → cell cells (looked_slot q j) ≢ None) → 4 * q.count ≤ looked → k < q.count → IsFull cells (bucket_at q k)
+pub all_full : (cells : List (Option Held)) (q : Queue) (looked k : ℕ) → ((j : ℕ) → j < looked → cell cells (looked_slot q j) ≢ None) → 4 * q.count ≤ looked → k < q.count → IsFull cells (queued_bucket q k)
 all_full cells q looked k full all low = record {
   full = λ i above below none. (
-      let j : ℕ = 4 * k + (i - 4 * bucket_at q k) in
+      let j : ℕ = 4 * k + (i - 4 * queued_bucket q k) in
       let whole : j / 4 ≡ k = omega arith in
-      let part : j % 4 ≡ i - 4 * bucket_at q k = omega arith in
-      let there : looked_slot q j ≡ i = ap₂ (λ (a b : ℕ). 4 * bucket_at q a + b) whole part ∙ back i (4 * bucket_at q k) above in
+      let part : j % 4 ≡ i - 4 * queued_bucket q k = omega arith in
+      let there : looked_slot q j ≡ i = ap₂ (λ (a b : ℕ). 4 * queued_bucket q a + b) whole part ∙ back i (4 * queued_bucket q k) above in
       full j (omega arith) (ap (cell cells) there ∙ none));
 }
   where
@@ -231,15 +231,15 @@ all_full cells q looked k full all low = record {
     back i b h = omega arith
 
 -- the two buckets of a key
-pub queue_new : (p : ℕ → List ℕ → Place) (n : ℕ) (cells : List (Option Held)) (q : Queue) (one two : ℕ) → IsSized q → q.count ≡ 2 → bucket_at q 0 ≡ one → bucket_at q 1 ≡ two → depth_at q 0 ≡ 0 → depth_at q 1 ≡ 0 → one < n → two < n → two ≢ one → IsQueue p n cells q
+pub queue_new : (p : ℕ → List ℕ → Place) (n : ℕ) (cells : List (Option Held)) (q : Queue) (one two : ℕ) → IsSized q → q.count ≡ 2 → queued_bucket q 0 ≡ one → queued_bucket q 1 ≡ two → queued_depth q 0 ≡ 0 → queued_depth q 1 ≡ 0 → one < n → two < n → two ≢ one → IsQueue p n cells q
 queue_new p n cells q one two sized count e0 e1 d0 d1 l0 l1 differ = record {
   wide = sized;
   first_depth = d0;
   second_depth = d1;
   some = omega arith;
   few = omega arith;
-  below = λ j low. pick j (λ x. bucket_at q x < n) (subst (λ (b : ℕ). b < n) (sym e0) l0) (subst (λ (b : ℕ). b < n) (sym e1) l1) (omega arith);
-  near = λ j low. pick j (λ x. depth_at q x ≤ 5) (omega arith) (omega arith) (omega arith);
+  below = λ j low. pick j (λ x. queued_bucket q x < n) (subst (λ (b : ℕ). b < n) (sym e0) l0) (subst (λ (b : ℕ). b < n) (sym e1) l1) (omega arith);
+  near = λ j low. pick j (λ x. queued_depth q x ≤ 5) (omega arith) (omega arith) (omega arith);
   apart = λ i j li lj same. part i j (omega arith) (omega arith) same;
   steps = λ j above low. absurd (omega arith);
 }
@@ -249,7 +249,7 @@ queue_new p n cells q one two sized count e0 e1 d0 d1 l0 l1 differ = record {
     pick (suc zero) F a b low = b
     pick (suc (suc j)) F a b low = absurd (omega arith)
 
-    part : (i j : ℕ) → i < 2 → j < 2 → bucket_at q i ≡ bucket_at q j → i ≡ j
+    part : (i j : ℕ) → i < 2 → j < 2 → queued_bucket q i ≡ queued_bucket q j → i ≡ j
     part zero zero li lj same = refl
     part zero (suc zero) li lj same = absurd (differ (sym e1 ∙ (sym same ∙ e0)))
     part zero (suc (suc j)) li lj same = absurd (omega arith)

@@ -8,13 +8,13 @@ use Rattle.jc_cuckoo.specs.declared.held.Held.{Held}
 use Rattle.jc_cuckoo.specs.declared.queue.Queue.{Queue}
 use Rattle.std.proofs.lemmas.List.{get_or_read, get_or-set_same}
 use Rattle.jc_cuckoo.proofs.Queues.{Pushed, grows_pushed}
-use Rattle.jc_cuckoo.specs.Cells.{cell, IsSound}
-use Rattle.jc_cuckoo.specs.Search.{IsQueue, IsSearched, IsIn, Grows, looked_slot, bucket_at, depth_at}
+use Rattle.jc_cuckoo.specs.Cells.{cell, AreSoundCells}
+use Rattle.jc_cuckoo.specs.Search.{IsQueue, IsSearched, IsIn, Grows, looked_slot, queued_bucket, queued_depth}
 
 -- what the slot with this number asks for
 abbrev pub Asked : (ℕ → List ℕ → Place) → ℕ → List (Option Held) → Queue → ℕ → Type 0
-Asked p n cells q j = (h : Held) → depth_at q (j / 4) < 5 → cell cells (looked_slot q j) ≡ Some h
-    → IsIn q (alternate_of n (p h.id h.key).tag (bucket_at q (j / 4))) (depth_at q (j / 4) + 1) ⊎ ((q.count ≡ 64) × ((m : ℕ) → m < q.count → depth_at q m ≤ depth_at q (j / 4) + 1))
+Asked p n cells q j = (h : Held) → queued_depth q (j / 4) < 5 → cell cells (looked_slot q j) ≡ Some h
+    → IsIn q (alternate_of n (p h.id h.key).tag (queued_bucket q (j / 4))) (queued_depth q (j / 4) + 1) ⊎ ((q.count ≡ 64) × ((m : ℕ) → m < q.count → queued_depth q m ≤ queued_depth q (j / 4) + 1))
 
 pub searched_none : (p : ℕ → List ℕ → Place) (n : ℕ) (cells : List (Option Held)) (q : Queue) → IsQueue p n cells q → q.count ≡ 2 → IsSearched p n cells q 0
 searched_none p n cells q queue two = record {
@@ -23,7 +23,7 @@ searched_none p n cells q queue two = record {
   closed = record { closed = λ j h none. absurd (omega arith) };
 }
   where
-    flat : (m : ℕ) → m < 2 → depth_at q m ≡ 0
+    flat : (m : ℕ) → m < 2 → queued_depth q m ≡ 0
     flat zero low = queue.first_depth
     flat (suc zero) low = queue.second_depth
     flat (suc (suc m)) low = absurd (omega arith)
@@ -41,8 +41,8 @@ searched_same p n cells q looked s asked = record {
 }
 
 -- a bucket behind the others, a move from the one that is looked at
-pub searched_more : (p : ℕ → List ℕ → Place) (n : ℕ) (cells : List (Option Held)) (q r : Queue) (looked : ℕ) → IsSearched p n cells q looked → Grows q r → looked < 4 * q.count → r.count ≡ q.count + 1 → q.count < 64 → depth_at r q.count ≡ depth_at q (looked / 4) + 1
-    → ((h : Held) → cell cells (looked_slot q looked) ≡ Some h → bucket_at r q.count ≡ alternate_of n (p h.id h.key).tag (bucket_at q (looked / 4))) → IsSearched p n cells r (looked + 1)
+pub searched_more : (p : ℕ → List ℕ → Place) (n : ℕ) (cells : List (Option Held)) (q r : Queue) (looked : ℕ) → IsSearched p n cells q looked → Grows q r → looked < 4 * q.count → r.count ≡ q.count + 1 → q.count < 64 → queued_depth r q.count ≡ queued_depth q (looked / 4) + 1
+    → ((h : Held) → cell cells (looked_slot q looked) ≡ Some h → queued_bucket r q.count ≡ alternate_of n (p h.id h.key).tag (queued_bucket q (looked / 4))) → IsSearched p n cells r (looked + 1)
 searched_more p n cells q r looked s grows inside count room depth bucket = record {
   sorted = λ i j le low. elim (cases_lt j q.count) [
     | inl old ↦ (let a = grows.depths i (omega arith) in let b = grows.depths j old in let c = s.sorted i j le old in omega arith)
@@ -67,7 +67,7 @@ searched_more p n cells q r looked s grows inside count room depth bucket = reco
         let b = grows.buckets (j / 4) row in let d = grows.depths (j / 4) row in
         let old : cell cells (looked_slot q j) ≡ Some h = ap (λ (x : ℕ). cell cells (4 * x + j % 4)) (sym b) ∙ is in
         elim (eqb_tells j looked) [
-          | inl same ↦ inl (q.count, omega arith, fresh j h same.1 old ∙ ap (alternate_of n (p h.id h.key).tag) (sym b), (let e : depth_at q (j / 4) ≡ depth_at q (looked / 4) = ap (λ (x : ℕ). depth_at q (x / 4)) same.1 in omega arith))
+          | inl same ↦ inl (q.count, omega arith, fresh j h same.1 old ∙ ap (alternate_of n (p h.id h.key).tag) (sym b), (let e : queued_depth q (j / 4) ≡ queued_depth q (looked / 4) = ap (λ (x : ℕ). queued_depth q (x / 4)) same.1 in omega arith))
           | inr other ↦ (let off = other.1 in elim (s.closed.closed j h (omega arith) (omega arith) old) [
             | inl i ↦ (let il = i.1 in let id = i.3 in let k = grows.depths i.0 il in inl (i.0, omega arith, grows.buckets i.0 il ∙ (i.2 ∙ ap (alternate_of n (p h.id h.key).tag) (sym b)), omega arith))
             | inr w ↦ (let c = w.0 in absurd (omega arith))
@@ -79,29 +79,29 @@ searched_more p n cells q r looked s grows inside count room depth bucket = reco
     here : looked / 4 < q.count
     here = omega arith
 
-    last : (j : ℕ) → q.count ≤ j → j < q.count + 1 → depth_at r j ≡ depth_at q (looked / 4) + 1
-    last j low high = (let e : q.count ≡ j = omega arith in subst (λ (x : ℕ). depth_at r x ≡ depth_at q (looked / 4) + 1) e depth)
+    last : (j : ℕ) → q.count ≤ j → j < q.count + 1 → queued_depth r j ≡ queued_depth q (looked / 4) + 1
+    last j low high = (let e : q.count ≡ j = omega arith in subst (λ (x : ℕ). queued_depth r x ≡ queued_depth q (looked / 4) + 1) e depth)
 
-    fresh : (j : ℕ) (h : Held) → j ≡ looked → cell cells (looked_slot q j) ≡ Some h → bucket_at r q.count ≡ alternate_of n (p h.id h.key).tag (bucket_at q (j / 4))
-    fresh j h same is = bucket h (ap (λ (x : ℕ). cell cells (looked_slot q x)) (sym same) ∙ is) ∙ ap (λ (x : ℕ). alternate_of n (p h.id h.key).tag (bucket_at q (x / 4))) (sym same)
+    fresh : (j : ℕ) (h : Held) → j ≡ looked → cell cells (looked_slot q j) ≡ Some h → queued_bucket r q.count ≡ alternate_of n (p h.id h.key).tag (queued_bucket q (j / 4))
+    fresh j h same is = bucket h (ap (λ (x : ℕ). cell cells (looked_slot q x)) (sym same) ∙ is) ∙ ap (λ (x : ℕ). alternate_of n (p h.id h.key).tag (queued_bucket q (x / 4))) (sym same)
 
 -- the tag that the code reads is the row's
-tag_read : (p : ℕ → List ℕ → Place) (n : ℕ) (tags : List ℕ) (cells : List (Option Held)) (q : Queue) (looked tag : ℕ) (h : Held) → IsSound p n tags cells → IsQueue p n cells q → looked < 4 * q.count → tag ≡ get_or tags (looked_slot q looked) tag → cell cells (looked_slot q looked) ≡ Some h → tag ≡ (p h.id h.key).tag
+tag_read : (p : ℕ → List ℕ → Place) (n : ℕ) (tags : List ℕ) (cells : List (Option Held)) (q : Queue) (looked tag : ℕ) (h : Held) → AreSoundCells p n tags cells → IsQueue p n cells q → looked < 4 * q.count → tag ≡ get_or tags (looked_slot q looked) tag → cell cells (looked_slot q looked) ≡ Some h → tag ≡ (p h.id h.key).tag
 tag_read p n tags cells q looked tag h sound queue inside read is =
     let limit = queue.below (looked / 4) (omega arith) in
     let below : looked_slot q looked < 4 * n = omega arith in
     let long = sound.tag_each in
     get_or_read tags (looked_slot q looked) tag (omega arith) read 0 ∙ sound.tagged (looked_slot q looked) h below is
 
-pub known_reached : (p : ℕ → List ℕ → Place) (n : ℕ) (tags : List ℕ) (cells : List (Option Held)) (q : Queue) (looked tag other : ℕ) → IsSound p n tags cells → IsQueue p n cells q → IsSearched p n cells q looked → looked < 4 * q.count → tag ≡ get_or tags (looked_slot q looked) tag → other ≡ alternate_of n tag (bucket_at q (looked / 4))
-    → ((j : ℕ) × (j < q.count) × (bucket_at q j ≡ other)) → IsSearched p n cells q (looked + 1)
+pub known_reached : (p : ℕ → List ℕ → Place) (n : ℕ) (tags : List ℕ) (cells : List (Option Held)) (q : Queue) (looked tag other : ℕ) → AreSoundCells p n tags cells → IsQueue p n cells q → IsSearched p n cells q looked → looked < 4 * q.count → tag ≡ get_or tags (looked_slot q looked) tag → other ≡ alternate_of n tag (queued_bucket q (looked / 4))
+    → ((j : ℕ) × (j < q.count) × (queued_bucket q j ≡ other)) → IsSearched p n cells q (looked + 1)
 known_reached p n tags cells q looked tag other sound queue s inside read is found =
-    searched_same p n cells q looked s (λ h deep row. inl (found.0, found.1, found.2 ∙ (is ∙ ap (λ (t : ℕ). alternate_of n t (bucket_at q (looked / 4))) (tag_read p n tags cells q looked tag h sound queue inside read row)), s.ahead found.0 (looked / 4) found.1 (omega arith) (omega arith)))
+    searched_same p n cells q looked s (λ h deep row. inl (found.0, found.1, found.2 ∙ (is ∙ ap (λ (t : ℕ). alternate_of n t (queued_bucket q (looked / 4))) (tag_read p n tags cells q looked tag h sound queue inside read row)), s.ahead found.0 (looked / 4) found.1 (omega arith) (omega arith)))
 
-pub pushed_reached : (p : ℕ → List ℕ → Place) (n : ℕ) (tags : List ℕ) (cells : List (Option Held)) (q r : Queue) (looked tag other : ℕ) → IsSound p n tags cells → IsQueue p n cells q → IsSearched p n cells q looked → looked < 4 * q.count → tag ≡ get_or tags (looked_slot q looked) tag → other ≡ alternate_of n tag (bucket_at q (looked / 4))
+pub pushed_reached : (p : ℕ → List ℕ → Place) (n : ℕ) (tags : List ℕ) (cells : List (Option Held)) (q r : Queue) (looked tag other : ℕ) → AreSoundCells p n tags cells → IsQueue p n cells q → IsSearched p n cells q looked → looked < 4 * q.count → tag ≡ get_or tags (looked_slot q looked) tag → other ≡ alternate_of n tag (queued_bucket q (looked / 4))
     → Pushed q r other (looked_slot q looked) tag (looked / 4) → q.count < 64 → IsSearched p n cells r (looked + 1)
 pushed_reached p n tags cells q r looked tag other sound queue s inside read is pushed room =
     let wide = queue.wide.buckets in let deep = queue.wide.depths in
     searched_more p n cells q r looked s (grows_pushed q r other (looked_slot q looked) tag (looked / 4) pushed) inside pushed.count room
-    (ap (λ (l : List ℕ). get_or l q.count 0) pushed.depths ∙ get_or-set_same q.depths q.count (depth_at q (looked / 4) + 1) 0 (omega arith))
-    (λ h row. ap (λ (l : List ℕ). get_or l q.count 0) pushed.buckets ∙ (get_or-set_same q.buckets q.count other 0 (omega arith) ∙ (is ∙ ap (λ (t : ℕ). alternate_of n t (bucket_at q (looked / 4))) (tag_read p n tags cells q looked tag h sound queue inside read row))))
+    (ap (λ (l : List ℕ). get_or l q.count 0) pushed.depths ∙ get_or-set_same q.depths q.count (queued_depth q (looked / 4) + 1) 0 (omega arith))
+    (λ h row. ap (λ (l : List ℕ). get_or l q.count 0) pushed.buckets ∙ (get_or-set_same q.buckets q.count other 0 (omega arith) ∙ (is ∙ ap (λ (t : ℕ). alternate_of n t (queued_bucket q (looked / 4))) (tag_read p n tags cells q looked tag h sound queue inside read row))))

@@ -4,7 +4,7 @@ use Rattle.std.specs.FinMap as map
 use Rattle.std.proofs.lemmas.List.{take_more, take_all, get_or-take, get_or_past, length-take-le}
 use Rattle.jc_rows.specs.Rows.{RowMap}
 use Rattle.jc_cuckoo.specs.declared.held.Held.{Held}
-use Rattle.jc_cuckoo.specs.Cells.{place_of, row_of, cell, rows_in}
+use Rattle.jc_cuckoo.specs.Cells.{held_place, held_row, cell, rows_in}
 use Rattle.jc_cuckoo.proofs.Cells.{IsOnce, get_none, rows_changed}
 use Rattle.jc_cuckoo.proofs.Sound.{changed_push}
 use Rattle.jc_cuckoo.proofs.Changes.{inside}
@@ -16,19 +16,19 @@ taken_is cs m i h few is = let below : i < m = subst (λ (k : ℕ). i < k) (leng
 pub once_taken : (cs : List (Option Held)) (m : ℕ) → m ≤ length cs → IsOnce cs → IsOnce (take m cs)
 once_taken cs m few once i j h k ih jk same = once i j h k (taken_is cs m i h few ih).1 (taken_is cs m j k few jk).1 same
 
-pub taken_absent : (cs : List (Option Held)) (m : ℕ) (h : Held) → m < length cs → IsOnce cs → cell cs m ≡ Some h → map.get (rows_in (take m cs)) (place_of h) ≡ None
-taken_absent cs m h less once is = get_none (take m cs) (place_of h) (λ i k ik same. (let t = taken_is cs m i k (omega arith) ik in let low = t.0 in let e : i ≡ m = once i m k h t.1 is same in omega arith))
+pub taken_absent : (cs : List (Option Held)) (m : ℕ) (h : Held) → m < length cs → IsOnce cs → cell cs m ≡ Some h → map.get (rows_in (take m cs)) (held_place h) ≡ None
+taken_absent cs m h less once is = get_none (take m cs) (held_place h) (λ i k ik same. (let t = taken_is cs m i k (omega arith) ik in let low = t.0 in let e : i ≡ m = once i m k h t.1 is same in omega arith))
 
 rows_none_more : (cs : List (Option Held)) → rows_in (cs ++ None ∷ []) ≡ rows_in cs
 unfolding rows_in
 rows_none_more [] = refl
 rows_none_more (None ∷ cs) = rows_none_more cs
-rows_none_more (Some h ∷ cs) = ap (λ (m : RowMap). map.insert m (place_of h) (row_of h)) (rows_none_more cs)
+rows_none_more (Some h ∷ cs) = ap (λ (m : RowMap). map.insert m (held_place h) (held_row h)) (rows_none_more cs)
 
 pub taken_none : (cs : List (Option Held)) (m : ℕ) → m < length cs → cell cs m ≡ None → rows_in (take (m + 1) cs) ≡ rows_in (take m cs)
 taken_none cs m less is = ap rows_in (take_more cs m None less ∙ ap (λ (c : Option Held). take m cs ++ c ∷ []) is) ∙ rows_none_more (take m cs)
 
-pub taken_some : (cs : List (Option Held)) (m : ℕ) (h : Held) → m < length cs → IsOnce cs → cell cs m ≡ Some h → rows_in (take (m + 1) cs) ≡ map.insert (rows_in (take m cs)) (place_of h) (row_of h)
+pub taken_some : (cs : List (Option Held)) (m : ℕ) (h : Held) → m < length cs → IsOnce cs → cell cs m ≡ Some h → rows_in (take (m + 1) cs) ≡ map.insert (rows_in (take m cs)) (held_place h) (held_row h)
 taken_some cs m h less once is =
     let more : take (m + 1) cs ≡ take m cs ++ Some h ∷ [] = take_more cs m None less ∙ ap (λ (c : Option Held). take m cs ++ c ∷ []) is in
     ap rows_in more

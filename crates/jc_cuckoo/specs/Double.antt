@@ -3,14 +3,14 @@ use Rattle.std.specs.Prelude.{◌≡◌, ℕ, ◌+◌, ◌-◌, ◌*◌, ◌<◌
 use Rattle.std.specs.FinMap as maps
 use Rattle.jc_cuckoo.specs.declared.held.Held.{Held}
 use Rattle.jc_place.specs.declared.place.Place.{Place}
-use Rattle.jc_cuckoo.specs.Cells.{place_of, row_of, cell, rows_in, first_bucket, second_bucket, IsOnce, IsVacant, IsFull}
+use Rattle.jc_cuckoo.specs.Cells.{held_place, held_row, cell, rows_in, first_bucket, second_bucket, IsOnce, IsSlotVacant, IsFull}
 use Rattle.jc_rows.specs.Images.{Image}
-use Rattle.jc_cuckoo.specs.Images.{Covers, image_of}
+use Rattle.jc_cuckoo.specs.Images.{CoversImage, image_of}
 use Rattle.jc_cuckoo.specs.Table.{Table}
 
 -- the first slot of a bucket that holds none
 pub record IsFirstVacant (cells : List (Option Held)) (bucket : ℕ) (i : ℕ) : Type 0 where
-  pub vacant : IsVacant cells bucket i
+  pub vacant : IsSlotVacant cells bucket i
   pub first : (j : ℕ) → 4 * bucket ≤ j → j < i → cell cells j ≡ None → ⊥
 
 -- a row was put into the first empty slot of a bucket
@@ -23,13 +23,13 @@ pub record IsFilled (before after : List (Option Held)) (bucket : ℕ) (held : H
 pub record IsAdded {P M : Type 0} (before after : Table P M) (held : Held) : Type 0 where
   pub placer : after.placer ≡ before.placer
   pub buckets : after.buckets ≡ before.buckets
-  pub rows : rows_in after.cells ≡ maps.insert (rows_in before.cells) (place_of held) (row_of held)
+  pub rows : rows_in after.cells ≡ maps.insert (rows_in before.cells) (held_place held) (held_row held)
   pub total : before.room + length before.cells ≤ after.room + length after.cells
   pub longer : length after.cells ≤ length before.cells + 1
-  pub covers : Covers (image_of before.buckets before.cells) (image_of after.buckets after.cells)
+  pub covers : CoversImage (image_of before.buckets before.cells) (image_of after.buckets after.cells)
 
 -- of 2n buckets: from a slot of a table of n on, both buckets of that slot's bucket are empty from that slot on
-pub record IsBlank (n : ℕ) (cells : List (Option Held)) (at : ℕ) : Type 0 where
+pub record IsBlankFrom (n : ℕ) (cells : List (Option Held)) (at : ℕ) : Type 0 where
   pub blank : (j : ℕ) → at ≤ j → j < 4 * n → (cell cells j ≡ None) × (cell cells (4 * n + j) ≡ None)
 
 -- a table of twice as many buckets has the rows of the first slots of one
@@ -38,11 +38,11 @@ pub record HasSlots {P M N : Type 0} (table : Table P M) (at : ℕ) (twice : Tab
   pub buckets : twice.buckets ≡ 2 * table.buckets
   pub rows : rows_in twice.cells ≡ rows_in (take at table.cells)
   pub slots : length twice.cells ≡ 8 * table.buckets
-  pub blank : IsBlank table.buckets twice.cells at
+  pub blank : IsBlankFrom table.buckets twice.cells at
 
 -- each row of the stash has two full buckets
 pub record NeedsStash (placing : ℕ → List ℕ → Place) (n : ℕ) (cells : List (Option Held)) : Type 0 where
-  pub full : (i : ℕ) (h : Held) → 4 * n ≤ i → cell cells i ≡ Some h → IsFull cells (first_bucket placing n (place_of h)) × IsFull cells (second_bucket placing n (place_of h))
+  pub full : (i : ℕ) (h : Held) → 4 * n ≤ i → cell cells i ≡ Some h → IsFull cells (first_bucket placing n (held_place h)) × IsFull cells (second_bucket placing n (held_place h))
 
 -- where each row of the stash had, each still has
 abbrev pub KeepsStashNeeded : {P M : Type 0} → (P → ℕ → List ℕ → Place) → Table P M → Table P M → Type 0
@@ -56,7 +56,7 @@ pub record HasStash {P M N : Type 0} (placing : P → ℕ → List ℕ → Place
   pub buckets : twice.buckets ≡ 2 * table.buckets
   pub rows : rows_in twice.cells ≡ rows_in (take at table.cells)
   pub short : length twice.cells ≤ 4 * table.buckets + at
-  pub covers : Covers (image_of table.buckets table.cells) (image_of twice.buckets twice.cells)
+  pub covers : CoversImage (image_of table.buckets table.cells) (image_of twice.buckets twice.cells)
   pub needed : NeedsStash (placing table.placer) twice.buckets twice.cells
 
 -- it has room for twice as many slots, the rows of the stash, and as many rows more
@@ -70,13 +70,13 @@ pub record HoldsStash (buckets : ℕ) (cells : List (Option Held)) (rows : List 
   pub is : cells ≡ take (4 * buckets) cells ++ map (λ row. Some row.1) rows
 
 -- the rows of the stash in another order, no place twice
-pub record IsWaiting (buckets : ℕ) (cells : List (Option Held)) (rows : List (ℕ × Held)) : Type 0 where
+pub record AreStashRows (buckets : ℕ) (cells : List (Option Held)) (rows : List (ℕ × Held)) : Type 0 where
   pub once : IsOnce cells
   pub wide : 4 * buckets ≤ length cells
   pub permutes : IsPermutation cells (take (4 * buckets) cells ++ map (λ row. Some row.1) rows)
 
-abbrev pub ordered : {P M : Type 0} → Table P M → List (ℕ × Held) → Table P M
-ordered table rows = record table { cells = take (4 * table.buckets) table.cells ++ map (λ row. Some row.1) rows }
+abbrev pub with_stash_rows : {P M : Type 0} → Table P M → List (ℕ × Held) → Table P M
+with_stash_rows table rows = record table { cells = take (4 * table.buckets) table.cells ++ map (λ row. Some row.1) rows }
 
 -- It has the same rows: each that was placed still is, the stash is no longer, and the room no less. No row is in the
 -- stash for which one of its two buckets has an empty slot.
@@ -86,7 +86,7 @@ pub record IsDoubled {P M N : Type 0} (placing : P → ℕ → List ℕ → Plac
   pub rows : rows_in twice.cells ≡ rows_in table.cells
   pub stash : length twice.cells - 4 * twice.buckets ≤ length table.cells - 4 * table.buckets
   pub room : table.room ≤ twice.room
-  pub covers : Covers (image_of table.buckets table.cells) (image_of twice.buckets twice.cells)
+  pub covers : CoversImage (image_of table.buckets table.cells) (image_of twice.buckets twice.cells)
   pub needed : NeedsStash (placing table.placer) twice.buckets twice.cells
 
 -- nothing changed, and no image was told

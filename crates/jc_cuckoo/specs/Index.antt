@@ -5,31 +5,31 @@ use Rattle.std.specs.Str.{bytes_eq}
 use Rattle.std.specs.HashMap.{get, spare}
 use Rattle.jc_cuckoo.specs.declared.held.Held.{Held}
 use Rattle.jc_cuckoo.specs.declared.index.StashIndex.{StashIndex}
-use Rattle.jc_cuckoo.specs.Cells.{FoundIn, cell, place_of}
+use Rattle.jc_cuckoo.specs.Cells.{IsFoundBetween, cell, held_place}
 
 abbrev pub same_place : ℕ × List ℕ → ℕ × List ℕ → Bool
 same_place a b = nat_eq a.0 b.0 && bytes_eq a.1 b.1
 
 -- where a place's row stands
-abbrev pub stands : StashIndex → ℕ × List ℕ → Option ℕ
-stands index place = option_map (λ arrival. arrival.at) (get same_place index.arrivals place)
+abbrev pub cell_in_stash : StashIndex → ℕ × List ℕ → Option ℕ
+cell_in_stash index place = option_map (λ arrival. arrival.at) (get same_place index.arrivals place)
 
 -- it tells of no place
 abbrev pub IsOfNone : StashIndex → Type 0
-IsOfNone index = (place : ℕ × List ℕ) → stands index place ≡ None
+IsOfNone index = (place : ℕ × List ℕ) → cell_in_stash index place ≡ None
 
 abbrev pub IsAsBefore : StashIndex → StashIndex → Type 0
-IsAsBefore before after = (place : ℕ × List ℕ) → stands after place ≡ stands before place
+IsAsBefore before after = (place : ℕ × List ℕ) → cell_in_stash after place ≡ cell_in_stash before place
 
 -- it tells the same of each other place
 abbrev pub IsElsewhereAsBefore : ℕ × List ℕ → StashIndex → StashIndex → Type 0
-IsElsewhereAsBefore changed before after = (place : ℕ × List ℕ) → place ≢ changed → stands after place ≡ stands before place
+IsElsewhereAsBefore changed before after = (place : ℕ × List ℕ) → place ≢ changed → cell_in_stash after place ≡ cell_in_stash before place
 
 -- how many more rows it can take without memory
-abbrev pub free : StashIndex → ℕ
-free index = spare index.arrivals
+abbrev pub index_room : StashIndex → ℕ
+index_room index = spare index.arrivals
 
 -- it tells of each row of the stash where it stands, and of nothing else
 pub record IsIndexed (buckets : ℕ) (cells : List (Option Held)) (index : StashIndex) : Type 0 where
-  pub stashed : (i : ℕ) (h : Held) → 4 * buckets ≤ i → cell cells i ≡ Some h → stands index (place_of h) ≡ Some i
-  pub listed : (place : ℕ × List ℕ) (i : ℕ) → stands index place ≡ Some i → FoundIn cells (4 * buckets) (length cells) place i
+  pub stashed : (i : ℕ) (h : Held) → 4 * buckets ≤ i → cell cells i ≡ Some h → cell_in_stash index (held_place h) ≡ Some i
+  pub listed : (place : ℕ × List ℕ) (i : ℕ) → cell_in_stash index place ≡ Some i → IsFoundBetween cells (4 * buckets) (length cells) place i

@@ -5,34 +5,34 @@ use Rattle.jc_place.specs.Place.{alternate_of}
 use Rattle.jc_cuckoo.specs.declared.held.Held.{Held}
 use Rattle.jc_cuckoo.specs.declared.held.Work.{Work}
 use Rattle.jc_cuckoo.specs.declared.queue.Queue.{Queue}
-use Rattle.jc_cuckoo.specs.Cells.{place_of, cell, first_bucket, second_bucket, IsBucketOf, IsFull, IsVacant}
+use Rattle.jc_cuckoo.specs.Cells.{held_place, cell, first_bucket, second_bucket, IsBucketOf, IsFull, IsSlotVacant}
 
-abbrev pub bucket_at : Queue → ℕ → ℕ
-bucket_at q j = slice_index_or q.buckets j 0
+abbrev pub queued_bucket : Queue → ℕ → ℕ
+queued_bucket q j = slice_index_or q.buckets j 0
 
-abbrev pub slot_at : Queue → ℕ → ℕ
-slot_at q j = slice_index_or q.slots j 0
+abbrev pub queued_slot : Queue → ℕ → ℕ
+queued_slot q j = slice_index_or q.slots j 0
 
-abbrev pub tag_at : Queue → ℕ → ℕ
-tag_at q j = slice_index_or q.tags j 0
+abbrev pub queued_tag : Queue → ℕ → ℕ
+queued_tag q j = slice_index_or q.tags j 0
 
-abbrev pub parent_at : Queue → ℕ → ℕ
-parent_at q j = slice_index_or q.parents j 0
+abbrev pub queued_parent : Queue → ℕ → ℕ
+queued_parent q j = slice_index_or q.parents j 0
 
-abbrev pub depth_at : Queue → ℕ → ℕ
-depth_at q j = slice_index_or q.depths j 0
+abbrev pub queued_depth : Queue → ℕ → ℕ
+queued_depth q j = slice_index_or q.depths j 0
 
 -- the row in a slot of an earlier bucket could move to this one
 pub record IsStep (p : ℕ → List ℕ → Place) (n : ℕ) (cells : List (Option Held)) (q : Queue) (j : ℕ) : Type 0 where
-  pub parent : parent_at q j < j
-  pub slot : slot_at q j / 4 ≡ bucket_at q (parent_at q j)
-  pub below : slot_at q j < 4 * n
+  pub parent : queued_parent q j < j
+  pub slot : queued_slot q j / 4 ≡ queued_bucket q (queued_parent q j)
+  pub below : queued_slot q j < 4 * n
   pub held : Held
-  pub is : cell cells (slot_at q j) ≡ Some held
-  pub tag : tag_at q j ≡ (p held.id held.key).tag
-  pub other : bucket_at q j ≡ alternate_of n (tag_at q j) (slot_at q j / 4)
-  pub home : IsBucketOf p n (place_of held) (bucket_at q j)
-  pub depth : depth_at q j ≡ depth_at q (parent_at q j) + 1
+  pub is : cell cells (queued_slot q j) ≡ Some held
+  pub tag : queued_tag q j ≡ (p held.id held.key).tag
+  pub other : queued_bucket q j ≡ alternate_of n (queued_tag q j) (queued_slot q j / 4)
+  pub home : IsBucketOf p n (held_place held) (queued_bucket q j)
+  pub depth : queued_depth q j ≡ queued_depth q (queued_parent q j) + 1
 
 pub record IsSized (q : Queue) : Type 0 where
   pub buckets : length q.buckets ≡ 64
@@ -44,29 +44,29 @@ pub record IsSized (q : Queue) : Type 0 where
 -- two buckets at first, each other one reached from an earlier one by at most five moves; no bucket twice
 pub record IsQueue (p : ℕ → List ℕ → Place) (n : ℕ) (cells : List (Option Held)) (q : Queue) : Type 0 where
   pub wide : IsSized q
-  pub first_depth : depth_at q 0 ≡ 0
-  pub second_depth : depth_at q 1 ≡ 0
+  pub first_depth : queued_depth q 0 ≡ 0
+  pub second_depth : queued_depth q 1 ≡ 0
   pub some : 2 ≤ q.count
   pub few : q.count ≤ 64
-  pub below : (j : ℕ) → j < q.count → bucket_at q j < n
-  pub near : (j : ℕ) → j < q.count → depth_at q j ≤ 5
-  pub apart : (i j : ℕ) → i < q.count → j < q.count → bucket_at q i ≡ bucket_at q j → i ≡ j
+  pub below : (j : ℕ) → j < q.count → queued_bucket q j < n
+  pub near : (j : ℕ) → j < q.count → queued_depth q j ≤ 5
+  pub apart : (i j : ℕ) → i < q.count → j < q.count → queued_bucket q i ≡ queued_bucket q j → i ≡ j
   pub steps : (j : ℕ) → 2 ≤ j → j < q.count → IsStep p n cells q j
 
 -- what was reached stays
 pub record Grows (q r : Queue) : Type 0 where
   pub count : q.count ≤ r.count
-  pub buckets : (j : ℕ) → j < q.count → bucket_at r j ≡ bucket_at q j
-  pub depths : (j : ℕ) → j < q.count → depth_at r j ≡ depth_at q j
+  pub buckets : (j : ℕ) → j < q.count → queued_bucket r j ≡ queued_bucket q j
+  pub depths : (j : ℕ) → j < q.count → queued_depth r j ≡ queued_depth q j
 
 -- the slot looked at as number j
 abbrev pub looked_slot : Queue → ℕ → ℕ
-looked_slot q j = 4 * bucket_at q (j / 4) + j % 4
+looked_slot q j = 4 * queued_bucket q (j / 4) + j % 4
 
 -- the end of a path: a bucket of the queue with an empty slot
 pub record IsEnd (cells : List (Option Held)) (q : Queue) (found : ℕ × ℕ) : Type 0 where
   pub queued : found.0 < q.count
-  pub vacant : IsVacant cells (bucket_at q found.0) found.1
+  pub vacant : IsSlotVacant cells (queued_bucket q found.0) found.1
 
 -- The buckets that a row can reach by so many moves. A move leads from a bucket to the other bucket of a row in it.
 
@@ -99,19 +99,19 @@ IsLastResort p n cells place = IsExhausted p n cells (first_bucket p n place) (s
 
 -- a bucket was reached, by no more than so many moves
 abbrev pub IsIn : Queue → ℕ → ℕ → Type 0
-IsIn q b d = (m : ℕ) × (m < q.count) × (bucket_at q m ≡ b) × (depth_at q m ≤ d)
+IsIn q b d = (m : ℕ) × (m < q.count) × (queued_bucket q m ≡ b) × (queued_depth q m ≤ d)
 
 -- of each slot looked at, the row's other bucket was reached by one move more at most, or 64 buckets were reached that
 -- are no farther
 pub record IsClosed (p : ℕ → List ℕ → Place) (n : ℕ) (cells : List (Option Held)) (q : Queue) (looked : ℕ) : Type 0 where
-  pub closed : (j : ℕ) (h : Held) → j < looked → depth_at q (j / 4) < 5 → cell cells (looked_slot q j) ≡ Some h
-      → IsIn q (alternate_of n (p h.id h.key).tag (bucket_at q (j / 4))) (depth_at q (j / 4) + 1) ⊎ ((q.count ≡ 64) × ((m : ℕ) → m < q.count → depth_at q m ≤ depth_at q (j / 4) + 1))
+  pub closed : (j : ℕ) (h : Held) → j < looked → queued_depth q (j / 4) < 5 → cell cells (looked_slot q j) ≡ Some h
+      → IsIn q (alternate_of n (p h.id h.key).tag (queued_bucket q (j / 4))) (queued_depth q (j / 4) + 1) ⊎ ((q.count ≡ 64) × ((m : ℕ) → m < q.count → queued_depth q m ≤ queued_depth q (j / 4) + 1))
 
 -- how far a search is: depths do not fall along the queue, and no bucket is farther than a move from the one that is
 -- looked at, or from a later one
 pub record IsSearched (p : ℕ → List ℕ → Place) (n : ℕ) (cells : List (Option Held)) (q : Queue) (looked : ℕ) : Type 0 where
-  pub sorted : (i j : ℕ) → i ≤ j → j < q.count → depth_at q i ≤ depth_at q j
-  pub ahead : (m k : ℕ) → m < q.count → k < q.count → looked ≤ 4 * k + 3 → depth_at q m ≤ depth_at q k + 1
+  pub sorted : (i j : ℕ) → i ≤ j → j < q.count → queued_depth q i ≤ queued_depth q j
+  pub ahead : (m k : ℕ) → m < q.count → k < q.count → looked ≤ 4 * k + 3 → queued_depth q m ≤ queued_depth q k + 1
   pub closed : IsClosed p n cells q looked
 
 -- How many slots a search looks at: those of a queue of buckets, one after the other.
@@ -134,8 +134,8 @@ pub record EndsFull (p : ℕ → List ℕ → Place) (n : ℕ) (cells : List (Op
 pub record IsSearch (p : ℕ → List ℕ → Place) (n : ℕ) (cells : List (Option Held)) (one two looked : ℕ) : Type 0 where
   pub queue : Queue
   pub is : IsQueue p n cells queue
-  pub first : bucket_at queue 0 ≡ one
-  pub second : bucket_at queue 1 ≡ two
+  pub first : queued_bucket queue 0 ≡ one
+  pub second : queued_bucket queue 1 ≡ two
   pub end : EndsEmpty p n cells queue looked ⊎ EndsFull p n cells queue looked
 
 -- a search was counted, and each slot that it looked at

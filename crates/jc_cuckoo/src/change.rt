@@ -3,10 +3,10 @@ ghost use Rattle.std.specs.Prelude.{◌≡◌, ℕ, Option, ◌+◌, ◌-◌, �
 ghost use Rattle.std.specs.List.{swap_remove};
 ghost use Rattle.std.specs.Vec.{vec_capacity};
 ghost use Rattle.std.specs.FinMap as map;
-ghost use Rattle.jc_cuckoo.specs.Cells.{cell, rows_in, Dropped, IsBucketOf, IsOnce, place_of};
-ghost use Rattle.jc_cuckoo.specs.Index.{IsIndexed, free};
-ghost use Rattle.jc_cuckoo.specs.Images.{Covers};
-ghost use Rattle.jc_cuckoo.specs.Table.{longest, AddsRow, Follows, RenewsRow, Touches, image};
+ghost use Rattle.jc_cuckoo.specs.Cells.{cell, rows_in, DropsCell, IsBucketOf, IsOnce, held_place};
+ghost use Rattle.jc_cuckoo.specs.Index.{IsIndexed, index_room};
+ghost use Rattle.jc_cuckoo.specs.Images.{CoversImage};
+ghost use Rattle.jc_cuckoo.specs.Table.{longest, AddsRow, Follows, RenewsRow, TouchesPlace, image};
 
 use crate::cuckoo::Cuckoo;
 use crate::held::Held;
@@ -16,7 +16,7 @@ use jc_model::config::Expiry;
 use jc_place::place::Placer;
 
 /// How many cells stand after the slots.
-pub(crate) fn stashed(tags: &[u8], cells: &[Option<Held>]) -> u32
+pub(crate) fn stash_count(tags: &[u8], cells: &[Option<Held>]) -> u32
     requires { (length tags.now ≤ length cells.now) × (length cells.now ≤ longest) }
     ensures { result ≡ length cells.now - length tags.now }
 {
@@ -43,7 +43,7 @@ fn row_at(cells: &[Option<Held>], at: usize) -> Option<Held>
 /// Takes a cell out. The last one takes its place.
 fn swap_out(cells: &mut Vec<Option<Held>>, at: usize)
     requires { at < length cells.old.items }
-    ensures dropped { Dropped cells.old.items cells.new.items at }
+    ensures dropped { DropsCell cells.old.items cells.new.items at }
     ensures swapped { (last : Option Held) × (cells.new.items ≡ swap_remove cells.old.items at last) }
     ensures capacity { vec_capacity cells.new ≡ vec_capacity cells.old }
 {
@@ -55,12 +55,12 @@ fn take_out(cells: &mut Vec<Option<Held>>, index: &mut StashIndex, at: usize, he
     requires within { at < length cells.old.items }
     requires held { cell cells.old.items at ≡ Some held.now }
     requires once { IsOnce cells.old.items }
-    ensures dropped { Dropped cells.old.items cells.new.items at }
+    ensures dropped { DropsCell cells.old.items cells.new.items at }
     ensures swapped { (last : Option Held) × (cells.new.items ≡ swap_remove cells.old.items at last) }
     ensures index { (n : ℕ) → 4 * n ≤ at
         → IsIndexed n cells.old.items index.old → IsIndexed n cells.new.items index.new }
     ensures capacity { vec_capacity cells.new ≡ vec_capacity cells.old }
-    ensures room { free index.old ≤ free index.new }
+    ensures room { index_room index.old ≤ index_room index.new }
 {
     index.remove(held.id, &held.key);
     swap_out(cells, at);
@@ -75,38 +75,39 @@ impl<P: Placer + Drop, M: Mirror> Cuckoo<P, M> {
     pub(crate) fn fill(&mut self, at: usize, tag: u8, held: Held)
         requires slot { at < 4 * self.old.buckets }
         requires empty { cell self.old.cells at ≡ None }
-        requires bucket { IsBucketOf (P.placing self.old.placer) self.old.buckets (place_of held) (at / 4) }
+        requires bucket { IsBucketOf (P.placing self.old.placer) self.old.buckets
+            (held_place held) (at / 4) }
         requires tag { tag ≡ (P.placing self.old.placer held.id held.key).tag }
-        requires absent { map.get (rows_in self.old.cells) (place_of held) ≡ None }
+        requires absent { map.get (rows_in self.old.cells) (held_place held) ≡ None }
         ensures cells { self.new.cells ≡ slice_set self.old.cells at (Some held) }
         ensures rows { AddsRow held self.old self.new }
         ensures room { self.new.room ≡ self.old.room }
         ensures follows { Follows M.images self.old self.new }
-        ensures covers { Covers (image self.old) (image self.new) }
+        ensures covers { CoversImage (image self.old) (image self.new) }
     {
         self.cells[at] = Some(held.same());
         let writes = [(at as u32, Some(held))];
         self.tags[at] = tag;
         self.held += 1;
-        let stash = stashed(&self.tags, &self.cells);
+        let stash = stash_count(&self.tags, &self.cells);
         self.mirror.commit(&writes, stash);
     }
 
     /// Puts a row at the end of the stash.
     pub(crate) fn stow(&mut self, held: Held)
         requires room { 0 < self.old.room }
-        requires absent { map.get (rows_in self.old.cells) (place_of held) ≡ None }
+        requires absent { map.get (rows_in self.old.cells) (held_place held) ≡ None }
         ensures cells { self.new.cells ≡ self.old.cells ++ Some held ∷ [] }
         ensures rows { AddsRow held self.old self.new }
         ensures room { self.old.room ≤ self.new.room + 1 }
         ensures follows { Follows M.images self.old self.new }
-        ensures covers { Covers (image self.old) (image self.new) }
+        ensures covers { CoversImage (image self.old) (image self.new) }
     {
         let at = end(&self.cells);
         self.index.add(held.id, &held.key, at);
         self.cells.push_reserved(Some(held));
         self.held += 1;
-        let stash = stashed(&self.tags, &self.cells);
+        let stash = stash_count(&self.tags, &self.cells);
         self.mirror.commit(&[], stash);
     }
 
@@ -116,20 +117,21 @@ impl<P: Placer + Drop, M: Mirror> Cuckoo<P, M> {
         requires to { to < 4 * self.old.buckets }
         requires held { cell self.old.cells from ≡ Some held }
         requires empty { cell self.old.cells to ≡ None }
-        requires bucket { IsBucketOf (P.placing self.old.placer) self.old.buckets (place_of held) (to / 4) }
+        requires bucket { IsBucketOf (P.placing self.old.placer) self.old.buckets
+            (held_place held) (to / 4) }
         requires tag { tag ≡ (P.placing self.old.placer held.id held.key).tag }
         ensures cells { self.new.cells ≡ slice_set (slice_set self.old.cells from None) to (Some held) }
         ensures rows { rows_in self.new.cells ≡ rows_in self.old.cells }
         ensures room { self.new.room ≡ self.old.room }
         ensures follows { Follows M.images self.old self.new }
-        ensures covers { Covers (image self.old) (image self.new) }
+        ensures covers { CoversImage (image self.old) (image self.new) }
     {
         self.cells[from] = None;
         self.tags[from] = 0;
         self.cells[to] = Some(held.same());
         let writes = [(from as u32, None), (to as u32, Some(held))];
         self.tags[to] = tag;
-        let stash = stashed(&self.tags, &self.cells);
+        let stash = stash_count(&self.tags, &self.cells);
         self.mirror.commit(&writes, stash);
     }
 
@@ -137,14 +139,14 @@ impl<P: Placer + Drop, M: Mirror> Cuckoo<P, M> {
     pub(crate) fn clear(&mut self, at: usize, held: Held)
         requires slot { at < 4 * self.old.buckets }
         requires held { cell self.old.cells at ≡ Some held }
-        ensures rows { rows_in self.new.cells ≡ map.remove (rows_in self.old.cells) (place_of held) }
+        ensures rows { rows_in self.new.cells ≡ map.remove (rows_in self.old.cells) (held_place held) }
         ensures room { self.new.room ≡ self.old.room }
-        ensures touches { Touches M.images self.old self.new (place_of held) None }
+        ensures touches { TouchesPlace M.images self.old self.new (held_place held) None }
     {
         self.cells[at] = None;
         self.tags[at] = 0;
         self.held -= 1;
-        let stash = stashed(&self.tags, &self.cells);
+        let stash = stash_count(&self.tags, &self.cells);
         self.mirror.commit(&[(at as u32, None)], stash);
     }
 
@@ -152,13 +154,13 @@ impl<P: Placer + Drop, M: Mirror> Cuckoo<P, M> {
     pub(crate) fn pull(&mut self, at: usize, held: Held)
         requires stash { 4 * self.old.buckets ≤ at }
         requires held { cell self.old.cells at ≡ Some held }
-        ensures rows { rows_in self.new.cells ≡ map.remove (rows_in self.old.cells) (place_of held) }
+        ensures rows { rows_in self.new.cells ≡ map.remove (rows_in self.old.cells) (held_place held) }
         ensures room { self.old.room ≤ self.new.room }
-        ensures touches { Touches M.images self.old self.new (place_of held) None }
+        ensures touches { TouchesPlace M.images self.old self.new (held_place held) None }
     {
         take_out(&mut self.cells, &mut self.index, at, &held);
         self.held -= 1;
-        let stash = stashed(&self.tags, &self.cells);
+        let stash = stash_count(&self.tags, &self.cells);
         self.mirror.commit(&[], stash);
     }
 
@@ -168,8 +170,8 @@ impl<P: Placer + Drop, M: Mirror> Cuckoo<P, M> {
         requires held { cell self.old.cells at ≡ Some held }
         ensures rows { RenewsRow held expiry self.old self.new }
         ensures room { self.new.room ≡ self.old.room }
-        ensures touches { Touches M.images self.old self.new (place_of held)
-            (Some (place_of held, expiry)) }
+        ensures touches { TouchesPlace M.images self.old self.new (held_place held)
+            (Some (held_place held, expiry)) }
     {
         let renewed = Held {
             id: held.id,
@@ -179,7 +181,7 @@ impl<P: Placer + Drop, M: Mirror> Cuckoo<P, M> {
         };
         self.cells[at] = Some(renewed.same());
         let writes = [(at as u32, Some(renewed))];
-        let stash = stashed(&self.tags, &self.cells);
+        let stash = stash_count(&self.tags, &self.cells);
         self.mirror.commit(&writes, stash);
     }
 
@@ -189,8 +191,8 @@ impl<P: Placer + Drop, M: Mirror> Cuckoo<P, M> {
         requires held { cell self.old.cells at ≡ Some held }
         ensures rows { RenewsRow held expiry self.old self.new }
         ensures room { self.new.room ≡ self.old.room }
-        ensures touches { Touches M.images self.old self.new (place_of held)
-            (Some (place_of held, expiry)) }
+        ensures touches { TouchesPlace M.images self.old self.new (held_place held)
+            (Some (held_place held, expiry)) }
     {
         self.cells[at] = Some(Held {
             id: held.id,

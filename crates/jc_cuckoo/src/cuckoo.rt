@@ -37,7 +37,7 @@ pub struct Cuckoo<P: Placer + Drop, M: Mirror> {
 impl<P: Placer + Drop, M: Mirror> Model for Cuckoo<P, M> {
     ghost use Rattle.std.specs.Prelude.{◌-◌, min};
     ghost use Rattle.std.specs.Vec.{vec_capacity, vec_len};
-    ghost use Rattle.jc_cuckoo.specs.Index.{IsIndexed, free};
+    ghost use Rattle.jc_cuckoo.specs.Index.{IsIndexed, index_room};
     ghost use Rattle.jc_cuckoo.specs.Table.{Table, IsTable, longest};
 
     ghost Value = { Table P M };
@@ -47,7 +47,7 @@ impl<P: Placer + Drop, M: Mirror> Model for Cuckoo<P, M> {
       mirror = t.mirror;
       buckets = t.buckets;
       cells = t.cells.items;
-      room = min (min (vec_capacity t.cells) longest - vec_len t.cells) (free t.index);
+      room = min (min (vec_capacity t.cells) longest - vec_len t.cells) (index_room t.index);
       work = t.work;
     } };
 

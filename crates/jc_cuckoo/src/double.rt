@@ -2,12 +2,12 @@
 ghost use Rattle.std.specs.Prelude.{◌≡◌, ◌+◌, ◌*◌, ◌/◌, ◌≤◌, ◌<◌, None, Some, IfOk, OnOk, length, true, false, replicate};
 ghost use Rattle.std.specs.FinMap as map;
 ghost use Rattle.jc_place.specs.Place.{IsTableSize};
-ghost use Rattle.jc_cuckoo.specs.Cells.{rows_in, place_of, IsBucketOf, IsFull};
-ghost use Rattle.jc_cuckoo.specs.Double.{IsAdded, IsBlank, IsDoubled, IsFilled, IsLeft, IsWaiting, HasRoomForStash, HasSlots, HasStash, HoldsStash, KeepsStashNeeded, Doubles};
-ghost use Rattle.jc_cuckoo.specs.Table.{IsTold, image};
-ghost use Rattle.jc_cuckoo.specs.Images.{grown};
+ghost use Rattle.jc_cuckoo.specs.Cells.{rows_in, held_place, IsBucketOf, IsFull};
+ghost use Rattle.jc_cuckoo.specs.Double.{IsAdded, IsBlankFrom, IsDoubled, IsFilled, IsLeft, AreStashRows, HasRoomForStash, HasSlots, HasStash, HoldsStash, KeepsStashNeeded, Doubles};
+ghost use Rattle.jc_cuckoo.specs.Table.{TellsImage, image};
+ghost use Rattle.jc_cuckoo.specs.Images.{grown_image};
 
-use crate::change::stashed;
+use crate::change::stash_count;
 use crate::cuckoo::{Cuckoo, MOST_BUCKETS};
 use crate::held::Held;
 use crate::mirror::{Mirror, NoMirror};
@@ -21,9 +21,9 @@ impl<P: Placer + Drop, M: Mirror> Cuckoo<P, M> {
     /// Puts a row into the first empty slot of one of its buckets, where it has one.
     fn fill_first(&mut self, bucket: u32, tag: u8, held: Held) -> bool
         requires below { bucket < self.old.buckets }
-        requires bucket { IsBucketOf (P.placing self.old.placer) self.old.buckets (place_of held) bucket }
+        requires bucket { IsBucketOf (P.placing self.old.placer) self.old.buckets (held_place held) bucket }
         requires tag { tag ≡ (P.placing self.old.placer held.id held.key).tag }
-        requires absent { map.get (rows_in self.old.cells) (place_of held) ≡ None }
+        requires absent { map.get (rows_in self.old.cells) (held_place held) ≡ None }
         ensures added { result ≡ true → IsAdded self.old self.new held }
         ensures filled { result ≡ true → IsFilled self.old.cells self.new.cells bucket held }
         ensures full { result ≡ false → IsFull self.old.cells bucket }
@@ -45,13 +45,13 @@ impl<P: Placer + Drop, M: Mirror> Cuckoo<P, M> {
         requires size { IsTableSize half }
         requires twice { self.old.buckets ≡ 2 * half }
         requires at { at < 4 * half }
-        requires bucket { IsBucketOf (P.placing self.old.placer) half (place_of held) (at / 4) }
-        requires absent { map.get (rows_in self.old.cells) (place_of held) ≡ None }
+        requires bucket { IsBucketOf (P.placing self.old.placer) half (held_place held) (at / 4) }
+        requires absent { map.get (rows_in self.old.cells) (held_place held) ≡ None }
         requires slots { length self.old.cells ≡ 8 * half }
-        requires blank { IsBlank half self.old.cells at }
+        requires blank { IsBlankFrom half self.old.cells at }
         ensures added { IsAdded self.old self.new held }
         ensures slots { length self.new.cells ≡ 8 * half }
-        ensures blank { IsBlank half self.new.cells (at + 1) }
+        ensures blank { IsBlankFrom half self.new.cells (at + 1) }
     {
         // At most four rows come to a bucket, so it has an empty slot.
         let place = self.placer.place(held.id, &held.key);
@@ -95,7 +95,7 @@ impl<P: Placer + Drop, M: Mirror> Cuckoo<P, M> {
     #[tactic(auto, using(jc_place::proofs::Other::counts))]
     fn admit(&mut self, held: Held)
         requires room { 0 < self.old.room }
-        requires absent { map.get (rows_in self.old.cells) (place_of held) ≡ None }
+        requires absent { map.get (rows_in self.old.cells) (held_place held) ≡ None }
         ensures added { IsAdded self.old self.new held }
         ensures needed { KeepsStashNeeded P.placing self.old self.new }
     {
@@ -129,8 +129,8 @@ impl<P: Placer + Drop, M: Mirror> Cuckoo<P, M> {
     }
 
     /// The rows of the stash in the order in which they came.
-    fn waiting(&self) -> Result<Vec<(u64, Held)>, OutOfMemory>
-        ensures { IfOk result (λ rows. IsWaiting self.now.buckets self.now.cells rows.items) }
+    fn stash_in_order(&self) -> Result<Vec<(u64, Held)>, OutOfMemory>
+        ensures { IfOk result (λ rows. AreStashRows self.now.buckets self.now.cells rows.items) }
     {
         let mut rows = self.stash_rows()?;
         rows.sort_unstable_by_key(|row: &(u64, Held)| -> u64 { row.0 });
@@ -143,7 +143,7 @@ impl<P: Placer + Drop, M: Mirror> Cuckoo<P, M> {
         requires room { HasRoomForStash self.now twice.old }
         ensures { OnOk result (IsDoubled P.placing self.now twice.new) }
     {
-        let waiting = self.waiting()?;
+        let waiting = self.stash_in_order()?;
         let mut at = 0;
         'stash: while at < waiting.len() {
             twice.admit(waiting[at].1.same());
@@ -153,7 +153,7 @@ impl<P: Placer + Drop, M: Mirror> Cuckoo<P, M> {
     }
 
     /// A table of twice as many buckets with the same rows.
-    fn doubled(&self) -> Result<Cuckoo<P, NoMirror>, OutOfMemory>
+    fn double_table(&self) -> Result<Cuckoo<P, NoMirror>, OutOfMemory>
         requires { self.now.buckets < 65536 }
         ensures { IfOk result (λ twice. IsDoubled P.placing self.now twice) }
     {
@@ -170,11 +170,11 @@ impl<P: Placer + Drop, M: Mirror> Cuckoo<P, M> {
     }
 
     /// The slots, and how many rows the stash holds: what an image tells.
-    fn told(&self) -> (&[Option<Held>], u32)
-        ensures image { grown result.0.now result.1 ≡ image self.now }
+    fn slots_and_stash(&self) -> (&[Option<Held>], u32)
+        ensures image { grown_image result.0.now result.1 ≡ image self.now }
         ensures slots { length result.0.now ≡ 4 * self.now.buckets }
     {
-        let stash = stashed(&self.tags, &self.cells);
+        let stash = stash_count(&self.tags, &self.cells);
         (&self.cells.as_slice()[..self.slots()], stash)
     }
 
@@ -183,12 +183,12 @@ impl<P: Placer + Drop, M: Mirror> Cuckoo<P, M> {
         requires few { 2 * self.old.buckets ≤ 65536 }
         requires doubled { IsDoubled P.placing self.old twice }
         ensures doubled { result ≡ true → IsDoubled P.placing self.old self.new }
-        ensures images { result ≡ true → IsTold M.images self.old self.new }
+        ensures images { result ≡ true → TellsImage M.images self.old self.new }
         ensures refused { result ≡ false → IsLeft M.images self.old self.new }
         ensures work { self.new.work ≡ self.old.work }
         ensures wide { 4 * self.new.buckets ≤ length self.new.cells }
     {
-        let (slots, stash) = twice.told();
+        let (slots, stash) = twice.slots_and_stash();
         match self.mirror.grow(slots, stash) {
             Ok(()) => {
                 self.buckets = twice.buckets;
@@ -205,7 +205,7 @@ impl<P: Placer + Drop, M: Mirror> Cuckoo<P, M> {
     pub(crate) fn double(&mut self) -> bool
         ensures allowed { result ≡ true → Doubles self.old self.new }
         ensures doubled { result ≡ true → IsDoubled P.placing self.old self.new }
-        ensures images { result ≡ true → IsTold M.images self.old self.new }
+        ensures images { result ≡ true → TellsImage M.images self.old self.new }
         ensures refused { result ≡ false → IsLeft M.images self.old self.new }
         ensures work { self.new.work ≡ self.old.work }
         ensures wide { 4 * self.new.buckets ≤ length self.new.cells }
@@ -213,7 +213,7 @@ impl<P: Placer + Drop, M: Mirror> Cuckoo<P, M> {
         if self.buckets >= MOST_BUCKETS || self.held < 2 * self.buckets as usize {
             return false;
         }
-        match self.doubled() {
+        match self.double_table() {
             Ok(twice) => self.take_over(twice),
             Err(_) => false,
         }

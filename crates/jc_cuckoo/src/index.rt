@@ -1,6 +1,6 @@
 //! Where each row of the stash stands, found by a hash that keys can't be chosen for.
 ghost use Rattle.std.specs.Prelude.{◌≡◌, ◌≢◌, ◌+◌, ◌≤◌, ◌<◌, ℕ, List, Some, None, IsOk, IfOk, OnOk, IsSome};
-ghost use Rattle.jc_cuckoo.specs.Index.{IsAsBefore, IsElsewhereAsBefore, IsOfNone, free, stands};
+ghost use Rattle.jc_cuckoo.specs.Index.{IsAsBefore, IsElsewhereAsBefore, IsOfNone, index_room, cell_in_stash};
 
 use jc_model::OutOfMemory;
 use jc_model::event::CacheId;
@@ -27,7 +27,7 @@ impl StashIndex {
     /// An index of no row, with room for so many.
     pub fn new(alloc: Global, keyed: KeyedState, rows: usize) -> Result<StashIndex, OutOfMemory>
         ensures none { IfOk result IsOfNone }
-        ensures room { IfOk result (λ index. rows ≤ free index) }
+        ensures room { IfOk result (λ index. rows ≤ index_room index) }
     {
         let arrivals = HashMap::with_capacity_and_hasher(alloc, rows, keyed)?;
         Ok(StashIndex { arrivals, next: 0 })
@@ -35,7 +35,7 @@ impl StashIndex {
 
     /// How many more rows can be listed without memory.
     pub fn room(&self) -> usize
-        ensures { result ≡ free self.now }
+        ensures { result ≡ index_room self.now }
     {
         self.arrivals.capacity() - self.arrivals.len()
     }
@@ -43,16 +43,16 @@ impl StashIndex {
     /// Makes room for so many rows more.
     pub fn reserve(&mut self, more: usize) -> Result<(), OutOfMemory>
         ensures same { IsAsBefore self.old self.new }
-        ensures ok { OnOk result (more ≤ free self.new) }
-        ensures succeeds { more ≤ free self.old → IsOk result }
-        ensures kept { free self.old ≤ free self.new }
+        ensures ok { OnOk result (more ≤ index_room self.new) }
+        ensures succeeds { more ≤ index_room self.old → IsOk result }
+        ensures kept { index_room self.old ≤ index_room self.new }
     {
         self.arrivals.reserve(more)
     }
 
     /// Where a row stands, if it is in the stash.
     pub fn find(&self, id: CacheId, key: &Key) -> Option<usize>
-        ensures { result ≡ stands self.now (id, key.now) }
+        ensures { result ≡ cell_in_stash self.now (id, key.now) }
     {
         match self.arrivals.get(&(id, *key)) {
             Some(arrival) => Some(arrival.at),
@@ -70,10 +70,10 @@ impl StashIndex {
 
     /// Notes where a row stands that came to the stash.
     pub fn add(&mut self, id: CacheId, key: &Key, at: usize)
-        requires room { 0 < free self.old }
-        ensures added { stands self.new (id, key.now) ≡ Some at }
+        requires room { 0 < index_room self.old }
+        ensures added { cell_in_stash self.new (id, key.now) ≡ Some at }
         ensures others { IsElsewhereAsBefore (id, key.now) self.old self.new }
-        ensures room { free self.old ≤ free self.new + 1 }
+        ensures room { index_room self.old ≤ index_room self.new + 1 }
     {
         let number = self.next;
         self.next = number.wrapping_add(1);
@@ -82,18 +82,19 @@ impl StashIndex {
 
     /// Forgets a row that left the stash.
     pub fn remove(&mut self, id: CacheId, key: &Key)
-        ensures gone { stands self.new (id, key.now) ≡ None }
+        ensures gone { cell_in_stash self.new (id, key.now) ≡ None }
         ensures others { IsElsewhereAsBefore (id, key.now) self.old self.new }
-        ensures kept { free self.old ≤ free self.new }
+        ensures kept { index_room self.old ≤ index_room self.new }
     {
         let _ = self.arrivals.remove(&(id, *key));
     }
 
     /// Notes that a row of the stash stands elsewhere now.
     pub fn move_to(&mut self, id: CacheId, key: &Key, at: usize)
-        ensures moved { IsSome (stands self.old (id, key.now)) → stands self.new (id, key.now) ≡ Some at }
+        ensures moved { IsSome (cell_in_stash self.old (id, key.now))
+            → cell_in_stash self.new (id, key.now) ≡ Some at }
         ensures others { IsElsewhereAsBefore (id, key.now) self.old self.new }
-        ensures kept { free self.old ≤ free self.new }
+        ensures kept { index_room self.old ≤ index_room self.new }
     {
         if let Some(arrival) = self.arrivals.get_mut(&(id, *key)) {
             arrival.at = at;

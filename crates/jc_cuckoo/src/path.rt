@@ -1,9 +1,9 @@
 //! Paths: rows that move, each to its other bucket, until the last one finds an empty slot (MemC3, section 3).
 ghost use Rattle.std.specs.Prelude.{◌≡◌, ◌≢◌, ◌⊎◌, ◌+◌, ◌-◌, ◌*◌, ◌/◌, ◌≤◌, ◌<◌, None, Some, true, false, MatchOption, length};
 ghost use Rattle.std.specs.FinMap as map;
-ghost use Rattle.jc_cuckoo.specs.Cells.{cell, rows_in, place_of};
-ghost use Rattle.jc_cuckoo.specs.Table.{Extends, Searches, Settles, Stays};
-ghost use Rattle.jc_cuckoo.specs.Search.{Grows, IsEnd, bucket_at, looked_slot};
+ghost use Rattle.jc_cuckoo.specs.Cells.{cell, rows_in, held_place};
+ghost use Rattle.jc_cuckoo.specs.Table.{Extends, Searches, SettlesRow, ChangesCountsOnly};
+ghost use Rattle.jc_cuckoo.specs.Search.{Grows, IsEnd, queued_bucket, looked_slot};
 ghost use Rattle.jc_cuckoo.specs.Paths.{CountsFrom, HasSameStart, HasSearchLeft, IsExhaustedFrom, IsQueueOf, IsSearchedTo, LooksAtSome};
 
 use crate::cuckoo::Cuckoo;
@@ -91,7 +91,8 @@ impl<P: Placer + Drop, M: Mirror> Cuckoo<P, M> {
         ensures rows { rows_in self.new.cells ≡ rows_in self.old.cells }
         ensures slot { result.0 < 4 * self.old.buckets }
         ensures empty { cell self.new.cells result.0 ≡ None }
-        ensures bucket { (result.0 / 4 ≡ bucket_at queue.now 0) ⊎ (result.0 / 4 ≡ bucket_at queue.now 1) }
+        ensures bucket { (result.0 / 4 ≡ queued_bucket queue.now 0)
+            ⊎ (result.0 / 4 ≡ queued_bucket queue.now 1) }
         ensures placer { (self.new.placer ≡ self.old.placer) × (self.new.buckets ≡ self.old.buckets) }
         ensures room { self.new.room ≡ self.old.room }
         ensures moves { result.1 ≤ 5 }
@@ -120,12 +121,12 @@ impl<P: Placer + Drop, M: Mirror> Cuckoo<P, M> {
     /// Puts a row into a slot where a path leads to one, and says whether one did. Where none did, only `work` changes.
     #[tactic(auto, using(jc_place::proofs::Other::counts))]
     pub(crate) fn settle(&mut self, held: Held) -> bool
-        requires absent { map.get (rows_in self.old.cells) (place_of held) ≡ None }
+        requires absent { map.get (rows_in self.old.cells) (held_place held) ≡ None }
         requires work { HasSearchLeft self.old.work }
-        ensures settled { result ≡ true → Settles M.images self.old self.new held }
+        ensures settled { result ≡ true → SettlesRow M.images self.old self.new held }
         ensures stays { result ≡ false
-            → Stays (P.placing self.old.placer) self.old self.new (place_of held) }
-        ensures counted { Searches P.placing self.old (place_of held) self.old.work self.new.work }
+            → ChangesCountsOnly (P.placing self.old.placer) self.old self.new (held_place held) }
+        ensures counted { Searches P.placing self.old (held_place held) self.old.work self.new.work }
         ensures looked { LooksAtSome self.old.work self.new.work }
     {
         let place = self.placer.place(held.id, &held.key);

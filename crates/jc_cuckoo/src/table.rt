@@ -1,9 +1,9 @@
 //! The table as the rows of all caches.
 ghost use Rattle.std.specs.Prelude.{◌≡◌, ◌⊎◌, ℕ, ◌+◌, ◌-◌, ◌≤◌, ◌<◌, None, Some, IsSome, IsOk, OnOk};
 ghost use Rattle.std.specs.FinMap as map;
-ghost use Rattle.jc_rows.specs.Rows.{HasRoomFor, number_at, with_expiry};
+ghost use Rattle.jc_rows.specs.Rows.{HasRoomForRows, number_at, with_expiry};
 ghost use Rattle.jc_cuckoo.specs.Cells.{rows_in};
-ghost use Rattle.jc_cuckoo.specs.Table.{HasInSlot, IsStill, MayStash, Touches, no_work};
+ghost use Rattle.jc_cuckoo.specs.Table.{HasInSlot, IsStill, MayStash, TouchesPlace, no_work};
 ghost use Rattle.jc_cuckoo.specs.Attempts.{IsWorkOfPut, Tries, TriesTwice};
 
 use crate::cuckoo::Cuckoo;
@@ -41,9 +41,9 @@ impl<P: Placer + Drop, M: Mirror> Rows for Cuckoo<P, M> {
 
     fn make_room(&mut self, n: usize) -> Result<(), OutOfMemory>
         ensures same { rows_in self.new.cells ≡ rows_in self.old.cells }
-        ensures ok { OnOk result (HasRoomFor n (rows_in self.new.cells) self.new.room) }
-        ensures succeeds { HasRoomFor n (rows_in self.old.cells) self.old.room → IsOk result }
-        ensures there { HasRoomFor n (rows_in self.old.cells) self.old.room
+        ensures ok { OnOk result (HasRoomForRows n (rows_in self.new.cells) self.new.room) }
+        ensures succeeds { HasRoomForRows n (rows_in self.old.cells) self.old.room → IsOk result }
+        ensures there { HasRoomForRows n (rows_in self.old.cells) self.old.room
             → self.new.room ≡ self.old.room }
         ensures kept { self.old.room ≤ self.new.room }
         ensures still { IsStill self.old self.new }
@@ -111,7 +111,7 @@ impl<P: Placer + Drop, M: Mirror> Rows for Cuckoo<P, M> {
         ensures found { result ≡ number_at (rows_in self.old.cells) (id, key.now) }
         ensures removed { rows_in self.new.cells ≡ map.remove (rows_in self.old.cells) (id, key.now) }
         ensures kept { self.old.room ≤ self.new.room }
-        ensures touches { Touches M.images self.old self.new (id, key.now) None }
+        ensures touches { TouchesPlace M.images self.old self.new (id, key.now) None }
         ensures absent { map.get (rows_in self.old.cells) (id, key.now) ≡ None → self.new ≡ self.old }
     {
         let slots = self.slots();
@@ -134,7 +134,8 @@ impl<P: Placer + Drop, M: Mirror> Rows for Cuckoo<P, M> {
         requires { IsSome (map.get (rows_in self.old.cells) (id, key.now)) }
         ensures set { rows_in self.new.cells ≡ with_expiry (rows_in self.old.cells) (id, key.now) expiry }
         ensures kept { self.old.room ≤ self.new.room }
-        ensures touches { Touches M.images self.old self.new (id, key.now) (Some ((id, key.now), expiry)) }
+        ensures touches { TouchesPlace M.images self.old self.new (id, key.now)
+            (Some ((id, key.now), expiry)) }
 
         // What changes nothing tells no image.
         ensures still { (row : ℕ)

@@ -1,23 +1,27 @@
 -- A cache more, under the next id, and no caches yet.
-use Rattle.jc_engine.proofs.Names.{common_steps, map-append, length_push, CacheConfig, none_before, Status, RowMap, Member, member_of, members_of, Managed, IsManaged, cache_in, Cache, status_of, lives_of, fresh_cache}
-use Rattle.jc_engine.proofs.Names.{fresh_fields, IsAt, IsSound, places_of, caches_in, get-empty}
-use Rattle.std.proofs.Common.{◌≡◌, ℕ, ◌+◌, ◌≤◌, zero, suc, List, [], ◌∷◌, ◌++◌, map, length, option_map, Option, Some, None, refl, sym, ap, subst, ◌∙◌, arith}
+use Rattle.jc_engine.proofs.Names.{common_steps, map-append, length_push, CacheConfig, none_before, Status, RowMap, Member, member_of, members_of, Slot, IsManaged, cache_in, Cache, status_of, lives_of, fresh_cache}
+use Rattle.jc_engine.proofs.Names.{fresh_slot, IsAt, IsSound, places_of, caches_in, get-empty}
+use Rattle.std.proofs.Common.{◌≡◌, ℕ, ◌+◌, ◌≤◌, ◌<◌, zero, suc, List, [], ◌∷◌, ◌++◌, map, length, option_map, Option, Some, None, refl, sym, ap, subst, ◌∙◌, arith}
 use Rattle.std.specs.FinMap as table
+use Rattle.jc_model.specs.declared.call.Notice.{Notice}
+use Rattle.jc_model.specs.Limits.{most_ids}
+use Rattle.jc_state.specs.Kept.{Kept}
+use Rattle.jc_engine.specs.Sound.{IsManager}
 use Rattle.jc_engine.proofs.Numbered.{none-places, Puts, put_other, places_more}
 use Rattle.jc_engine.proofs.Places.{Within, listed_seen, stands, each_put}
 
-fresh_at : {G : Type 0} (m : RowMap) (id : ℕ) (c : CacheConfig) → IsAt {G = G} m id None → IsManaged {G = G} m id (fresh_fields id c)
+fresh_at : (m : RowMap) (id : ℕ) (c : CacheConfig) → IsAt m id None → IsManaged m id (fresh_slot id c)
 fresh_at m id c none = grind (arith, common_steps)
 
-module _ {G : Type 0} (w : Within G) (c : CacheConfig) (g : ℕ → Option (Managed G)) (puts : Puts w.caches (length w.members) (Some (fresh_fields (length w.members) c)) g) where
+module _ (w : Within) (c : CacheConfig) (g : ℕ → Option Slot) (puts : Puts w.caches (length w.members) (Some (fresh_slot (length w.members) c)) g) where
   one_more : length (w.members ++ Some (member_of c) ∷ []) ≡ length w.members + 1
   one_more = length_push w.members (Some (member_of c))
 
   pub seen_more : caches_in g (length (w.members ++ Some (member_of c) ∷ [])) ≡ w.seen ++ Some (fresh_cache c) ∷ []
   seen_more =
       ap (caches_in g) one_more
-      ∙ ap (map (option_map cache_in)) (places_more w.caches g (length w.members) (Some (fresh_fields (length w.members) c)) puts)
-      ∙ map-append (option_map cache_in) (places_of w.caches (length w.members)) (Some (fresh_fields (length w.members) c) ∷ [])
+      ∙ ap (map (option_map cache_in)) (places_more w.caches g (length w.members) (Some (fresh_slot (length w.members) c)) puts)
+      ∙ map-append (option_map cache_in) (places_of w.caches (length w.members)) (Some (fresh_slot (length w.members) c) ∷ [])
       ∙ ap (λ (ks : List (Option Cache)). ks ++ Some (fresh_cache c) ∷ []) w.view_is
 
   pub sound_more : IsSound w.rows g (w.members ++ Some (member_of c) ∷ [])
@@ -31,6 +35,14 @@ module _ {G : Type 0} (w : Within G) (c : CacheConfig) (g : ℕ → Option (Mana
         ∙ ap (λ (ks : List (Option Cache)). members_of (lives_of ks)) (sym seen_more);
   }
 
+  pub manager_more : {spare : Kept} {told : List Notice} → IsManager w.rows w.caches w.members spare told → length w.members < most_ids → IsManager w.rows g (w.members ++ Some (member_of c) ∷ []) spare told
+  manager_more is below = record {
+    sound = sound_more;
+    spare = is.spare;
+    unused = put_other w.caches g (length w.members) _ puts most_ids (λ e. omega (arith, below, e)) ∙ is.unused;
+    untold = is.untold;
+  }
+
 -- No caches yet.
 
 none_length : (A : Type 0) (n : ℕ) → length (none_before {A = A} n []) ≡ n
@@ -41,7 +53,7 @@ none_map : {A B : Type 0} (h : A → B) (n : ℕ) → map (option_map h) (none_b
 none_map h zero = refl
 none_map h (suc n) = ap (λ l. None ∷ l) (none_map h n)
 
-module _ {G : Type 0} (f : ℕ → Option (Managed G)) (first : ℕ) (none : (id : ℕ) → f id ≡ None) (members : List (Option Member)) (fresh : members ≡ none_before first []) where
+module _ (f : ℕ → Option Slot) (first : ℕ) (none : (id : ℕ) → f id ≡ None) (members : List (Option Member)) (fresh : members ≡ none_before first []) where
   pub vacant_seen : caches_in f (length members) ≡ none_before first []
   vacant_seen = ap (caches_in f) (ap length fresh ∙ none_length Member first) ∙ ap (map (option_map cache_in)) (none-places f first none) ∙ none_map cache_in first
 

@@ -1,5 +1,5 @@
 -- The table has as many rows as the caches have together.
-use Rattle.jc_engine.proofs.Names.{common_steps, cases_lt, sum_by-cons, bytes_eq-Decides, Expiry, Item, State, row_of, at_place, all_there, Lacks, HasDistinctKeys, RowMap, expiry_at, same_rows, get-empty, len-empty}
+use Rattle.jc_engine.proofs.Names.{common_steps, cases_lt, sum_by-cons, bytes_eq-Decides, Expiry, Item, State, row_of, at_place, all_there, LacksKey, HasDistinctKeys, RowMap, expiry_at, same_rows, get-empty, len-empty}
 use Rattle.jc_engine.proofs.Names.{get-removed_same, get-removed_other, get-removed_absent, len-removed}
 use Rattle.std.proofs.Common.{◌≡◌, ℕ, suc, ◌+◌, ◌-◌, ◌<◌, Bool, true, false, cond, List, [], ◌∷◌, length, Option, Some, None, inl, inr, IsSome, refl, sym, ap, subst, ◌∙◌, arith, Decides, option_map, sum_by, bytes_eq}
 use Rattle.std.specs.FinMap as table
@@ -15,7 +15,7 @@ own_key x xs none = grind (arith, common_steps, (bytes_eq-Decides x.key x.key).1
 later_key : (x : Item) (xs : List Item) (key : List ℕ) → (row_of key xs ≡ None → ⊥) → row_of key (x ∷ xs) ≡ None → ⊥
 later_key x xs key there none = grind (arith, common_steps)
 
-lacking : (key : List ℕ) (xs : List Item) → Lacks key xs → row_of key xs ≡ None
+lacking : (key : List ℕ) (xs : List Item) → LacksKey key xs → row_of key xs ≡ None
 lacking key [] lacks = refl
 lacking key (x ∷ xs) lacks = grind (arith, common_steps, (bytes_eq-Decides x.key key).0, lacks.0, lacking key xs lacks.1)
 

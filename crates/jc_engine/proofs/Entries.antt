@@ -1,6 +1,6 @@
 -- The transcript, as events write it at the places of its entries.
 use Rattle.std.proofs.Common.{◌≡◌, ℕ, ◌<◌, zero, suc, List, [], ◌∷◌, ◌++◌, length, Option, Some, None, inl, inr, refl, sym, ap, ◌∙◌, arith, append-nil, slice_get, slice_set, set-set}
-use Rattle.jc_engine.proofs.Names.{cases_eq, nat_tests, set_at, Notice, Request, Entry, Awaited, told_by, Status, Lives, live_at, fresh, Wait, there, at_place, History, on_open, Tells, with_outcome, Cache, HasEntry, Stepped}
+use Rattle.jc_engine.proofs.Names.{cases_eq, nat_tests, set_at, Notice, Request, Entry, Awaited, told_by, Status, Lives, at_place, fresh, Wait, there, History, on_open, Tells, with_outcome, Cache, HasEntry, Stepped}
 use Rattle.jc_engine.proofs.Names.{at_other}
 use Rattle.jc_model.specs.declared.event.Step.TheVariants.{Need}
 use Rattle.jc_model.specs.declared.event.End.{End}
@@ -81,6 +81,6 @@ module _ (id : ℕ) (caches caches' : List (Option Cache)) (transcript transcrip
   ]
 
 -- a write at the place of the open call's entry is one to the entry that waits
-pub written_open : (lives : Lives) (h : History) (id place : ℕ) (k : Status) (e : Entry) (f : Entry → Entry) → Tells h lives → live_at lives id ≡ Some k → slice_get h.entries place ≡ Some e → e.id ≡ id → e.end ≡ Waiting → slice_set h.entries place (f e) ≡ on_open id f h.entries
+pub written_open : (lives : Lives) (h : History) (id place : ℕ) (k : Status) (e : Entry) (f : Entry → Entry) → Tells h lives → at_place lives id ≡ Some k → slice_get h.entries place ≡ Some e → e.id ≡ id → e.end ≡ Waiting → slice_set h.entries place (f e) ≡ on_open id f h.entries
 written_open lives h id place k e f tells at there own waits =
     set_open k.config id f h.entries place e (record { standing = fresh; legal = tells.legal.each id k.config (tells.each id k at).0 }) there (grind (arith, nat_tests)) waits

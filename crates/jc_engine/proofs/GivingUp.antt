@@ -1,5 +1,5 @@
 -- A call that is given up.
-use Rattle.jc_engine.proofs.Names.{common_steps, Notice, CacheConfig, Cause, Progress, Awaited, Wait, standing_by, gives_up, idle, reply_of, moved_by, RowMap, Noted, Idle, Managed, cache_in, turn_in, IsManaged, LeavesNotices}
+use Rattle.jc_engine.proofs.Names.{common_steps, Notice, CacheConfig, Cause, Progress, Awaited, Wait, standing_by, gives_up, idle, reply_of, moved_by, RowMap, Noted, Idle, Slot, cache_in, turn_in, IsManaged, LeavesNotices}
 use Rattle.jc_engine.proofs.Names.{Abandons, of_abandon, GivenUp}
 use Rattle.std.proofs.Common.{◌≡◌, ℕ, false, List, [], IfOk, OnOk, OnErr, Option, Some, None, Ok, Err, Result, refl, sym, ap, subst, arith}
 use Rattle.jc_engine.proofs.Moving.{Did}
@@ -8,7 +8,7 @@ given_up : (c : CacheConfig) (p : Progress) (turn : Option (Awaited × Wait)) �
 given_up c p None waits = absurd (waits refl)
 given_up c p (Some w) waits = (refl, refl)
 
-module _ {G : Type 0} (cache cache' : Managed G) where
+module _ (cache cache' : Slot) where
   handed : (notices : List Notice) → cache' ≡ record cache { turn = Idle } → (turn_in cache.turn ≡ None → ⊥) → notices ≡ (cache_in cache).progress.notices → Did (cache_in cache) (cache_in cache') gives_up false (GivenUp notices)
   handed notices after waits same = grind (arith, common_steps)
 
@@ -19,9 +19,9 @@ module _ {G : Type 0} (cache cache' : Managed G) where
 
   -- the notices that it leaves, that no call is open after it, and that else nothing has changed
   pub ends : (r : Result (Option Noted) Cause) → Abandons cache r cache' → IfOk r (LeavesNotices (cache_in cache)) × OnOk r (turn_in cache'.turn ≡ None) × OnErr r (cache_in cache' ≡ cache_in cache)
-  ends (Ok left) is = (is.2, ap (λ (k : Managed G). turn_in k.turn) is.0, tt)
+  ends (Ok left) is = (is.2, ap (λ (k : Slot). turn_in k.turn) is.0, tt)
   ends (Err cause) is = (tt, tt, ap cache_in is.2)
 
   pub managed_after : (m : RowMap) (id : ℕ) (r : Result (Option Noted) Cause) → IsManaged m id cache → Abandons cache r cache' → IsManaged m id cache' × (cache'.state.config ≡ cache.state.config)
-  managed_after m id (Ok left) managed is = subst (λ (k : Managed G). IsManaged m id k × (k.state.config ≡ cache.state.config)) (sym is.0) (record { kept = managed.kept; waits = tt }, refl)
-  managed_after m id (Err cause) managed is = subst (λ (k : Managed G). IsManaged m id k × (k.state.config ≡ cache.state.config)) (sym is.2) (managed, refl)
+  managed_after m id (Ok left) managed is = subst (λ (k : Slot). IsManaged m id k × (k.state.config ≡ cache.state.config)) (sym is.0) (record { id_is = managed.id_is; kept = managed.kept; waits = tt }, refl)
+  managed_after m id (Err cause) managed is = subst (λ (k : Slot). IsManaged m id k × (k.state.config ≡ cache.state.config)) (sym is.2) (managed, refl)

@@ -1,7 +1,7 @@
 -- One event of the manager, by what it did to its cache.
 use Rattle.std.proofs.Common.{◌≡◌, ℕ, Bool, true, false, if◌then◌else◌, List, length, option_map, slice_set, OnOk, OnErr, IfOk, IfErr, Option, Some, None, Ok, Err, Result, refl, sym, ap, ◌∙◌}
-use Rattle.jc_engine.proofs.Names.{map-set, Cause, NoSuchCache, OutOfMemory, Outcome, there, at_place, Status, live_at, Said, says, reply_of, refuse_last, is_refused, for_memory, answer_of, answer_in, moved, put_moved, lives_by}
-use Rattle.jc_engine.proofs.Names.{Advance, Managed, Cache, status_of, lives_of, cache_in, is_step, Moves, step_of, outcome_of, of_start, ChangesOne, caches_in, Refused, Stepped, at_same}
+use Rattle.jc_engine.proofs.Names.{map-set, Cause, NoSuchCache, OutOfMemory, Outcome, there, at_place, Status, CacheEvent, on_cache, reply_of, refuse_last, is_refused, for_memory, answer_of, answer_in, moved, put_moved, lives_by}
+use Rattle.jc_engine.proofs.Names.{Advance, Slot, Cache, status_of, lives_of, cache_in, is_step, Moves, step_of, outcome_of, of_start, ChangesOne, caches_in, Refused, Stepped, at_same}
 use Rattle.jc_engine.proofs.Places.{same_set, place_of, Within, seen_is, live_is, Changes, seen_put}
 
 -- where memory suffices, a reply stays
@@ -13,36 +13,36 @@ memory_refused : (reply : Outcome) → is_step reply ≡ true → Refused OutOfM
 memory_refused (Stepped s) is = refl
 memory_refused _ is = absurd cc
 
-last_of : (found : Option Status) (said : Said) (memory : Bool) → refuse_last memory (answer_of found said false) ≡ answer_of found said memory
+last_of : (found : Option Status) (said : CacheEvent) (memory : Bool) → refuse_last memory (answer_of found said false) ≡ answer_of found said memory
 last_of None said memory = refl
 last_of (Some k) said memory = ap (refuse_last memory) (plain (reply_of k.config k.standing said))
 
 -- what is refused where memory suffices is refused so in any case
-pub refused_anyway : (found : Option Status) (said : Said) (cause : Cause) (memory : Bool) → answer_of found said false ≡ Refused cause → Refused cause ≡ answer_of found said memory
+pub refused_anyway : (found : Option Status) (said : CacheEvent) (cause : Cause) (memory : Bool) → answer_of found said false ≡ Refused cause → Refused cause ≡ answer_of found said memory
 refused_anyway found said cause memory is = ap (refuse_last memory) (sym is) ∙ last_of found said memory
 
 -- a step, while memory was refused
-pub memory_last : (found : Option Status) (said : Said) → is_step (answer_of found said false) ≡ true → Refused OutOfMemory ≡ answer_of found said true
+pub memory_last : (found : Option Status) (said : CacheEvent) → is_step (answer_of found said false) ≡ true → Refused OutOfMemory ≡ answer_of found said true
 memory_last found said is = memory_refused (answer_of found said false) is ∙ last_of found said true
 
 -- what a cache replies is what its manager answers
-pub reply_here : {G : Type 0} (w : Within G) (id : ℕ) (said : Said) {cache : Managed G} → w.caches id ≡ Some cache → answer_in (lives_of w.seen) (says id said) false ≡ reply_of cache.state.config (status_of (cache_in cache)).standing said
+pub reply_here : (w : Within) (id : ℕ) (said : CacheEvent) {cache : Slot} → w.caches id ≡ Some cache → answer_in (lives_of w.seen) (on_cache id said) false ≡ reply_of cache.state.config (status_of (cache_in cache)).standing said
 reply_here w id said {cache} at = ap (λ (found : Option Status). answer_of found said false) (live_is w id at) ∙ plain (reply_of cache.state.config (status_of (cache_in cache)).standing said)
 
-pub unknown : {G : Type 0} (w : Within G) (id : ℕ) (said : Said) → w.caches id ≡ None → (memory : Bool) → answer_in (lives_of w.seen) (says id said) memory ≡ Refused NoSuchCache
+pub unknown : (w : Within) (id : ℕ) (said : CacheEvent) → w.caches id ≡ None → (memory : Bool) → answer_in (lives_of w.seen) (on_cache id said) memory ≡ Refused NoSuchCache
 unknown w id said none memory = ap (λ (found : Option Status). answer_of found said memory) (live_is w id none)
 
 -- where the answer is a step, there is a cache
-pub must_be : {G : Type 0} (w : Within G) (id : ℕ) (said : Said) → w.caches id ≡ None → is_step (answer_in (lives_of w.seen) (says id said) false) ≡ true → ⊥
+pub must_be : (w : Within) (id : ℕ) (said : CacheEvent) → w.caches id ≡ None → is_step (answer_in (lives_of w.seen) (on_cache id said) false) ≡ true → ⊥
 must_be w id said none allowed = let no = ap is_step (unknown w id said none false) in cc
 
 -- what an event did to its cache; memory says whether memory was refused
-pub record Did (k k' : Cache) (said : Said) (memory : Bool) (o : Outcome) : Type 0 where
+pub record Did (k k' : Cache) (said : CacheEvent) (memory : Bool) (o : Outcome) : Type 0 where
   pub shows : o ≡ refuse_last memory (reply_of k.config (status_of k).standing said)
   pub moves : is_refused o ≡ false → status_of k' ≡ moved (status_of k) said
   pub stays : is_refused o ≡ true → k' ≡ k
 
-pub advanced : {T : Type 0} {k k' : Cache} {said : Said} (r : Result Advance T) → is_step (reply_of k.config (status_of k).standing said) ≡ true → IfOk r (λ advance. Moves k said advance k') → OnErr r (k' ≡ k) → Did k k' said (for_memory (outcome_of r)) (outcome_of r)
+pub advanced : {T : Type 0} {k k' : Cache} {said : CacheEvent} (r : Result Advance T) → is_step (reply_of k.config (status_of k).standing said) ≡ true → IfOk r (λ advance. Moves k said advance k') → OnErr r (k' ≡ k) → Did k k' said (for_memory (outcome_of r)) (outcome_of r)
 advanced (Ok advance) allowed ok err = record { shows = ok.shows ∙ sym (plain _); moves = λ _. ok.moves; stays = λ e. absurd cc }
 advanced (Err back) allowed ok err = record { shows = memory_refused _ allowed; moves = λ e. absurd cc; stays = λ _. err }
 
@@ -51,13 +51,13 @@ ok_then (Ok x) p = p
 ok_then (Err e) p = tt
 
 -- a call that begins, and may be refused
-pub started : {k k' : Cache} {said : Said} (r : Result Advance Cause) → IfOk r (λ advance. Moves k said advance k') → IfErr r (λ cause. Refused cause ≡ refuse_last (for_memory (Refused cause)) (reply_of k.config (status_of k).standing said)) → OnErr r (k' ≡ k)
+pub started : {k k' : Cache} {said : CacheEvent} (r : Result Advance Cause) → IfOk r (λ advance. Moves k said advance k') → IfErr r (λ cause. Refused cause ≡ refuse_last (for_memory (Refused cause)) (reply_of k.config (status_of k).standing said)) → OnErr r (k' ≡ k)
     → Did k k' said (for_memory (of_start r)) (of_start r)
 started (Ok advance) ok err same = record { shows = ok.shows ∙ sym (plain _); moves = λ _. ok.moves; stays = λ e. absurd cc }
 started (Err cause) ok err same = record { shows = err; moves = λ e. absurd cc; stays = λ _. same }
 
 -- a call that has moved its cache
-pub moved_on : {k k' : Cache} {said : Said} {advance : Advance} → Moves k said advance k' → Did k k' said false (Stepped (step_of advance))
+pub moved_on : {k k' : Cache} {said : CacheEvent} {advance : Advance} → Moves k said advance k' → Did k k' said false (Stepped (step_of advance))
 moved_on moves = record { shows = moves.shows ∙ sym (plain _); moves = λ _. moves.moves; stays = λ e. absurd cc }
 
 -- a call is refused for want of memory, in the place of a step
@@ -65,7 +65,7 @@ pub memory_alone : (reply : Outcome) → is_step reply ≡ true → Refused OutO
 memory_alone reply is = memory_refused reply is
 
 -- the manager's fields after it
-module _ {G : Type 0} {w : Within G} {id : ℕ} {cache cache' : Managed G} {g : ℕ → Option (Managed G)} (c : Changes w id cache (Some cache') g) where
+module _ {w : Within} {id : ℕ} {cache cache' : Slot} {g : ℕ → Option Slot} (c : Changes w id cache (Some cache') g) where
   pub one_after : ChangesOne w.seen id (caches_in g (length w.members))
   one_after = record { cache = cache_in cache'; is = seen_put c }
 
@@ -78,15 +78,15 @@ module _ {G : Type 0} {w : Within G} {id : ℕ} {cache cache' : Managed G} {g : 
       ∙ ap (λ (k : Cache). slice_set w.seen id (Some k)) same
       ∙ same_set w.seen id (Some (cache_in cache)) (place_of w.seen id (cache_in cache) (seen_is w id c.at))
 
-  module _ {said : Said} {memory : Bool} {o : Outcome} (d : Did (cache_in cache) (cache_in cache') said memory o) where
-    pub outcome_after : o ≡ answer_in (lives_of w.seen) (says id said) memory
+  module _ {said : CacheEvent} {memory : Bool} {o : Outcome} (d : Did (cache_in cache) (cache_in cache') said memory o) where
+    pub outcome_after : o ≡ answer_in (lives_of w.seen) (on_cache id said) memory
     outcome_after = d.shows ∙ ap (λ (found : Option Status). answer_of found said memory) (sym (live_is w id c.at))
 
-    pub lives_later : lives_of (caches_in g (length w.members)) ≡ lives_by (lives_of w.seen) (says id said) o
+    pub lives_later : lives_of (caches_in g (length w.members)) ≡ lives_by (lives_of w.seen) (on_cache id said) o
     lives_later = by (is_refused o) d.moves d.stays
       where
         by : (b : Bool) → (b ≡ false → status_of (cache_in cache') ≡ moved (status_of (cache_in cache)) said) → (b ≡ true → cache_in cache' ≡ cache_in cache)
-            → lives_of (caches_in g (length w.members)) ≡ (if b then lives_of w.seen else put_moved (lives_of w.seen) id said (live_at (lives_of w.seen) id))
+            → lives_of (caches_in g (length w.members)) ≡ (if b then lives_of w.seen else put_moved (lives_of w.seen) id said (at_place (lives_of w.seen) id))
         by true moves stays = ap lives_of (unchanged (stays refl))
         by false moves stays =
             ap lives_of (seen_put c) ∙ map-set (option_map status_of) w.seen id (Some (cache_in cache'))

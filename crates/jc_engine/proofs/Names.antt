@@ -24,13 +24,13 @@ pub use Rattle.jc_model.specs.declared.event.Event.TheVariants.{Answer as Answer
 pub use Rattle.jc_model.specs.declared.event.Outcome.{Outcome}
 pub use Rattle.jc_model.specs.declared.event.Outcome.TheVariants.{Created, Destroyed, GivenUp, Refused, Step as Stepped}
 pub use Rattle.jc_model.specs.Changes.{Progress, begun}
-pub use Rattle.jc_model.specs.Legal.{History, Tells, at_first, numbered, on_open, recorded, with_answer, with_outcome}
+pub use Rattle.jc_model.specs.Legal.{History, Tells, at_first, numbered_lives, on_open, recorded, with_answer, with_outcome}
 pub use Rattle.jc_model.specs.Limits.{most_caches, most_ids, most_rows, most_rows_together}
 pub use Rattle.jc_model.specs.Places.{all_there, at_place, named_from, none_before, there}
 pub use Rattle.jc_model.specs.Run.{Awaited, Run, and_then, answered, awaited_by, ended, fits, for_tell, resume, told_by, waiting}
-pub use Rattle.jc_model.specs.Runs.{Lives, Said, Standing, Status, answer_in, answer_of, answer_to, answer_to_destroy, answers, begins, busy, create_refusal, for_memory, fresh, gives_up, has_processor, idle, is_refused, live_at, lives_after, lives_by, moved, moved_by, opened, opened_from, put_moved, refuse_last, reply_of, says, shown, standing_of}
-pub use Rattle.jc_model.specs.Solo.{state_of}
-pub use Rattle.jc_model.specs.Sound.{HasDistinctKeys, IsSound as IsCacheSound, Lacks}
+pub use Rattle.jc_model.specs.Runs.{Lives, CacheEvent, Standing, Status, answer_in, answer_of, answer_to, answer_to_destroy, answers, begins, busy, create_refusal, for_memory, fresh, gives_up, has_processor, idle, is_refused, lives_after, lives_by, moved, moved_by, opened, opened_from, put_moved, refuse_last, reply_of, on_cache, shown, standing_of, members_of}
+pub use Rattle.jc_model.specs.Solo.{state_in}
+pub use Rattle.jc_model.specs.Sound.{HasDistinctKeys, IsSound as IsCacheSound, LacksKey}
 pub use Rattle.jc_model.specs.State.{Item, State, row_of}
 pub use Rattle.jc_model.specs.Suspended.{Wait, key_run, many, many as many_keys, one, one as one_key, run_of, standing_by, telling}
 pub use Rattle.jc_model.specs.Whole.{Plan, asked_by, at_once, carried_out, each, plan, told_first, whole}
@@ -38,24 +38,25 @@ pub use Rattle.jc_model.proofs.Leads.{IsRunTo, Leads, alone_in, leads_last}
 pub use Rattle.jc_model.proofs.Lives.{at_other, at_same}
 pub use Rattle.jc_rows.proofs.Laws.{get-empty, get-removed_absent, get-removed_other, get-removed_same, len-empty, len-removed, same_rows}
 pub use Rattle.jc_rows.specs.Rows.{RowMap}
-pub use Rattle.jc_roster.proofs.Members.{allowed, at_place_map, named_map, refused_by_members}
-pub use Rattle.jc_roster.specs.Members.{Member, create_refusal_in, id_named, member_of, members_of, rows_of}
+pub use Rattle.jc_roster.proofs.Members.{allowed, at_place_map, named_map}
+pub use Rattle.jc_roster.specs.Members.{id_named}
 pub use Rattle.jc_state.specs.Kept.{IsTied, Kept, item_of, items_of, progress_of}
 pub use Rattle.jc_state.specs.Noted.{Noted}
 pub use Rattle.jc_state.specs.Tied.{SameElsewhere, Tied}
 pub use Rattle.jc_bulk.specs.Calls.{ComesTo, IsSuspended, WaitsOn, wait_run}
 pub use Rattle.jc_bulk.specs.Waits.{Waits}
-pub use Rattle.jc_engine.specs.declared.cache.Advance.{Advance}
-pub use Rattle.jc_engine.specs.declared.cache.Advance.TheVariants.{Asked, Replied, Told}
-pub use Rattle.jc_engine.specs.declared.cache.Managed.{Managed}
-pub use Rattle.jc_engine.specs.declared.cache.Turn.TheVariants.{Idle, Telling, Waiting}
+pub use Rattle.jc_engine.specs.declared.turn.Advance.{Advance}
+pub use Rattle.jc_engine.specs.declared.turn.Advance.TheVariants.{Asked, Replied, Told}
+pub use Rattle.jc_engine.specs.Slots.{Slot}
+pub use Rattle.jc_engine.specs.declared.turn.Turn.TheVariants.{Idle, Telling, Waiting}
 pub use Rattle.jc_engine.specs.declared.open.OpenRefusal.{OpenRefusal}
 pub use Rattle.jc_engine.specs.declared.open.OpenRefusal.TheVariants.{IdsSpent, TooManyCaches, TotalCapacity}
 pub use Rattle.jc_engine.specs.Advances.{ChangesOne, ClosedAt, FitsAt, is_open_in, of_abandon, of_start, outcome_of}
 pub use Rattle.jc_engine.specs.Caches.{Cache, expiry_in, fresh_cache, fresh_from, holds_in, id_of, lives_of, names_of, status_of}
-pub use Rattle.jc_engine.specs.Fresh.{AreNames, MayCome, fresh_fields}
+pub use Rattle.jc_engine.specs.Fresh.{AreNames, MayCome, fresh_slot}
 pub use Rattle.jc_engine.specs.Managed.{Abandons, FitsTurn, IsManaged, LeavesNotices, Moves, NeverTells, Settled, WaitsThere, cache_in, is_step, is_telling, notices_in, step_of, tells, turn_in}
-pub use Rattle.jc_engine.specs.Opening.{capacities, is_taken, limit_refusal, names_in, open_refusal, open_refusal_from, or_else, refusal_at, refusal_from}
+pub use Rattle.jc_engine.specs.Opening.{capacities, is_taken, names_in, open_refusal, open_refusal_for, open_refusal_from, refusal_at, refusal_from}
 pub use Rattle.jc_engine.specs.Recording.{CanTell, HasEntry, IsOpenAt, IsRecorded, Recording, blank, left_in, with_entries, with_life}
 pub use Rattle.jc_engine.specs.Sound.{IsAt, IsSound, NoneFrom, caches_in, places_of}
 pub use Rattle.jc_engine.specs.Watching.{ShowsStates, expiry_at, states_of}
+pub use Rattle.jc_model.specs.Refusals.{Member, refusal_beside, member_of, rows_of}

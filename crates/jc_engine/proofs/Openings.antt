@@ -1,32 +1,26 @@
 -- A manager that is being opened.
-use Rattle.std.proofs.Common.{◌≡◌, ℕ, ◌≤◌, ◌+◌, length-append, append_assoc, zero, suc, Bool, true, false, List, [], ◌∷◌, ◌++◌, map, length, Option, Some, None, refl, sym, ap, subst, ◌∙◌, arith, option_map, sum, ltb, ◌||◌, if◌then◌else◌, append-nil}
-use Rattle.jc_engine.proofs.Names.{nat_tests, common_steps, map-append, sum_by-cons, sum_by-append, CacheConfig, most_caches, most_rows, most_rows_together, most_ids, at_place, none_before, named_from, all_there, opened_from}
-use Rattle.jc_engine.proofs.Names.{Member, members_of, rows_of, OpenRefusal, Cache, status_of, lives_of, fresh_cache, fresh_from, MayCome, or_else, is_taken, names_in, limit_refusal, refusal_at, refusal_from, capacities}
+use Rattle.std.proofs.Common.{◌≡◌, ℕ, ◌≤◌, ◌+◌, length-append, append_assoc, zero, suc, false, List, [], ◌∷◌, ◌++◌, map, length, Option, Some, None, refl, sym, ap, subst, ◌∙◌, arith, option_map, sum, ltb, append-nil}
+use Rattle.jc_engine.proofs.Names.{nat_tests, common_steps, map-append, sum_by-cons, sum_by-append, CacheConfig, most_caches, most_rows_together, most_ids, at_place, none_before, named_from, all_there, opened_from}
+use Rattle.jc_engine.proofs.Names.{Member, members_of, rows_of, Cache, status_of, lives_of, fresh_cache, fresh_from, MayCome, is_taken, names_in, open_refusal_for, refusal_at, refusal_from, capacities}
 use Rattle.jc_engine.proofs.Names.{open_refusal, open_refusal_from, TooManyCaches, TotalCapacity, IdsSpent}
 use Rattle.std.proofs.lemmas.Simd.{map-map}
+use Rattle.jc_model.specs.Refusals.{broken_limit, refused_if}
+use Rattle.jc_model.proofs.Refusals.{both_none, keeps_limits, none_mapped, not_refused}
 use Rattle.jc_engine.proofs.Places.{length_map}
 
 -- Caches that are not refused may have rows.
 
-both : (a b : Option OpenRefusal) → or_else a b ≡ None → (a ≡ None) × (b ≡ None)
-both None b h = (refl, h)
-both (Some r) b h = absurd cc
-
-passed : (b : Bool) (r : OpenRefusal) (next : Option OpenRefusal) → (if b then Some r else next) ≡ None → (b ≡ false) × (next ≡ None)
-passed true r next h = absurd cc
-passed false r next h = (refl, h)
-
-some_rows : (place : ℕ) (c : CacheConfig) → limit_refusal place c ≡ None → 1 ≤ c.capacity
-some_rows place c h = let enough = (passed (ltb c.capacity 1 || ltb most_rows c.capacity) _ _ h).0 in grind (arith, nat_tests)
+some_rows : (place : ℕ) (c : CacheConfig) → option_map (open_refusal_for place) (broken_limit c) ≡ None → 1 ≤ c.capacity
+some_rows place c h = (keeps_limits c (none_mapped (open_refusal_for place) (broken_limit c) h)).some_rows
 
 -- behind the names and the caches before it, one more has rows and a name of its own
 next_allowed : (names : List (List ℕ)) (place : ℕ) (before after : List CacheConfig) (c : CacheConfig) → refusal_from names place (before ++ c ∷ after) ≡ None → (1 ≤ c.capacity) × (is_taken c.name (names ++ names_in before) ≡ false)
 next_allowed names place [] after c h =
-    let here = both (limit_refusal place c) _ (both (refusal_at names place c) (refusal_from (names ++ c.name ∷ []) (place + 1) after) h).0 in
-    (some_rows place c here.0, rw append-nil (passed (is_taken c.name names) _ None here.1).0)
+    let here = both_none (option_map (open_refusal_for place) (broken_limit c)) _ (both_none (refusal_at names place c) (refusal_from (names ++ c.name ∷ []) (place + 1) after) h).0 in
+    (some_rows place c here.0, rw append-nil (not_refused (is_taken c.name names) _ here.1))
 next_allowed names place (d ∷ before) after c h =
     subst (λ (ns : List (List ℕ)). (1 ≤ c.capacity) × (is_taken c.name ns ≡ false)) (append_assoc names (d.name ∷ []) (names_in before))
-    (next_allowed (names ++ d.name ∷ []) (place + 1) before after c (both (refusal_at names place d) (refusal_from (names ++ d.name ∷ []) (place + 1) (before ++ c ∷ after)) h).1)
+    (next_allowed (names ++ d.name ∷ []) (place + 1) before after c (both_none (refusal_at names place d) (refusal_from (names ++ d.name ∷ []) (place + 1) (before ++ c ∷ after)) h).1)
 
 -- One cache more behind these.
 
@@ -77,10 +71,10 @@ within_total before after c at_most =
 -- each of the configurations that are not refused may come behind those before it
 pub may_come : (first : ℕ) (configs before after : List CacheConfig) (c : CacheConfig) → open_refusal_from first configs ≡ None → before ++ c ∷ after ≡ configs → MayCome (fresh_from first before) c
 may_come first configs before after c h all =
-    let opens = both (open_refusal configs) _ h in
-    let each = both (refusal_from [] 0 configs) _ (passed (ltb most_caches (length configs)) TooManyCaches _ opens.0).1 in
-    let few = (passed (ltb most_ids (first + length configs)) IdsSpent None opens.1).0 in
-    let small = (passed (ltb most_rows_together (sum (capacities configs))) TotalCapacity None each.1).0 in
+    let opens = both_none (open_refusal configs) _ h in
+    let each = both_none (refusal_from [] 0 configs) _ (both_none (refused_if (ltb most_caches (length configs)) TooManyCaches) _ opens.0).1 in
+    let few = not_refused (ltb most_ids (first + length configs)) IdsSpent opens.1 in
+    let small = not_refused (ltb most_rows_together (sum (capacities configs))) TotalCapacity each.1 in
     let at_most : first + length configs ≤ most_ids = grind (arith, nat_tests) in
     let next = next_allowed [] 0 before after c (ap (refusal_from [] 0) all ∙ each.0) in
     record {

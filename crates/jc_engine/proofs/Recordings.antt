@@ -1,7 +1,7 @@
 -- What a recorded manager keeps, after each of its calls.
 use Rattle.std.proofs.Common.{◌≡◌, ◌⊎◌, inl, inr, IfSome, ℕ, zero, suc, Bool, true, false, List, [], ◌∷◌, ◌++◌, ◌+◌, length, take, Option, Some, None, Result, Ok, Err, refl, sym, ap, ap₂, subst, ◌∙◌, arith, slice_get, slice_set, set-set, option_map, MatchOption, OnOk, OnErr, IsSome, is_some, is_err}
-use Rattle.jc_engine.proofs.Names.{Answer, Call, Notice, CacheConfig, Event, Begin, GiveUp, Create, Destroy, Outcome, Entry, Progress, Awaited, told_by, there, at_place, Status, live_at, Said, says, answers, gives_up, idle}
-use Rattle.jc_engine.proofs.Names.{is_refused, reply_of, for_memory, answer_of, answer_in, answer_to, lives_after, Wait, one, many, telling, standing_by, History, Tells, recorded, numbered, at_first, with_outcome, with_answer}
+use Rattle.jc_engine.proofs.Names.{Answer, Call, Notice, CacheConfig, Event, Begin, GiveUp, Create, Destroy, Outcome, Entry, Progress, Awaited, told_by, there, at_place, Status, CacheEvent, on_cache, answers, gives_up, idle}
+use Rattle.jc_engine.proofs.Names.{is_refused, reply_of, for_memory, answer_of, answer_in, answer_to, lives_after, Wait, one, many, telling, standing_by, History, Tells, recorded, numbered_lives, at_first, with_outcome, with_answer}
 use Rattle.jc_engine.proofs.Names.{on_open, Noted, Advance, Replied, Asked, Told, Cache, status_of, fresh_cache, fresh_from, lives_of, step_of, is_step, is_telling, tells, FitsTurn, LeavesNotices, of_abandon, FitsAt, ClosedAt, is_open_in}
 use Rattle.jc_engine.proofs.Names.{ChangesOne, IsOpenAt, HasEntry, IsRecorded, CanTell, blank, left_in, with_entries, with_life, State, Answered, Created, Destroyed, GivenUp, Stepped, at_same, at_other, at_place_map, common_steps}
 use Rattle.jc_engine.proofs.Names.{length_push, same_from_push}
@@ -116,7 +116,7 @@ module _ {caches : List (Option Cache)} {h : History} {places : ℕ → Option �
 
     -- the entry of an open call has been changed
     module _ {place : ℕ} (f : FindsOpen caches h.entries places id place) where
-      status_here : live_at (lives_of caches) id ≡ Some (status_of f.busy.cache)
+      status_here : at_place (lives_of caches) id ≡ Some (status_of f.busy.cache)
       status_here = at_place_map status_of caches id ∙ ap (option_map status_of) f.busy.here
 
       -- what is written there is written to the open entry
@@ -212,7 +212,7 @@ of_left None = refl
 of_left (Some left) = refl
 
 -- only a cache whose call is open accepts an answer or a give-up
-busy_by : (caches : List (Option Cache)) (id : ℕ) (said : Said) → ((c : CacheConfig) (s : State) → is_refused (reply_of c (idle s) said) ≡ true) → is_refused (answer_in (lives_of caches) (says id said) false) ≡ false → IsBusy caches id
+busy_by : (caches : List (Option Cache)) (id : ℕ) (said : CacheEvent) → ((c : CacheConfig) (s : State) → is_refused (reply_of c (idle s) said) ≡ true) → is_refused (answer_in (lives_of caches) (on_cache id said) false) ≡ false → IsBusy caches id
 busy_by caches id said refused taken = by (at_place caches id) refl (rw (at_place_map status_of caches id) at taken)
   where
     by : (found : Option Cache) → at_place caches id ≡ found → is_refused (answer_of (option_map status_of found) said false) ≡ false → IsBusy caches id
@@ -224,7 +224,7 @@ busy_by caches id said refused taken = by (at_place caches id) refl (rw (at_plac
         at_turn (Some w) waits taken = record { cache = k; wait = w; here = here; waits = waits }
 
 pub answer_busy : (caches : List (Option Cache)) (id : ℕ) (a : Answer) → is_step (answer_to (lives_of caches) (Answered id a) false) ≡ true → IsBusy caches id
-answer_busy caches id a allowed = busy_by caches id (answers a) (λ c s. refl) (is_taken (answer_in (lives_of caches) (says id (answers a)) false) allowed)
+answer_busy caches id a allowed = busy_by caches id (answers a) (λ c s. refl) (is_taken (answer_in (lives_of caches) (on_cache id (answers a)) false) allowed)
 
 pub give_up_busy : (caches : List (Option Cache)) (id : ℕ) (left : Option Noted) → of_abandon (Ok left) ≡ answer_to (lives_of caches) (GiveUp id) false → IsBusy caches id
 give_up_busy caches id left given = busy_by caches id gives_up (λ c s. refl) (ap is_refused (sym given ∙ of_left left))
@@ -252,7 +252,7 @@ first_recorded first configs caches h places fresh begins = rw (fresh, begins) (
 pub one_life : (first : ℕ) (configs : List CacheConfig) (i : ℕ) (c : CacheConfig) → slice_get configs i ≡ Some c → with_life (first + i) c (at_first first (take i configs)) ≡ at_first first (take (suc i) configs)
 one_life first configs i c at = ap (λ (ls : List Life). (let all : History = record { lives = ls; entries = [] } in all)) (more first configs i at)
   where
-    more : (n : ℕ) (cs : List CacheConfig) (i : ℕ) → slice_get cs i ≡ Some c → numbered n (take i cs) ++ record { id = n + i; config = c } ∷ [] ≡ numbered n (take (suc i) cs)
+    more : (n : ℕ) (cs : List CacheConfig) (i : ℕ) → slice_get cs i ≡ Some c → numbered_lives n (take i cs) ++ record { id = n + i; config = c } ∷ [] ≡ numbered_lives n (take (suc i) cs)
     more n [] i at = absurd cc
     more n (d ∷ cs) zero at = let here : n + 0 ≡ n = omega arith in cc
     more n (d ∷ cs) (suc i) at = let there : n + suc i ≡ (n + 1) + i = omega arith in let rest = more (n + 1) cs i at in cc

@@ -1,23 +1,24 @@
 -- The shared table, as the caches see it.
 use Rattle.std.proofs.Common.{◌≡◌, ◌≢◌, ℕ, false, eqb, List, [], option_map, Option, Some, None, refl, sym, ap, subst, ◌∙◌, arith}
 use Rattle.std.specs.FinMap as table
-use Rattle.jc_engine.proofs.Names.{nat_tests, length-map, Expiry, Item, row_of, RowMap, Tied, SameElsewhere, Kept, IsTied, items_of, Managed, cache_in, Cache, expiry_in, IsAt}
+use Rattle.jc_engine.proofs.Names.{nat_tests, length-map, Expiry, Item, row_of, RowMap, Tied, SameElsewhere, Kept, IsTied, items_of, Slot, cache_in, Cache, expiry_in, IsAt}
 use Rattle.jc_model.specs.Sound.{IsSound}
 use Rattle.jc_state.proofs.Ties.{Tied-same}
 use Rattle.jc_state.proofs.Found.{is_row, placed_there, row_of-absent}
-use Rattle.jc_bulk.proofs.TiedKeys.{tied_keys}
+use Rattle.jc_state.proofs.TiedKeys.{tied_keys}
 
 -- an id is as it was where the table has changed elsewhere
-pub at_elsewhere : {G : Type 0} (m n : RowMap) (id other : ℕ) (found : Option (Managed G)) → SameElsewhere id m n → other ≢ id → IsAt m other found → IsAt n other found
-at_elsewhere {G} m n id other found same differ is = by found is
+pub at_elsewhere : (m n : RowMap) (id other : ℕ) (found : Option Slot) → SameElsewhere id m n → other ≢ id → IsAt m other found → IsAt n other found
+at_elsewhere m n id other found same differ is = by found is
   where
     apart : eqb other id ≡ false
     apart = grind (arith, nat_tests)
 
-    by : (found : Option (Managed G)) → IsAt m other found → IsAt n other found
+    by : (found : Option Slot) → IsAt m other found → IsAt n other found
     by None is = λ key. same other key apart ∙ is key
     by (Some cache) is = record {
-      kept = record { id_is = is.kept.id_is; tied = Tied-same m n cache.state.id cache.state.cells (λ key. same cache.state.id key (rw is.kept.id_is apart)) is.kept.tied; within = is.kept.within };
+      id_is = is.id_is;
+      kept = record { tied = Tied-same m n cache.state.id cache.state.cells (λ key. same cache.state.id key (rw is.id_is apart)) is.kept.tied; within = is.kept.within };
       waits = is.waits;
     }
 
@@ -29,12 +30,12 @@ expiry_of_row (Some (r, e)) m k key tied found =
     let is : ◌≡◌ {A = Option (ℕ × Expiry)} (Some (r, e)) (Some (r, row.0.expiry)) = sym found ∙ placed_there m key k r row.0 tied row.1 in
     ap (option_map (λ (p : ℕ × Expiry). p.1)) is ∙ ap (option_map (λ (x : Item). x.expiry)) (sym row.1.found)
 
-pub expiry_shown : {G : Type 0} (m : RowMap) (id : ℕ) (found : Option (Managed G)) (key : List ℕ) → IsAt m id found → option_map (λ row. row.1) (table.get m (id, key)) ≡ expiry_in key (option_map cache_in found)
+pub expiry_shown : (m : RowMap) (id : ℕ) (found : Option Slot) (key : List ℕ) → IsAt m id found → option_map (λ row. row.1) (table.get m (id, key)) ≡ expiry_in key (option_map cache_in found)
 expiry_shown m id None key is = ap (option_map (λ (p : ℕ × Expiry). p.1)) (is key)
-expiry_shown m id (Some cache) key is = rw (← is.kept.id_is) (expiry_of_row (table.get m (cache.state.id, key)) m cache.state key is.kept.tied refl)
+expiry_shown m id (Some cache) key is = rw (← is.id_is) (expiry_of_row (table.get m (cache.state.id, key)) m cache.state key is.kept.tied refl)
 
 -- a cache's keys are distinct, and its rows within its capacity
-pub sound_there : {G : Type 0} (m : RowMap) (id : ℕ) (found : Option (Managed G)) (k : Cache) → IsAt m id found → option_map cache_in found ≡ Some k → IsSound k.config k.progress.state
+pub sound_there : (m : RowMap) (id : ℕ) (found : Option Slot) (k : Cache) → IsAt m id found → option_map cache_in found ≡ Some k → IsSound k.config k.progress.state
 sound_there m id None k is at = absurd cc
 sound_there m id (Some cache) k is at = grind (arith, tied_keys, length-map)
 

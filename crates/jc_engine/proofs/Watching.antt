@@ -1,24 +1,25 @@
 -- An image that shows the table shows the caches.
-use Rattle.std.proofs.Common.{◌≡◌, ℕ, List, Option, Some, None, refl, sym, ap, ◌∙◌, option_map}
+use Rattle.std.proofs.Common.{◌≡◌, ℕ, Bool, true, List, Option, Some, None, refl, sym, ap, ◌∙◌, option_map}
 use Rattle.std.specs.FinMap as table
-use Rattle.jc_engine.proofs.Names.{CacheConfig, Expiry, State, Progress, Awaited, at_place, Status, state_of, HasDistinctKeys, Wait, standing_by, Cache, status_of, lives_of, expiry_in, ShowsStates, expiry_at, states_of}
+use Rattle.jc_engine.proofs.Names.{CacheConfig, Expiry, State, Progress, Awaited, at_place, Status, state_in, HasDistinctKeys, Wait, standing_by, Cache, status_of, lives_of, expiry_in, ShowsStates, expiry_at, states_of}
 use Rattle.jc_engine.proofs.Names.{IsCacheSound, at_place_map}
-use Rattle.jc_rows.specs.Images.{Image, Shows, slot}
+use Rattle.jc_rows.specs.Images.{Image, Shows, image_slot, last_image}
+use Rattle.jc_state.specs.Visited.{SeesTable}
 use Rattle.jc_engine.proofs.Places.{Within, seen_is}
 use Rattle.jc_engine.proofs.Tables.{expiry_shown, sound_there}
 use Rattle.jc_engine.proofs.Counted.{count}
 
 -- an open call waits in its cache's state
-pub state_is : (c : CacheConfig) (p : Progress) (turn : Option (Awaited × Wait)) → state_of (standing_by c p turn) ≡ p.state
+pub state_is : (c : CacheConfig) (p : Progress) (turn : Option (Awaited × Wait)) → state_in (standing_by c p turn) ≡ p.state
 state_is c p None = refl
 state_is c p (Some w) = refl
 
 pub state_at : (caches : List (Option Cache)) (id : ℕ) → at_place (states_of (lives_of caches)) id ≡ option_map (λ (k : Cache). k.progress.state) (at_place caches id)
 state_at caches id =
-    at_place_map (λ (k : Status). state_of k.standing) (lives_of caches) id
-    ∙ (ap (option_map (λ (k : Status). state_of k.standing)) (at_place_map status_of caches id) ∙ by (at_place caches id))
+    at_place_map (λ (k : Status). state_in k.standing) (lives_of caches) id
+    ∙ (ap (option_map (λ (k : Status). state_in k.standing)) (at_place_map status_of caches id) ∙ by (at_place caches id))
   where
-    by : (o : Option Cache) → option_map (λ (k : Status). state_of k.standing) (option_map status_of o) ≡ option_map (λ (k : Cache). k.progress.state) o
+    by : (o : Option Cache) → option_map (λ (k : Status). state_in k.standing) (option_map status_of o) ≡ option_map (λ (k : Cache). k.progress.state) o
     by None = refl
     by (Some k) = ap (λ (s : State). Some s) (state_is k.config k.progress k.turn)
 
@@ -26,7 +27,7 @@ expiry_is : (key : List ℕ) (o : Option Cache) → expiry_in key o ≡ expiry_a
 expiry_is key None = refl
 expiry_is key (Some k) = refl
 
-module _ {G : Type 0} (w : Within G) where
+module _ (w : Within) where
   -- the table's rows are those of the caches
   pub expiry_seen : (id : ℕ) (key : List ℕ) → option_map (λ row. row.1) (table.get w.rows (id, key)) ≡ expiry_in key (at_place w.seen id)
   expiry_seen id key = expiry_shown w.rows id (w.caches id) key (w.sound.each id) ∙ ap (expiry_in key) (sym (seen_is w id refl))
@@ -44,10 +45,10 @@ module _ {G : Type 0} (w : Within G) where
       by None is e = absurd cc
       by (Some k) is e = let same : k.progress.state ≡ s = cc in rw same at (sound_seen id k is).0
 
-  placed_there : (image : Image) → Shows w.rows image → image.stash ≡ 0 → (id : ℕ) (key : List ℕ) (e : Expiry) → expiry_at key (at_place (states_of (lives_of w.seen)) id) ≡ Some e → (i : ℕ) × (slot image i ≡ Some ((id, key), e))
+  placed_there : (image : Image) → Shows w.rows image → image.stash ≡ 0 → (id : ℕ) (key : List ℕ) (e : Expiry) → expiry_at key (at_place (states_of (lives_of w.seen)) id) ≡ Some e → (i : ℕ) × (image_slot image i ≡ Some ((id, key), e))
   placed_there image shows none id key e at = by (table.get w.rows (id, key)) refl (expiry id key ∙ at)
     where
-      by : (o : Option (ℕ × Expiry)) → table.get w.rows (id, key) ≡ o → option_map (λ row. row.1) o ≡ Some e → (i : ℕ) × (slot image i ≡ Some ((id, key), e))
+      by : (o : Option (ℕ × Expiry)) → table.get w.rows (id, key) ≡ o → option_map (λ row. row.1) o ≡ Some e → (i : ℕ) × (image_slot image i ≡ Some ((id, key), e))
       by None here is = absurd cc
       by (Some row) here is =
           let there = shows.whole none (id, key) row here in
@@ -60,3 +61,7 @@ module _ {G : Type 0} (w : Within G) where
     others = shows.others ∙ count w.rows (states_of (lives_of w.seen)) expiry distinct;
     whole = placed_there image shows;
   }
+
+-- a watcher that has seen the table has seen the caches
+pub caches_seen : (w : Within) {images : List Image} {met : Bool} → SeesTable w.rows images met → ShowsStates (states_of (lives_of w.seen)) (last_image images) × (met ≡ true)
+caches_seen w is = (rw is.last.0 (states_shown w is.image is.shows), is.last.1)

@@ -6,7 +6,7 @@ use Rattle.jc_model.specs.declared.event.Cause.TheVariants.{OutOfMemory}
 use Rattle.jc_model.specs.declared.event.Outcome.{Outcome}
 use Rattle.jc_model.specs.declared.event.Outcome.TheVariants as outcome
 use Rattle.jc_state.specs.Noted.{Noted}
-use Rattle.jc_engine.specs.declared.cache.Advance.{Advance}
+use Rattle.jc_engine.specs.declared.turn.Advance.{Advance}
 use Rattle.jc_engine.specs.Caches.{Cache}
 use Rattle.jc_engine.specs.Managed.{step_of, FitsTurn, LeavesNotices}
 

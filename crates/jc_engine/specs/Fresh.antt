@@ -6,11 +6,12 @@ use Rattle.std.specs.Str.{bytes_eq}
 use Rattle.jc_model.specs.declared.config.CacheConfig.{CacheConfig}
 use Rattle.jc_model.specs.State.{zeros}
 use Rattle.jc_model.specs.Limits.{most_ids, most_rows_together}
-use Rattle.jc_roster.specs.Members.{members_of, rows_of}
 use Rattle.jc_engine.specs.Caches.{Cache, lives_of, id_of}
 use Rattle.jc_engine.specs.Opening.{is_taken}
-use Rattle.jc_engine.specs.declared.cache.Turn.TheVariants.{Idle}
-use Rattle.jc_engine.specs.declared.cache.Managed.{Managed}
+use Rattle.jc_engine.specs.declared.turn.Turn.TheVariants.{Idle}
+use Rattle.jc_engine.specs.Slots.{Slot}
+use Rattle.jc_model.specs.Runs.{members_of}
+use Rattle.jc_model.specs.Refusals.{rows_of}
 
 -- a cache of this configuration may get the next id
 pub record MayCome (caches : List (Option Cache)) (c : CacheConfig) : Type 0 where
@@ -24,5 +25,5 @@ abbrev pub AreNames : {S : Type 0} → Option (HashSet (List ℕ) S) → List (L
 AreNames None names = Unit {0}
 AreNames (Some set) names = (name : List ℕ) → contains bytes_eq set name ≡ is_taken name names
 
-abbrev pub fresh_fields : {G : Type 0} → ℕ → CacheConfig → Managed G
-fresh_fields id c = record { state = record { config = c; id = id; cells = []; counts = zeros }; turn = Idle }
+abbrev pub fresh_slot : ℕ → CacheConfig → Slot
+fresh_slot id c = record { state = record { config = c; id = id; cells = []; counts = zeros }; turn = Idle }

@@ -7,8 +7,8 @@ use Rattle.jc_model.specs.declared.event.Entry.{Entry}
 use Rattle.jc_model.specs.Legal.{History, with_answer}
 use Rattle.jc_model.specs.declared.config.CacheConfig.{CacheConfig}
 use Rattle.jc_state.specs.Noted.{Noted}
-use Rattle.jc_engine.specs.declared.cache.Advance.{Advance}
-use Rattle.jc_engine.specs.declared.cache.Advance.TheVariants.{Replied}
+use Rattle.jc_engine.specs.declared.turn.Advance.{Advance}
+use Rattle.jc_engine.specs.declared.turn.Advance.TheVariants.{Replied}
 use Rattle.jc_engine.specs.Recording.{CanTell, with_entry, with_entry_at, with_life, with_advance, with_give_up}
 
 -- whether a call has ended with its reply

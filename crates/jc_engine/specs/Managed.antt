@@ -1,5 +1,5 @@
 -- What the fields of one cache stand for, and how it moves.
-use Rattle.std.specs.Prelude.{◌≡◌, ◌≤◌, length, ℕ, Bool, true, false, List, [], Result, Ok, Err}
+use Rattle.std.specs.Prelude.{◌≡◌, ◌≢◌, ℕ, Bool, true, false, List, [], Result, Ok, Err}
 use Rattle.std.specs.Prelude.{Option, Some, None, MatchOption}
 use Rattle.jc_model.specs.declared.call.Notice.{Notice}
 use Rattle.jc_model.specs.declared.call.Request.TheVariants.{Tell}
@@ -13,48 +13,56 @@ use Rattle.jc_model.specs.declared.event.Outcome.TheVariants as outcome
 use Rattle.jc_model.specs.Run.{Run, and_then, Awaited, for_tell, told_by}
 use Rattle.jc_model.specs.Everywhere.{AtEach}
 use Rattle.jc_model.specs.Whole.{told_first}
-use Rattle.jc_model.specs.Runs.{Said, shown, standing_of, reply_of, refuse_last, for_memory, moved}
+use Rattle.jc_model.specs.Runs.{CacheEvent, shown, standing_of, reply_of, refuse_last, for_memory, moved}
 use Rattle.jc_model.specs.Suspended.{Wait, one, many, telling, standing_by}
 use Rattle.jc_rows.specs.Rows.{RowMap}
 use Rattle.jc_state.specs.Noted.{Noted}
-use Rattle.jc_state.specs.Kept.{Kept, progress_of, IsTied}
+use Rattle.jc_state.specs.Kept.{Kept, progress_of}
+use Rattle.jc_state.specs.Visited.{Visited, IsKeptIn}
 use Rattle.jc_bulk.specs.Calls.{IsSuspended}
-use Rattle.jc_engine.specs.declared.cache.Turn.{Turn}
-use Rattle.jc_engine.specs.declared.cache.Turn.TheVariants.{Idle, Waiting, Telling}
-use Rattle.jc_engine.specs.declared.cache.Advance.{Advance}
-use Rattle.jc_engine.specs.declared.cache.Advance.TheVariants.{Replied, Asked, Told}
-use Rattle.jc_engine.specs.declared.cache.Managed.{Managed}
+use Rattle.jc_engine.specs.declared.turn.Turn.{Turn}
+use Rattle.jc_engine.specs.declared.turn.Turn.TheVariants.{Idle, Waiting, Telling}
+use Rattle.jc_engine.specs.declared.turn.Advance.{Advance}
+use Rattle.jc_engine.specs.declared.turn.Advance.TheVariants.{Replied, Asked, Told}
+use Rattle.jc_engine.specs.Slots.{Slot}
 use Rattle.jc_engine.specs.Caches.{Cache, status_of}
 
 abbrev pub turn_in : Turn → Option (Awaited × Wait)
 turn_in Idle = None
-turn_in (Waiting s) = Some (s.awaits, s.wait)
+turn_in (Waiting w) = Some (w.call.awaits, w.call.wait)
 turn_in (Telling reply) = Some (for_tell, telling reply)
 
 -- the notices that no one has been told
 abbrev pub notices_in : Turn → List Notice
 notices_in Idle = []
-notices_in (Waiting s) = s.notices
+notices_in (Waiting w) = w.told
 notices_in (Telling reply) = []
 
-abbrev pub cache_in : {G : Type 0} → Managed G → Cache
+abbrev pub cache_in : Slot → Cache
 cache_in cache = record { config = cache.state.config; progress = progress_of cache.state (notices_in cache.turn); turn = turn_in cache.turn }
 
 -- an open call waits where its run leads
 abbrev pub WaitsThere : CacheConfig → Kept → Turn → Type 0
 WaitsThere c k Idle = Unit {0}
-WaitsThere c k (Waiting s) = IsSuspended c (progress_of k s.notices) s
+WaitsThere c k (Waiting w) = IsSuspended c (progress_of k w.told) w.call
 WaitsThere c k (Telling reply) = Unit {0}
 
--- a cache has this id, is tied to the table, and has no more rows than it may
-pub record IsKept (m : RowMap) (id : ℕ) (k : Kept) : Type 0 where
-  pub id_is : k.id ≡ id
-  pub tied : IsTied m k
-  pub within : length k.cells ≤ k.config.capacity
-
-pub record IsManaged {G : Type 0} (m : RowMap) (id : ℕ) (cache : Managed G) : Type 0 where
-  pub kept : IsKept m id cache.state
+-- a cache has this id, the table and it say the same of its rows, and an open call waits where its run leads
+pub record IsManaged (m : RowMap) (id : ℕ) (cache : Slot) : Type 0 where
+  pub id_is : cache.state.id ≡ id
+  pub kept : IsKeptIn m cache.state
   pub waits : WaitsThere cache.state.config cache.state cache.turn
+
+-- Between two calls the visit has a cache without rows, whose id is not this, and no notices.
+pub record IsBetweenCalls (id : ℕ) (v : Visited) : Type 0 where
+  pub empty : v.cache.cells ≡ []
+  pub apart : v.cache.id ≢ id
+  pub untold : v.noted.told ≡ []
+
+-- and then as before
+pub record RestsAgain (v w : Visited) : Type 0 where
+  pub cache : w.cache ≡ v.cache
+  pub untold : w.noted.told ≡ []
 
 -- The call moves.
 
@@ -91,11 +99,11 @@ pub record Settled (c : CacheConfig) (run : Run) (k : Kept) (turn : Turn) (advan
   pub fits : NeverTells run → FitsTurn advance (turn_in turn)
 
 -- what a cache answers to an event that it hears, where memory suffices
-abbrev pub reply_to : Cache → Said → Outcome
+abbrev pub reply_to : Cache → CacheEvent → Outcome
 reply_to k said = reply_of k.config (status_of k).standing said
 
 -- a cache has heard an event and moved as it is to
-pub record Moves (k : Cache) (said : Said) (advance : Advance) (k' : Cache) : Type 0 where
+pub record Moves (k : Cache) (said : CacheEvent) (advance : Advance) (k' : Cache) : Type 0 where
   pub shows : outcome.Step (step_of advance) ≡ reply_to k said
   pub moves : status_of k' ≡ moved (status_of k) said
   pub fits : FitsTurn advance k'.turn
@@ -105,11 +113,11 @@ is_step (outcome.Step s) = true
 is_step _ = false
 
 -- why it gets no step where memory suffices: this cause, or none where it gets one
-abbrev pub IsRefusalTo : Cache → Said → Option Cause → Type 0
+abbrev pub IsRefusalTo : Cache → CacheEvent → Option Cause → Type 0
 IsRefusalTo k said refusal = MatchOption refusal (is_step (reply_to k said) ≡ true) (λ cause. reply_to k said ≡ outcome.Refused cause)
 
 -- it is refused for this cause, which may be memory
-abbrev pub IsRefusedFor : Cache → Said → Cause → Type 0
+abbrev pub IsRefusedFor : Cache → CacheEvent → Cause → Type 0
 IsRefusedFor k said cause = outcome.Refused cause ≡ refuse_last (for_memory (outcome.Refused cause)) (reply_to k said)
 
 -- the notices that are left of an open call: none while they are being told
@@ -118,7 +126,7 @@ LeavesNotices k None = (tells k.turn ≡ true) × (k.progress.notices ≡ [])
 LeavesNotices k (Some left) = (tells k.turn ≡ false) × (left.told ≡ k.progress.notices)
 
 -- a call was given up, where one was open
-abbrev pub Abandons : {G : Type 0} → Managed G → Result (Option Noted) Cause → Managed G → Type 0
+abbrev pub Abandons : Slot → Result (Option Noted) Cause → Slot → Type 0
 Abandons cache (Ok left) after =
     (after ≡ record cache { turn = Idle }) × (◌≡◌ {A = Option (Awaited × Wait)} (turn_in cache.turn) None → ⊥) × LeavesNotices (cache_in cache) left
 Abandons cache (Err cause) after = (cause ≡ NoTurn) × (turn_in cache.turn ≡ None) × (after ≡ cache)

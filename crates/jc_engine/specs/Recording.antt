@@ -14,8 +14,8 @@ use Rattle.jc_model.specs.Places.{at_place}
 use Rattle.jc_model.specs.Legal.{History, Tells, recorded, with_outcome}
 use Rattle.jc_model.specs.Suspended.{Wait}
 use Rattle.jc_state.specs.Noted.{Noted}
-use Rattle.jc_engine.specs.declared.cache.Advance.{Advance}
-use Rattle.jc_engine.specs.declared.cache.Advance.TheVariants.{Replied, Asked, Told}
+use Rattle.jc_engine.specs.declared.turn.Advance.{Advance}
+use Rattle.jc_engine.specs.declared.turn.Advance.TheVariants.{Replied, Asked, Told}
 use Rattle.jc_engine.specs.Caches.{Cache, lives_of}
 use Rattle.jc_engine.specs.Managed.{is_telling, step_of}
 

@@ -2,14 +2,18 @@
 use Rattle.std.specs.Prelude.{◌≡◌, ℕ, zero, suc, ◌≤◌, List, [], ◌∷◌, ◌++◌, map, option_map, length}
 use Rattle.std.specs.Prelude.{Option, Some, None}
 use Rattle.std.specs.FinMap as table
+use Rattle.jc_model.specs.declared.call.Notice.{Notice}
+use Rattle.jc_model.specs.Limits.{most_ids}
 use Rattle.jc_rows.specs.Rows.{RowMap}
-use Rattle.jc_roster.specs.Members.{Member, members_of}
-use Rattle.jc_engine.specs.declared.cache.Managed.{Managed}
+use Rattle.jc_state.specs.Kept.{Kept}
+use Rattle.jc_engine.specs.Slots.{Slot}
 use Rattle.jc_engine.specs.Caches.{Cache, lives_of}
 use Rattle.jc_engine.specs.Managed.{IsManaged, cache_in}
+use Rattle.jc_model.specs.Refusals.{Member}
+use Rattle.jc_model.specs.Runs.{members_of}
 
 -- the rows at an id are those of its cache, if there is one
-abbrev pub IsAt : {G : Type 0} → RowMap → ℕ → Option (Managed G) → Type 0
+abbrev pub IsAt : RowMap → ℕ → Option Slot → Type 0
 IsAt m id None = (key : List ℕ) → table.get m (id, key) ≡ None
 IsAt m id (Some cache) = IsManaged m id cache
 
@@ -23,11 +27,24 @@ abbrev pub NoneFrom : {A : Type 0} → ℕ → (ℕ → Option A) → Type 0
 NoneFrom n f = (k : ℕ) → n ≤ k → f k ≡ None
 
 -- the caches at all ids that have been given
-abbrev pub caches_in : {G : Type 0} → (ℕ → Option (Managed G)) → ℕ → List (Option Cache)
+abbrev pub caches_in : (ℕ → Option Slot) → ℕ → List (Option Cache)
 caches_in caches next = map (option_map cache_in) (places_of caches next)
 
 -- The table has the rows of all caches and no others; the members are the caches, and no id from the next on has one.
-pub record IsSound {G : Type 0} (m : RowMap) (caches : ℕ → Option (Managed G)) (members : List (Option Member)) : Type 0 where
+pub record IsSound (m : RowMap) (caches : ℕ → Option Slot) (members : List (Option Member)) : Type 0 where
   pub each : (id : ℕ) → IsAt m id (caches id)
   pub beyond : NoneFrom (length members) caches
   pub listed : members ≡ members_of (lives_of (caches_in caches (length members)))
+
+-- Between two calls the visit has a cache without rows, whose id is given to none.
+pub record IsSpare (spare : Kept) : Type 0 where
+  pub empty : spare.cells ≡ []
+  pub id_is : spare.id ≡ most_ids
+
+-- a manager's fields: its table, its caches by id, their members, and what its visit has between two calls, the cache
+-- and the notices
+pub record IsManager (m : RowMap) (caches : ℕ → Option Slot) (members : List (Option Member)) (cache : Kept) (told : List Notice) : Type 0 where
+  pub sound : IsSound m caches members
+  pub spare : IsSpare cache
+  pub unused : caches most_ids ≡ None
+  pub untold : told ≡ []

@@ -4,14 +4,14 @@ use Rattle.std.specs.Prelude.{Option, Some, None}
 use Rattle.jc_model.specs.declared.config.Expiry.{Expiry}
 use Rattle.jc_model.specs.State.{State, row_of}
 use Rattle.jc_model.specs.Runs.{Lives}
-use Rattle.jc_model.specs.Solo.{state_of}
-use Rattle.jc_rows.specs.Images.{Image, Shown, slot, last_image}
+use Rattle.jc_model.specs.Solo.{state_in}
+use Rattle.jc_rows.specs.Images.{Image, Shown, image_slot, last_image}
 use Rattle.jc_model.specs.Places.{at_place, all_there}
 use Rattle.jc_engine.specs.Caches.{Cache, lives_of}
 
 -- the rows and counters of live caches, by their ids
 abbrev pub states_of : Lives → List (Option State)
-states_of lives = map (option_map (λ k. state_of k.standing)) lives
+states_of lives = map (option_map (λ k. state_in k.standing)) lives
 
 -- when a cache's row of this key expires
 abbrev pub expiry_at : List ℕ → Option State → Option Expiry
@@ -21,9 +21,9 @@ expiry_at key (Some s) = option_map (λ x. x.expiry) (row_of key s.ring)
 -- each row that an image places is one of its cache, with that expiry, its count is the number of the others, and where
 -- there are none it places all
 pub record ShowsStates (states : List (Option State)) (image : Image) : Type 0 where
-  pub placed : (i : ℕ) (s : Shown) → slot image i ≡ Some s → expiry_at s.0.1 (at_place states s.0.0) ≡ Some s.1
+  pub placed : (i : ℕ) (s : Shown) → image_slot image i ≡ Some s → expiry_at s.0.1 (at_place states s.0.0) ≡ Some s.1
   pub others : count_by is_some image.slots + image.stash ≡ sum_by (λ s. length s.ring) (all_there states)
-  pub whole : image.stash ≡ 0 → (id : ℕ) (key : List ℕ) (e : Expiry) → expiry_at key (at_place states id) ≡ Some e → (i : ℕ) × (slot image i ≡ Some ((id, key), e))
+  pub whole : image.stash ≡ 0 → (id : ℕ) (key : List ℕ) (e : Expiry) → expiry_at key (at_place states id) ≡ Some e → (i : ℕ) × (image_slot image i ≡ Some ((id, key), e))
 
 -- a watcher has met the last image that it has seen, and it shows the caches
 abbrev pub SeesCaches : {W : Type 0} → (W → List Image) → (W → Bool) → W → List (Option Cache) → Type 0

@@ -6,7 +6,8 @@ ghost use Rattle.jc_engine.specs.Caches.{AreSound, IsTableOf, names_of, id_of, h
 ghost use Rattle.jc_engine.specs.Heard.{IsAnswer, IsFreeAnswer, FreeIsAnswered, LeadsTo};
 ghost use Rattle.jc_engine.specs.Results.{of_begin, of_resume, of_give_up};
 
-use crate::cache::{Advance, Managed};
+use crate::cache::Managed;
+use crate::turn::Advance;
 use jc_model::call::{Answer, Call, Notice};
 use jc_model::event::{CacheId, Cause, Step};
 use jc_model::key::Key;
@@ -15,6 +16,7 @@ use jc_ops::step::reply::found;
 use jc_ring::ring::Ring;
 use jc_roster::roster::Roster;
 use jc_rows::rows::Rows;
+use jc_state::visit::Visit;
 use std::alloc::Global;
 use std::collections::HashMap;
 use std::marker::Model;
@@ -24,7 +26,8 @@ use std::marker::Model;
 #[derive(Drop)]
 pub struct Engine<R: Rows, G: Ring> {
     pub(crate) alloc: Global,
-    pub(crate) rows: R,
+    /// The table, and between two calls a cache without rows, and no notices.
+    pub(crate) visit: Visit<R, G>,
     /// The live ones.
     pub(crate) caches: HashMap<u32, Managed<G>>,
     /// Their names and capacities, and which id is next.
@@ -38,11 +41,12 @@ impl<R: Rows, G: Ring> Model for Engine<R, G> {
 
     ghost Value = { List (Option Cache) };
 
-    ghost use Rattle.jc_engine.specs.Sound.{caches_in, IsSound};
+    ghost use Rattle.jc_engine.specs.Sound.{caches_in, IsManager};
 
     ghost view = { λ e. caches_in (get nat_eq e.caches) (length e.roster) };
 
-    ghost invariant = { λ e. IsSound (R.contents e.rows) (get nat_eq e.caches) e.roster };
+    ghost invariant = { λ e. IsManager e.visit.table (get nat_eq e.caches) e.roster
+        e.visit.cache e.visit.noted.told };
 }
 
 impl<R: Rows, G: Ring> Engine<R, G> {
@@ -80,7 +84,7 @@ impl<R: Rows, G: Ring> Engine<R, G> {
         ensures sound { AreSound self.now }
         ensures table { IsTableOf (R.contents result.now) self.now }
     {
-        &self.rows
+        self.visit.rows()
     }
 
     /// Whether a cache has a live row of this key. An id without a live cache has none. This is no use of the row.
@@ -89,7 +93,7 @@ impl<R: Rows, G: Ring> Engine<R, G> {
     {
         let number = id.number();
         match self.caches.get(&number) {
-            Some(cache) => cache.state.holds(&self.rows, key, now),
+            Some(cache) => cache.holds(self.visit.rows(), key, now),
             None => false,
         }
     }

@@ -6,8 +6,8 @@ mod open_call;
 pub mod open_calls;
 pub mod past;
 
-use crate::cache::Advance;
 use crate::journal::change::Begun;
+use crate::turn::Advance;
 use jc_model::OutOfMemory;
 use jc_model::call::{Answer, Call, Notice, Reply};
 use jc_model::config::CacheConfig;

@@ -10,4 +10,5 @@ pub mod open;
 mod over;
 pub mod recorded;
 mod run;
+mod turn;
 pub mod watched;

@@ -4,11 +4,11 @@ ghost use Rattle.jc_model.specs.declared.event.Event.TheVariants.{Create, Destro
 ghost use Rattle.jc_model.specs.Places.{at_place};
 ghost use Rattle.jc_model.specs.Runs.{create_refusal};
 ghost use Rattle.jc_engine.specs.Caches.{Cache, lives_of, fresh_cache};
-ghost use Rattle.jc_engine.specs.Fresh.{MayCome, fresh_fields};
+ghost use Rattle.jc_engine.specs.Fresh.{MayCome, fresh_slot};
 ghost use Rattle.jc_engine.specs.Heard.{IsAnswer, IsFreeAnswer, IsDestroyRefusal, LeadsTo};
 ghost use Rattle.jc_engine.specs.Results.{of_create, of_destroy};
 
-use crate::cache::{Managed, Turn};
+use crate::cache::Managed;
 use crate::engine::Engine;
 use jc_model::config::CacheConfig;
 use jc_model::event::{CacheId, Cause, CreateRefusal};
@@ -115,7 +115,7 @@ impl<R: Rows, G: Ring> Engine<R, G> {
         let number = id.number();
         match self.caches.remove(&number) {
             Some(mut cache) => {
-                cache.leave(&mut self.rows);
+                cache.leave(&mut self.visit);
                 drop(cache);
                 self.roster.remove(number);
             }
@@ -131,12 +131,12 @@ fn fresh<G: Ring>(
     config: CacheConfig,
 ) -> Result<Managed<G>, CacheConfig>
     requires { 1 ≤ config.capacity }
-    ensures made { IfOk result (λ cache. cache ≡ fresh_fields number config) }
+    ensures made { IfOk result (λ cache. cache ≡ fresh_slot number config) }
     ensures back { IfErr result (λ back. back ≡ config) }
 {
     let state = CacheState::empty(alloc, CacheId::new(number), config)?;
-    Ok(Managed {
-        state,
-        turn: Turn::Idle,
-    })
+    match Box::new(alloc, state) {
+        Ok(state) => Ok(Managed::new(state)),
+        Err(refused) => Err(refused.value.into_config()),
+    }
 }

@@ -4,7 +4,7 @@ ghost use Rattle.std.specs.Prelude.{◌≡◌, ℕ, None, true, false, IsOk, IfS
 ghost use Rattle.jc_model.specs.declared.event.Event.TheVariants.{Begin, Answer as Answered, GiveUp};
 ghost use Rattle.jc_model.specs.declared.call.Reply.TheVariants.{Found};
 ghost use Rattle.jc_model.specs.declared.event.Outcome.TheVariants.{Refused};
-ghost use Rattle.jc_engine.specs.declared.cache.Advance.TheVariants.{Replied};
+ghost use Rattle.jc_engine.specs.declared.turn.Advance.TheVariants.{Replied};
 ghost use Rattle.jc_model.specs.Runs.{answer_to};
 ghost use Rattle.jc_model.specs.Run.{fits, for_tell};
 ghost use Rattle.jc_model.specs.Places.{at_place};
@@ -14,11 +14,11 @@ ghost use Rattle.jc_engine.specs.Results.{of_found};
 ghost use Rattle.jc_engine.specs.Managed.{is_step};
 ghost use Rattle.jc_engine.specs.Advances.{outcome_of, of_start, of_abandon, FitsAt, LeavesAt, ClosedAt, ChangesOne, is_open_in};
 
-use crate::cache::Advance;
 use crate::engine::Engine;
+use crate::turn::Advance;
 use jc_model::call::{Answer, Call};
+use jc_model::copies::Copies;
 use jc_model::event::{CacheId, Cause};
-use jc_model::thrice::Thrice;
 use jc_model::value::Value;
 use jc_ring::ring::Ring;
 use jc_rows::rows::Rows;
@@ -88,7 +88,7 @@ impl<R: Rows, G: Ring> Engine<R, G> {
         id: CacheId,
         now: u64,
         call: &Call,
-    ) -> Option<Option<Thrice<Value>>>
+    ) -> Option<Option<Copies<Value>>>
         ensures outcome { IfSome result (λ value. FindsValue self.old id now call.now value) }
         ensures lives { IfSome result (λ value.
             LeadsTo self.old (Begin id now call.now) (of_found value) self.new) }
@@ -102,7 +102,7 @@ impl<R: Rows, G: Ring> Engine<R, G> {
         }
         let number = id.number();
         match self.caches.get_mut(&number) {
-            Some(cache) => cache.get_at_once(&mut self.rows, now, call),
+            Some(cache) => cache.get_at_once(&mut self.visit, now, call),
             None => None,
         }
     }
@@ -118,7 +118,7 @@ impl<R: Rows, G: Ring> Engine<R, G> {
     {
         let number = id.number();
         match self.caches.get_mut(&number) {
-            Some(cache) => cache.start(self.alloc, &mut self.rows, now, call),
+            Some(cache) => cache.start(self.alloc, &mut self.visit, now, call),
             None => Err(Cause::NoSuchCache),
         }
     }
@@ -136,7 +136,7 @@ impl<R: Rows, G: Ring> Engine<R, G> {
     {
         let number = id.number();
         match self.caches.get_mut(&number) {
-            Some(cache) => cache.go_on(&mut self.rows, answer),
+            Some(cache) => cache.go_on(self.alloc, &mut self.visit, answer),
             None => unreachable!(),
         }
     }

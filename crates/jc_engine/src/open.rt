@@ -6,20 +6,22 @@ ghost use Rattle.std.specs.Str.{bytes_eq};
 ghost use Rattle.jc_model.specs.Limits.{most_caches};
 ghost use Rattle.jc_engine.specs.Caches.{fresh_from};
 ghost use Rattle.jc_engine.specs.Opening.{RefusesDue, RefusesNoOther, open_refusal, open_refusal_from};
-ghost use Rattle.jc_engine.specs.Opening.{limit_refusal, refusal_from, is_taken, capacities, names_in};
+ghost use Rattle.jc_engine.specs.Opening.{open_refusal_for, refusal_from, is_taken, capacities, names_in};
 ghost use Rattle.jc_engine.specs.Fresh.{AreNames};
+ghost use Rattle.jc_engine.specs.Sound.{IsSpare};
 
 use crate::engine::Engine;
 use jc_model::OutOfMemory;
-use jc_model::config::CacheConfig;
+use jc_model::config::{CacheConfig, Limit};
+use jc_model::event::CacheId;
 use jc_model::key::Key;
-use jc_model::limits::{
-    MOST_CACHES, MOST_IDS, MOST_LISTENERS, MOST_PROCESSORS, MOST_ROWS, MOST_ROWS_TOGETHER,
-};
+use jc_model::limits::{MOST_CACHES, MOST_IDS, MOST_ROWS_TOGETHER};
 use jc_ring::ring::Ring;
 use jc_roster::roster::Roster;
 use jc_rows::rows::Rows;
-use std::alloc::Global;
+use jc_state::state::CacheState;
+use jc_state::visit::Visit;
+use std::alloc::{AllocError, Global};
 use std::collections::{HashMap, HashSet};
 
 /// Why a manager does not open; `cache` is the place of the cache in the list, from 0.
@@ -88,7 +90,7 @@ impl<R: Rows, G: Ring> Engine<R, G> {
         if let Some(refusal) = open_refusal_from(alloc, &configs, first) {
             return Err(refusal);
         }
-        let mut engine = Engine::vacant(alloc, rows, first);
+        let mut engine = Engine::vacant(alloc, rows, first)?;
         for config in configs {
             let Ok(_) = engine.admit(config) else {
                 return Err(OpenRefusal::OutOfMemory);
@@ -98,16 +100,30 @@ impl<R: Rows, G: Ring> Engine<R, G> {
     }
 
     /// A manager without caches, the first of which will get this id.
-    fn vacant(alloc: Global, rows: R, first: u32) -> Engine<R, G>
+    fn vacant(alloc: Global, rows: R, first: u32) -> Result<Engine<R, G>, OutOfMemory>
         requires { R.contents rows ≡ table.empty }
-        ensures { result ≡ fresh_from first [] }
+        ensures { IfOk result (λ engine. engine ≡ fresh_from first []) }
     {
-        Engine {
+        Ok(Engine {
             alloc,
-            rows,
+            visit: Visit::new(alloc, spare_cache(alloc)?, rows),
             caches: HashMap::new(alloc),
             roster: Roster::new(alloc, first),
-        }
+        })
+    }
+}
+
+/// The cache without rows that the manager's visit has between two calls. It has an id that is given to none.
+fn spare_cache<G: Ring>(alloc: Global) -> Result<Box<CacheState<G>>, OutOfMemory>
+    ensures { IfOk result (λ cache. IsSpare cache.value) }
+{
+    let Ok(name) = Key::from_text("spare") else {
+        unreachable!()
+    };
+    let config = CacheConfig::new(alloc, name, 1);
+    match CacheState::empty(alloc, CacheId::new(MOST_IDS), config) {
+        Ok(state) => Ok(Box::new(alloc, state)?),
+        Err(_) => Err(AllocError),
     }
 }
 
@@ -140,18 +156,14 @@ pub(crate) fn open_refusal_from(
     refusal
 }
 
-/// What is wrong with one cache, its name aside.
-fn limit_refusal(config: &CacheConfig, cache: u32) -> Option<OpenRefusal>
-    ensures { result ≡ limit_refusal cache config.now }
+/// Why the cache at a place is refused whose configuration breaks this limit.
+fn refusal_for(limit: Limit, cache: u32) -> OpenRefusal
+    ensures { result ≡ open_refusal_for cache limit }
 {
-    if config.capacity < 1 || config.capacity > MOST_ROWS {
-        Some(OpenRefusal::BadCapacity { cache })
-    } else if config.listeners > MOST_LISTENERS {
-        Some(OpenRefusal::TooManyListeners { cache })
-    } else if config.processors.items().len() > MOST_PROCESSORS {
-        Some(OpenRefusal::TooManyProcessors { cache })
-    } else {
-        None
+    match limit {
+        Limit::Capacity => OpenRefusal::BadCapacity { cache },
+        Limit::Listeners => OpenRefusal::TooManyListeners { cache },
+        Limit::Processors => OpenRefusal::TooManyProcessors { cache },
     }
 }
 
@@ -196,9 +208,8 @@ fn first_refusal(alloc: Global, configs: &[CacheConfig]) -> Option<OpenRefusal>
     let mut names = HashSet::with_capacity(alloc, configs.len()).ok();
     for (place, config) in configs.iter().enumerate() {
         let cache = place as u32;
-        let refusal = limit_refusal(config, cache);
-        if refusal.is_some() {
-            return refusal;
+        if let Some(limit) = config.broken_limit() {
+            return Some(refusal_for(limit, cache));
         }
         if is_taken(&names, &configs[..place], config.name) {
             return Some(OpenRefusal::DuplicateName { cache });

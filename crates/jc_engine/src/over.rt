@@ -16,7 +16,7 @@ impl<R: Rows, G: Ring> Engine<R, G> {
     {
         Engine {
             alloc: self.alloc,
-            rows,
+            visit: self.visit.over(rows),
             caches: self.caches,
             roster: self.roster,
         }

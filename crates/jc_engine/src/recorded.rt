@@ -17,19 +17,19 @@ ghost use Rattle.jc_model.specs.Limits.{most_ids};
 mod over;
 mod watched;
 
-use crate::cache::Advance;
 use crate::engine::Engine;
 use crate::journal::Journal;
 use crate::journal::all_calls::AllCalls;
 use crate::journal::change::Begun;
 use crate::open::{OpenRefusal, open_refusal_from};
+use crate::turn::Advance;
 use jc_model::OutOfMemory;
 use jc_model::call::{Answer, Call, Notice, Reply};
 use jc_model::config::CacheConfig;
+use jc_model::copies::Copies;
 use jc_model::event::{CacheId, Cause, CreateRefusal, Entry, Step};
 use jc_model::key::Key;
 use jc_model::list::Sequence;
-use jc_model::thrice::Thrice;
 use jc_model::transcript::Transcript;
 use jc_model::value::Value;
 use jc_ops::step::reply::found;
@@ -75,15 +75,12 @@ fn first_lives<J: Journal>(
 }
 
 /// The copies of a value, if there is one.
-fn three_of(value: Option<Thrice<Value>>) -> (Option<Value>, Option<Value>, Option<Value>)
+fn three_of(value: Option<Copies<Value>>) -> (Option<Value>, Option<Value>, Option<Value>)
     ensures { (result.0 ≡ value) × (result.1 ≡ value) × (result.2 ≡ value) }
 {
     match value {
         None => (None, None, None),
-        Some(value) => {
-            let (first, second, third) = value.into_three();
-            (Some(first), Some(second), Some(third))
-        }
+        Some(value) => value.map(Some).into_three(),
     }
 }
 

@@ -2,7 +2,7 @@
 ghost use Rattle.std.specs.Prelude.{◌≡◌, ℕ, Some, true, false, IfOk, IfErr, OnErr};
 ghost use Rattle.jc_model.specs.declared.config.CacheConfig.{CacheConfig};
 ghost use Rattle.jc_model.specs.Runs.{for_memory, IsRun, opened};
-ghost use Rattle.jc_model.specs.Solo.{begun, calls, seen, solo};
+ghost use Rattle.jc_model.specs.Solo.{status_at_start, own_calls, seen_of, solo};
 ghost use Rattle.jc_engine.specs.Caches.{lives_of};
 ghost use Rattle.jc_engine.specs.Free.{takes_none, FreeAreHeard};
 ghost use Rattle.jc_engine.specs.Heard.{IsAnswer, LeadsTo, RunLeadsTo};
@@ -34,9 +34,9 @@ impl<R: Rows, G: Ring> Engine<R, G> {
         ensures lives { IfOk result (λ outcomes.
             RunLeadsTo self.old events.items outcomes.items self.new) }
         ensures alone { IfOk result (λ outcomes. (id : ℕ) (c : CacheConfig)
-            → begun id (lives_of self.old) events.items outcomes.items ≡ Some (opened c)
-            → seen id (lives_of self.old) events.items outcomes.items (lives_of self.new)
-            ≡ Some (solo c (calls id events.items outcomes.items))) }
+            → status_at_start id (lives_of self.old) events.items outcomes.items ≡ Some (opened c)
+            → seen_of id (lives_of self.old) events.items outcomes.items (lives_of self.new)
+            ≡ Some (solo c (own_calls id (lives_of self.old) events.items outcomes.items))) }
         ensures free { IfOk result (λ outcomes. FreeAreHeard events.items outcomes.items) }
         ensures back { IfErr result (λ back. back.items ≡ events.items) }
         ensures refused { OnErr result (self.new ≡ self.old) }

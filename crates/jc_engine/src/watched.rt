@@ -14,7 +14,7 @@ impl<R: Watched, G: Ring> Engine<R, G> {
         ensures same { self.new ≡ self.old }
         ensures watcher { IfOk result (λ w. SeesCaches R.seen R.met w self.old) }
     {
-        self.rows.watch()
+        self.visit.watch()
     }
 
     /// The watcher sees the table's last image, which shows the caches as they are.
@@ -24,6 +24,6 @@ impl<R: Watched, G: Ring> Engine<R, G> {
         ensures met { OnOk result (SeesCaches R.seen R.met watcher.new self.old) }
         ensures refused { OnErr result (SeesNoMore R.seen R.met watcher.old watcher.new) }
     {
-        self.rows.meet(watcher)
+        self.visit.meet(watcher)
     }
 }

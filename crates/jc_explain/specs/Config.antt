@@ -2,22 +2,22 @@
 use Rattle.std.specs.Prelude.{◌≡◌, ◌≤◌, ◌-◌, ℕ, List, [], ◌∷◌, ◌++◌, length, take, Option, Some, None, option_and_then, codes, decimal}
 use Rattle.toml.specs.Data.{Data, Members, get_member, get, at, as_str}
 use Rattle.jc_config.specs.Config.{document_of}
-use Rattle.jc_config.specs.Faults.{name_of}
+use Rattle.jc_config.specs.Faults.{config_member_name}
 use Rattle.jc_config.specs.declared.fault.Member.{Member}
 use Rattle.jc_config.specs.declared.fault.Member.TheVariants.{Entry}
 use Rattle.jc_config.specs.declared.fault.ConfigFault.{ConfigFault}
 use Rattle.jc_config.specs.declared.fault.ConfigFault.TheVariants.{TooLong, NotToml, UnknownEntry, Bad, TooManyCaches, DuplicateName, TotalCapacity, OutOfMemory}
 use Rattle.jc_explain.specs.Found.{toml_shown}
 use Rattle.jc_explain.specs.Lines.{text_shown, suggestion, member_line, missing_line, unknown_line, plain_line}
-use Rattle.jc_explain.specs.Place.{line_of, column_of}
-use Rattle.jc_explain.specs.Spelling.{nearest}
+use Rattle.jc_explain.specs.Place.{line_number, column_of}
+use Rattle.jc_explain.specs.Spelling.{near_text, nearest}
 use Rattle.jc_explain.specs.Stranger.{stranger_in, stranger_of}
 use Rattle.jc_explain.specs.Words.{config_members, config_words, config_allowed}
 
 -- a line about the place after these bytes
 abbrev pub place_line : List ℕ → List ℕ → List ℕ
 place_line before why =
-    codes "  line " ++ (decimal (line_of before) ++ (codes ", column " ++ (decimal (column_of before) ++ (codes ": " ++ (why ++ codes "\n")))))
+    codes "  line " ++ (decimal (line_number before) ++ (codes ", column " ++ (decimal (column_of before) ++ (codes ": " ++ (why ++ codes "\n")))))
 
 -- the line of a place, and of what the reader of TOML says of it
 abbrev pub TellsPlace : List ℕ → List ℕ → Type 0
@@ -42,29 +42,25 @@ entry_lines_by (Some word) = stranger_line only_cache (Some word)
 abbrev pub entry_lines : Members → List ℕ
 entry_lines document = entry_lines_by (stranger_in only_cache document)
 
-abbrev pub near_text : List (List ℕ) → Option (List ℕ) → Option (List ℕ)
-near_text words None = None
-near_text words (Some text) = nearest text words
-
 -- the word nearest to a value that is a text
-abbrev pub near_value : Data → List (List ℕ) → Option (List ℕ)
-near_value d words = near_text words (as_str d)
+abbrev pub near_toml_value : Data → List (List ℕ) → Option (List ℕ)
+near_toml_value d words = near_text words (as_str d)
 
 -- a member as it is, and as it has to be
-abbrev pub value_line : Member → Data → List ℕ
-value_line m d = member_line (name_of m) (toml_shown d) (config_allowed m) (suggestion (near_value d (config_words m)))
+abbrev pub toml_value_line : Member → Data → List ℕ
+toml_value_line m d = member_line (config_member_name m) (toml_shown d) (config_allowed m) (suggestion (near_toml_value d (config_words m)))
 
 -- where the member is missing, the first one that is not known may be meant for it
-abbrev pub member_lines_by : Member → Data → Option Data → List ℕ
-member_lines_by m t None = missing_line (name_of m) (config_allowed m) ++ stranger_line config_members (stranger_of config_members t)
-member_lines_by m t (Some d) = value_line m d
+abbrev pub toml_member_lines_by : Member → Data → Option Data → List ℕ
+toml_member_lines_by m t None = missing_line (config_member_name m) (config_allowed m) ++ stranger_line config_members (stranger_of config_members t)
+toml_member_lines_by m t (Some d) = toml_value_line m d
 
-abbrev pub member_lines : Member → Data → List ℕ
-member_lines m t = member_lines_by m t (get (name_of m) t)
+abbrev pub toml_member_lines : Member → Data → List ℕ
+toml_member_lines m t = toml_member_lines_by m t (get (config_member_name m) t)
 
 abbrev pub table_lines : Member → Data → List ℕ
 table_lines Entry t = stranger_line config_members (stranger_of config_members t)
-table_lines m t = member_lines m t
+table_lines m t = toml_member_lines m t
 
 abbrev pub duplicate_lines_by : Option Data → List ℕ
 duplicate_lines_by None = []
@@ -87,15 +83,15 @@ abbrev pub at_table : ℕ → Option Member → Option Members → List ℕ
 at_table n m document = of_document (λ ms. lines_in m (table_at n ms)) document
 
 -- the lines that explain a fault of these bytes
-abbrev pub Tells : List ℕ → ConfigFault → List ℕ → Type 0
-Tells bytes TooLong text = text ≡ plain_line (codes "at most 8388608 bytes are read")
-Tells bytes NotToml text = TellsPlace bytes text
-Tells bytes UnknownEntry text = text ≡ of_document entry_lines (document_of bytes)
-Tells bytes (Bad n m) text = text ≡ at_table n (Some m) (document_of bytes)
-Tells bytes TooManyCaches text = text ≡ plain_line (codes "at most 1024 tables [[cache]] are read")
-Tells bytes (DuplicateName n) text = text ≡ at_table n None (document_of bytes)
-Tells bytes TotalCapacity text = text ≡ plain_line (codes "all capacities together are at most 262144")
-Tells bytes OutOfMemory text = text ≡ []
+abbrev pub TellsConfigFault : List ℕ → ConfigFault → List ℕ → Type 0
+TellsConfigFault bytes TooLong text = text ≡ plain_line (codes "at most 8388608 bytes are read")
+TellsConfigFault bytes NotToml text = TellsPlace bytes text
+TellsConfigFault bytes UnknownEntry text = text ≡ of_document entry_lines (document_of bytes)
+TellsConfigFault bytes (Bad n m) text = text ≡ at_table n (Some m) (document_of bytes)
+TellsConfigFault bytes TooManyCaches text = text ≡ plain_line (codes "at most 1024 tables [[cache]] are read")
+TellsConfigFault bytes (DuplicateName n) text = text ≡ at_table n None (document_of bytes)
+TellsConfigFault bytes TotalCapacity text = text ≡ plain_line (codes "all capacities together are at most 262144")
+TellsConfigFault bytes OutOfMemory text = text ≡ []
 
 abbrev pub no_caches_line : List ℕ
 no_caches_line = plain_line (codes "--strict asks for a table [[cache]] at least")

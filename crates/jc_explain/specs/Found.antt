@@ -7,10 +7,10 @@ use Rattle.serde_json.specs.Find as find
 use Rattle.jc_explain.specs.Lines.{text_shown}
 
 -- a text, else a number, else the kind
-abbrev pub shown_by : {N : Type 0} → (N → List ℕ) → List ℕ → Option (List ℕ) → Option N → List ℕ
-shown_by digits kind (Some text) number = text_shown text
-shown_by digits kind None (Some number) = digits number
-shown_by digits kind None None = kind
+abbrev pub text_or_number_shown : {N : Type 0} → (N → List ℕ) → List ℕ → Option (List ℕ) → Option N → List ℕ
+text_or_number_shown digits kind (Some text) number = text_shown text
+text_or_number_shown digits kind None (Some number) = digits number
+text_or_number_shown digits kind None None = kind
 
 abbrev pub toml_kind : toml.Data → List ℕ
 toml_kind d =
@@ -20,7 +20,7 @@ toml_kind d =
     (if is_some (toml.as_table d) then codes "a table" else codes "a date or a time")))
 
 abbrev pub toml_shown : toml.Data → List ℕ
-toml_shown d = shown_by signed_decimal (toml_kind d) (toml.as_str d) (toml.as_integer d)
+toml_shown d = text_or_number_shown signed_decimal (toml_kind d) (toml.as_str d) (toml.as_integer d)
 
 abbrev pub json_kind : json.Data → List ℕ
 json_kind d =
@@ -30,4 +30,4 @@ json_kind d =
     (if is_some (find.as_object d) then codes "an object" else codes "null")))
 
 abbrev pub json_shown : json.Data → List ℕ
-json_shown d = shown_by decimal (json_kind d) (find.as_str d) (option_and_then find.as_u64 (find.as_number d))
+json_shown d = text_or_number_shown decimal (json_kind d) (find.as_str d) (option_and_then find.as_u64 (find.as_number d))

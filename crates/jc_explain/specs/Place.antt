@@ -11,8 +11,8 @@ column_from column [] = column
 column_from column (b ∷ bs) = column_from (if b == 10 then 1 else column + 1) bs
 
 -- a line more after each line feed
-abbrev pub line_of : List ℕ → ℕ
-line_of before = line_from 1 before
+abbrev pub line_number : List ℕ → ℕ
+line_number before = line_from 1 before
 
 -- a column more after each byte, from the last line feed on
 abbrev pub column_of : List ℕ → ℕ

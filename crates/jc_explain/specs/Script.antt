@@ -12,7 +12,7 @@ use Rattle.jc_script.specs.declared.fault.ScriptFault.TheVariants.{TooLong, NotJ
 use Rattle.jc_explain.specs.Found.{json_shown}
 use Rattle.jc_explain.specs.Lines.{text_shown, suggestion, member_line, missing_line, no_member_line, plain_line}
 use Rattle.jc_explain.specs.Other.{other_in}
-use Rattle.jc_explain.specs.Spelling.{nearest}
+use Rattle.jc_explain.specs.Spelling.{near_text, nearest}
 use Rattle.jc_explain.specs.Stranger.{is_known}
 use Rattle.jc_explain.specs.Words.{script_members, script_words, script_allowed}
 
@@ -38,17 +38,13 @@ TellsColumn line text = (column : ℕ) × (why : List ℕ) × (text ≡ column_l
 abbrev pub object_line : Data → List ℕ
 object_line d = codes "  the line is " ++ (json_shown d ++ codes "; it has to be an object\n")
 
-abbrev pub near_text : List (List ℕ) → Option (List ℕ) → Option (List ℕ)
-near_text words None = None
-near_text words (Some text) = nearest text words
-
 -- the word nearest to a value that is a text
-abbrev pub near_value : Data → List (List ℕ) → Option (List ℕ)
-near_value d words = near_text words (as_str d)
+abbrev pub near_json_value : Data → List (List ℕ) → Option (List ℕ)
+near_json_value d words = near_text words (as_str d)
 
 -- a member as it is, and as it has to be; the names are those of the configuration's caches
-abbrev pub value_line : List (List ℕ) → Member → Data → List ℕ
-value_line names m d = member_line (member_name m) (json_shown d) (script_allowed m) (suggestion (near_value d (script_words names m)))
+abbrev pub json_value_line : List (List ℕ) → Member → Data → List ℕ
+json_value_line names m d = member_line (member_name m) (json_shown d) (script_allowed m) (suggestion (near_json_value d (script_words names m)))
 
 -- the member nearest to one that no op has
 abbrev pub near_other : List ℕ → Option (List ℕ)
@@ -63,30 +59,30 @@ abbrev pub other_line : Data → List ℕ
 other_line d = other_line_by (other_in d)
 
 -- where the member is missing, the first that the op does not have may be meant for it
-abbrev pub member_lines_by : List (List ℕ) → Member → Data → Option Data → List ℕ
-member_lines_by names m line None = missing_line (member_name m) (script_allowed m) ++ other_line line
-member_lines_by names m line (Some d) = value_line names m d
+abbrev pub json_member_lines_by : List (List ℕ) → Member → Data → Option Data → List ℕ
+json_member_lines_by names m line None = missing_line (member_name m) (script_allowed m) ++ other_line line
+json_member_lines_by names m line (Some d) = json_value_line names m d
 
-abbrev pub member_lines : List (List ℕ) → Member → Data → List ℕ
-member_lines names m line = member_lines_by names m line (get (member_name m) line)
+abbrev pub json_member_lines : List (List ℕ) → Member → Data → List ℕ
+json_member_lines names m line = json_member_lines_by names m line (get (member_name m) line)
 
 -- the names with a blank before each
-abbrev pub joined : List (List ℕ) → List ℕ
-joined [] = []
-joined (name ∷ names) = codes " " ++ (name ++ joined names)
+abbrev pub names_text : List (List ℕ) → List ℕ
+names_text [] = []
+names_text (name ∷ names) = codes " " ++ (name ++ names_text names)
 
 -- the caches that a configuration has, or how many
 abbrev pub names_line : List (List ℕ) → List ℕ
 names_line names =
     if length names == 0 then plain_line (codes "the configuration has no caches") else
-    (if nat_lt 16 (length names) then codes "  the configuration has " ++ (decimal (length names) ++ codes " caches\n") else codes "  the configuration has the caches" ++ (joined names ++ codes "\n"))
+    (if nat_lt 16 (length names) then codes "  the configuration has " ++ (decimal (length names) ++ codes " caches\n") else codes "  the configuration has the caches" ++ (names_text names ++ codes "\n"))
 
 abbrev pub further : List (List ℕ) → Member → List ℕ
 further names Cache = names_line names
 further names _ = []
 
 abbrev pub bad_lines : List (List ℕ) → Member → Data → List ℕ
-bad_lines names m line = member_lines names m line ++ further names m
+bad_lines names m line = json_member_lines names m line ++ further names m
 
 -- of a line that is JSON
 abbrev pub lines_at : (Data → List ℕ) → Option Data → List ℕ
@@ -97,9 +93,9 @@ abbrev pub too_long_line : List ℕ
 too_long_line = plain_line (codes "at most 8388608 bytes are read")
 
 -- the lines that explain a fault of these bytes
-abbrev pub Tells : List ℕ → List (List ℕ) → ScriptFault → List ℕ → Type 0
-Tells bytes names TooLong text = text ≡ too_long_line
-Tells bytes names (NotJson n) text = TellsColumn n text
-Tells bytes names (NotObject n) text = text ≡ lines_at object_line (json_at n bytes)
-Tells bytes names (Bad n m) text = text ≡ lines_at (bad_lines names m) (json_at n bytes)
-Tells bytes names OutOfMemory text = text ≡ []
+abbrev pub TellsScriptFault : List ℕ → List (List ℕ) → ScriptFault → List ℕ → Type 0
+TellsScriptFault bytes names TooLong text = text ≡ too_long_line
+TellsScriptFault bytes names (NotJson n) text = TellsColumn n text
+TellsScriptFault bytes names (NotObject n) text = text ≡ lines_at object_line (json_at n bytes)
+TellsScriptFault bytes names (Bad n m) text = text ≡ lines_at (bad_lines names m) (json_at n bytes)
+TellsScriptFault bytes names OutOfMemory text = text ≡ []

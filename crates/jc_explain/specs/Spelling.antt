@@ -18,3 +18,8 @@ abbrev pub nearest : List ℕ → List (List ℕ) → Option (List ℕ)
 nearest word known =
     if nat_lt (length word) 2 || nat_lt 63 (length word) then None else
     (if is_some (close 1 word known) || nat_lt (length word) 4 then close 1 word known else close 2 word known)
+
+-- the word nearest to a text, if there is one
+abbrev pub near_text : List (List ℕ) → Option (List ℕ) → Option (List ℕ)
+near_text words None = None
+near_text words (Some text) = nearest text words

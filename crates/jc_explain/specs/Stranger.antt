@@ -12,13 +12,13 @@ abbrev pub stranger_among : List (List ℕ) → List (List ℕ) → Option (List
 stranger_among known [] = None
 stranger_among known (word ∷ words) = if is_known known word then stranger_among known words else Some word
 
-abbrev pub names_of : Members → List (List ℕ)
-names_of no_members = []
-names_of (member k d ms) = k ∷ names_of ms
+abbrev pub table_member_names : Members → List (List ℕ)
+table_member_names no_members = []
+table_member_names (member k d ms) = k ∷ table_member_names ms
 
 -- the first member of a table, in the order of their names, that is not known
 abbrev pub stranger_in : List (List ℕ) → Members → Option (List ℕ)
-stranger_in known ms = stranger_among known (names_of ms)
+stranger_in known ms = stranger_among known (table_member_names ms)
 
 abbrev pub stranger_of : List (List ℕ) → Data → Option (List ℕ)
 stranger_of known d = option_and_then (stranger_in known) (as_table d)

@@ -3,7 +3,7 @@ ghost use Rattle.std.specs.Prelude.{◌≡◌, ◌≤◌, ◌-◌, IfOk, codes, 
 ghost use Rattle.toml.specs.View.{view, table_view};
 ghost use Rattle.toml.specs.Data.{get_member};
 ghost use Rattle.jc_config.specs.Config.{document_of};
-ghost use Rattle.jc_explain.specs.Config.{place_line, TellsPlace, table_at, stranger_line, entry_lines, near_value, value_line, member_lines, table_lines, duplicate_lines, at_table, of_document, no_caches_line, Tells};
+ghost use Rattle.jc_explain.specs.Config.{place_line, TellsPlace, table_at, stranger_line, entry_lines, near_toml_value, toml_value_line, toml_member_lines, table_lines, duplicate_lines, at_table, of_document, no_caches_line, TellsConfigFault};
 ghost use Rattle.jc_explain.specs.Words.{word_lent, words_lent};
 
 use crate::found::show_toml;
@@ -123,7 +123,7 @@ fn near_value<'a>(
     words: &[&'a str],
 ) -> Result<Option<&'a str>, AllocError>
     ensures { IfOk result (λ near.
-        word_lent near ≡ near_value (view value.now) (words_lent words.now)) }
+        word_lent near ≡ near_toml_value (view value.now) (words_lent words.now)) }
 {
     match value.as_str() {
         Some(text) => nearest(alloc, text, words),
@@ -133,7 +133,7 @@ fn near_value<'a>(
 
 /// A member of a table as it is, and as it has to be.
 fn value_line(alloc: Global, value: &Value, member: Member) -> Result<String, AllocError>
-    ensures { IfOk result (λ s. string_bytes s ≡ value_line member (view value.now)) }
+    ensures { IfOk result (λ s. string_bytes s ≡ toml_value_line member (view value.now)) }
 {
     let near = near_value(alloc, value, config_words(member))?;
     let suggestion = suggest(alloc, near)?;
@@ -149,7 +149,7 @@ fn value_line(alloc: Global, value: &Value, member: Member) -> Result<String, Al
 
 /// A member of a table that is bad. Where it is missing, the first member that is not known may be meant for it.
 fn member_lines(alloc: Global, table: &Value, member: Member) -> Result<String, AllocError>
-    ensures { IfOk result (λ s. string_bytes s ≡ member_lines member (view table.now)) }
+    ensures { IfOk result (λ s. string_bytes s ≡ toml_member_lines member (view table.now)) }
 {
     match table.get(member.name()) {
         Some(value) => value_line(alloc, value, member),
@@ -232,7 +232,7 @@ fn unknown_entry(alloc: Global, bytes: &[u8]) -> Result<String, AllocError>
 
 /// The lines that explain a fault of a configuration, of which these are the bytes.
 pub fn explain_config(alloc: Global, bytes: &[u8], fault: ConfigFault) -> Result<String, AllocError>
-    ensures { IfOk result (λ s. Tells bytes.now fault (string_bytes s)) }
+    ensures { IfOk result (λ s. TellsConfigFault bytes.now fault (string_bytes s)) }
 {
     match fault {
         ConfigFault::TooLong => plain_line(alloc, "at most 8388608 bytes are read"),

@@ -2,7 +2,7 @@
 ghost use Rattle.std.specs.Prelude.{◌≡◌};
 ghost use Rattle.serde_json.specs.View.{view, members_view};
 ghost use Rattle.jc_strict.specs.Stray.{op_of};
-ghost use Rattle.jc_explain.specs.Other.{is_member, other_of, other_in};
+ghost use Rattle.jc_explain.specs.Other.{op_has_member, other_of, other_in};
 ghost use Rattle.jc_explain.specs.Words.{word_lent};
 
 use crate::stranger::is_known;
@@ -12,7 +12,7 @@ use serde_json::{Map, Value};
 
 /// Whether the op has the member; where there is no op, whether any has it.
 fn is_member(op: Option<&str>, name: &str) -> bool
-    ensures { result ≡ is_member (word_lent op.entry) name.now }
+    ensures { result ≡ op_has_member (word_lent op.entry) name.now }
 {
     match op {
         Some(op) => has_member(op, name),

@@ -1,6 +1,6 @@
 //! Where in a text something is.
 ghost use Rattle.std.specs.Prelude.{◌≡◌, ◌≤◌, ◌<◌, ◌^◌, take, length};
-ghost use Rattle.jc_explain.specs.Place.{line_of, column_of};
+ghost use Rattle.jc_explain.specs.Place.{line_number, column_of};
 
 /// The line and the column after these bytes, both from 1; a column counts bytes.
 #[derive(Clone, Copy, Debug, PartialEq, Eq)]
@@ -14,7 +14,7 @@ pub fn place_of(text: &[u8], at: usize) -> Place
     requires short { length text.now < 2 ^ 63 }
     requires within { at ≤ length text.now }
     ensures { result ≡
-        record { line = line_of (take at text.now); column = column_of (take at text.now) } }
+        record { line = line_number (take at text.now); column = column_of (take at text.now) } }
 {
     let mut line = 1;
     let mut column = 1;

@@ -3,7 +3,7 @@ ghost use Rattle.std.specs.Prelude.{◌≡◌, IfOk, map, option_map, string_byt
 ghost use Rattle.std.specs.List.{slice_split};
 ghost use Rattle.serde_json.specs.View.{view};
 ghost use Rattle.jc_script.specs.Script.{is_feed};
-ghost use Rattle.jc_explain.specs.Script.{piece_at, json_at, column_line, TellsColumn, object_line, near_value, value_line, near_other, other_line, member_lines, names_line, joined, further, bad_lines, lines_at, too_long_line, Tells};
+ghost use Rattle.jc_explain.specs.Script.{piece_at, json_at, column_line, TellsColumn, object_line, near_json_value, json_value_line, near_other, other_line, json_member_lines, names_line, names_text, further, bad_lines, lines_at, too_long_line, TellsScriptFault};
 ghost use Rattle.jc_explain.specs.Words.{word_lent, words_lent};
 
 use crate::found::show_json;
@@ -95,7 +95,7 @@ fn near_value<'a>(
     words: &[&'a str],
 ) -> Result<Option<&'a str>, AllocError>
     ensures { IfOk result (λ near.
-        word_lent near ≡ near_value (view value.now) (words_lent words.now)) }
+        word_lent near ≡ near_json_value (view value.now) (words_lent words.now)) }
 {
     match value.as_str() {
         Some(text) => nearest(alloc, text, words),
@@ -111,7 +111,7 @@ fn value_line(
     names: &[&str],
 ) -> Result<String, AllocError>
     ensures { IfOk result (λ s.
-        string_bytes s ≡ value_line (words_lent names.now) member (view value.now)) }
+        string_bytes s ≡ json_value_line (words_lent names.now) member (view value.now)) }
 {
     let near = near_value(alloc, value, script_words(member, names))?;
     let suggestion = suggest(alloc, near)?;
@@ -156,7 +156,7 @@ fn member_lines(
     names: &[&str],
 ) -> Result<String, AllocError>
     ensures { IfOk result (λ s.
-        string_bytes s ≡ member_lines (words_lent names.now) member (view line.now)) }
+        string_bytes s ≡ json_member_lines (words_lent names.now) member (view line.now)) }
 {
     match line.get(member.name()) {
         Some(value) => value_line(alloc, value, member, names),
@@ -169,8 +169,8 @@ fn member_lines(
 }
 
 /// The names with a blank before each.
-fn joined(alloc: Global, names: &[&str]) -> Result<String, AllocError>
-    ensures { IfOk result (λ s. string_bytes s ≡ joined (words_lent names.now)) }
+fn join_names(alloc: Global, names: &[&str]) -> Result<String, AllocError>
+    ensures { IfOk result (λ s. string_bytes s ≡ names_text (words_lent names.now)) }
 {
     let mut text = String::new(alloc);
     for name in names {
@@ -190,7 +190,7 @@ fn names_line(alloc: Global, names: &[&str]) -> Result<String, AllocError>
     if names.len() > 16 {
         return format!(in alloc; "  the configuration has {} caches\n", names.len());
     }
-    let joined = joined(alloc, names)?;
+    let joined = join_names(alloc, names)?;
     format!(in alloc; "  the configuration has the caches{joined}\n")
 }
 
@@ -261,7 +261,8 @@ pub fn explain_script(
     names: &[&str],
     fault: ScriptFault,
 ) -> Result<String, AllocError>
-    ensures { IfOk result (λ s. Tells bytes.now (words_lent names.now) fault (string_bytes s)) }
+    ensures { IfOk result (λ s.
+        TellsScriptFault bytes.now (words_lent names.now) fault (string_bytes s)) }
 {
     match fault {
         ScriptFault::TooLong => explain_too_long(alloc),

@@ -33,13 +33,13 @@ abbrev pub GivesAnswers : {W : Type 0} → (W → List (Request × Answer) → T
 GivesAnswers may old new given = (rest : List (Request × Answer)) → MayGiveBy may new rest → MayGiveBy may old (given ++ rest)
 
 -- the notices that a filter admits, in order
-abbrev pub admitted : (Notice → Bool) → List Notice → List Notice
-admitted lets [] = []
-admitted lets (n ∷ ns) = if lets n then n ∷ admitted lets ns else admitted lets ns
+abbrev pub admitted_notices : (Notice → Bool) → List Notice → List Notice
+admitted_notices lets [] = []
+admitted_notices lets (n ∷ ns) = if lets n then n ∷ admitted_notices lets ns else admitted_notices lets ns
 
 -- what a listener behind a filter states: what the listener states for the notices that the filter admits
 abbrev pub hook_state : {F K : Type 0} → (F → Notice → Bool) → (K → List Notice → List ℕ) → ListenerHook F K → List Notice → List ℕ
-hook_state lets state_after h notices = state_after h.listener (admitted (lets h.filter) notices)
+hook_state lets state_after h notices = state_after h.listener (admitted_notices (lets h.filter) notices)
 
 -- what is stated for a list from now on was stated for this notice and the list behind it
 abbrev pub MovesOnBy : (List Notice → List ℕ) → (List Notice → List ℕ) → Notice → Type 0

@@ -19,17 +19,17 @@ dash = 45
 abbrev pub exclamation_mark : ℕ
 exclamation_mark = 33
 
-abbrev pub begins : ℕ → List ℕ → Bool
-begins byte [] = false
-begins byte (x ∷ xs) = x == byte
+abbrev pub begins_with : ℕ → List ℕ → Bool
+begins_with byte [] = false
+begins_with byte (x ∷ xs) = x == byte
 
-abbrev pub echoed : List ℕ → Loaded
-echoed key = if begins dash key then Found None else (if begins exclamation_mark key then Failed else Found (Some key))
+abbrev pub echo_answer : List ℕ → Loaded
+echo_answer key = if begins_with dash key then Found None else (if begins_with exclamation_mark key then Failed else Found (Some key))
 
 -- the check writer's answer
 abbrev pub IsChecked : Request → Answer → Type 0
-IsChecked (Write key value) answer = answer ≡ write_answer_of (not (begins exclamation_mark key))
-IsChecked (Delete key) answer = answer ≡ write_answer_of (not (begins exclamation_mark key))
+IsChecked (Write key value) answer = answer ≡ write_answer_of (not (begins_with exclamation_mark key))
+IsChecked (Delete key) answer = answer ≡ write_answer_of (not (begins_with exclamation_mark key))
 IsChecked _ answer = ⊥
 
 abbrev pub AllChecked : List (Request × Answer) → Type 0
@@ -37,21 +37,21 @@ AllChecked [] = ⊤
 AllChecked (given ∷ rest) = IsChecked given.0 given.1 × AllChecked rest
 
 -- a value's bytes, or none
-abbrev pub bytes_of : Option (List ℕ) → List ℕ
-bytes_of None = []
-bytes_of (Some value) = value
+abbrev pub value_or_empty : Option (List ℕ) → List ℕ
+value_or_empty None = []
+value_or_empty (Some value) = value
 
-abbrev pub failed : Result Verdict ProcessorFault
-failed = Err (record {})
+abbrev pub processor_failure : Result Verdict ProcessorFault
+processor_failure = Err (record {})
 
 abbrev pub set_to : List ℕ → Result Verdict ProcessorFault
-set_to value = if nat_le (length value) value_bytes then Ok (record { action = actions.Set value; answer = Some value }) else failed
+set_to value = if nat_le (length value) value_bytes then Ok (record { action = actions.Set value; answer = Some value }) else processor_failure
 
-abbrev pub appended : Option (List ℕ) → List ℕ → Result Verdict ProcessorFault
-appended value argument = set_to (bytes_of value ++ argument)
+abbrev pub append_verdict : Option (List ℕ) → List ℕ → Result Verdict ProcessorFault
+append_verdict value argument = set_to (value_or_empty value ++ argument)
 
-abbrev pub dropped : Option (List ℕ) → Result Verdict ProcessorFault
-dropped value = Ok (record { action = actions.Remove; answer = value })
+abbrev pub drop_verdict : Option (List ℕ) → Result Verdict ProcessorFault
+drop_verdict value = Ok (record { action = actions.Remove; answer = value })
 
-abbrev pub peeked : Option (List ℕ) → Result Verdict ProcessorFault
-peeked value = Ok (record { action = actions.Keep; answer = value })
+abbrev pub peek_verdict : Option (List ℕ) → Result Verdict ProcessorFault
+peek_verdict value = Ok (record { action = actions.Keep; answer = value })

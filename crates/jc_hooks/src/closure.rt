@@ -9,7 +9,7 @@ ghost use Rattle.jc_hooks.specs.Stated.{IsOnlyFunction, AnswersBy, AnswersBy-pro
 
 use crate::filter::Filter;
 use crate::loader::{Loaded, Loader};
-use crate::processor::{Processor, shared};
+use crate::processor::{Processor, share_value};
 use jc_model::OutOfMemory;
 use jc_model::call::{Notice, ProcessorFault, Verdict};
 use jc_model::key::Key;
@@ -116,7 +116,7 @@ impl Processor for ClosureProcessor {
         value: Option<&Value>,
         argument: &Value,
     ) -> Result<Result<Verdict, ProcessorFault>, OutOfMemory> {
-        let value = shared(value)?;
+        let value = share_value(value)?;
         run(&self.closure, alloc, value, argument)
     }
 }

@@ -57,7 +57,7 @@ impl Processor for Box<dyn Processor> {
 }
 
 /// A further handle of the same value.
-pub(crate) fn shared(value: Option<&Value>) -> Result<Option<Value>, OutOfMemory>
+pub(crate) fn share_value(value: Option<&Value>) -> Result<Option<Value>, OutOfMemory>
     ensures { IfOk result (λ v. v ≡ lent_value value.entry) }
 {
     match value {

@@ -3,13 +3,13 @@
 ghost use Rattle.std.specs.Prelude.{◌≡◌, ◌≤◌, IfOk, length};
 ghost use Rattle.jc_model.specs.Limits.{value_bytes};
 ghost use Rattle.jc_hooks.specs.Asking.{lent_value};
-ghost use Rattle.jc_hooks.specs.Program.{begins, bytes_of, appended};
+ghost use Rattle.jc_hooks.specs.Program.{begins_with, value_or_empty, append_verdict};
 
 use crate::cache_hooks::CacheHooks;
 use crate::filter::AdmitAll;
 use crate::hook::ListenerHook;
 use crate::loader::{Loaded, Loader};
-use crate::processor::{Processor, shared};
+use crate::processor::{Processor, share_value};
 use crate::tally::TallyListener;
 use crate::writer::Writer;
 use jc_model::OutOfMemory;
@@ -21,7 +21,7 @@ use std::alloc::{AllocError, Global};
 
 /// Whether the key's first byte is this one.
 fn begins(key: &Key, byte: u8) -> bool
-    ensures { result ≡ begins byte key.now }
+    ensures { result ≡ begins_with byte key.now }
 {
     match key.text().as_bytes() {
         [first, ..] => *first == byte,
@@ -43,9 +43,9 @@ fn new_value(alloc: Global, bytes: Vec<u8>) -> Result<Value, OutOfMemory>
 pub struct EchoLoader;
 
 impl Loader for EchoLoader {
-    ghost use Rattle.jc_hooks.specs.Program.{echoed};
+    ghost use Rattle.jc_hooks.specs.Program.{echo_answer};
 
-    ghost load_of = { λ _. echoed };
+    ghost load_of = { λ _. echo_answer };
 
     fn load(&self, alloc: Global, key: &Key) -> Result<Loaded, OutOfMemory> {
         if begins(key, b'-') {
@@ -81,7 +81,7 @@ impl Writer for CheckWriter {
 }
 
 fn bytes_of<'a>(value: Option<&'a Value>) -> &'a [u8]
-    ensures same { result.now ≡ bytes_of (lent_value value.entry) }
+    ensures same { result.now ≡ value_or_empty (lent_value value.entry) }
     ensures limit { length result.now ≤ value_bytes }
 {
     match value {
@@ -96,7 +96,7 @@ fn append(
     value: Option<&Value>,
     argument: &Value,
 ) -> Result<Result<Verdict, ProcessorFault>, OutOfMemory>
-    ensures { IfOk result (λ v. v ≡ appended (lent_value value.entry) argument.now) }
+    ensures { IfOk result (λ v. v ≡ append_verdict (lent_value value.entry) argument.now) }
 {
     let given = bytes_of(value);
     let added = argument.bytes();
@@ -128,11 +128,11 @@ pub enum ProgramProcessor {
 }
 
 impl Processor for ProgramProcessor {
-    ghost use Rattle.jc_hooks.specs.Processors.{wants_of, verdict_by};
+    ghost use Rattle.jc_hooks.specs.Processors.{wants_of, program_verdict};
 
     ghost wants = { wants_of };
 
-    ghost verdict_of = { verdict_by };
+    ghost verdict_of = { program_verdict };
 
     fn wants_value(&self) -> bool {
         match self {
@@ -152,11 +152,11 @@ impl Processor for ProgramProcessor {
             ProgramProcessor::Fail => Ok(Err(ProcessorFault {})),
             ProgramProcessor::Drop => Ok(Ok(Verdict {
                 action: Action::Remove,
-                answer: shared(value)?,
+                answer: share_value(value)?,
             })),
             ProgramProcessor::Peek => Ok(Ok(Verdict {
                 action: Action::Keep,
-                answer: shared(value)?,
+                answer: share_value(value)?,
             })),
         }
     }

@@ -58,9 +58,9 @@ impl TallyListener {
 }
 
 impl Listener for TallyListener {
-    ghost use Rattle.jc_hooks.specs.Tallies.{tallied, numbers};
+    ghost use Rattle.jc_hooks.specs.Tallies.{tally_after, tally_numbers};
 
-    ghost state_after = { λ l notices. numbers (tallied l notices) };
+    ghost state_after = { λ l notices. tally_numbers (tally_after l notices) };
 
     fn tell(&mut self, notice: &Notice) {
         let tally = &mut self.tally;

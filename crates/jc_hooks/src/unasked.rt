@@ -80,7 +80,7 @@ impl Hearer for Unasked {
 pub type UnaskedHooks = CacheHooks<Unasked, Unasked, Unasked, Unasked>;
 
 /// One of them, where the configuration names one.
-fn named(named: bool) -> Option<Unasked>
+fn unasked_where(named: bool) -> Option<Unasked>
     ensures { is_some result ≡ named }
 {
     if named {
@@ -117,8 +117,8 @@ pub fn hooks_by_hand(alloc: Global, config: &CacheConfig) -> Result<UnaskedHooks
     ensures { IfOk result (λ hooks. Suits (λ (p : Silent). p.wants) config.now hooks) }
 {
     Ok(CacheHooks {
-        loader: named(config.loader),
-        writer: named(config.writer),
+        loader: unasked_where(config.loader),
+        writer: unasked_where(config.writer),
         processors: processors(alloc, config.processors.items())?,
         listeners: listeners(alloc, config.listeners)?,
     })

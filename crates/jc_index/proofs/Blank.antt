@@ -6,12 +6,12 @@ use Rattle.std.proofs.Math.Seq.{take-suc}
 use Rattle.jc_place.specs.declared.place.Place.{Place}
 use Rattle.jc_cuckoo.specs.declared.held.Held.{Held}
 use Rattle.jc_rows.specs.Images.{Image, Shown}
-use Rattle.jc_cuckoo.specs.Images.{IsImage, image_of, shown}
+use Rattle.jc_cuckoo.specs.Images.{IsImage, image_of, shown_row}
 use Rattle.jc_stripes.proofs.Comparing.{take_whole}
 use Rattle.jc_stripes.specs.Layout.{content_of, version_count, versions_at}
 use Rattle.jc_index.specs.Layout.{bucket_slots, bucket_words, slot_words}
 use Rattle.jc_index.specs.Indexes.{empty_image}
-use Rattle.jc_index.specs.Spelling.{IsCoded, IsSpelt, IsLawful, words_of_slot, words_of_slots, slots_in, encoded, image_in}
+use Rattle.jc_index.specs.Spelling.{IsCoded, IsSpelt, IsLawful, words_of_slot, words_of_slots, slots_in, words_of_image, image_in}
 use Rattle.jc_index.proofs.Coding.{long_slots, AllCoded, coded_back}
 
 drop_alike : (k start : ℕ) (xs : List ℕ) → drop k (replicate k start ++ xs) ≡ xs
@@ -64,7 +64,7 @@ module _ (buckets : ℕ) where
       λ i. record { buckets = n i; slots = slots i; stash = 0 }
 
   pub blank_spelt : IsSpelt buckets blank
-  blank_spelt = record { wide = omega (arith, long_all {A = ℕ} (bucket_words * buckets) 0); coded = sym (ap encoded blank_image ∙ ap (λ (l : List ℕ). 0 ∷ l) no_rows) }
+  blank_spelt = record { wide = omega (arith, long_all {A = ℕ} (bucket_words * buckets) 0); coded = sym (ap words_of_image blank_image ∙ ap (λ (l : List ℕ). 0 ∷ l) no_rows) }
 
   pub blank_lawful : (placing : ℕ → List ℕ → Place) → IsLawful placing buckets blank
   blank_lawful placing = record {
@@ -76,7 +76,7 @@ module _ (buckets : ℕ) where
     };
   }
 
-shown_none : (n : ℕ) → map (option_map shown) (replicate n None) ≡ replicate n None
+shown_none : (n : ℕ) → map (option_map shown_row) (replicate n None) ≡ replicate n None
 shown_none zero = refl
 shown_none (suc n) = ap (λ (l : List (Option Shown)). None ∷ l) (shown_none n)
 
@@ -85,28 +85,28 @@ pub empty_is : (n : ℕ) → empty_image n ≡ image_of n (replicate (bucket_slo
 empty_is n =
     let cells : List (Option Held) = replicate (bucket_slots * n) None in
     let long : length cells ≡ bucket_slots * n = long_all (bucket_slots * n) None in
-    let slots : map (option_map shown) (take (bucket_slots * n) cells) ≡ replicate (bucket_slots * n) None = ap (map (option_map shown)) (take_whole (bucket_slots * n) cells (sym long)) ∙ shown_none (bucket_slots * n) in
+    let slots : map (option_map shown_row) (take (bucket_slots * n) cells) ≡ replicate (bucket_slots * n) None = ap (map (option_map shown_row)) (take_whole (bucket_slots * n) cells (sym long)) ∙ shown_none (bucket_slots * n) in
     let stash : length cells - bucket_slots * n ≡ 0 = omega (arith, long) in
     λ i. record { buckets = n; slots = sym slots i; stash = sym stash i }
 
 -- the words of an image that was filled
 abbrev showing : List (Option Held) → List (Option Shown)
-showing xs = map (option_map shown) xs
+showing xs = map (option_map shown_row) xs
 
-pub all_coded : (xs : List (Option Held)) → All (λ x. IsCoded (option_map shown x)) xs → AllCoded (showing xs)
+pub all_coded : (xs : List (Option Held)) → All (λ x. IsCoded (option_map shown_row x)) xs → AllCoded (showing xs)
 all_coded [] all = tt
 all_coded (x ∷ xs) all = (all 0 x (omega arith), all_coded xs (λ k d inside. all (suc k) d (omega arith)))
 
-pub filled_image : (image : Image) → AllCoded image.slots → length image.slots ≡ bucket_slots * image.buckets → image_in (encoded image) ≡ image
+pub filled_image : (image : Image) → AllCoded image.slots → length image.slots ≡ bucket_slots * image.buckets → image_in (words_of_image image) ≡ image
 filled_image image coded long =
-    let n : length (encoded image) / bucket_words ≡ image.buckets = omega (arith, long_slots image.slots, long) in
-    let many : (length (encoded image) - 1) / slot_words ≡ length image.slots = omega (arith, long_slots image.slots) in
-    λ i. record { buckets = n i; slots = coded_back image.slots ((length (encoded image) - 1) / slot_words) many coded i; stash = image.stash }
+    let n : length (words_of_image image) / bucket_words ≡ image.buckets = omega (arith, long_slots image.slots, long) in
+    let many : (length (words_of_image image) - 1) / slot_words ≡ length image.slots = omega (arith, long_slots image.slots) in
+    λ i. record { buckets = n i; slots = coded_back image.slots ((length (words_of_image image) - 1) / slot_words) many coded i; stash = image.stash }
 
-pub filled_lawful : (placing : ℕ → List ℕ → Place) (image : Image) → AllCoded image.slots → IsImage placing image → IsLawful placing image.buckets (encoded image)
+pub filled_lawful : (placing : ℕ → List ℕ → Place) (image : Image) → AllCoded image.slots → IsImage placing image → IsLawful placing image.buckets (words_of_image image)
 filled_lawful placing image coded lawful =
     let is = filled_image image coded lawful.slots in record {
-      spelt = record { wide = omega (arith, long_slots image.slots, lawful.slots); coded = ap encoded (sym is) };
+      spelt = record { wide = omega (arith, long_slots image.slots, lawful.slots); coded = ap words_of_image (sym is) };
       image = subst (IsImage placing) (sym is) lawful;
     }
 
@@ -115,7 +115,7 @@ words_snoc [] None = refl
 words_snoc [] (Some s) = refl
 words_snoc (y ∷ xs) x = ap (λ (l : List ℕ). words_of_slot y ++ l) (words_snoc xs x) ∙ sym (append_assoc (words_of_slot y) (words_of_slots xs) (words_of_slot x))
 
-pub words_more : (xs : List (Option Held)) (i : ℕ) (d : Option Held) → i < length xs → words_of_slots (showing (take (i + 1) xs)) ≡ words_of_slots (showing (take i xs)) ++ words_of_slot (option_map shown (get_or xs i d))
+pub words_more : (xs : List (Option Held)) (i : ℕ) (d : Option Held) → i < length xs → words_of_slots (showing (take (i + 1) xs)) ≡ words_of_slots (showing (take i xs)) ++ words_of_slot (option_map shown_row (get_or xs i d))
 words_more xs i d inside =
     rw (add-one, take-suc xs i d inside)
-    (ap words_of_slots (map-append (option_map shown) (take i xs) (get_or xs i d ∷ [])) ∙ words_snoc (showing (take i xs)) (option_map shown (get_or xs i d)))
+    (ap words_of_slots (map-append (option_map shown_row) (take i xs) (get_or xs i d ∷ [])) ∙ words_snoc (showing (take i xs)) (option_map shown_row (get_or xs i d)))

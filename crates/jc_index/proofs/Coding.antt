@@ -11,7 +11,7 @@ use Rattle.jc_stripes.specs.Stripes.{set_all}
 use Rattle.jc_stripes.proofs.Opening.{taken_more}
 use Rattle.jc_rows.specs.Images.{Shown}
 use Rattle.jc_index.specs.Layout.{slot_place, slot_words}
-use Rattle.jc_index.specs.Spelling.{IsCoded, bytes_in, key_of, slot_of, slot_in, words_of_slot, words_of_slots, slots_in, never_bit, moment_of}
+use Rattle.jc_index.specs.Spelling.{IsCoded, bytes_in, key_of_words, slot_of, slot_in, words_of_slot, words_of_slots, slots_in, never_bit, moment_of}
 use Rattle.jc_index.specs.Batches.{placed_at}
 
 -- bytes
@@ -107,7 +107,7 @@ words_back text few small =
 pub length_back : (text : List ℕ) → length text ≤ key_bytes → ((i : ℕ) → get_or text i 0 < 256) → get_or (bytes_in (words_of text)) 0 0 ≡ length text
 length_back text few small = ap (λ (l : List ℕ). get_or l 0 0) (words_back text few small)
 
-pub key_back : (text : List ℕ) → length text ≤ key_bytes → ((i : ℕ) → get_or text i 0 < 256) → key_of (words_of text) ≡ text
+pub key_back : (text : List ℕ) → length text ≤ key_bytes → ((i : ℕ) → get_or text i 0 < 256) → key_of_words (words_of text) ≡ text
 key_back text few small =
     ap (λ (l : List ℕ). take (get_or l 0 0) (drop 1 l)) (words_back text few small) ∙ take-append_seam text (replicate (key_bytes - length text) 0)
 
@@ -138,7 +138,7 @@ read_alike (x ∷ xs) (y ∷ ys) (suc m) same inside =
     let rest : take m xs ≡ take m ys = cc same in
     ap (λ (n : ℕ). take n xs) first ∙ (sym (take_take y m xs (omega arith)) ∙ (ap (take y) rest ∙ take_take y m ys (omega arith)))
 
-pub alike_back : (us ws : List ℕ) (c : ℕ) → take c us ≡ take c ws → get_or (bytes_in ws) 0 0 < 8 * c → key_of us ≡ key_of ws
+pub alike_back : (us ws : List ℕ) (c : ℕ) → take c us ≡ take c ws → get_or (bytes_in ws) 0 0 < 8 * c → key_of_words us ≡ key_of_words ws
 alike_back us ws c same inside = read_alike (bytes_in us) (bytes_in ws) (8 * c) (bytes_take c us ∙ (ap bytes_in same ∙ sym (bytes_take c ws))) inside
 
 lt_true : (a b : ℕ) → a < b → nat_lt a b ≡ true
@@ -147,7 +147,7 @@ lt_true a b h = grind arith
 lt_false : (a b : ℕ) → b ≤ a → nat_lt a b ≡ false
 lt_false a b h = grind arith
 
-coded_by : (h : Shown) (first : ℕ) (e : Expiry) → h.1 ≡ e → first ≡ never_bit e + h.0.0 → h.0.0 + 1 < 2 ^ 33 → key_of (words_of h.0.1) ≡ h.0.1 → slot_of (suc first) (words_of h.0.1) (moment_of e) ≡ Some h
+coded_by : (h : Shown) (first : ℕ) (e : Expiry) → h.1 ≡ e → first ≡ never_bit e + h.0.0 → h.0.0 + 1 < 2 ^ 33 → key_of_words (words_of h.0.1) ≡ h.0.1 → slot_of (suc first) (words_of h.0.1) (moment_of e) ≡ Some h
 coded_by h first Never is from few key =
     let number : suc first % 2 ^ 33 - 1 ≡ h.0.0 = omega arith in
     let no : nat_lt (suc first) (2 ^ 33) ≡ false = lt_false (suc first) (2 ^ 33) (omega arith) in
@@ -158,7 +158,7 @@ coded_by h first (At m) is from few key =
     λ i. Some ((number i, key i), (ap (λ (b : Bool). if b then At m else Never) yes ∙ sym is) i)
 
 -- a row's words spell it
-pub coded_held : (h : Shown) → h.0.0 + 1 < 2 ^ 33 → key_of (words_of h.0.1) ≡ h.0.1 → IsCoded (Some h)
+pub coded_held : (h : Shown) → h.0.0 + 1 < 2 ^ 33 → key_of_words (words_of h.0.1) ≡ h.0.1 → IsCoded (Some h)
 coded_held h few key =
     let e : never_bit h.1 + (h.0.0 + 1) ≡ suc (never_bit h.1 + h.0.0) = omega arith in
     ap (λ (n : ℕ). slot_of n (words_of h.0.1) (moment_of h.1)) e ∙ coded_by h (never_bit h.1 + h.0.0) h.1 refl refl few key

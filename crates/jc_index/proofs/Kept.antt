@@ -7,11 +7,11 @@ use Rattle.jc_place.specs.declared.place.Place.{Place}
 use Rattle.jc_stripes.specs.declared.lineage.Lineage.{Lineage}
 use Rattle.jc_stripes.specs.Stripes.{Front, last_of}
 use Rattle.jc_rows.specs.Images.{Image, last_image}
-use Rattle.jc_cuckoo.specs.Images.{IsGrowth, grown, shown}
+use Rattle.jc_cuckoo.specs.Images.{IsGrowth, grown_image, shown_row}
 use Rattle.jc_cuckoo.specs.declared.held.Held.{Held}
 use Rattle.jc_index.specs.Layout.{bucket_slots, bucket_words}
 use Rattle.jc_index.specs.declared.placed.Placed.{Placed}
-use Rattle.jc_index.specs.Spelling.{IsCoded, IsLawful, encoded, image_in}
+use Rattle.jc_index.specs.Spelling.{IsCoded, IsLawful, words_of_image, image_in}
 use Rattle.jc_index.specs.Batches.{Write}
 use Rattle.jc_index.specs.Indexes.{IsIndex}
 use Rattle.jc_index.proofs.Seeing.{last_images}
@@ -50,7 +50,7 @@ module _ {P : Type 0} (placer : P) (buckets count : ℕ) (lineage : Lineage (Pla
     pub grown_size : IsTableSize (2 * buckets)
     grown_size = size_twice buckets is.size (subst (λ (n : ℕ). 2 * n ≤ 65536) last_buckets asked.few)
 
-    pub grown_lawful : All (λ x. IsCoded (option_map shown x)) slots → IsLawful placing (2 * buckets) (encoded (grown slots stash))
+    pub grown_lawful : All (λ x. IsCoded (option_map shown_row x)) slots → IsLawful placing (2 * buckets) (words_of_image (grown_image slots stash))
     grown_lawful coded =
         let n : length slots / bucket_slots ≡ 2 * buckets = (let twice : length slots ≡ 8 * buckets = asked.twice ∙ ap (λ (n : ℕ). 8 * n) last_buckets in omega arith) in
-        subst (λ (n : ℕ). IsLawful placing n (encoded (grown slots stash))) n (filled_lawful placing (grown slots stash) (all_coded slots coded) asked.image)
+        subst (λ (n : ℕ). IsLawful placing n (words_of_image (grown_image slots stash))) n (filled_lawful placing (grown_image slots stash) (all_coded slots coded) asked.image)

@@ -3,7 +3,7 @@ use Rattle.std.proofs.Common.{◌≡◌, ℕ, zero, suc, ◌+◌, ◌/◌, ◌<�
 use Rattle.atomic_table.specs.declared.shared.Seat.{Seat}
 use Rattle.jc_stripes.specs.declared.board.View.{View}
 use Rattle.jc_stripes.specs.declared.board.Role.{Role}
-use Rattle.jc_stripes.specs.Stripes.{Among, IsReader, ReadsIn, glance, glance_of}
+use Rattle.jc_stripes.specs.Stripes.{IsOneOf, IsReader, ReadsIn, glance, glance_of}
 use Rattle.jc_stripes.specs.Layout.{common}
 use Rattle.jc_index.specs.Layout.{bucket_slots, bucket_words, slot_place, slot_words, stripe_of}
 use Rattle.jc_index.specs.Spelling.{group_of, words_at}
@@ -58,7 +58,7 @@ module _ {L : Type 0} where
     tells = λ words fits. (fits, all words);
   }
 
-  pub note_is : (js : List ℕ) (s t : Seat (Unit {0}) (View L)) (place n : ℕ) → Among (group_of place) js → t.table_id ≡ s.table_id
+  pub note_is : (js : List ℕ) (s t : Seat (Unit {0}) (View L)) (place n : ℕ) → IsOneOf (group_of place) js → t.table_id ≡ s.table_id
       → t.me.0 ≡ record s.me.0 { role = glance (glance_of s.me.0).begun (glance_of s.me.0).checked ((place, n) ∷ (glance_of s.me.0).notes) false } → IsNoted js s t (λ words. n ≡ get_or words place 0)
   note_is js s t place n own table view = record {
     table = table;

@@ -2,7 +2,7 @@
 use Rattle.std.proofs.Common.{◌≡◌, ℕ, suc, length, arith, List, [], ◌∷◌, map, true, false, refl, sym, ap, ◌∙◌}
 use mathlib.Core.List.{IsPrefix, map-append}
 use Rattle.jc_stripes.specs.declared.board.View.{View}
-use Rattle.jc_stripes.specs.Stripes.{last_or, glance, glance_of, stacked, stripes_in}
+use Rattle.jc_stripes.specs.Stripes.{last_or, glance, glance_of, stack_of, stripes_in}
 use Rattle.jc_rows.specs.Images.{last_image}
 use Rattle.jc_index.specs.Spelling.{image_in}
 use Rattle.jc_index.specs.Versions.{onto}
@@ -39,7 +39,7 @@ module _ {L : Type 0} (v0 v1 v2 v3 : View L) (begun : List (ℕ × ℕ)) (begin 
   pub lookups_three : v3.lookups ≡ suc v0.lookups
   lookups_three = ap (λ (v : View L). v.lookups) check ∙ (ap (λ (v : View L). v.lookups) look ∙ ap (λ (v : View L). v.lookups) begin)
 
-pub stacked_stripes : (js vs : List ℕ) (done : List (ℕ × ℕ)) → length vs ≡ length js → stripes_in (stacked js vs done) ≡ onto js (stripes_in done)
+pub stacked_stripes : (js vs : List ℕ) (done : List (ℕ × ℕ)) → length vs ≡ length js → stripes_in (stack_of js vs done) ≡ onto js (stripes_in done)
 stacked_stripes [] vs done e = refl
 stacked_stripes (j ∷ js) [] done e = absurd (omega (arith, e))
 stacked_stripes (j ∷ js) (v ∷ vs) done e = stacked_stripes js vs ((j, v) ∷ done) (omega (arith, e))

@@ -2,7 +2,7 @@
 use Rattle.std.specs.Prelude.{ℕ, ◌+◌, ◌/◌, ◌==◌, ◌||◌, not, if◌then◌else◌, Bool, true, false, List, [], ◌∷◌, ◌++◌, Option, Some, None, option_map}
 use Rattle.jc_cuckoo.specs.declared.held.Held.{Held}
 use Rattle.jc_rows.specs.Images.{Shown}
-use Rattle.jc_cuckoo.specs.Images.{shown}
+use Rattle.jc_cuckoo.specs.Images.{shown_row}
 use Rattle.jc_stripes.specs.Layout.{common}
 use Rattle.jc_index.specs.Layout.{bucket_slots, slot_place}
 use Rattle.jc_index.specs.Spelling.{words_of_slot}
@@ -12,8 +12,8 @@ use Rattle.jc_index.specs.Versions.{versions_of}
 abbrev pub Write : Type 0
 Write = ℕ × Option Held
 
-abbrev pub shows : Write → Option Shown
-shows w = option_map shown w.1
+abbrev pub shown_by_write : Write → Option Shown
+shown_by_write w = option_map shown_row w.1
 
 -- these words at places that follow one another
 abbrev pub placed_at : ℕ → List ℕ → List (ℕ × ℕ)
@@ -23,7 +23,7 @@ placed_at p (v ∷ vs) = (p, v) ∷ placed_at (p + 1) vs
 -- the words of these slots
 abbrev pub slot_batch : List Write → List (ℕ × ℕ)
 slot_batch [] = []
-slot_batch (w ∷ ws) = placed_at (slot_place w.0) (words_of_slot (shows w)) ++ slot_batch ws
+slot_batch (w ∷ ws) = placed_at (slot_place w.0) (words_of_slot (shown_by_write w)) ++ slot_batch ws
 
 -- the count, where it changes
 abbrev pub count_batch : Option ℕ → List (ℕ × ℕ)

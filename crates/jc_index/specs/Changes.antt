@@ -1,6 +1,6 @@
 -- What a change of an index writes, and the versions that it takes.
 use Rattle.std.specs.Prelude.{◌≡◌, ℕ, ◌+◌, ◌*◌, ◌<◌, List, ◌++◌, All, length, take}
-use Rattle.jc_cuckoo.specs.Images.{written}
+use Rattle.jc_cuckoo.specs.Images.{written_image}
 use Rattle.jc_stripes.specs.Layout.{version_count}
 use Rattle.jc_stripes.specs.Stripes.{set_all}
 use Rattle.jc_index.specs.declared.batch.Batch.{Batch}
@@ -36,4 +36,4 @@ ArePlacesOf buckets writes = All (λ w. version_count + w.0 < table_words bucket
 -- with this batch the words spell the image that these slots make of the one they spell without it
 abbrev pub SpellsWritten : ℕ → List Write → ℕ → List ℕ → List (ℕ × ℕ) → Type 0
 SpellsWritten buckets writes stash words batch =
-    IsSpelt buckets (set_all words batch) × (image_in (set_all words batch) ≡ written (image_in words) writes stash)
+    IsSpelt buckets (set_all words batch) × (image_in (set_all words batch) ≡ written_image (image_in words) writes stash)

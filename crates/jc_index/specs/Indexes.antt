@@ -3,7 +3,7 @@ use Rattle.std.specs.Prelude.{◌≡◌, ℕ, ◌*◌, Bool, true, List, [], ◌
 use Rattle.atomic_table.specs.Seated.{TableId}
 use Rattle.jc_place.specs.Place.{IsTableSize}
 use Rattle.jc_cuckoo.specs.Images.{blank_image}
-use Rattle.jc_stripes.specs.Stripes.{Changes, IsCommitted, desk_of, glance_of, last_of}
+use Rattle.jc_stripes.specs.Stripes.{Changes, IsVersionCommitted, desk_of, glance_of, last_of}
 use Rattle.jc_stripes.specs.declared.lineage.Lineage.{Lineage}
 use Rattle.jc_stripes.specs.declared.member.Member.{Member}
 use Rattle.jc_rows.specs.Images.{Image, last_image}
@@ -62,13 +62,13 @@ module _ {P : Type 0} where
       (index.images ≡ blank_image buckets ∷ []) × (index.placer ≡ placer) × (index.buckets ≡ buckets)
 
   -- the versions that the commit of these slots and of the stash's count takes were opened and shut
-  abbrev pub CommitsVersions : List Write → ℕ → Index P → Index P → Type 0
-  CommitsVersions writes stash old new =
-      Changes IsCommitted (stripes_of_commit writes (last_image old.images).stash stash) old.versions new.versions
+  abbrev pub CommitsIndexVersions : List Write → ℕ → Index P → Index P → Type 0
+  CommitsIndexVersions writes stash old new =
+      Changes IsVersionCommitted (stripes_of_commit writes (last_image old.images).stash stash) old.versions new.versions
 
   -- a pass has met an index, and has seen all its images
-  abbrev pub HasMet : Index P → Passing P → Type 0
-  HasMet index pass =
+  abbrev pub HasMetIndex : Index P → Passing P → Type 0
+  HasMetIndex index pass =
       (pass.met ≡ true) × (pass.images ≡ index.images) × (pass.placer ≡ index.placer) × (pass.buckets ≡ index.buckets)
 
   -- its last meeting is what it was

@@ -3,7 +3,7 @@ use Rattle.std.specs.Prelude.{◌≡◌, ◌≢◌, ◌⊎◌, ℕ, suc, ◌+◌
 use mathlib.Core.List.{IsPrefix}
 use Rattle.atomic_table.specs.declared.shared.Seat.{Seat}
 use Rattle.jc_stripes.specs.declared.board.View.{View}
-use Rattle.jc_stripes.specs.Stripes.{ReadsIn, SomeOdd, Stayed, glance, glance_of, stripes_in}
+use Rattle.jc_stripes.specs.Stripes.{ReadsIn, SomeOdd, AreReadAtRest, glance, glance_of, stripes_in}
 use Rattle.jc_stripes.specs.Seats.{StripesSeat}
 use Rattle.jc_stripes.specs.declared.reader.Reader.{Reader}
 use Rattle.jc_place.specs.declared.place.Place.{Place}
@@ -11,9 +11,9 @@ use Rattle.jc_rows.specs.Images.{Image, Shown, last_image}
 use Rattle.jc_index.specs.declared.placed.Placed.{Placed}
 use Rattle.jc_index.specs.declared.sought.Sought.{Sought}
 use Rattle.jc_index.specs.Layout.{bucket_slots, slot_place, table_words}
-use Rattle.jc_index.specs.Found.{answer, first_seen, found, or_else, seen}
+use Rattle.jc_index.specs.Found.{answer_with_stash, first_seen, found_in_image, first_answer, seen_in_slot}
 use Rattle.jc_index.specs.Versions.{read_for}
-use Rattle.jc_index.specs.Spelling.{buckets_of, image_in, group_of, key_of, key_words_at, slot_at, words_of_slot, slot_words_at}
+use Rattle.jc_index.specs.Spelling.{buckets_of, image_in, group_of, key_of_words, key_words_at, slot_spelt_at, words_of_slot, slot_words_at}
 
 -- Only the notes changed. Words that fit the notes under these versions now fitted them before, and meet this
 pub record IsNoted {L : Type 0} (js : List ℕ) (s t : Seat (Unit {0}) (View L)) (P : List ℕ → Type 0) : Type 0 where
@@ -23,7 +23,7 @@ pub record IsNoted {L : Type 0} (js : List ℕ) (s t : Seat (Unit {0}) (View L))
 
 -- the words of this slot spell it
 abbrev pub IsSpeltAt : List ℕ → ℕ → Type 0
-IsSpeltAt words slot = words_of_slot (slot_at words slot) ≡ slot_words_at words slot
+IsSpeltAt words slot = words_of_slot (slot_spelt_at words slot) ≡ slot_words_at words slot
 
 -- the first word of a slot that holds this cache's key of these words
 abbrev pub IsHeadAt : ℕ → List ℕ → List ℕ → ℕ → Option ℕ → Type 0
@@ -34,12 +34,12 @@ abbrev pub IsSpeltIn : List ℕ → ℕ → Type 0
 IsSpeltIn words bucket = IsSpeltAt words (bucket_slots * bucket) × IsSpeltAt words (bucket_slots * bucket + 1) × IsSpeltAt words (bucket_slots * bucket + 2) × IsSpeltAt words (bucket_slots * bucket + 3)
 
 -- the slots of a bucket
-abbrev pub bucket_at : List ℕ → ℕ → List (Option Shown)
-bucket_at words bucket = slot_at words (bucket_slots * bucket) ∷ slot_at words (bucket_slots * bucket + 1) ∷ slot_at words (bucket_slots * bucket + 2) ∷ slot_at words (bucket_slots * bucket + 3) ∷ []
+abbrev pub slots_in_bucket : List ℕ → ℕ → List (Option Shown)
+slots_in_bucket words bucket = slot_spelt_at words (bucket_slots * bucket) ∷ slot_spelt_at words (bucket_slots * bucket + 1) ∷ slot_spelt_at words (bucket_slots * bucket + 2) ∷ slot_spelt_at words (bucket_slots * bucket + 3) ∷ []
 
 -- the cache and the key that are sought
 abbrev pub place_sought : Sought → ℕ × List ℕ
-place_sought sought = (sought.id, key_of sought.words)
+place_sought sought = (sought.id, key_of_words sought.words)
 
 module _ {P : Type 0} where
   -- the law of a seat places them in these two buckets of its table
@@ -51,12 +51,12 @@ module _ {P : Type 0} where
 
 -- what these slots tell of the key
 abbrev pub seen_among : Sought → List (Option Shown) → Option Bool
-seen_among sought slots = first_seen sought.id (key_of sought.words) sought.moment slots
+seen_among sought slots = first_seen sought.id (key_of_words sought.words) sought.moment slots
 
 -- what the slots of two buckets do
 abbrev pub seen_in_buckets : Sought → List ℕ → ℕ → ℕ → Option Bool
 seen_in_buckets sought words one two =
-    or_else (seen_among sought (bucket_at words one)) (seen_among sought (bucket_at words two))
+    first_answer (seen_among sought (slots_in_bucket words one)) (seen_among sought (slots_in_bucket words two))
 
 -- What a look at words finds, where these spell an image.
 
@@ -67,17 +67,17 @@ FindsHead sought slot head words = IsSpeltAt words slot → IsHeadAt sought.id s
 -- what a slot tells of it
 abbrev pub FindsInSlot : Sought → ℕ → Option Bool → List ℕ → Type 0
 FindsInSlot sought slot live words =
-    IsSpeltAt words slot → live ≡ seen sought.id (key_of sought.words) sought.moment (slot_at words slot)
+    IsSpeltAt words slot → live ≡ seen_in_slot sought.id (key_of_words sought.words) sought.moment (slot_spelt_at words slot)
 
 -- what a bucket does
 abbrev pub FindsInBucket : Sought → ℕ → Option Bool → List ℕ → Type 0
-FindsInBucket sought bucket live words = IsSpeltIn words bucket → live ≡ seen_among sought (bucket_at words bucket)
+FindsInBucket sought bucket live words = IsSpeltIn words bucket → live ≡ seen_among sought (slots_in_bucket words bucket)
 
 -- what two buckets and the stash's count do
 abbrev pub FindsInBuckets : Sought → ℕ → ℕ → Option Bool → List ℕ → Type 0
 FindsInBuckets sought one two live words =
     IsSpeltIn words one → IsSpeltIn words two
-    → live ≡ answer (seen_in_buckets sought words one two) (slice_index words 0)
+    → live ≡ answer_with_stash (seen_in_buckets sought words one two) (slice_index words 0)
 
 -- What a reader has seen and read.
 
@@ -95,11 +95,11 @@ abbrev pub lookups_of : {L : Type 0} → Reader L → ℕ
 lookups_of r = r.seat.me.0.lookups
 
 -- what the last image says of the key
-abbrev pub found_in : {L : Type 0} → Reader L → Sought → Option Bool
-found_in r sought = found (last_image (images_of r)) sought.id (key_of sought.words) sought.moment
+abbrev pub found_by_reader : {L : Type 0} → Reader L → Sought → Option Bool
+found_by_reader r sought = found_in_image (last_image (images_of r)) sought.id (key_of_words sought.words) sought.moment
 
 -- a lookup of a key of these two buckets: which versions it read twice, and what else became of the reader
-pub record IsLookup {L : Type 0} (place : ℕ × ℕ) (before after : Reader L) : Type 0 where
+pub record IsReaderLookup {L : Type 0} (place : ℕ × ℕ) (before after : Reader L) : Type 0 where
   pub stripes : stripes_in (begun_of after) ≡ read_for place
   pub again : stripes_in (checked_of after) ≡ stripes_in (begun_of after)
   pub front : IsPrefix (images_of before) (images_of after)
@@ -110,8 +110,8 @@ pub record IsLookup {L : Type 0} (place : ℕ × ℕ) (before after : Reader L) 
 
 -- where a lookup is sure, each version was even and stayed
 abbrev pub HasStayed : {L : Type 0} → Reader L → Type 0
-HasStayed r = Stayed (begun_of r) (checked_of r)
+HasStayed r = AreReadAtRest (begun_of r) (checked_of r)
 
 -- why it may be unsure: one was odd, or did not stay
-abbrev pub Moved : {L : Type 0} → Reader L → Type 0
-Moved r = SomeOdd (begun_of r) ⊎ (begun_of r ≢ checked_of r)
+abbrev pub HasMoved : {L : Type 0} → Reader L → Type 0
+HasMoved r = SomeOdd (begun_of r) ⊎ (begun_of r ≢ checked_of r)

@@ -8,7 +8,7 @@ use Rattle.jc_place.specs.declared.place.Place.{Place}
 use Rattle.jc_cuckoo.specs.Cells.{first_bucket, second_bucket}
 use Rattle.jc_rows.specs.Images.{Image, Shown}
 use Rattle.jc_cuckoo.specs.declared.held.Held.{Held}
-use Rattle.jc_cuckoo.specs.Images.{IsImage, shown}
+use Rattle.jc_cuckoo.specs.Images.{IsImage, shown_row}
 use Rattle.jc_model.specs.Limits.{key_words}
 use Rattle.jc_stripes.specs.Layout.{common}
 use Rattle.jc_index.specs.Layout.{bucket_words, moment_place, slot_place, slot_words, stripe_of}
@@ -36,23 +36,23 @@ abbrev pub words_of_slots : List (Option Shown) → List ℕ
 words_of_slots [] = []
 words_of_slots (x ∷ xs) = words_of_slot x ++ words_of_slots xs
 
-abbrev pub encoded : Image → List ℕ
-encoded image = image.stash ∷ words_of_slots image.slots
+abbrev pub words_of_image : Image → List ℕ
+words_of_image image = image.stash ∷ words_of_slots image.slots
 
 -- and back
 abbrev pub bytes_in : List ℕ → List ℕ
 bytes_in [] = []
 bytes_in (w ∷ ws) = to_le_bytes w64 w ++ bytes_in ws
 
-abbrev pub key_of : List ℕ → List ℕ
-key_of ws = take (slice_index (bytes_in ws) 0) (drop 1 (bytes_in ws))
+abbrev pub key_of_words : List ℕ → List ℕ
+key_of_words ws = take (slice_index (bytes_in ws) 0) (drop 1 (bytes_in ws))
 
-abbrev pub expiry_of : ℕ → ℕ → Expiry
-expiry_of first moment = if nat_lt first (2 ^ 33) then At moment else Never
+abbrev pub expiry_of_words : ℕ → ℕ → Expiry
+expiry_of_words first moment = if nat_lt first (2 ^ 33) then At moment else Never
 
 abbrev pub slot_of : ℕ → List ℕ → ℕ → Option Shown
 slot_of zero ws moment = None
-slot_of (suc n) ws moment = Some ((suc n % 2 ^ 33 - 1, key_of ws), expiry_of (suc n) moment)
+slot_of (suc n) ws moment = Some ((suc n % 2 ^ 33 - 1, key_of_words ws), expiry_of_words (suc n) moment)
 
 -- a key's words, among those of its slot
 abbrev pub key_in : List ℕ → List ℕ
@@ -82,8 +82,8 @@ slot_words_at words slot = words_at words (slot_place slot) slot_words
 abbrev pub key_words_at : List ℕ → ℕ → List ℕ
 key_words_at words slot = words_at words (suc (slot_place slot)) key_words
 
-abbrev pub slot_at : List ℕ → ℕ → Option Shown
-slot_at words slot = slot_in (slot_words_at words slot)
+abbrev pub slot_spelt_at : List ℕ → ℕ → Option Shown
+slot_spelt_at words slot = slot_in (slot_words_at words slot)
 
 -- the words of a slot spell it, and nothing else
 abbrev pub IsCoded : Option Shown → Type 0
@@ -91,12 +91,12 @@ IsCoded x = slot_in (words_of_slot x) ≡ x
 
 -- the words of each of these slots spell it
 abbrev pub AreCoded : List (Option Held) → Type 0
-AreCoded slots = All (λ s. IsCoded (option_map shown s)) slots
+AreCoded slots = All (λ s. IsCoded (option_map shown_row s)) slots
 
 -- so many buckets, spelt in the one way
 pub record IsSpelt (buckets : ℕ) (words : List ℕ) : Type 0 where
   pub wide : length words ≡ bucket_words * buckets + 1
-  pub coded : words ≡ encoded (image_in words)
+  pub coded : words ≡ words_of_image (image_in words)
 
 -- what holds of each content that is committed
 pub record IsLawful (placing : ℕ → List ℕ → Place) (buckets : ℕ) (words : List ℕ) : Type 0 where

@@ -3,21 +3,21 @@ use Rattle.std.specs.Prelude.{ℕ, ◌==◌, Bool, true, false, List, [], ◌∷
 use Rattle.jc_stripes.specs.Layout.{common}
 use Rattle.jc_index.specs.Layout.{stripe_of}
 
-abbrev pub pair_by : Bool → Bool → ℕ → ℕ → List ℕ
-pair_by true less a b = a ∷ []
-pair_by false true a b = a ∷ b ∷ []
-pair_by false false a b = b ∷ a ∷ []
+abbrev pub version_pair_by : Bool → Bool → ℕ → ℕ → List ℕ
+version_pair_by true less a b = a ∷ []
+version_pair_by false true a b = a ∷ b ∷ []
+version_pair_by false false a b = b ∷ a ∷ []
 
 -- each once, and the lower number first
-abbrev pub pair_of : ℕ → ℕ → List ℕ
-pair_of a b = pair_by (a == b) (nat_lt a b) a b
+abbrev pub version_pair : ℕ → ℕ → List ℕ
+version_pair a b = version_pair_by (a == b) (nat_lt a b) a b
 
 abbrev pub stash_if : Bool → List ℕ
 stash_if true = common ∷ []
 stash_if false = []
 
 abbrev pub versions_of : ℕ → ℕ → Bool → List ℕ
-versions_of one two stash = pair_of (stripe_of one) (stripe_of two) ++ stash_if stash
+versions_of one two stash = version_pair (stripe_of one) (stripe_of two) ++ stash_if stash
 
 -- a list from its end, and then another
 abbrev pub onto : List ℕ → List ℕ → List ℕ

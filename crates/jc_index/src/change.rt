@@ -1,10 +1,10 @@
 //! What a commit sets, and which versions it takes.
 ghost use Rattle.std.specs.Prelude.{◌≡◌, ◌⊎◌, ◌+◌, ◌*◌, ◌<◌, ◌≤◌, ◌++◌, ℕ, List, All, Some, None, take, length};
-ghost use Rattle.jc_stripes.specs.Stripes.{Covered};
+ghost use Rattle.jc_stripes.specs.Stripes.{AreUnderVersions};
 ghost use Rattle.jc_stripes.specs.Layout.{version_count};
 ghost use Rattle.jc_index.specs.Layout.{most_writes, slot_words};
 ghost use Rattle.jc_index.specs.Spelling.{IsCoded, IsSpelt, group_of, image_in};
-ghost use Rattle.jc_index.specs.Batches.{count_batch, count_for, is_some, shows, slot_batch, stripes_for};
+ghost use Rattle.jc_index.specs.Batches.{count_batch, count_for, is_some, shown_by_write, slot_batch, stripes_for};
 ghost use Rattle.jc_index.specs.Changes.{ArePlacesOf, AreSlotsOf, SpellsWritten, stripes_of_commit, stripes_taken, writes_in};
 
 use crate::batch::Batch;
@@ -22,11 +22,11 @@ pub(crate) struct Change {
 }
 
 /// The words of these slots.
-fn gathered(writes: &[(u32, Option<Held>)]) -> Batch
+fn batch_of(writes: &[(u32, Option<Held>)]) -> Batch
     requires few { length writes.now ≤ 2 }
     ensures batch { writes_in result ≡ slot_batch writes.now }
     ensures length { result.length ≡ slot_words * length writes.now }
-    ensures coded { All (λ w. IsCoded (shows w)) writes.now }
+    ensures coded { All (λ w. IsCoded (shown_by_write w)) writes.now }
 {
     let mut batch = Batch::new();
     for i in 0..writes.len() {
@@ -63,14 +63,14 @@ fn count_of(slots: usize, old: u32, stash: u32) -> Option<u32>
     None
 }
 
-fn changed(writes: &[(u32, Option<Held>)], count: Option<u32>) -> Change
+fn change_for(writes: &[(u32, Option<Held>)], count: Option<u32>) -> Change
     requires few { length writes.now ≤ 2 }
     ensures fits { (result.batch.length ≤ most_writes) × (result.taken ≤ 3) }
     ensures batch { writes_in result.batch ≡ slot_batch writes.now ++ count_batch count }
     ensures stripes { stripes_taken result ≡ stripes_for writes.now (is_some count) }
-    ensures coded { All (λ w. IsCoded (shows w)) writes.now }
+    ensures coded { All (λ w. IsCoded (shown_by_write w)) writes.now }
 {
-    let mut batch = gathered(writes);
+    let mut batch = batch_of(writes);
     match count {
         None => {
             let (stripes, taken) = stripes_of(writes, false);
@@ -100,7 +100,7 @@ impl Change {
         ensures stripes { stripes_taken result ≡ stripes_of_commit writes.now old stash }
         ensures some { 0 < length (writes_in result.batch) }
         ensures few { All (λ j. j < version_count) (stripes_taken result) }
-        ensures covered { Covered group_of (stripes_taken result) (writes_in result.batch) }
+        ensures covered { AreUnderVersions group_of (stripes_taken result) (writes_in result.batch) }
         ensures inside { (buckets : ℕ)
             → AreSlotsOf buckets writes.now → ArePlacesOf buckets (writes_in result.batch) }
         ensures image { (buckets : ℕ) (words : List ℕ) → AreSlotsOf buckets writes.now
@@ -108,7 +108,7 @@ impl Change {
             → SpellsWritten buckets writes.now stash words (writes_in result.batch) }
     {
         let count = count_of(writes.len(), old, stash);
-        changed(writes, count)
+        change_for(writes, count)
     }
 
     /// The versions.

@@ -1,9 +1,9 @@
 //! The words of a new table.
 ghost use Rattle.std.specs.Prelude.{◌≡◌, ◌*◌, ◌≤◌, ◌∷◌, ◌++◌, IfOk, length, replicate};
-ghost use Rattle.jc_cuckoo.specs.Images.{grown};
+ghost use Rattle.jc_cuckoo.specs.Images.{grown_image};
 ghost use Rattle.jc_stripes.specs.Layout.{versions_at};
 ghost use Rattle.jc_index.specs.Layout.{bucket_slots, bucket_words};
-ghost use Rattle.jc_index.specs.Spelling.{AreCoded, encoded};
+ghost use Rattle.jc_index.specs.Spelling.{AreCoded, words_of_image};
 
 use crate::layout::{BUCKET_WORDS, HEADER_WORDS, SLOT_WORDS};
 use crate::slot::words_of_slot;
@@ -13,13 +13,14 @@ use jc_stripes::board::VERSION_COUNT;
 use std::alloc::Global;
 
 /// Versions at rest, and the words of an image.
-pub(crate) fn filled(
+pub(crate) fn fill_words(
     alloc: Global,
     slots: &[Option<Held>],
     stash: u32,
 ) -> Result<Vec<u64>, OutOfMemory>
     requires { length slots.now ≤ bucket_slots * 65536 }
-    ensures { IfOk result (λ v. (v.items ≡ versions_at 0 ++ encoded (grown slots.now stash))
+    ensures { IfOk result (λ v.
+        (v.items ≡ versions_at 0 ++ words_of_image (grown_image slots.now stash))
         × AreCoded slots.now) }
 {
     let mut words = vec![in alloc; 0; VERSION_COUNT]?;

@@ -1,6 +1,6 @@
 //! What a lookup reads between its versions.
 ghost use Rattle.std.specs.Prelude.{◌≡◌, ◌+◌, ◌*◌, ◌/◌, ◌≤◌, false, List, ℕ};
-ghost use Rattle.jc_stripes.specs.Stripes.{Among, glance_of};
+ghost use Rattle.jc_stripes.specs.Stripes.{IsOneOf, glance_of};
 ghost use Rattle.jc_stripes.specs.Layout.{common};
 ghost use Rattle.jc_index.specs.Layout.{bucket_slots, header_words, slot_words, stripe_of, table_words};
 ghost use Rattle.jc_index.specs.Passes.{FindsHead, FindsInBucket, FindsInBuckets, FindsInSlot, IsNoted};
@@ -18,7 +18,7 @@ fn head_at<P: Placer>(reader: &mut Reader<Placed<P>>, slot: usize, sought: &Soug
     requires young { (glance_of reader.old.seat.me.0).settled ≡ false }
     ensures same { reader.new.seat.table_id ≡ reader.old.seat.table_id }
     ensures young { (glance_of reader.new.seat.me.0).settled ≡ false }
-    ensures noted { (js : List ℕ) → Among (stripe_of (slot / bucket_slots)) js
+    ensures noted { (js : List ℕ) → IsOneOf (stripe_of (slot / bucket_slots)) js
         → IsNoted js reader.old.seat reader.new.seat (FindsHead sought.now slot result) }
 {
     let first = SLOT_WORDS * slot + 1;
@@ -44,7 +44,7 @@ fn look_slot<P: Placer>(
     requires young { (glance_of reader.old.seat.me.0).settled ≡ false }
     ensures same { reader.new.seat.table_id ≡ reader.old.seat.table_id }
     ensures young { (glance_of reader.new.seat.me.0).settled ≡ false }
-    ensures noted { (js : List ℕ) → Among (stripe_of (slot / bucket_slots)) js
+    ensures noted { (js : List ℕ) → IsOneOf (stripe_of (slot / bucket_slots)) js
         → IsNoted js reader.old.seat reader.new.seat (FindsInSlot sought.now slot result) }
 {
     let Some(head) = head_at(reader, slot, sought) else {
@@ -67,7 +67,7 @@ fn look_bucket<P: Placer>(
     requires young { (glance_of reader.old.seat.me.0).settled ≡ false }
     ensures same { reader.new.seat.table_id ≡ reader.old.seat.table_id }
     ensures young { (glance_of reader.new.seat.me.0).settled ≡ false }
-    ensures noted { (js : List ℕ) → Among (stripe_of bucket) js
+    ensures noted { (js : List ℕ) → IsOneOf (stripe_of bucket) js
         → IsNoted js reader.old.seat reader.new.seat (FindsInBucket sought.now bucket result) }
 {
     let first = BUCKET_SLOTS * bucket;
@@ -93,7 +93,7 @@ pub(crate) fn look<P: Placer>(
     ensures same { reader.new.seat.table_id ≡ reader.old.seat.table_id }
     ensures young { (glance_of reader.new.seat.me.0).settled ≡ false }
     ensures noted { (js : List ℕ)
-        → Among (stripe_of one) js → Among (stripe_of two) js → Among common js
+        → IsOneOf (stripe_of one) js → IsOneOf (stripe_of two) js → IsOneOf common js
         → IsNoted js reader.old.seat reader.new.seat (FindsInBuckets sought.now one two result) }
 {
     let first = look_bucket(reader, one, sought);

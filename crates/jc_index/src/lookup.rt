@@ -3,10 +3,10 @@ ghost use Rattle.std.specs.Prelude.{◌≡◌, ◌⊎◌, ◌%◌, Bool, true, f
 ghost use Rattle.jc_place.specs.Place.{IsTableSize};
 ghost use Rattle.jc_stripes.specs.Stripes.{glance_of};
 ghost use Rattle.jc_index.specs.Layout.{table_words};
-ghost use Rattle.jc_index.specs.Spelling.{buckets_of, key_of};
+ghost use Rattle.jc_index.specs.Spelling.{buckets_of, key_of_words};
 ghost use Rattle.jc_index.specs.declared.lookup.Lookup.TheVariants.{Sure, Unsure};
 ghost use Rattle.jc_index.specs.Versions.{versions_of};
-ghost use Rattle.jc_index.specs.Passes.{HasBuckets, HasStayed, IsLookup, Moved, found_in, place_sought};
+ghost use Rattle.jc_index.specs.Passes.{HasBuckets, HasStayed, IsReaderLookup, HasMoved, found_by_reader, place_sought};
 
 use crate::look::look;
 use crate::placed::{Placed, buckets_of};
@@ -39,10 +39,10 @@ fn probe<P: Placer>(
     requires stripes { stripes.now ≡ versions_of one two true }
     requires alike { length versions.old ≡ length stripes.now }
     requires rests { (glance_of reader.old.seat.me.0).settled ≡ true }
-    ensures sure { result.0 ≡ true → found_in reader.new sought.now ≡ result.1 }
+    ensures sure { result.0 ≡ true → found_by_reader reader.new sought.now ≡ result.1 }
     ensures stays { result.0 ≡ true → HasStayed reader.new }
-    ensures unsure { result.0 ≡ false → Moved reader.new }
-    ensures reads { IsLookup (one, two) reader.old reader.new }
+    ensures unsure { result.0 ≡ false → HasMoved reader.new }
+    ensures reads { IsReaderLookup (one, two) reader.old reader.new }
 {
     reader.begin(stripes, versions);
     let answer = look(reader, one, two, sought);
@@ -51,7 +51,7 @@ fn probe<P: Placer>(
 }
 
 /// Sure where the versions stayed and the words tell.
-fn told(same: bool, answer: Option<bool>) -> Lookup
+fn lookup_result(same: bool, answer: Option<bool>) -> Lookup
     ensures sure { (b : Bool) → result ≡ Sure b → (same ≡ true) × (answer ≡ Some b) }
     ensures unsure { result ≡ Unsure → (same ≡ false) ⊎ ((same ≡ true) × (answer ≡ None)) }
 {
@@ -72,22 +72,23 @@ pub(crate) fn look_up<P: Placer>(
     key: &Key,
     sought: &Sought,
 ) -> Lookup
-    requires same { key_of sought.now.words ≡ key.now }
+    requires same { key_of_words sought.now.words ≡ key.now }
     requires law { reader.old.seat.me.0.law ≡ Some record { placer = placer.now; buckets = buckets } }
     requires wide { table_words buckets ≡ reader.old.seat.table_id.words }
     requires size { IsTableSize buckets }
     requires rests { (glance_of reader.old.seat.me.0).settled ≡ true }
-    ensures sure { (b : Bool) → result ≡ Sure b → found_in reader.new sought.now ≡ Some b }
+    ensures sure { (b : Bool) → result ≡ Sure b → found_by_reader reader.new sought.now ≡ Some b }
     ensures stays { (b : Bool) → result ≡ Sure b → HasStayed reader.new }
-    ensures unsure { result ≡ Unsure → Moved reader.new ⊎ (found_in reader.new sought.now ≡ None) }
-    ensures reads { IsLookup (buckets_of (P.placing placer.now) buckets (place_sought sought.now))
+    ensures unsure { result ≡ Unsure
+        → HasMoved reader.new ⊎ (found_by_reader reader.new sought.now ≡ None) }
+    ensures reads { IsReaderLookup (buckets_of (P.placing placer.now) buckets (place_sought sought.now))
         reader.old reader.new }
 {
     let (one, two) = buckets_of(placer, buckets, sought.id, key);
     let (first, second) = (one % STRIPE_COUNT, two % STRIPE_COUNT);
     if first == second {
         let (same, answer) = probe(reader, &[first, STASH], &mut [0; 2], one, two, sought);
-        return told(same, answer);
+        return lookup_result(same, answer);
     }
     if first < second {
         let (same, answer) = probe(
@@ -98,7 +99,7 @@ pub(crate) fn look_up<P: Placer>(
             two,
             sought,
         );
-        return told(same, answer);
+        return lookup_result(same, answer);
     }
     let (same, answer) = probe(
         reader,
@@ -108,5 +109,5 @@ pub(crate) fn look_up<P: Placer>(
         two,
         sought,
     );
-    told(same, answer)
+    lookup_result(same, answer)
 }

@@ -1,9 +1,9 @@
 //! A reader of the index.
 ghost use Rattle.std.specs.Prelude.{◌≡◌, suc, Bool, true, false, Some, IfOk, IfErr};
 ghost use mathlib.Core.List.{IsPrefix};
-ghost use Rattle.jc_stripes.specs.Stripes.{Stayed};
+ghost use Rattle.jc_stripes.specs.Stripes.{AreReadAtRest};
 ghost use Rattle.jc_index.specs.declared.lookup.Lookup.TheVariants.{Sure, Unsure};
-ghost use Rattle.jc_index.specs.Indexes.{HasMet, HasSameMeeting};
+ghost use Rattle.jc_index.specs.Indexes.{HasMetIndex, HasSameMeeting};
 ghost use Rattle.jc_index.specs.Lookups.{MayBeUnsure, ReadsStripes, found_by};
 
 use crate::lookup::{Lookup, look_up};
@@ -44,7 +44,7 @@ impl<N: Naming, P: Placer + Drop> Pass<N, P> {
     /// Whether a key is there and live, without waiting. It is sure only of the last image that it has seen.
     pub fn lookup(&mut self, id: CacheId, key: &Key, now: u64) -> Lookup
         ensures sure { (b : Bool) → result ≡ Sure b → found_by self.new id key.now now ≡ Some b }
-        ensures stays { (b : Bool) → result ≡ Sure b → Stayed self.new.begun self.new.checked }
+        ensures stays { (b : Bool) → result ≡ Sure b → AreReadAtRest self.new.begun self.new.checked }
         ensures unmet { self.old.met ≡ false → (result ≡ Unsure) × (self.new ≡ self.old) }
         ensures unsure { result ≡ Unsure → MayBeUnsure self.old self.new id key.now now }
         ensures stripes { self.old.met ≡ true
@@ -71,7 +71,7 @@ impl<N: Naming, P: Placer + Drop> Pass<N, P> {
     pub fn meet(&mut self, words: &mut Words<N, P>) -> Result<(), OutOfMemory>
         ensures words { words.new ≡ words.old }
         ensures front { IsPrefix self.old.images self.new.images }
-        ensures met { IfOk result (λ _. HasMet words.old self.new) }
+        ensures met { IfOk result (λ _. HasMetIndex words.old self.new) }
         ensures counted { IfOk result (λ _. self.new.lookups ≡ 0) }
         ensures refused { IfErr result (λ _. self.new ≡ record self.old { met = false }) }
     {

@@ -2,8 +2,8 @@
 ghost use Rattle.std.specs.Prelude.{◌≡◌, ◌≢◌, ◌+◌, ◌*◌, ◌%◌, ◌^◌, ◌<◌, ◌≤◌, true, false, None, slice_index};
 ghost use Rattle.jc_model.specs.Key.{words_of};
 ghost use Rattle.jc_model.specs.Limits.{key_words};
-ghost use Rattle.jc_index.specs.Spelling.{bytes_in, key_of};
-ghost use Rattle.jc_index.specs.Found.{answer};
+ghost use Rattle.jc_index.specs.Spelling.{bytes_in, key_of_words};
+ghost use Rattle.jc_index.specs.Found.{answer_with_stash};
 
 use crate::slot::{NEVER, words_of_key};
 use jc_model::event::CacheId;
@@ -21,14 +21,14 @@ pub(crate) struct Sought {
     pub(crate) count: usize,
     pub(crate) moment: u64,
     pub(crate) ghost numbered: { number ≡ id + 1 },
-    pub(crate) ghost spelt: { words ≡ words_of (key_of words) },
+    pub(crate) ghost spelt: { words ≡ words_of (key_of_words words) },
     pub(crate) ghost long: { slice_index (bytes_in words) 0 < 8 * count },
     pub(crate) ghost few: { count ≤ key_words },
 }
 
 impl Sought {
     pub(crate) fn new(id: CacheId, key: &Key, moment: u64) -> Sought
-        ensures { (result.id ≡ id) × (key_of result.words ≡ key.now) × (result.moment ≡ moment) }
+        ensures { (result.id ≡ id) × (key_of_words result.words ≡ key.now) × (result.moment ≡ moment) }
     {
         Sought {
             id,
@@ -50,7 +50,7 @@ impl Sought {
 
 /// What the stash's count tells of a key that is in no slot: it may lie in the stash.
 pub(crate) fn answer(count: u64) -> Option<bool>
-    ensures { result ≡ answer None count }
+    ensures { result ≡ answer_with_stash None count }
 {
     if count == 0 {
         return Some(false);

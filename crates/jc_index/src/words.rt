@@ -2,10 +2,10 @@
 ghost use Rattle.std.specs.Prelude.{◌≡◌, ◌*◌, ◌≤◌, Some, IfOk, OnErr, OnOk, length};
 ghost use Rattle.jc_stripes.specs.Layout.{versions_at};
 ghost use Rattle.jc_cuckoo.specs.Mirrors.{AddsGrownImage, AddsWrittenImage, SlotsMakeGrowth, WritesFitLast, WritesMakeImage};
-ghost use Rattle.jc_index.specs.Indexes.{CommitsVersions, HasMet};
+ghost use Rattle.jc_index.specs.Indexes.{CommitsIndexVersions, HasMetIndex};
 
 use crate::change::Change;
-use crate::fill::filled;
+use crate::fill::fill_words;
 use crate::naming::Naming;
 use crate::pass::Pass;
 use crate::placed::Placed;
@@ -42,7 +42,7 @@ impl<N: Naming, P: Placer + Drop> Words<N, P> {
     /// A pass that has seen all images, and made no lookup.
     pub fn pass(&mut self) -> Result<Pass<N, P>, OutOfMemory>
         ensures same { self.new ≡ self.old }
-        ensures pass { IfOk result (λ p. HasMet self.old p) }
+        ensures pass { IfOk result (λ p. HasMetIndex self.old p) }
         ensures counted { IfOk result (λ p. p.lookups ≡ 0) }
     {
         let member = self.lineage.member()?;
@@ -72,7 +72,7 @@ impl<N: Naming, P: Placer + Drop> Mirror for Words<N, P> {
             (Some self.old.images) }
         ensures images { AddsWrittenImage writes.now stash (Some self.old.images) (Some self.new.images) }
         ensures placing { P.placing self.new.placer ≡ P.placing self.old.placer }
-        ensures versions { CommitsVersions writes.now stash self.old self.new }
+        ensures versions { CommitsIndexVersions writes.now stash self.old self.new }
         ensures same { (self.new.placer ≡ self.old.placer) × (self.new.buckets ≡ self.old.buckets) }
     {
         let change = Change::of(writes, self.count, stash);
@@ -95,7 +95,7 @@ impl<N: Naming, P: Placer + Drop> Mirror for Words<N, P> {
         ensures same { self.new.placer ≡ self.old.placer }
     {
         let alloc = *self.lineage.retired.allocator();
-        let words = filled(alloc.clone()?, slots, stash)?;
+        let words = fill_words(alloc.clone()?, slots, stash)?;
         let law = Placed {
             placer: self.placer,
             buckets: 2 * self.buckets,

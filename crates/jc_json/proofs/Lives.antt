@@ -7,7 +7,7 @@ use Rattle.jc_model.specs.declared.event.Entry.{Entry}
 use Rattle.jc_model.specs.declared.event.Life.{Life}
 use Rattle.jc_model.specs.Legal.{InOrder, IsLegalFrom, config_of, entries_of}
 use Rattle.jc_model.specs.Runs.{fresh}
-use Rattle.jc_json.specs.Totals.{CanOpen, AreMade}
+use Rattle.jc_json.specs.Totals.{CanOpenEach, CanBeMadeAgain}
 
 -- no life has a lesser id
 below : (least : ℕ) (lives : List Life) (id : ℕ) → InOrder least lives → id < least → config_of id lives ≡ None
@@ -27,7 +27,7 @@ later life lives id c true same ordered at =
 here : (life : Life) (lives : List Life) → config_of life.id (life ∷ lives) ≡ Some life.config
 here life lives = let same : (life.id == life.id) ≡ true = grind (arith, nat_tests) in rw same refl
 
-pub made_again : (least : ℕ) (lives : List Life) (entries : List Entry) → InOrder least lives → ((id : ℕ) (c : CacheConfig) → config_of id lives ≡ Some c → IsLegalFrom c fresh (entries_of id entries)) → CanOpen lives → AreMade lives entries
+pub made_again : (least : ℕ) (lives : List Life) (entries : List Entry) → InOrder least lives → ((id : ℕ) (c : CacheConfig) → config_of id lives ≡ Some c → IsLegalFrom c fresh (entries_of id entries)) → CanOpenEach lives → CanBeMadeAgain lives entries
 made_again least [] entries ordered legal opens = tt
 made_again least (life ∷ lives) entries ordered legal opens =
     (opens.0, legal life.id life.config (here life lives), made_again (life.id + 1) lives entries ordered.1 (λ id c at. legal id c (later life lives id c (life.id == id) refl ordered.1 at)) opens.1)

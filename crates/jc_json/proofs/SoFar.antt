@@ -9,8 +9,8 @@ use Rattle.jc_json.specs.declared.line_numbers.Asked.{Asked}
 use Rattle.jc_json.specs.declared.line_numbers.Asked.TheVariants as asked
 use Rattle.jc_json.specs.declared.line_numbers.NumberedLine.{NumberedLine}
 use Rattle.jc_json.specs.Callers.{AreLeft}
-use Rattle.jc_json.specs.Lines.{line_json, lines_json, id_unless, next_after, left_by, managed_after}
-use Rattle.jc_json.specs.Outline.{numbered}
+use Rattle.jc_json.specs.Lines.{line_json, lines_json, id_unless, next_after, entries_left_by, managed_after}
+use Rattle.jc_json.specs.Outline.{numbered_lines}
 
 -- the text so far, and then that of the lines that are left, is all
 pub record IsSoFar {S : Type 0} (lives : List Life) (text : List ℕ) (next : ℕ) (left : List NumberedLine) (callers : HashMap (ℕ × ℕ) (List Entry) S) (managed : List Managed) (initial : List ℕ) (first : ℕ) (outline : List NumberedLine) (all : List Entry) (all_managed : List Managed) : Type 0 where
@@ -25,12 +25,12 @@ begins lives text first outline callers entries managed are_left = record { entr
 pub goes_on : {S : Type 0} (lives : List Life) (text text' : List ℕ) (next next' : ℕ) (line : NumberedLine) (left left' : List NumberedLine) (callers callers' : HashMap (ℕ × ℕ) (List Entry) S) (managed managed' : List Managed) (initial : List ℕ) (first : ℕ) (outline : List NumberedLine) (all : List Entry) (all_managed : List Managed)
     → left ≡ line ∷ left' → next' ≡ next_after line.asked managed next → managed' ≡ managed_after line.asked managed
     → ((entries : List Entry) → AreLeft callers entries → text' ≡ text ++ line_json lives line.number next line.asked entries managed)
-    → ((entries : List Entry) → AreLeft callers entries → AreLeft callers' (left_by line.asked entries))
+    → ((entries : List Entry) → AreLeft callers entries → AreLeft callers' (entries_left_by line.asked entries))
     → IsSoFar lives text next left callers managed initial first outline all all_managed → IsSoFar lives text' next' left' callers' managed' initial first outline all all_managed
 goes_on lives text text' next next' line left left' callers callers' managed managed' initial first outline all all_managed cut nexts manages tells leaves so_far = record {
-  entries = left_by line.asked so_far.entries;
+  entries = entries_left_by line.asked so_far.entries;
   are_left = leaves so_far.entries so_far.are_left;
-  told = rw (nexts, manages, tells so_far.entries so_far.are_left) (append_assoc text (line_json lives line.number next line.asked so_far.entries managed) (lines_json lives (next_after line.asked managed next) left' (left_by line.asked so_far.entries) (managed_after line.asked managed))
+  told = rw (nexts, manages, tells so_far.entries so_far.are_left) (append_assoc text (line_json lives line.number next line.asked so_far.entries managed) (lines_json lives (next_after line.asked managed next) left' (entries_left_by line.asked so_far.entries) (managed_after line.asked managed))
       ∙ (let before = so_far.told in rw cut at before));
 }
 
@@ -50,6 +50,6 @@ next_few asked.Create (m ∷ ms) next = by m.refusal
 next_few (asked.Destroy id) managed next = omega arith
 
 -- no lines, whatever the numbers
-pub none_left : (ns : List ℕ) → numbered ns [] ≡ []
+pub none_left : (ns : List ℕ) → numbered_lines ns [] ≡ []
 none_left [] = refl
 none_left (n ∷ ns) = refl

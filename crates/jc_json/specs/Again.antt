@@ -15,18 +15,18 @@ use Rattle.jc_model.specs.Legal.{was_given_up}
 use Rattle.jc_model.specs.Runs.{Lives, answer_to, lives_after}
 
 -- the caches after an event
-unfoldable pub after : Lives → Event → Lives
-after lives event = lives_after lives event (answer_to lives event false)
+unfoldable pub after_event : Lives → Event → Lives
+after_event lives event = lives_after lives event (answer_to lives event false)
 
 abbrev pub after_answers : Lives → List Answer → Lives
 after_answers lives [] = lives
-after_answers lives (a ∷ rest) = after_answers (after lives (Answered 0 a)) rest
+after_answers lives (a ∷ rest) = after_answers (after_event lives (Answered 0 a)) rest
 
 -- after a call, its answers, and its give-up if there was one
 abbrev pub after_entry : Lives → Entry → Lives
 after_entry lives e =
-    let answered : Lives = after_answers (after lives (Begin 0 e.at e.call)) e.answers in
-    if was_given_up e.end then after answered (GiveUp 0) else answered
+    let answered : Lives = after_answers (after_event lives (Begin 0 e.at e.call)) e.answers in
+    if was_given_up e.end then after_event answered (GiveUp 0) else answered
 
 abbrev pub after_entries : Lives → List Entry → Lives
 after_entries lives [] = lives

@@ -25,8 +25,8 @@ module _ {S : Type 0} where
       (i s : ℕ) → entries_by i s new ≡ (if caller_eq (id, session) (i, s) then f (entries_by i s old) else entries_by i s old)
 
   -- one comes behind those of a caller
-  abbrev pub AddsEntry : Entry → ℕ → ℕ → HashMap (ℕ × ℕ) (List Entry) S → HashMap (ℕ × ℕ) (List Entry) S → Type 0
-  AddsEntry e id session old new = ChangesOwn (λ entries. entries ++ e ∷ []) id session old new
+  abbrev pub AddsCallersEntry : Entry → ℕ → ℕ → HashMap (ℕ × ℕ) (List Entry) S → HashMap (ℕ × ℕ) (List Entry) S → Type 0
+  AddsCallersEntry e id session old new = ChangesOwn (λ entries. entries ++ e ∷ []) id session old new
 
 -- each caller has its own of these entries left
 abbrev pub AreLeft : {S : Type 0} → HashMap (ℕ × ℕ) (List Entry) S → List Entry → Type 0

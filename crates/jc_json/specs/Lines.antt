@@ -7,7 +7,7 @@ use Rattle.jc_model.specs.declared.event.CreateRefusal.TheVariants as create
 use Rattle.jc_model.specs.declared.event.Entry.{Entry}
 use Rattle.jc_model.specs.declared.event.Life.{Life}
 use Rattle.jc_script.specs.declared.managed.Managed.{Managed}
-use Rattle.jc_script.specs.Operation.{name_of}
+use Rattle.jc_script.specs.Operation.{call_name}
 use Rattle.jc_script.specs.Report.{op_text}
 use Rattle.jc_json.specs.declared.line_numbers.Asked.{Asked}
 use Rattle.jc_json.specs.declared.line_numbers.Asked.TheVariants as asked
@@ -22,7 +22,7 @@ head_json number session cache = first_member (codes "line") ++ decimal number +
 
 -- a call's cache and moment, its op, and what it was made with
 unfoldable pub asked_json : Entry → List ℕ
-asked_json e = number_member (codes "id") e.id ++ number_member (codes "at") e.at ++ next_member (codes "op") ++ word_json (name_of e.call) ++ arguments_json e.call
+asked_json e = number_member (codes "id") e.id ++ number_member (codes "at") e.at ++ next_member (codes "op") ++ word_json (call_name e.call) ++ arguments_json e.call
 
 -- what was told of it, and what it came to
 unfoldable pub answered_json : Entry → List ℕ
@@ -69,10 +69,10 @@ without_first test [] = []
 without_first test (x ∷ xs) = if test x then xs else x ∷ without_first test xs
 
 -- the entries that a line leaves to those after it
-abbrev pub left_by : Asked → List Entry → List Entry
-left_by (asked.Call session id) entries = without_first (is_by id session) entries
-left_by asked.Create entries = entries
-left_by (asked.Destroy id) entries = entries
+abbrev pub entries_left_by : Asked → List Entry → List Entry
+entries_left_by (asked.Call session id) entries = without_first (is_by id session) entries
+entries_left_by asked.Create entries = entries
+entries_left_by (asked.Destroy id) entries = entries
 
 -- and of what became of the lines that create and destroy
 abbrev pub managed_after : Asked → List Managed → List Managed
@@ -107,18 +107,18 @@ abbrev pub call_line : ℕ → List Life → Option Entry → List ℕ
 call_line number lives None = []
 call_line number lives (Some e) = call_json number (name_at lives e.id) e
 
-abbrev pub managed_line : ℕ → ℕ → Option Managed → List ℕ
-managed_line number id None = []
-managed_line number id (Some m) = managed_json number id m
+abbrev pub json_managed_line : ℕ → ℕ → Option Managed → List ℕ
+json_managed_line number id None = []
+json_managed_line number id (Some m) = managed_json number id m
 
 module _ (lives : List Life) where
   abbrev pub line_json : ℕ → ℕ → Asked → List Entry → List Managed → List ℕ
   line_json number next (asked.Call session id) entries managed = call_line number lives (find (is_by id session) entries)
-  line_json number next asked.Create entries managed = managed_line number next (slice_get managed 0)
-  line_json number next (asked.Destroy id) entries managed = managed_line number id (slice_get managed 0)
+  line_json number next asked.Create entries managed = json_managed_line number next (slice_get managed 0)
+  line_json number next (asked.Destroy id) entries managed = json_managed_line number id (slice_get managed 0)
 
   -- One line after the other. A call's entry is the first by its session on its cache that no line before it has.
   abbrev pub lines_json : ℕ → List NumberedLine → List Entry → List Managed → List ℕ
   lines_json next [] entries managed = []
   lines_json next (l ∷ ls) entries managed =
-      line_json l.number next l.asked entries managed ++ lines_json (next_after l.asked managed next) ls (left_by l.asked entries) (managed_after l.asked managed)
+      line_json l.number next l.asked entries managed ++ lines_json (next_after l.asked managed next) ls (entries_left_by l.asked entries) (managed_after l.asked managed)

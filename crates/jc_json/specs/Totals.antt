@@ -9,7 +9,7 @@ use Rattle.jc_model.specs.declared.event.Entry.{Entry}
 use Rattle.jc_model.specs.declared.event.Life.{Life}
 use Rattle.jc_model.specs.Legal.{IsLegalFrom, entries_of, played}
 use Rattle.jc_model.specs.Runs.{fresh}
-use Rattle.jc_model.specs.Solo.{state_of, standing_from}
+use Rattle.jc_model.specs.Solo.{state_in, standing_from}
 use Rattle.jc_json.specs.Replies.{other_counters}
 use Rattle.jc_json.specs.Values.{first_member, next_member, number_member}
 
@@ -19,7 +19,7 @@ entries_lent entries = map (λ e. e.now) entries
 
 -- the counters of a cache alone, of which these are the calls
 abbrev pub counts_after : CacheConfig → List Entry → Counts
-counts_after c entries = (state_of (standing_from c fresh (map played entries))).counts
+counts_after c entries = (state_in (standing_from c fresh (map played entries))).counts
 
 -- the last four digits
 abbrev pub four_digits : ℕ → List ℕ
@@ -48,12 +48,12 @@ lives_json [] entries = []
 lives_json (life ∷ lives) entries = total_json life (entries_of life.id entries) ++ lives_json lives entries
 
 -- a manager opens with the cache of each life alone
-abbrev pub CanOpen : List Life → Type 0
-CanOpen [] = ⊤
-CanOpen (life ∷ lives) = (open_refusal (life.config ∷ []) ≡ None) × CanOpen lives
+abbrev pub CanOpenEach : List Life → Type 0
+CanOpenEach [] = ⊤
+CanOpenEach (life ∷ lives) = (open_refusal (life.config ∷ []) ≡ None) × CanOpenEach lives
 
 -- the calls of each life can be made again
-abbrev pub AreMade : List Life → List Entry → Type 0
-AreMade [] entries = ⊤
-AreMade (life ∷ lives) entries =
-    (open_refusal (life.config ∷ []) ≡ None) × IsLegalFrom life.config fresh (entries_of life.id entries) × AreMade lives entries
+abbrev pub CanBeMadeAgain : List Life → List Entry → Type 0
+CanBeMadeAgain [] entries = ⊤
+CanBeMadeAgain (life ∷ lives) entries =
+    (open_refusal (life.config ∷ []) ≡ None) × IsLegalFrom life.config fresh (entries_of life.id entries) × CanBeMadeAgain lives entries

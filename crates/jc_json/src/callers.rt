@@ -3,7 +3,7 @@ ghost use Rattle.std.specs.Prelude.{◌≡◌, None, List, drop, slice_get, opti
 ghost use Rattle.std.specs.HashMap.{get};
 ghost use Rattle.std.specs.List.{find};
 ghost use Rattle.jc_model.specs.declared.event.Entry.{Entry as Called};
-ghost use Rattle.jc_json.specs.Callers.{caller_eq, entries_by, AddsEntry, AreLeft, ChangesOwn};
+ghost use Rattle.jc_json.specs.Callers.{caller_eq, entries_by, AddsCallersEntry, AreLeft, ChangesOwn};
 ghost use Rattle.jc_json.specs.Lines.{is_by, without_first};
 
 use crate::queue::Queue;
@@ -23,7 +23,7 @@ fn begin<'e>(
     entry: &'e Entry,
 ) -> Result<(), AllocError>
     requires { get caller_eq callers.old (id, session) ≡ None }
-    ensures { OnOk result (AddsEntry entry.entry.now id session callers.old callers.new) }
+    ensures { OnOk result (AddsCallersEntry entry.entry.now id session callers.old callers.new) }
 {
     let mut queue = Queue::new(alloc);
     queue.push(entry)?;
@@ -39,7 +39,7 @@ fn add<'e>(
     session: u32,
     entry: &'e Entry,
 ) -> Result<(), AllocError>
-    ensures { OnOk result (AddsEntry entry.entry.now id session callers.old callers.new) }
+    ensures { OnOk result (AddsCallersEntry entry.entry.now id session callers.old callers.new) }
 {
     match callers.get_mut(&(id, session)) {
         Some(queue) => queue.push(entry),
@@ -59,7 +59,7 @@ pub fn callers<'e>(alloc: Global, entries: &'e [Entry]) -> Result<Callers<'e>, A
 }
 
 /// Takes the first of the entries that a caller has left.
-fn take<'e>(callers: &mut Callers<'e>, id: u32, session: u32) -> Option<&'e Entry>
+fn take_entry<'e>(callers: &mut Callers<'e>, id: u32, session: u32) -> Option<&'e Entry>
     ensures first { option_copied result ≡ slice_get (entries_by id session callers.old) 0 }
     ensures left { ChangesOwn (drop 1) id session callers.old callers.new }
 {
@@ -76,5 +76,5 @@ pub fn take_first<'e>(callers: &mut Callers<'e>, session: u32, id: CacheId) -> O
     ensures left { (entries : List Called) → AreLeft callers.old entries
         → AreLeft callers.new (without_first (is_by id session) entries) }
 {
-    take(callers, id.number(), session)
+    take_entry(callers, id.number(), session)
 }

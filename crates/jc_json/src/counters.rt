@@ -8,7 +8,7 @@ ghost use Rattle.jc_model.specs.Legal.{IsLegalFrom};
 ghost use Rattle.jc_model.specs.Runs.{for_memory, fresh, opened_from};
 ghost use Rattle.jc_model.specs.declared.event.Event.TheVariants.{Begin, Answer as Answered, GiveUp};
 ghost use Rattle.jc_model.specs.declared.event.Outcome.TheVariants.{Refused};
-ghost use Rattle.jc_json.specs.Again.{after, after_answers, after_entry, after_entries, counts_in};
+ghost use Rattle.jc_json.specs.Again.{after_event, after_answers, after_entry, after_entries, counts_in};
 ghost use Rattle.jc_json.specs.Totals.{counts_after, entries_lent};
 
 use jc_cuckoo::cuckoo::{Cuckoo, TableRefusal};
@@ -41,7 +41,7 @@ fn table(alloc: Global, seed: u64) -> Result<Cuckoo<SeededPlacer, NoMirror>, Out
 }
 
 /// A manager of this cache alone, over an empty table.
-fn opened<R: Rows>(
+fn open_engine<R: Rows>(
     alloc: Global,
     rows: R,
     config: &CacheConfig,
@@ -70,13 +70,13 @@ fn unless_memory(cause: Cause) -> Result<(), OutOfMemory>
 }
 
 /// Begins a call on the manager's one cache.
-#[tactic(auto, unfolding(crate::specs::Again::after))]
+#[tactic(auto, unfolding(crate::specs::Again::after_event))]
 fn begin<R: Rows, G: Ring>(
     engine: &mut Engine<R, G>,
     at: u64,
     call: Call,
 ) -> Result<(), OutOfMemory>
-    ensures { OnOk result (lives_of engine.new ≡ after (lives_of engine.old) (Begin 0 at call)) }
+    ensures { OnOk result (lives_of engine.new ≡ after_event (lives_of engine.old) (Begin 0 at call)) }
 {
     match engine.begin(CacheId::new(0), at, call) {
         Ok(step) => {
@@ -91,9 +91,10 @@ fn begin<R: Rows, G: Ring>(
 }
 
 /// Answers its open call.
-#[tactic(auto, unfolding(crate::specs::Again::after))]
+#[tactic(auto, unfolding(crate::specs::Again::after_event))]
 fn answer<R: Rows, G: Ring>(engine: &mut Engine<R, G>, answer: Answer) -> Result<(), OutOfMemory>
-    ensures { OnOk result (lives_of engine.new ≡ after (lives_of engine.old) (Answered 0 answer)) }
+    ensures { OnOk result
+        (lives_of engine.new ≡ after_event (lives_of engine.old) (Answered 0 answer)) }
 {
     match engine.resume(CacheId::new(0), answer) {
         Ok(step) => {
@@ -108,9 +109,9 @@ fn answer<R: Rows, G: Ring>(engine: &mut Engine<R, G>, answer: Answer) -> Result
 }
 
 /// Gives its open call up, if it has one.
-#[tactic(auto, unfolding(crate::specs::Again::after))]
+#[tactic(auto, unfolding(crate::specs::Again::after_event))]
 fn give_up<R: Rows, G: Ring>(engine: &mut Engine<R, G>)
-    ensures { lives_of engine.new ≡ after (lives_of engine.old) (GiveUp 0) }
+    ensures { lives_of engine.new ≡ after_event (lives_of engine.old) (GiveUp 0) }
 {
     match engine.give_up(CacheId::new(0)) {
         Ok(left) => drop(left),
@@ -156,7 +157,7 @@ fn make_all<R: Rows, G: Ring>(
 }
 
 /// The counters of the manager's one cache.
-fn read<R: Rows, G: Ring>(engine: &mut Engine<R, G>) -> Option<Counts>
+fn read_counts<R: Rows, G: Ring>(engine: &mut Engine<R, G>) -> Option<Counts>
     ensures { result ≡ counts_in (lives_of engine.old) }
 {
     match engine.begin(CacheId::new(0), 0, Call::Stats) {
@@ -176,10 +177,10 @@ pub fn counts_after(
     requires legal { IsLegalFrom config.now fresh (entries_lent entries.now) }
     ensures { IfOk result (λ counts. counts ≡ counts_after config.now (entries_lent entries.now)) }
 {
-    let mut engine = opened(alloc, table(alloc, seed)?, config)?;
+    let mut engine = open_engine(alloc, table(alloc, seed)?, config)?;
     make_all(&mut engine, entries)?;
     give_up(&mut engine);
-    match read(&mut engine) {
+    match read_counts(&mut engine) {
         Some(counts) => Ok(counts),
         None => unreachable!(),
     }

@@ -1,6 +1,6 @@
 //! The lines of a script, each with its number, and what it asks for.
 ghost use Rattle.std.specs.Prelude.{◌≡◌, IfOk, map};
-ghost use Rattle.jc_json.specs.Outline.{asked_by, numbers_from, numbered, outline_of};
+ghost use Rattle.jc_json.specs.Outline.{asked_of_line, piece_numbers_from, numbered_lines, outline_of};
 
 use jc_model::event::CacheId;
 use jc_script::{Line, is_blank, pieces};
@@ -25,7 +25,7 @@ pub struct NumberedLine {
 }
 
 fn asked_by(line: &Line) -> Asked
-    ensures { result ≡ asked_by line.now }
+    ensures { result ≡ asked_of_line line.now }
 {
     match line {
         Line::Call(call) => Asked::Call {
@@ -39,7 +39,7 @@ fn asked_by(line: &Line) -> Asked
 
 /// The numbers of the pieces that are not blank, from 1.
 fn numbers(alloc: Global, pieces: &[&[u8]]) -> Result<Vec<usize>, AllocError>
-    ensures { IfOk result (λ v. v.items ≡ numbers_from 1 (map (λ piece. piece.now) pieces.now)) }
+    ensures { IfOk result (λ v. v.items ≡ piece_numbers_from 1 (map (λ piece. piece.now) pieces.now)) }
 {
     let mut numbers = Vec::new(alloc);
     for (i, piece) in pieces.iter().enumerate() {
@@ -51,12 +51,12 @@ fn numbers(alloc: Global, pieces: &[&[u8]]) -> Result<Vec<usize>, AllocError>
 }
 
 /// Each line with its number; as many as there are of both.
-fn numbered(
+fn number_lines(
     alloc: Global,
     numbers: &[usize],
     lines: &[Line],
 ) -> Result<Vec<NumberedLine>, AllocError>
-    ensures { IfOk result (λ v. v.items ≡ numbered numbers.now lines.now) }
+    ensures { IfOk result (λ v. v.items ≡ numbered_lines numbers.now lines.now) }
 {
     let mut all = Vec::new(alloc);
     for (i, line) in lines.iter().enumerate() {
@@ -79,5 +79,5 @@ pub fn outline(alloc: Global, bytes: &[u8], lines: &[Line]) -> Result<Vec<Number
 {
     let pieces = pieces(alloc, bytes)?;
     let numbers = numbers(alloc, pieces.as_slice())?;
-    numbered(alloc, numbers.as_slice(), lines)
+    number_lines(alloc, numbers.as_slice(), lines)
 }

@@ -3,7 +3,7 @@ ghost use Rattle.std.specs.Prelude.{◌≡◌, ◌≤◌, ◌<◌, ◌+◌, ◌-
 ghost use Rattle.jc_model.specs.declared.event.Entry.{Entry as Called};
 ghost use Rattle.jc_script.specs.Report.{Appends};
 ghost use Rattle.jc_json.specs.Callers.{AreLeft};
-ghost use Rattle.jc_json.specs.Lines.{asked_json, answered_json, call_json, name_at, call_line, managed_line, id_after, next_after, left_by, managed_after, line_json, lines_json};
+ghost use Rattle.jc_json.specs.Lines.{asked_json, answered_json, call_json, name_at, call_line, json_managed_line, id_after, next_after, entries_left_by, managed_after, line_json, lines_json};
 
 use crate::arguments::push_arguments;
 use crate::callers::{Callers, callers, take_first};
@@ -26,7 +26,7 @@ struct Left<'e> {
 
 impl<'e> Left<'e> {
     /// Takes what became of the next line that creates or destroys.
-    fn managed(&mut self) -> Option<&'e Managed>
+    fn take_managed(&mut self) -> Option<&'e Managed>
         ensures first { option_copied result ≡ slice_get self.old.managed.now 0 }
         ensures left { self.new.managed.now ≡ drop 1 self.old.managed.now }
         ensures callers { self.new.callers ≡ self.old.callers }
@@ -131,7 +131,7 @@ fn push_managed_line(
     id: u64,
     managed: Option<&Managed>,
 ) -> Result<(), AllocError>
-    ensures { OnOk result (Appends (managed_line number id (option_copied managed.entry))
+    ensures { OnOk result (Appends (json_managed_line number id (option_copied managed.entry))
         text.old text.new) }
 {
     match managed {
@@ -153,7 +153,7 @@ fn push_line(
         → Appends (line_json lives.now line.now.number left.old.next line.now.asked entries
         left.old.managed.now) text.old text.new) }
     ensures entries { (entries : List Called) → AreLeft left.old.callers entries
-        → AreLeft left.new.callers (left_by line.now.asked entries) }
+        → AreLeft left.new.callers (entries_left_by line.now.asked entries) }
     ensures managed { left.new.managed.now ≡ managed_after line.now.asked left.old.managed.now }
     ensures next { left.new.next ≡ next_after line.now.asked left.old.managed.now left.old.next }
 {
@@ -163,12 +163,12 @@ fn push_line(
             push_call_line(alloc, text, line.number, lives, entry)
         }
         Asked::Create => {
-            let managed = left.managed();
+            let managed = left.take_managed();
             let id = left.id(managed);
             push_managed_line(alloc, text, line.number, id, managed)
         }
         Asked::Destroy { id } => {
-            let managed = left.managed();
+            let managed = left.take_managed();
             push_managed_line(alloc, text, line.number, u64::from(id.number()), managed)
         }
     }

@@ -2,7 +2,7 @@
 ghost use Rattle.std.specs.Prelude.{◌≡◌, ◌<◌, ◌+◌, ◌^◌, IfOk, length, string_bytes};
 ghost use Rattle.jc_model.specs.Legal.{IsLegal};
 ghost use Rattle.jc_json.specs.Report.{json};
-ghost use Rattle.jc_json.specs.Totals.{CanOpen};
+ghost use Rattle.jc_json.specs.Totals.{CanOpenEach};
 
 use crate::line_numbers::NumberedLine;
 use crate::lines::push_lines;
@@ -23,7 +23,7 @@ pub fn report(
     seed: u64,
 ) -> Result<String, AllocError>
     requires legal { IsLegal transcript.now }
-    requires opens { CanOpen transcript.now.lives }
+    requires opens { CanOpenEach transcript.now.lives }
     ensures { IfOk result (λ s. string_bytes s
         ≡ json first outline.now transcript.now managed.now) }
 {

@@ -4,7 +4,7 @@ ghost use Rattle.jc_engine.specs.Opening.{open_refusal};
 ghost use Rattle.jc_model.specs.Legal.{IsLegalFrom};
 ghost use Rattle.jc_model.specs.Runs.{fresh};
 ghost use Rattle.jc_script.specs.Report.{Appends, group};
-ghost use Rattle.jc_json.specs.Totals.{four_digits, fraction_json, ratio_json, life_json, total_json, lives_json, entries_lent, AreMade};
+ghost use Rattle.jc_json.specs.Totals.{four_digits, fraction_json, ratio_json, life_json, total_json, lives_json, entries_lent, CanBeMadeAgain};
 
 use crate::counters::counts_after;
 use crate::replies::push_other_counters;
@@ -116,7 +116,7 @@ pub fn push_lives(
     lives: &[Life],
     entries: &[Entry],
 ) -> Result<(), AllocError>
-    requires { AreMade lives.now entries.now }
+    requires { CanBeMadeAgain lives.now entries.now }
     ensures { OnOk result (Appends (lives_json lives.now entries.now) text.old text.new) }
 {
     let groups = grouped(alloc, entries)?;

@@ -4,8 +4,7 @@ use Rattle.jc_model.proofs.Names.{Bool, List, None, Option, Some, arith, if◌th
 use Rattle.jc_model.proofs.Names.{LoadAll, PutAll, RemoveAll, RemoveKeys, KeyCall, Op, Request, CacheConfig, same_op, Progress, begun, AtEach, IsOf, may_load, State, invoked_by}
 use Rattle.jc_model.proofs.Names.{Plan, key_call, one, other_plan, plan, whole}
 use Rattle.jc_model.specs.declared.call.Op.TheVariants as op
-use Rattle.jc_model.specs.Asking.{keys_of, AsksOf}
-use Rattle.jc_model.specs.Asking as asking
+use Rattle.jc_model.specs.Asking.{keys_of, AsksOf, processor_invoked}
 use Rattle.jc_model.proofs.Everywhere.{goes-at_each}
 use Rattle.jc_model.proofs.Law.{Planned, step-goes, whole-goes}
 
@@ -18,7 +17,7 @@ module _ (c : CacheConfig) (now : ℕ) (call : Call) where
 
   -- a step of the call: on a key of the call where it may load, and by the call's processor
   abbrev Fits : KeyCall → Type 0
-  Fits s = (may_load s.op ≡ true → Contains (keys_of call) s.key) × (invoked_by s.op ≡ asking.invoked_by call)
+  Fits s = (may_load s.op ≡ true → Contains (keys_of call) s.key) × (invoked_by s.op ≡ processor_invoked call)
 
   asks_so : (s : KeyCall) → Fits s → (q : Request) → IsOf s q → AsksOf call q
   asks_so s fits q of = grind (arith, common_steps)
@@ -30,7 +29,7 @@ module _ (c : CacheConfig) (now : ℕ) where
   IsFit call todo = Planned c now (W c now call) (Fits c now call) (I c now call) todo
 
   -- the same operation on keys of the call
-  same_fit : (call : Call) (o : Op) → invoked_by o ≡ asking.invoked_by call → All (Fits c now call) (same_op o (keys_of call))
+  same_fit : (call : Call) (o : Op) → invoked_by o ≡ processor_invoked call → All (Fits c now call) (same_op o (keys_of call))
   same_fit call o is =
       let fits : (k : List ℕ) → Contains (keys_of call) k → Fits c now call (record { key = k; op = o }) = λ k there. ((λ may. there), is) in
       All-map (Fits c now call) _ (keys_of call) (All-weaker (Contains (keys_of call)) _ fits (keys_of call) (All-contains_itself (keys_of call)))
@@ -52,7 +51,7 @@ module _ (c : CacheConfig) (now : ℕ) where
     where
       by : (o : Option KeyCall) → key_call call ≡ o → IsFit call (elim o [ Some s ↦ one s.key s.op | None ↦ other_plan c now call p ])
       by None e = other_fit call p
-      by (Some s) e = rw (e, keys_of, asking.invoked_by) ((λ may. (0, omega arith, refl)), refl)
+      by (Some s) e = rw (e, keys_of, processor_invoked) ((λ may. (0, omega arith, refl)), refl)
 
   pub whole_asks : (call : Call) (s : State) → AtEach (λ q p. AsksOf call q) (λ p r. Unit {0}) (whole c now call s)
   whole_asks call s =

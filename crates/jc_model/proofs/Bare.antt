@@ -1,8 +1,8 @@
 -- What managing alone decides: creating and destroying follow from the configurations of the live caches, whatever calls come between.
 use Rattle.std.proofs.lemmas.Grind.{common_steps}
 use Rattle.std.proofs.Common.{arith}
-use Rattle.jc_model.proofs.Names.{List, None, Some, [], ap, length, map, refl, suc, zero, ℕ, ◌||◌, ◌∷◌, ◌≡◌, list_any, option_map, slice_set, bytes_eq, CacheConfig, Outcome, Lives, Status}
-use Rattle.jc_model.proofs.Names.{all_live, create_refusal, destroys, lives_by, opened}
+use Rattle.jc_model.proofs.Names.{List, None, Some, [], ap, map, refl, suc, zero, ℕ, ◌∷◌, ◌≡◌, option_map, slice_set, CacheConfig, Outcome, Lives, Status}
+use Rattle.jc_model.proofs.Names.{create_refusal, destroys, lives_by, member_of, members_of, opened, refusal_beside}
 
 -- the configurations of the live caches alone: each as it is opened
 abbrev pub bare_one : Status → Status
@@ -11,26 +11,14 @@ bare_one k = opened k.config
 abbrev pub bare : Lives → Lives
 bare lives = map (option_map bare_one) lives
 
-all_bare : (lives : Lives) → all_live (bare lives) ≡ map bare_one (all_live lives)
-all_bare [] = refl
-all_bare (None ∷ lives) = all_bare lives
-all_bare (Some k ∷ lives) = ap (λ ks. bare_one k ∷ ks) (all_bare lives)
-
-length_map : {A B : Type 0} (f : A → B) (xs : List A) → length (map f xs) ≡ length xs
-length_map f xs = grind (arith, common_steps)
-
-same_names : (name : List ℕ) (ks : List Status) → list_any (λ k. bytes_eq k.config.name name) (map bare_one ks) ≡ list_any (λ k. bytes_eq k.config.name name) ks
-same_names name [] = refl
-same_names name (k ∷ ks) = ap (λ b. bytes_eq k.config.name name || b) (same_names name ks)
-
-same_capacities : (ks : List Status) → map {B = ℕ} (λ k. k.config.capacity) (map bare_one ks) ≡ map (λ k. k.config.capacity) ks
-same_capacities [] = refl
-same_capacities (k ∷ ks) = ap (λ ns. k.config.capacity ∷ ns) (same_capacities ks)
+same_members : (lives : Lives) → members_of (bare lives) ≡ members_of lives
+same_members [] = refl
+same_members (None ∷ lives) = ap (λ ms. None ∷ ms) (same_members lives)
+same_members (Some k ∷ lives) = ap (λ ms. Some (member_of k.config) ∷ ms) (same_members lives)
 
 -- creating is refused or not by the configurations alone
 pub create_refusal-bare : (lives : Lives) (c : CacheConfig) → create_refusal (bare lives) c ≡ create_refusal lives c
-create_refusal-bare lives c =
-    rw (all_bare lives, same_names c.name (all_live lives), same_capacities (all_live lives), length_map bare_one (all_live lives), length_map (option_map bare_one) lives) refl
+create_refusal-bare lives c = ap (λ ms. refusal_beside ms c) (same_members lives)
 
 map_set : {A B : Type 0} (f : A → B) (xs : List A) (i : ℕ) (y : A) → map f (slice_set xs i y) ≡ slice_set (map f xs) i (f y)
 map_set f [] i y = refl

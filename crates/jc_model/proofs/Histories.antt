@@ -1,12 +1,12 @@
 -- The lives of a transcript: their order, and the configuration of each.
-use Rattle.jc_model.proofs.Names.{List, None, Some, [], ap, arith, false, if◌then◌else◌, length, map, refl, suc, true, zero, ℕ, ◌++◌, ◌+◌, ◌<◌, ◌∙◌, ◌∷◌, ◌≡◌, ◌≤◌, nat_tests, common_steps}
-use Rattle.jc_model.proofs.Names.{All-cons, All-head, All-nil, All-tail, All, ◌==◌, CacheConfig, Entry, Life, InOrder, config_of, entries_of, is_there, numbered, none_before, fits, Lives, Status}
-use Rattle.jc_model.proofs.Names.{fresh, live_at, opened, opened_from}
+use Rattle.jc_model.proofs.Names.{is_some, List, None, Some, [], ap, arith, false, if◌then◌else◌, length, map, refl, suc, true, zero, ℕ, ◌++◌, ◌+◌, ◌<◌, ◌∙◌, ◌∷◌, ◌≡◌, ◌≤◌, nat_tests, common_steps}
+use Rattle.jc_model.proofs.Names.{All-cons, All-head, All-nil, All-tail, All, ◌==◌, CacheConfig, Entry, Life, InOrder, config_of, entries_of, numbered_lives, none_before, fits, Lives, Status}
+use Rattle.jc_model.proofs.Names.{fresh, at_place, opened, opened_from}
 
 -- a life more, behind all others
 
 abbrev pub known_in : List Life → ℕ → Type 0
-known_in lives id = is_there (config_of id lives) ≡ true
+known_in lives id = is_some (config_of id lives) ≡ true
 
 pub order_more : (least : ℕ) (lives : List Life) (life : Life) → InOrder least lives → All (λ l. l.id < life.id) lives → least ≤ life.id → InOrder least (lives ++ life ∷ [])
 order_more least [] life ordered given above = (above, tt)
@@ -47,14 +47,14 @@ no_entries lives id (e ∷ es) none known =
 
 -- At first.
 
-pub numbered_in_order : (least first : ℕ) (configs : List CacheConfig) → least ≤ first → InOrder least (numbered first configs)
+pub numbered_in_order : (least first : ℕ) (configs : List CacheConfig) → least ≤ first → InOrder least (numbered_lives first configs)
 numbered_in_order least first [] above = tt
 numbered_in_order least first (c ∷ configs) above = (above, numbered_in_order (first + 1) (first + 1) configs (omega arith))
 
-pub numbered_below : (first n : ℕ) (configs : List CacheConfig) → first + length configs ≤ n → All (λ l. l.id < n) (numbered first configs)
+pub numbered_below : (first n : ℕ) (configs : List CacheConfig) → first + length configs ≤ n → All (λ l. l.id < n) (numbered_lives first configs)
 numbered_below first n [] fits = All-nil (λ l. l.id < n)
 numbered_below first n (c ∷ configs) fits =
-    All-cons (λ l. l.id < n) (record { id = first; config = c }) (numbered (first + 1) configs) (omega arith) (numbered_below (first + 1) n configs (omega arith))
+    All-cons (λ l. l.id < n) (record { id = first; config = c }) (numbered_lives (first + 1) configs) (omega arith) (numbered_below (first + 1) n configs (omega arith))
 
 abbrev new_lives : List CacheConfig → Lives
 new_lives configs = map (λ c. Some (opened c)) configs
@@ -65,10 +65,10 @@ opened_length (suc first) configs = ap suc (opened_length first configs) ∙ ome
 
 -- a cache that is opened, with its number
 pub record OpenedAs (id first : ℕ) (configs : List CacheConfig) (k : Status) : Type 0 where
-  pub config : config_of id (numbered first configs) ≡ Some k.config
+  pub config : config_of id (numbered_lives first configs) ≡ Some k.config
   pub fresh : k.standing ≡ fresh
 
-opened_at : (first place : ℕ) (configs : List CacheConfig) (k : Status) → live_at (new_lives configs) place ≡ Some k → OpenedAs (first + place) first configs k
+opened_at : (first place : ℕ) (configs : List CacheConfig) (k : Status) → at_place (new_lives configs) place ≡ Some k → OpenedAs (first + place) first configs k
 opened_at first place [] k at = absurd (cc)
 opened_at first zero (c ∷ configs) k at = grind (arith, common_steps)
 opened_at first (suc place) (c ∷ configs) k at =
@@ -79,9 +79,9 @@ opened_at first (suc place) (c ∷ configs) k at =
 record Behind (n id : ℕ) (configs : List CacheConfig) (k : Status) : Type 0 where
   place : ℕ
   is : id ≡ n + place
-  there : live_at (new_lives configs) place ≡ Some k
+  there : at_place (new_lives configs) place ≡ Some k
 
-behind : (n id : ℕ) (configs : List CacheConfig) (k : Status) → live_at (none_before n (new_lives configs)) id ≡ Some k → Behind n id configs k
+behind : (n id : ℕ) (configs : List CacheConfig) (k : Status) → at_place (none_before n (new_lives configs)) id ≡ Some k → Behind n id configs k
 behind zero id configs k at = record { place = id; is = omega arith; there = at }
 behind (suc n) zero configs k at = absurd (cc)
 behind (suc n) (suc id) configs k at =
@@ -89,5 +89,5 @@ behind (suc n) (suc id) configs k at =
     let is : id ≡ n + p.place = p.is in
     record { place = p.place; is = omega arith; there = p.there }
 
-pub opened_so : (first id : ℕ) (configs : List CacheConfig) (k : Status) → live_at (opened_from first configs) id ≡ Some k → OpenedAs id first configs k
+pub opened_so : (first id : ℕ) (configs : List CacheConfig) (k : Status) → at_place (opened_from first configs) id ≡ Some k → OpenedAs id first configs k
 opened_so first id configs k at = let p = behind first id configs k at in rw p.is (opened_at first p.place configs k p.there)

@@ -2,7 +2,7 @@
 -- in a call on many keys and in a whole call; a step makes three requests at most.
 use Rattle.jc_model.proofs.Names.{Bool, List, None, Option, Some, [], arith, false, length, refl, true, ℕ, ◌*◌, ◌+◌, ◌∷◌, ◌≡◌, ◌≤◌, common_steps, All-head, All-tail, All, sum, Call, KeyCall, Op}
 use Rattle.jc_model.proofs.Names.{Reply, Fault, Request, Verdict, CacheConfig, Change, Sum, empty_sum, Progress, begun, find_row, purge, Goes, IsOf, Within, asks_loader, may_load, Run, load}
-use Rattle.jc_model.proofs.Names.{load_for, process, calls, Item, State, act_absent, act_live, acted, by_ask, by_loader, by_processor, by_writer, carried, changed, counted, ended_by}
+use Rattle.jc_model.proofs.Names.{load_for, process, Item, State, act_absent, act_live, acted, by_ask, by_loader, by_processor, by_writer, carried, changed, counted, ended_by}
 use Rattle.jc_model.proofs.Names.{expecting, failed_by, live_in, on_row, step, absent_line, absent_verdict, decided, expected_by, invoked_by, live_line, live_verdict, otherwise, value_of, Plan}
 use Rattle.jc_model.proofs.Names.{after_key, asked_by, at_once, carried_out, each, many, one, plan, told_first, whole}
 use Rattle.jc_model.specs.declared.call.By.TheVariants as by

@@ -17,6 +17,7 @@ pub mod EachCache
 pub mod Reached
 pub mod Leads
 pub mod TwoRuns
+pub mod Refusals
 pub mod Resume
 pub mod OneCache
 pub mod Histories

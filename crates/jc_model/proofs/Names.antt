@@ -9,8 +9,8 @@ pub use Rattle.std.proofs.lemmas.List.Elements.{All-cons, All-contains_itself, A
 pub use Rattle.std.proofs.lemmas.Option.{slice_get_read, slice_get_past}
 pub use Rattle.std.proofs.lemmas.Slice.Eq.{bytes_eq-Decides}
 pub use Rattle.std.specs.List.{All, Contains, filter, list_any}
-pub use Rattle.std.specs.Option.{option_eq, option_map}
-pub use Rattle.std.specs.Prelude.{MatchOption, slice_get, slice_set, sum, ⊤, ◌&&◌, ◌==◌}
+pub use Rattle.std.specs.Option.{option_eq, option_map, option_or}
+pub use Rattle.std.specs.Prelude.{MatchOption, is_some, slice_get, slice_set, sum, ⊤, ◌&&◌, ◌==◌}
 pub use Rattle.std.specs.Str.{IsUtf8, bytes_eq}
 pub use Rattle.jc_model.specs.declared.call.Answer.{Answer}
 pub use Rattle.jc_model.specs.declared.call.Call.{Call}
@@ -38,18 +38,19 @@ pub use Rattle.jc_model.specs.Bulk.{Sum, empty_sum, same_op}
 pub use Rattle.jc_model.specs.Changes.{Progress, access, begun, create, create_by_put, expire, find_row, hit, notify, purge, store, with_room}
 pub use Rattle.jc_model.specs.Everywhere.{AtEach, Goes, IsOf, Within, asks_loader, may_load}
 pub use Rattle.jc_model.specs.Key.{IsKey, bytes_of, first_words, padded}
-pub use Rattle.jc_model.specs.Legal.{Fits, History, InOrder, IsLegalEntry, IsLegalFrom, IsTold, Stands, Tells, accepted_in, at_first, config_of, end_by, entries_of, is_there, is_waiting, lives_with, numbered, on_open, played, recorded, told_in}
+pub use Rattle.jc_model.specs.Legal.{Fits, History, InOrder, IsLegalEntry, IsLegalFrom, IsTold, Stands, Tells, accepted_in, at_first, config_of, end_by, entries_of, is_waiting, lives_with, numbered_lives, on_open, played, recorded, told_in}
 pub use Rattle.jc_model.specs.Legal.{told_now, was_given_up, with_answer, with_outcome}
 pub use Rattle.jc_model.specs.Limits.{key_bytes, key_words}
 pub use Rattle.jc_model.specs.Lists.{distinct, same_pair}
-pub use Rattle.jc_model.specs.Places.{none_before, there}
+pub use Rattle.jc_model.specs.Places.{none_before, there, all_there, at_place}
+pub use Rattle.jc_model.specs.Refusals.{member_of, refusal_beside}
 pub use Rattle.jc_model.specs.Run.{Awaited, Run, and_then, answered, awaits, ended, fits, load, load_for, process, resume, waiting}
-pub use Rattle.jc_model.specs.Runs.{CountUp, IsRun, Lives, Order, Said, Standing, Status, all_live, answer_in, answer_of, answer_to, answer_to_create, answer_to_destroy, answers, begins, busy, changed_by, create_refusal, creates, destroyed_by}
-pub use Rattle.jc_model.specs.Runs.{destroys, for_memory, fresh, gives_up, has_processor, idle, ids_given, is_refused, left, live_at, lives_after, lives_by, lives_in_end, moved, moved_by, opened, opened_from, order, put_moved, refuse_last, reply_of}
-pub use Rattle.jc_model.specs.Runs.{says, shown, standing_of}
-pub use Rattle.jc_model.specs.Solo.{accepted, after_call, answers_first, begun_by, calls, calls_in, gives_up_first, heard, left_at, left_by, made, made_by, or_else, outcomes_by, outcomes_from, own, own_by, parted, parted_by, reaches, run_of, seen}
-pub use Rattle.jc_model.specs.Solo.{solo, standing_from}
-pub use Rattle.jc_model.specs.Sound.{HasDistinctKeys, IsSound, Lacks, Throughout, WaitsAt}
+pub use Rattle.jc_model.specs.Runs.{CountUp, IsRun, Lives, ManagerEvent, CacheEvent, Standing, Status, answer_in, answer_of, answer_to, answer_to_create, answer_to_destroy, answers, begins, busy, changed_by, create_refusal, creates, destroyed_by}
+pub use Rattle.jc_model.specs.Runs.{destroys, for_memory, fresh, gives_up, has_processor, idle, ids_given, is_refused, left, lives_after, lives_by, lives_in_end, members_of, moved, moved_by, opened, opened_from, manager_event, put_moved, refuse_last, reply_of}
+pub use Rattle.jc_model.specs.Runs.{on_cache, shown, standing_of}
+pub use Rattle.jc_model.specs.Solo.{LifeInRun, accepted_by, after_call, answers_first, played_calls, own_calls, events_of, gives_up_first, events_heard, standing_left, life_in_run, life_with, outcomes_by, outcomes_from, reaches, seen_of, solo, standing_from}
+pub use Rattle.jc_model.specs.Solo.{status_at_end, status_at_start}
+pub use Rattle.jc_model.specs.Sound.{HasDistinctKeys, IsSound, LacksKey, Throughout, WaitsAt}
 pub use Rattle.jc_model.specs.State.{Item, State, before_stop, first_state, from_stop, is_live, passed, row_of, stops_at, turned, with_row, without, live}
 pub use Rattle.jc_model.specs.Step.{act_absent, act_live, acted, by_ask, by_loader, by_processor, by_writer, carried, changed, counted, ended_by, expecting, failed_by, live_in, on_row, step}
 pub use Rattle.jc_model.specs.Table.{absent_line, absent_verdict, decided, expected_by, invoked_by, live_line, live_verdict, otherwise, value_of}

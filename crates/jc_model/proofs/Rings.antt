@@ -1,6 +1,6 @@
 -- The rings that the changes of one key's row leave, and what each of those changes keeps.
 use Rattle.jc_model.proofs.Names.{Bool, List, None, Option, Some, [], arith, drop, false, if◌then◌else◌, leb, length, refl, true, ℕ, ◌++◌, ◌∷◌, ◌≡◌, common_steps, bytes_eq-Decides, Notice}
-use Rattle.jc_model.proofs.Names.{CacheConfig, Change, Progress, access, create, create_by_put, expire, find_row, notify, purge, store, with_room, Lacks, Item, row_of, turned, with_row, without}
+use Rattle.jc_model.proofs.Names.{CacheConfig, Change, Progress, access, create, create_by_put, expire, find_row, notify, purge, store, with_room, LacksKey, Item, row_of, turned, with_row, without}
 use Rattle.jc_model.proofs.Names.{changed, counted}
 use Rattle.jc_model.specs.declared.config.Expiry.{Expiry}
 use Rattle.jc_model.proofs.Sound.{row_of-None, length-turned}
@@ -33,7 +33,7 @@ module _ (c : CacheConfig) (now : ℕ) where
 pub record KeepsRing (c : CacheConfig) (now : ℕ) (k : List ℕ) (P : List Item → Type 0) : Type 0 where
   pub gone : (x : Item) (ring : List Item) → x.key ≡ k → P ring → P (without x.key ring)
   pub set : (x : Item) (ring : List Item) → x.key ≡ k → P ring → P (with_row x ring)
-  pub pushed : (x : Item) (ring : List Item) → x.key ≡ k → Lacks k ring → P ring → P (room_in c now ring ++ x ∷ [])
+  pub pushed : (x : Item) (ring : List Item) → x.key ≡ k → LacksKey k ring → P ring → P (room_in c now ring ++ x ∷ [])
 
 module _ (c : CacheConfig) (now : ℕ) (k : List ℕ) (P : List Item → Type 0) (keeps : KeepsRing c now k P) where
   abbrev pub Holds : Progress → Type 0
@@ -42,17 +42,17 @@ module _ (c : CacheConfig) (now : ℕ) (k : List ℕ) (P : List Item → Type 0)
   pub expire-keeps : (x : Item) (p : Progress) → x.key ≡ k → Holds p → Holds (expire c now x p)
   expire-keeps x p is h = let gone = keeps.gone x p.state.ring is h in grind (arith, common_steps)
 
-  stored : (v : List ℕ) (expiry : Expiry) (p : Progress) → Lacks k p.state.ring → Holds p → Holds (store c now k v expiry p)
+  stored : (v : List ℕ) (expiry : Expiry) (p : Progress) → LacksKey k p.state.ring → Holds p → Holds (store c now k v expiry p)
   stored v expiry p l h =
       let x : Item = record { key = k; value = v; expiry = expiry; used = false } in
       let pushed = keeps.pushed x p.state.ring refl l h in
       let room = with_room-ring c now p in
       grind (arith, common_steps, notify-ring)
 
-  create-keeps : (v : List ℕ) (p : Progress) → Lacks k p.state.ring → Holds p → Holds (create c now k v p)
+  create-keeps : (v : List ℕ) (p : Progress) → LacksKey k p.state.ring → Holds p → Holds (create c now k v p)
   create-keeps v p l h = grind (arith, common_steps, stored)
 
-  put-keeps : (v : List ℕ) (p : Progress) → Lacks k p.state.ring → Holds p → Holds (create_by_put c now k v p)
+  put-keeps : (v : List ℕ) (p : Progress) → LacksKey k p.state.ring → Holds p → Holds (create_by_put c now k v p)
   put-keeps v p l h = grind (arith, common_steps, stored)
 
   pub access-keeps : (x : Item) (p : Progress) → x.key ≡ k → Holds p → Holds (access c now x p)
@@ -61,7 +61,7 @@ module _ (c : CacheConfig) (now : ℕ) (k : List ℕ) (P : List Item → Type 0)
   changed-live : (kind : Change) (counts : Bool) (x : Item) (v : Option (List ℕ)) (p : Progress) → x.key ≡ k → Holds p → Holds (changed c now k kind (Some x) v (counted counts (Some x) p))
   changed-live kind counts x v p is h = grind (arith, common_steps)
 
-  changed-absent : (kind : Change) (counts : Bool) (v : Option (List ℕ)) (p : Progress) → Lacks k p.state.ring → Holds p → Holds (changed c now k kind None v (counted counts None p))
+  changed-absent : (kind : Change) (counts : Bool) (v : Option (List ℕ)) (p : Progress) → LacksKey k p.state.ring → Holds p → Holds (changed c now k kind None v (counted counts None p))
   changed-absent kind true v p l h = grind (arith, common_steps, create-keeps, put-keeps)
   changed-absent kind false v p l h = grind (arith, common_steps, create-keeps, put-keeps)
 

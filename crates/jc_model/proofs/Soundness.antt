@@ -1,6 +1,6 @@
 -- Every call keeps the keys distinct and the ring within its capacity, also while it waits.
 use Rattle.jc_model.proofs.Names.{Bool, List, [], arith, if◌then◌else◌, length, length-append, not, subst, sym, zero-le, ℕ, ◌++◌, ◌+◌, ◌<◌, ◌∷◌, ◌≡◌, ◌≤◌, nat_tests, common_steps, filter}
-use Rattle.jc_model.proofs.Names.{bytes_eq, Call, CacheConfig, HasDistinctKeys, IsSound, Lacks, Throughout, Item, State, whole}
+use Rattle.jc_model.proofs.Names.{bytes_eq, Call, CacheConfig, HasDistinctKeys, IsSound, LacksKey, Throughout, Item, State, whole}
 use Rattle.jc_model.proofs.Sound.{filter-shorter, distinct-filter, distinct-map, length-mapped, with_row-same, distinct-push, distinct-turned, lacks-turned, length-turned}
 use Rattle.jc_model.proofs.Rings.{KeepsRing, room_in}
 use Rattle.jc_model.proofs.Keeps.{whole-keeps}
@@ -11,9 +11,9 @@ module _ (c : CacheConfig) (now : ℕ) (roomy : 1 ≤ c.capacity) where
 
   -- a ring that lacks the key k and has room for one row more
   abbrev HasRoom : List ℕ → List Item → Type 0
-  HasRoom k ring = HasDistinctKeys ring × Lacks k ring × (length ring < c.capacity)
+  HasRoom k ring = HasDistinctKeys ring × LacksKey k ring × (length ring < c.capacity)
 
-  room_in-room : (k : List ℕ) (ring : List Item) → IsSoundRing ring → Lacks k ring → HasRoom k (room_in c now ring)
+  room_in-room : (k : List ℕ) (ring : List Item) → IsSoundRing ring → LacksKey k ring → HasRoom k (room_in c now ring)
   room_in-room k ring h l = grind (arith, distinct-turned, lacks-turned, length-turned, common_steps, nat_tests)
 
   sound-keeps : (k : List ℕ) → KeepsRing c now k IsSoundRing

@@ -7,7 +7,7 @@ use Rattle.jc_model.specs.declared.call.Request.{Request}
 use Rattle.jc_model.specs.declared.call.Request.TheVariants.{Load, Process}
 use Rattle.jc_model.specs.declared.event.Step.{Step}
 use Rattle.jc_model.specs.declared.event.Step.TheVariants.{Done, Need}
-use Rattle.jc_model.specs.Table as table
+use Rattle.jc_model.specs.Table.{invoked_by}
 use Rattle.jc_model.specs.Whole.{key_call}
 
 -- the keys that a call on many keys names, or one that asks for its key alone
@@ -33,13 +33,13 @@ other_invoked (InvokeAll ks processor argument) = Some (processor, argument)
 other_invoked _ = None
 
 -- the processor that a call names, with its argument
-abbrev pub invoked_by : Call → Option (ℕ × List ℕ)
-invoked_by call = elim (key_call call) [ Some s ↦ table.invoked_by s.op | None ↦ other_invoked call ]
+abbrev pub processor_invoked : Call → Option (ℕ × List ℕ)
+processor_invoked call = elim (key_call call) [ Some s ↦ invoked_by s.op | None ↦ other_invoked call ]
 
 -- a call asks the loader for its keys alone, and its processor alone, with its argument
 abbrev pub AsksOf : Call → Request → Type 0
 AsksOf call (Load key) = IsKeyOf key call
-AsksOf call (Process key n value argument) = invoked_by call ≡ Some (n, argument)
+AsksOf call (Process key n value argument) = processor_invoked call ≡ Some (n, argument)
 AsksOf call _ = ⊤
 
 abbrev pub AsksIn : Call → Step → Type 0

@@ -1,6 +1,6 @@
 -- The transcript of all lives and their calls: when it is legal, and how events write it.
 use Rattle.std.specs.Prelude.{◌≡◌, ℕ, ◌+◌, ◌≤◌, ◌<◌, Bool, true, false, if◌then◌else◌, ◌==◌, ◌&&◌, IsTrue, List, [], ◌∷◌, ◌++◌, map, length, ⊤}
-use Rattle.std.specs.Prelude.{Option, Some, None}
+use Rattle.std.specs.Prelude.{Option, Some, None, is_some}
 use Rattle.std.specs.List.{filter, All}
 use Rattle.jc_model.specs.declared.call.Answer.{Answer}
 use Rattle.jc_model.specs.declared.call.Notice.{Notice}
@@ -16,8 +16,10 @@ use Rattle.jc_model.specs.declared.event.Entry.{Entry}
 use Rattle.jc_model.specs.declared.event.Life.{Life}
 use Rattle.jc_model.specs.State.{State}
 use Rattle.jc_model.specs.Run.{Run, ended, waiting, resume, answered, awaits, told_by}
-use Rattle.jc_model.specs.Runs.{Standing, idle, busy, Status, fresh, Lives, live_at, left, has_processor, is_refused}
-use Rattle.jc_model.specs.Solo.{Played, run_of, after_call, standing_from}
+use Rattle.jc_model.specs.Whole.{whole}
+use Rattle.jc_model.specs.Runs.{Standing, idle, busy, Status, fresh, Lives, left, has_processor, is_refused}
+use Rattle.jc_model.specs.Solo.{PlayedCall, after_call, standing_from}
+use Rattle.jc_model.specs.Places.{at_place}
 
 abbrev pub was_given_up : End → Bool
 was_given_up GivenUp = true
@@ -27,7 +29,7 @@ abbrev pub is_waiting : End → Bool
 is_waiting Waiting = true
 is_waiting _ = false
 
-abbrev pub played : Entry → Played
+abbrev pub played : Entry → PlayedCall
 played e = record { now = e.at; call = e.call; answers = e.answers; given_up = was_given_up e.end }
 
 -- each answer is of the kind that was awaited
@@ -54,7 +56,7 @@ told_in run (a ∷ rest) given_up = told_now run ++ told_in (resume run a) rest 
 -- an entry is the whole call from this state, under its answers, of a processor that is there
 abbrev pub IsLegalEntry : CacheConfig → State → Entry → Type 0
 IsLegalEntry c s e =
-    Fits (run_of c s (played e)) e.answers × Stands (answered (run_of c s (played e)) e.answers) e.end × (e.told ≡ told_in (run_of c s (played e)) e.answers (was_given_up e.end)) × IsTrue (has_processor c e.call)
+    Fits (whole c e.at e.call s) e.answers × Stands (answered (whole c e.at e.call s) e.answers) e.end × (e.told ≡ told_in (whole c e.at e.call s) e.answers (was_given_up e.end)) × IsTrue (has_processor c e.call)
 
 -- the entries of one cache; nothing follows a call that still waits
 abbrev pub IsLegalFrom : CacheConfig → Standing → List Entry → Type 0
@@ -79,14 +81,10 @@ abbrev pub config_of : ℕ → List Life → Option CacheConfig
 config_of id [] = None
 config_of id (life ∷ lives) = if life.id == id then Some life.config else config_of id lives
 
-abbrev pub is_there : Option CacheConfig → Bool
-is_there None = false
-is_there (Some c) = true
-
 -- each life's entries are those of a cache alone, and there are no others
 pub record IsLegal (h : History) : Type 0 where
   pub ordered : InOrder 0 h.lives
-  pub known : All (λ e. is_there (config_of e.id h.lives) ≡ true) h.entries
+  pub known : All (λ e. is_some (config_of e.id h.lives) ≡ true) h.entries
   pub each : (id : ℕ) (c : CacheConfig) → config_of id h.lives ≡ Some c → IsLegalFrom c fresh (entries_of id h.entries)
 
 -- a live cache stands where its entries leave it
@@ -97,23 +95,23 @@ IsTold h id k = (config_of id h.lives ≡ Some k.config) × (k.standing ≡ stan
 pub record Tells (h : History) (lives : Lives) : Type 0 where
   pub legal : IsLegal h
   pub given : All (λ life. life.id < length lives) h.lives
-  pub each : (id : ℕ) (k : Status) → live_at lives id ≡ Some k → IsTold h id k
+  pub each : (id : ℕ) (k : Status) → at_place lives id ≡ Some k → IsTold h id k
 
 -- a manager's first lives, with ids from the first
-abbrev pub numbered : ℕ → List CacheConfig → List Life
-numbered first [] = []
-numbered first (c ∷ configs) = record { id = first; config = c } ∷ numbered (first + 1) configs
+abbrev pub numbered_lives : ℕ → List CacheConfig → List Life
+numbered_lives first [] = []
+numbered_lives first (c ∷ configs) = record { id = first; config = c } ∷ numbered_lives (first + 1) configs
 
 abbrev pub at_first : ℕ → List CacheConfig → History
-at_first first configs = record { lives = numbered first configs; entries = [] }
+at_first first configs = record { lives = numbered_lives first configs; entries = [] }
 
 -- How events write it.
 
-abbrev pub told_after : List Notice → Outcome → List Notice
-told_after told (outcome.Step (step.Done reply)) = told
-told_after told (outcome.Step (step.Need request)) = told ++ told_by request
-told_after told (outcome.GivenUp notices) = told ++ notices
-told_after told _ = told
+abbrev pub told_with : List Notice → Outcome → List Notice
+told_with told (outcome.Step (step.Done reply)) = told
+told_with told (outcome.Step (step.Need request)) = told ++ told_by request
+told_with told (outcome.GivenUp notices) = told ++ notices
+told_with told _ = told
 
 abbrev pub end_by : Outcome → End
 end_by (outcome.Step (step.Done reply)) = Replied reply
@@ -123,7 +121,7 @@ end_by _ = Waiting
 
 -- an entry, and what its call has just been answered
 abbrev pub with_outcome : Outcome → Entry → Entry
-with_outcome o e = record e { told = told_after e.told o; end = end_by o }
+with_outcome o e = record e { told = told_with e.told o; end = end_by o }
 
 abbrev pub with_answer : Answer → Entry → Entry
 with_answer a e = record e { answers = e.answers ++ a ∷ [] }
@@ -154,7 +152,7 @@ recorded session event o h =
     if is_refused o then h else record { lives = lives_with event o h.lives; entries = accepted_in session event o h.entries }
 
 -- and after all events of a run, each with its session
-abbrev pub written : History → List (ℕ × Event) → List Outcome → History
-written h [] _ = h
-written h (event ∷ events) [] = h
-written h (event ∷ events) (o ∷ outcomes) = written (recorded event.0 event.1 o h) events outcomes
+abbrev pub recorded_run : History → List (ℕ × Event) → List Outcome → History
+recorded_run h [] _ = h
+recorded_run h (event ∷ events) [] = h
+recorded_run h (event ∷ events) (o ∷ outcomes) = recorded_run (recorded event.0 event.1 o h) events outcomes

@@ -23,10 +23,10 @@ none_before (suc n) xs = None ∷ none_before n xs
 
 module _ {A : Type 0} (name_of : A → List ℕ) (name : List ℕ) where
   -- nothing there has this name
-  abbrev pub Lacks : List (Option A) → Type 0
-  Lacks [] = ⊤
-  Lacks (None ∷ xs) = Lacks xs
-  Lacks (Some x ∷ xs) = (bytes_eq (name_of x) name ≡ false) × Lacks xs
+  abbrev pub LacksName : List (Option A) → Type 0
+  LacksName [] = ⊤
+  LacksName (None ∷ xs) = LacksName xs
+  LacksName (Some x ∷ xs) = (bytes_eq (name_of x) name ≡ false) × LacksName xs
 
   -- the number of what has this name, the first place having number i
   abbrev pub named_from : ℕ → List (Option A) → Option ℕ
@@ -38,4 +38,4 @@ module _ {A : Type 0} (name_of : A → List ℕ) (name : List ℕ) where
 abbrev pub HaveNames : {A : Type 0} → (A → List ℕ) → List (Option A) → Type 0
 HaveNames name_of [] = ⊤
 HaveNames name_of (None ∷ xs) = HaveNames name_of xs
-HaveNames name_of (Some x ∷ xs) = Lacks name_of (name_of x) xs × HaveNames name_of xs
+HaveNames name_of (Some x ∷ xs) = LacksName name_of (name_of x) xs × HaveNames name_of xs

@@ -1,34 +1,34 @@
 -- A step that goes on over what its key's expired row left.
 use Rattle.jc_ops.proofs.Names.{◌≡◌, ℕ, ◌<◌, ◌≤◌, ◌+◌, arith, Bool, false, if◌then◌else◌, List, [], sym, ◌∙◌, ap, subst, common_steps, Option, Some, is_some, Answer, KeyCall, Op, CacheConfig, Put}
-use Rattle.jc_ops.proofs.Names.{Item, row_of, Progress, find_row, purge, resume, step, KeyWait, key_run, RowMap, Kept, items_of, progress_of, has_live, FoundRow, Stays, Noted, HasPlaces, IsWaiting}
-use Rattle.jc_ops.proofs.Names.{waits_first, invoked, is_invoke, told_of, told_on, most_told}
+use Rattle.jc_ops.proofs.Names.{Item, row_of, Progress, find_row, purge, resume, step, KeyWait, key_run, items_of, FoundRow, HasPlaces, Visited, SpendsAtMost, progress_in, has_live_in, IsWaiting, WaitsIn}
+use Rattle.jc_ops.proofs.Names.{waits_first, invoked, is_invoke, told_of, told_on, most_told, step_run, answer_run}
 use Rattle.jc_model.specs.declared.call.Op.TheVariants as op
 use Rattle.jc_model.proofs.Everywhere.{at_each-answered}
 use Rattle.jc_model.proofs.Purge.{purged_row, purge-again, step-purged}
 use Rattle.jc_model.proofs.Waits.{step-waits}
 use Rattle.jc_ops.specs.declared.supply.Supply.{Supply}
-use Rattle.jc_ops.specs.Supply.{Covers, CoversAnswer, HasRoom, adds, adds_at}
+use Rattle.jc_ops.specs.Supply.{Covers, CoversAnswer, HasRoom, adds, adds_at, most_told_in}
 
 -- while a step waits, its key's expired row is gone
 pub waits_purged : (c : CacheConfig) (p : Progress) (w : KeyWait) → IsWaiting c p w → purge c w.now w.call.key p ≡ p
 waits_purged c p w h = grind (arith, at_each-answered, step-waits)
 
 -- Purging the row of a step's key has at most taken its expired row, and the room has grown.
-pub record Purged (k k' : Kept) (s t : Noted) (w : KeyWait) (row : Option ℕ) (room left : ℕ) : Type 0 where
-  pub config : k'.config ≡ k.config
-  pub live : is_some row ≡ has_live w.now w.call.key k
-  pub is : progress_of k' t.told ≡ purge k.config w.now w.call.key (progress_of k s.told)
-  pub found : FoundRow w.call.key k' row
-  pub grown : room ≤ left
-  pub places : s.spare ≤ t.spare + (if is_some row then 0 else 1)
+pub record Purged (v w : Visited) (key : List ℕ) (row : Option ℕ) : Type 0 where
+  pub config : w.cache.config ≡ v.cache.config
+  pub moment : w.moment ≡ v.moment
+  pub live : is_some row ≡ has_live_in v key
+  pub is : progress_in w ≡ purge v.cache.config v.moment key (progress_in v)
+  pub found : FoundRow key w.cache row
+  pub grown : v.spare ≤ w.spare
+  pub places : v.noted.spare ≤ w.noted.spare + (if is_some row then 0 else 1)
 
--- what purging the row ensures, where the code has this view of the step
-pub purged : (k k' : Kept) (s t : Noted) (u w : KeyWait) (row found : Option ℕ) (m n : RowMap) (room left : ℕ) → u ≡ w → Stays 0 (if is_some found then 0 else 1) m room k s n left k' t →
-    ((key : List ℕ) → FoundRow key k row → is_some found ≡ has_live u.now key k) → ((key : List ℕ) → FoundRow key k row → progress_of k' t.told ≡ purge k.config u.now key (progress_of k s.told)) →
-    ((key : List ℕ) → FoundRow key k row → FoundRow key k' found) → FoundRow w.call.key k row → Purged k k' s t w found room left
-purged k k' s t u w row found m n room left view stays live progress finds at =
-    let here : FoundRow u.call.key k row = rw view at in
-    rw (← view) (record { config = stays.keeps.config; live = live _ here; is = progress _ here; found = finds _ here; grown = omega (arith, stays.keeps.room); places = stays.places })
+-- what purging the row ensures
+pub purged : (v w : Visited) (key : List ℕ) (row found : Option ℕ) → SpendsAtMost 0 (if is_some found then 0 else 1) v w →
+    ((k : List ℕ) → FoundRow k v.cache row → is_some found ≡ has_live_in v k) → ((k : List ℕ) → FoundRow k v.cache row → progress_in w ≡ purge v.cache.config v.moment k (progress_in v)) →
+    ((k : List ℕ) → FoundRow k v.cache row → FoundRow k w.cache found) → FoundRow key v.cache row → Purged v w key found
+purged v w key row found spends live progress finds at =
+    record { config = spends.same.config; moment = spends.same.moment; live = live _ at; is = progress _ at; found = finds _ at; grown = omega (arith, spends.room); places = spends.places }
 
 pub invoke_told : (there : Bool) (processor : ℕ) (argument : List ℕ) → told_on there (op.Invoke processor argument) ≡ told_of there Put
 invoke_told there processor argument = grind (arith, common_steps)
@@ -40,29 +40,29 @@ told_in_all : (o : Op) (there : Bool) (a b n : ℕ) → a ≤ b + (if there then
 told_in_all o there a b n fewer rest = grind (arith, common_steps)
 
 -- A step that begins, once its key's expired row is gone.
-pub record Begins (k k' : Kept) (f : CacheConfig) (s t : Noted) (w : KeyWait) (there : Bool) (left : ℕ) (y : Supply) : Type 0 where
-  pub purged : purge f w.now w.call.key (progress_of k' t.told) ≡ progress_of k' t.told
-  pub same : step f w.now w.call (progress_of k' t.told) ≡ step k.config w.now w.call (progress_of k s.told)
-  pub covered : Covers f.writer f w.call (items_of k'.cells) y
-  pub room : HasRoom (adds there f.writer w.call.op) left
-  pub places : HasPlaces f (told_on there w.call.op) t
-  pub told : (n : ℕ) → t.spare ≤ n + told_on there w.call.op → s.spare ≤ n + most_told (has_live w.now w.call.key k) w.call.op
+pub record Begins (v w : Visited) (f : CacheConfig) (now : ℕ) (call : KeyCall) (there : Bool) (y : Supply) : Type 0 where
+  pub purged : purge f now call.key (progress_in w) ≡ progress_in w
+  pub same : step f now call (progress_in w) ≡ step_run v call
+  pub covered : Covers f.writer f call (items_of w.cache.cells) y
+  pub room : HasRoom (adds there f.writer call.op) w.spare
+  pub places : HasPlaces f (told_on there call.op) w.noted
+  pub told : (n : ℕ) → w.noted.spare ≤ n + told_on there call.op → v.noted.spare ≤ n + most_told_in v call
 
--- A step that waits, once its key's row was looked for anew: nothing has changed but the room. The code has the view v of it.
-pub record GoesOn (k k' : Kept) (f : CacheConfig) (s t : Noted) (w v : KeyWait) (a : Answer) (row : Option ℕ) (left : ℕ) (y : Supply) : Type 0 where
-  pub found : FoundRow v.call.key k' row
-  pub waits : IsWaiting f (progress_of k' t.told) v
-  pub same : resume (key_run f (progress_of k' t.told) v) a ≡ resume (key_run k.config (progress_of k s.told) w) a
-  pub covered : CoversAnswer f v a (items_of k'.cells) y
-  pub room : HasRoom (adds_at (is_some row) f v a) left
-  pub places : HasPlaces f (told_on (is_some row) v.call.op) t
-  pub told : (n : ℕ) → t.spare ≤ n + told_on (is_some row) v.call.op → s.spare ≤ n + most_told (has_live w.now w.call.key k) w.call.op
+-- A step that waits, once its key's row was looked for anew: nothing has changed but the room. The code has the view u of it.
+pub record GoesOn (v w : Visited) (f : CacheConfig) (z u : KeyWait) (a : Answer) (row : Option ℕ) (y : Supply) : Type 0 where
+  pub found : FoundRow u.call.key w.cache row
+  pub waits : IsWaiting f (progress_in w) u
+  pub same : resume (key_run f (progress_in w) u) a ≡ answer_run v z a
+  pub covered : CoversAnswer f u a (items_of w.cache.cells) y
+  pub room : HasRoom (adds_at (is_some row) f u a) w.spare
+  pub places : HasPlaces f (told_on (is_some row) u.call.op) w.noted
+  pub told : (n : ℕ) → w.noted.spare ≤ n + told_on (is_some row) u.call.op → v.noted.spare ≤ n + most_told_in v z.call
 
-module _ (k k' : Kept) (s t : Noted) (w : KeyWait) (row : Option ℕ) (room left : ℕ) (gone : Purged k k' s t w row room left) (y : Supply) where
-  before : (x : Item) → row_of w.call.key (items_of k'.cells) ≡ Some x → row_of w.call.key (items_of k.cells) ≡ Some x
-  before x there = purged_row k.config w.now w.call.key (progress_of k s.told) x (ap (λ q. find_row w.call.key q) (sym gone.is) ∙ there)
+module _ (v w : Visited) (call : KeyCall) (row : Option ℕ) (gone : Purged v w call.key row) (y : Supply) where
+  before : (x : Item) → row_of call.key (items_of w.cache.cells) ≡ Some x → row_of call.key (items_of v.cache.cells) ≡ Some x
+  before x there = purged_row v.cache.config v.moment call.key (progress_in v) x (ap (λ q. find_row call.key q) (sym gone.is) ∙ there)
 
-  covers_on : (b : Bool) → Covers b k.config w.call (items_of k.cells) y → Covers b k.config w.call (items_of k'.cells) y
+  covers_on : (b : Bool) → Covers b v.cache.config call (items_of v.cache.cells) y → Covers b v.cache.config call (items_of w.cache.cells) y
   covers_on b cov = record {
     stored = cov.stored;
     told = cov.told;
@@ -71,44 +71,45 @@ module _ (k k' : Kept) (s t : Noted) (w : KeyWait) (row : Option ℕ) (room left
     entry = λ invokes x there. cov.entry invokes x (before x there);
   }
 
-  places_on : HasPlaces k.config (most_told (has_live w.now w.call.key k) w.call.op) s → HasPlaces k.config (told_on (is_some row) w.call.op) t
-  places_on places listens = places_left w.call.op (is_some row) s.spare t.spare gone.places (rw (← gone.live) at (places listens))
+  places_on : HasPlaces v.cache.config (most_told_in v call) v.noted → HasPlaces v.cache.config (told_on (is_some row) call.op) w.noted
+  places_on places listens = places_left call.op (is_some row) v.noted.spare w.noted.spare gone.places (rw (← gone.live) at (places listens))
 
-  told_on_all : (n : ℕ) → t.spare ≤ n + told_on (is_some row) w.call.op → s.spare ≤ n + most_told (has_live w.now w.call.key k) w.call.op
-  told_on_all n rest = rw (← gone.live) (told_in_all w.call.op (is_some row) s.spare t.spare n gone.places rest)
+  told_on_all : (n : ℕ) → w.noted.spare ≤ n + told_on (is_some row) call.op → v.noted.spare ≤ n + most_told_in v call
+  told_on_all n rest = rw (← gone.live) (told_in_all call.op (is_some row) v.noted.spare w.noted.spare n gone.places rest)
 
-  has_room : (adding : Bool) → HasRoom adding room → HasRoom adding left
-  has_room adding enough adds = let r : 0 < room = enough adds in omega (arith, r, gone.grown)
+  has_room : (adding : Bool) → HasRoom adding v.spare → HasRoom adding w.spare
+  has_room adding enough adds = let r : 0 < v.spare = enough adds in omega (arith, r, gone.grown)
 
-  pub begins : Covers k.config.writer k.config w.call (items_of k.cells) y → HasRoom (adds (has_live w.now w.call.key k) k.config.writer w.call.op) room →
-      HasPlaces k.config (most_told (has_live w.now w.call.key k) w.call.op) s → Begins k k' k'.config s t w (is_some row) left y
-  begins covered adding places = rw gone.config (record {
-    purged = ap (purge k.config w.now w.call.key) gone.is ∙ (purge-again k.config w.now w.call.key (progress_of k s.told) ∙ sym gone.is);
-    same = ap (step k.config w.now w.call) gone.is ∙ step-purged k.config w.now w.call (progress_of k s.told);
-    covered = covers_on k.config.writer covered;
+  pub begins : Covers v.cache.config.writer v.cache.config call (items_of v.cache.cells) y → HasRoom (adds (has_live_in v call.key) v.cache.config.writer call.op) v.spare →
+      HasPlaces v.cache.config (most_told_in v call) v.noted → Begins v w w.cache.config w.moment call (is_some row) y
+  begins covered adding places = rw (gone.config, gone.moment) (record {
+    purged = ap (purge v.cache.config v.moment call.key) gone.is ∙ (purge-again v.cache.config v.moment call.key (progress_in v) ∙ sym gone.is);
+    same = ap (step v.cache.config v.moment call) gone.is ∙ step-purged v.cache.config v.moment call (progress_in v);
+    covered = covers_on v.cache.config.writer covered;
     room = has_room _ (rw gone.live adding);
     places = places_on places;
     told = told_on_all;
   })
 
-  pub goes_on : (v : KeyWait) (a : Answer) → v ≡ w → IsWaiting k.config (progress_of k s.told) w → CoversAnswer k.config w a (items_of k.cells) y → HasRoom (adds_at (has_live w.now w.call.key k) k.config w a) room →
-      HasPlaces k.config (most_told (has_live w.now w.call.key k) w.call.op) s → GoesOn k k' k'.config s t w v a row left y
-  goes_on v a is waits covered adding places =
-      let same : progress_of k' t.told ≡ progress_of k s.told = gone.is ∙ waits_purged k.config (progress_of k s.told) w waits in
-      rw is (subst (λ (d : CacheConfig). GoesOn k k' d s t w w a row left y) (sym gone.config) (record {
+module _ (v w : Visited) (z : KeyWait) (row : Option ℕ) (gone : Purged v w z.call.key row) (y : Supply) where
+  pub goes_on : (u : KeyWait) (a : Answer) → u ≡ z → WaitsIn v z → CoversAnswer v.cache.config z a (items_of v.cache.cells) y → HasRoom (adds_at (has_live_in v z.call.key) v.cache.config z a) v.spare →
+      HasPlaces v.cache.config (most_told_in v z.call) v.noted → GoesOn v w w.cache.config z u a row y
+  goes_on u a is waits covered adding places =
+      let same : progress_in w ≡ progress_in v = gone.is ∙ rw waits.moment at (waits_purged v.cache.config (progress_in v) z waits.waits) in
+      rw is (subst (λ (d : CacheConfig). GoesOn v w d z z a row y) (sym gone.config) (record {
         found = gone.found;
-        waits = subst (λ (q : Progress). IsWaiting k.config q w) (sym same) waits;
-        same = ap (λ (q : Progress). resume (key_run k.config q w) a) same;
+        waits = subst (λ (q : Progress). IsWaiting v.cache.config q z) (sym same) waits.waits;
+        same = ap (λ (q : Progress). resume (key_run v.cache.config q z) a) same;
         covered = record {
           told = covered.told;
-          written = λ yes none. covers_on false (covered.written yes none);
+          written = λ yes none. covers_on v w z.call row gone y false (covered.written yes none);
           agreed = covered.agreed;
           loaded = covered.loaded;
           judged = covered.judged;
         };
-        room = has_room _ (rw gone.live adding);
-        places = places_on places;
-        told = told_on_all;
+        room = has_room v w z.call row gone y _ (rw gone.live adding);
+        places = places_on v w z.call row gone y places;
+        told = told_on_all v w z.call row gone y;
       }))
 
 -- what the code has of such a step
@@ -116,9 +117,9 @@ module _ (k k' : Kept) (s t : Noted) (w : KeyWait) (row : Option ℕ) (room left
 pub not_invoke : (o : Op) → ((processor : ℕ) (argument : List ℕ) → o ≡ op.Invoke processor argument → ⊥) → is_invoke o ≡ false
 not_invoke o h = grind (arith, common_steps)
 
-pub line_view : (now : ℕ) (call : KeyCall) (given : List Answer) (w : KeyWait) → given ≡ [] → ◌≡◌ {A = KeyWait} (record { now = now; call = call; given = given }) w → waits_first now call ≡ w
-line_view now call given w none view = rw (← none) view
+pub line_view : (now : ℕ) (call : KeyCall) (given : List Answer) (w : KeyWait) (moment : ℕ) → w.now ≡ moment → given ≡ [] → ◌≡◌ {A = KeyWait} (record { now = now; call = call; given = given }) w → waits_first moment call ≡ w
+line_view now call given w moment at none view = rw (← at, ← view, none)
 
-pub invoke_view : (now : ℕ) (call : KeyCall) (given : List Answer) (w : KeyWait) (processor : ℕ) (argument : List ℕ) → call.op ≡ op.Invoke processor argument → ◌≡◌ {A = KeyWait} (record { now = now; call = call; given = given }) w →
-    invoked now call.key processor argument given ≡ w
-invoke_view now call given w processor argument is view = rw (← is) view
+pub invoke_view : (now : ℕ) (call : KeyCall) (given : List Answer) (w : KeyWait) (moment : ℕ) (processor : ℕ) (argument : List ℕ) → w.now ≡ moment → call.op ≡ op.Invoke processor argument → ◌≡◌ {A = KeyWait} (record { now = now; call = call; given = given }) w →
+    invoked moment call.key processor argument given ≡ w
+invoke_view now call given w moment processor argument at is view = rw (← at, ← view, is)

@@ -1,8 +1,8 @@
 -- A line of the table: what its step does as it begins, and at the answer of its writer or its loader.
 use Rattle.jc_ops.proofs.Names.{◌≡◌, ◌<◌, ◌≤◌, ◌+◌, arith, ℕ, Bool, true, false, if◌then◌else◌, List, common_steps, Option, Some, None, is_some, option_map, Answer, KeyCall, Op, Request, CacheConfig}
-use Rattle.jc_ops.proofs.Names.{Line, Item, Progress, purge, find_row, ended, resume, is_written, loaded_by, live_in, ended_by, step, waiting, Run, KeyWait, key_run, value_of, RowMap, Kept, Stays, Noted, is_shown}
+use Rattle.jc_ops.proofs.Names.{Line, Item, Progress, purge, find_row, ended, resume, is_written, loaded_by, live_in, ended_by, step, waiting, Run, KeyWait, key_run, value_of, Visited, SpendsAtMost, is_shown}
 use Rattle.jc_ops.proofs.Names.{line_at, is_invoke, is_load, shows, told_of, told_on, first_request, StepWaits, IsWaiting, waits_first}
-use Rattle.jc_ops.specs.Lines.{asks_no_one}
+use Rattle.jc_ops.specs.Lines.{asks_no_one, takes_value}
 use Rattle.jc_model.specs.Step.{carried}
 use Rattle.jc_model.specs.declared.call.By.TheVariants.{Writer}
 use Rattle.jc_model.specs.declared.call.Reply.TheVariants.{Fault}
@@ -26,8 +26,8 @@ told_fits : (o : Op) (row : Option Item) (there : Bool) (l : Line) (s t : ℕ) �
 told_fits o row there l s t is line told = grind (arith, common_steps)
 
 -- a line tells no more than its operation may
-pub stays_fit : {m n : RowMap} {a b : ℕ} {k k' : Kept} {s t : Noted} (o : Op) (row : Option Item) (there : Bool) (l : Line) → is_some row ≡ there → l ≡ line_at o (live_in row) → Stays 1 (told_of there l.change) m a k s n b k' t → Stays 1 (told_on there o) m a k s n b k' t
-stays_fit o row there l is line h = record { keeps = h.keeps; places = told_fits o row there l _ _ is line h.places }
+pub spends_fit : {v w : Visited} (o : Op) (row : Option Item) (there : Bool) (l : Line) → is_some row ≡ there → l ≡ line_at o (live_in row) → SpendsAtMost 1 (told_of there l.change) v w → SpendsAtMost 1 (told_on there o) v w
+spends_fit o row there l is line h = record { same = h.same; room = h.room; places = told_fits o row there l _ _ is line h.places }
 
 -- An operation on a key.
 
@@ -85,3 +85,10 @@ module _ (c : CacheConfig) (now : ℕ) (k : List ℕ) (o : Op) (p : Progress) wh
 -- an operation that asks no one has no first request
 pub unasked : (c : CacheConfig) (k : List ℕ) (o : Op) (l : Line) (live : Option (List ℕ)) → asks_no_one c o ≡ true → first_request c k o l.asks live ≡ None
 unasked c k o l live none = grind (arith, common_steps)
+
+-- an operation that replies its row's value, or hands it on, takes it
+pub takes_shown : (o : Op) → shows o ≡ true → takes_value o ≡ true
+takes_shown o h = grind (arith, common_steps)
+
+pub takes_entry : (o : Op) → is_invoke o ≡ true → takes_value o ≡ true
+takes_entry o h = grind (arith, common_steps)

@@ -7,12 +7,11 @@ use Rattle.jc_model.specs.declared.call.Verdict.{Verdict}
 use Rattle.jc_model.specs.declared.call.Request.{Request}
 use Rattle.jc_model.specs.declared.call.Request.TheVariants.{Process}
 use Rattle.jc_model.specs.declared.config.CacheConfig.{CacheConfig}
-use Rattle.jc_model.specs.Changes.{Progress, find_row}
+use Rattle.jc_model.specs.Changes.{find_row}
 use Rattle.jc_model.specs.Run.{Run, loaded_by}
 use Rattle.jc_model.specs.Suspended.{KeyWait}
-use Rattle.jc_state.specs.Kept.{Kept, progress_at}
-use Rattle.jc_state.specs.Noted.{Noted}
-use Rattle.jc_ops.specs.At.{is_there}
+use Rattle.jc_state.specs.Visited.{Visited, progress_in}
+use Rattle.jc_ops.specs.KeyRows.{is_there}
 use Rattle.jc_ops.specs.Given.{given_by, value_in}
 use Rattle.jc_ops.specs.Stepped.{invoked}
 use Rattle.jc_ops.specs.Supply.{CoversVerdict, adds_by}
@@ -23,42 +22,47 @@ use Rattle.jc_ops.specs.declared.supply.Supply.{Supply}
 abbrev pub part_of : Invocation → KeyCall
 part_of i = record { key = i.at.key; op = Invoke i.processor i.argument }
 
-abbrev pub wait_of : Invocation → Option Verdict → KeyWait
-wait_of i verdict = invoked i.at.moment i.at.key i.processor i.argument (given_by i.loaded verdict)
+-- the step at this moment, which waits
+abbrev pub wait_at_moment : ℕ → Invocation → Option Verdict → KeyWait
+wait_at_moment now i verdict = invoked now i.at.key i.processor i.argument (given_by i.loaded verdict)
 
 -- the request to its processor, with this value of the entry
 abbrev pub processor_request : Invocation → Option (List ℕ) → Request
 processor_request i entry = Process i.at.key i.processor entry i.argument
 
 -- it waits, and its loader gave this
-abbrev pub wait_loaded : Invocation → Option (List ℕ) → KeyWait
-wait_loaded i loaded = invoked i.at.moment i.at.key i.processor i.argument (given_by (Some loaded) None)
+abbrev pub wait_loaded : ℕ → Invocation → Option (List ℕ) → KeyWait
+wait_loaded now i loaded = invoked now i.at.key i.processor i.argument (given_by (Some loaded) None)
 
 -- the supply has the values for a verdict
-abbrev pub CoversVerdictOf : Bool → Kept → Invocation → Verdict → Supply → Type 0
-CoversVerdictOf writer k i v s = CoversVerdict writer k.config (value_in i.loaded) v s
+abbrev pub CoversVerdictOf : Bool → CacheConfig → Invocation → Verdict → Supply → Type 0
+CoversVerdictOf writer c i v s = CoversVerdict writer c (value_in i.loaded) v s
 
 -- whether a verdict adds a row
 abbrev pub verdict_adds : Bool → Invocation → Verdict → Bool
 verdict_adds writer i v = adds_by (is_there i.at) writer (value_in i.loaded) v
 
--- What it does, over a cache and the notices of its call so far.
+-- On a visit.
+
+-- it waits
+abbrev pub wait_of : Visited → Invocation → Option Verdict → KeyWait
+wait_of v i verdict = wait_at_moment v.moment i verdict
 
 -- its loader has answered
-abbrev pub loaded_run : CacheConfig → Invocation → Progress → Answer → Run
-loaded_run c i p a = loaded_on c i.at.moment i.at.key i.processor i.argument p (loaded_by a)
+abbrev pub loaded_run : Visited → Invocation → Answer → Run
+loaded_run v i a = loaded_on v.cache.config v.moment i.at.key i.processor i.argument (progress_in v) (loaded_by a)
 
 -- the processor is asked
-abbrev pub processed_run : Kept → Noted → Invocation → Run
-processed_run k s i =
-    processed_on k.config i.at.moment i.at.key i.processor i.argument (find_row i.at.key (progress_at k s)) (value_in i.loaded) (progress_at k s)
+abbrev pub processed_run : Visited → Invocation → Run
+processed_run v i =
+    processed_on v.cache.config v.moment i.at.key i.processor i.argument (find_row i.at.key (progress_in v)) (value_in i.loaded) (progress_in v)
 
 -- it has decided
-abbrev pub judged_run : Kept → Noted → Invocation → Verdict → Run
-judged_run k s i v =
-    act_on k.config i.at.moment i.at.key (find_row i.at.key (progress_at k s)) (value_in i.loaded) (progress_at k s) v
+abbrev pub judged_run : Visited → Invocation → Verdict → Run
+judged_run v i verdict =
+    act_on v.cache.config v.moment i.at.key (find_row i.at.key (progress_in v)) (value_in i.loaded) (progress_in v) verdict
 
 -- and the writer has answered, whether or not it agreed
-abbrev pub agreed_run : Kept → Noted → Invocation → Verdict → Bool → Run
-agreed_run k s i v written =
-    agreed_on k.config i.at.moment i.at.key (find_row i.at.key (progress_at k s)) (value_in i.loaded) (progress_at k s) v written
+abbrev pub agreed_run : Visited → Invocation → Verdict → Bool → Run
+agreed_run v i verdict written =
+    agreed_on v.cache.config v.moment i.at.key (find_row i.at.key (progress_in v)) (value_in i.loaded) (progress_in v) verdict written

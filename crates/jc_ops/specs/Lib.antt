@@ -4,5 +4,5 @@ pub mod Verdicts
 pub mod Heard
 pub mod Supply
 pub mod Stepped
-pub mod At
+pub mod KeyRows
 pub mod Invoked

@@ -2,7 +2,6 @@
 use Rattle.std.specs.Prelude.{◌≡◌, ℕ, List, [], Option}
 use Rattle.jc_model.specs.declared.call.Answer.{Answer}
 use Rattle.jc_model.specs.declared.call.KeyCall.{KeyCall}
-use Rattle.jc_model.specs.declared.call.Notice.{Notice}
 use Rattle.jc_model.specs.declared.call.Op.TheVariants.{Get, Invoke}
 use Rattle.jc_model.specs.declared.call.Reply.{Reply}
 use Rattle.jc_model.specs.declared.call.Reply.TheVariants.{Found}
@@ -12,8 +11,7 @@ use Rattle.jc_model.specs.Changes.{Progress}
 use Rattle.jc_model.specs.Run.{Run, ended, waiting, resume}
 use Rattle.jc_model.specs.Step.{step}
 use Rattle.jc_model.specs.Suspended.{KeyWait, key_run}
-use Rattle.jc_state.specs.Kept.{Kept, progress_of, progress_at}
-use Rattle.jc_state.specs.Noted.{Noted}
+use Rattle.jc_state.specs.Visited.{Visited, progress_in}
 use Rattle.jc_ops.specs.declared.step.Next.{Next}
 use Rattle.jc_ops.specs.declared.step.Next.TheVariants.{Ended, Waiting}
 
@@ -38,39 +36,39 @@ pub record IsWaiting (c : CacheConfig) (p : Progress) (w : KeyWait) : Type 0 whe
   pub resumed : Answer → Run
   pub run_is : key_run c p w ≡ waiting request p resumed
 
--- the step does as its run, and the cache stands as the run says
-abbrev pub StepsTo : CacheConfig → Run → Next KeyWait Reply → Kept → List Notice → Type 0
-StepsTo c run (Ended reply) k told = run ≡ ended (progress_of k told) reply
-StepsTo c run (Waiting request w) k told = StepWaits c (progress_of k told) request w run
+-- the step does as its run, and has come as far as the run says
+abbrev pub StepsTo : CacheConfig → Run → Next KeyWait Reply → Progress → Type 0
+StepsTo c run (Ended reply) p = run ≡ ended p reply
+StepsTo c run (Waiting request w) p = StepWaits c p request w run
 
 -- a step that waits is still the step of this call
 abbrev pub StaysAt : ℕ → KeyCall → Next KeyWait Reply → Type 0
 StaysAt now call (Ended reply) = Unit {0}
 StaysAt now call (Waiting request w) = (w.now ≡ now) × (w.call ≡ call)
 
--- Over a cache and the notices of its call so far.
+-- On a visit.
 
 -- the run of a step that begins
-abbrev pub step_run : Kept → Noted → ℕ → KeyCall → Run
-step_run k s now call = step k.config now call (progress_at k s)
+abbrev pub step_run : Visited → KeyCall → Run
+step_run v call = step v.cache.config v.moment call (progress_in v)
 
 -- of a step that waits
-abbrev pub waiting_run : Kept → Noted → KeyWait → Run
-waiting_run k s w = key_run k.config (progress_at k s) w
+abbrev pub waiting_run : Visited → KeyWait → Run
+waiting_run v w = key_run v.cache.config (progress_in v) w
 
 -- and of one that has its answer
-abbrev pub answer_run : Kept → Noted → KeyWait → Answer → Run
-answer_run k s w a = resume (waiting_run k s w) a
+abbrev pub answer_run : Visited → KeyWait → Answer → Run
+answer_run v w a = resume (waiting_run v w) a
 
--- the step waits
-abbrev pub WaitsIn : Kept → Noted → KeyWait → Type 0
-WaitsIn k s w = IsWaiting k.config (progress_at k s) w
+-- the step of this visit waits
+pub record WaitsIn (v : Visited) (w : KeyWait) : Type 0 where
+  pub waits : IsWaiting v.cache.config (progress_in v) w
+  pub moment : w.now ≡ v.moment
 
--- the step does as its run, from this cache to that one
-abbrev pub StepsFrom : Kept → Run → Next KeyWait Reply → Kept → Noted → Type 0
-StepsFrom old run next new s = StepsTo old.config run next new s.told
+-- the step does as its run
+abbrev pub StepsFrom : Visited → Run → Next KeyWait Reply → Visited → Type 0
+StepsFrom old run next new = StepsTo old.cache.config run next (progress_in new)
 
--- a get of this key ends with this value, from this cache to that one
-abbrev pub GetFinds : Kept → List Notice → ℕ → List ℕ → Option (List ℕ) → Kept → Type 0
-GetFinds old told now key value new =
-    step old.config now (record { key = key; op = Get }) (progress_of old told) ≡ ended (progress_of new told) (Found value)
+-- a get of this key ends with this value
+abbrev pub GetFinds : Visited → List ℕ → Option (List ℕ) → Visited → Type 0
+GetFinds old key value new = step_run old (record { key = key; op = Get }) ≡ ended (progress_in new) (Found value)

@@ -12,8 +12,9 @@ use Rattle.jc_model.specs.Suspended.{KeyWait}
 use Rattle.jc_ops.specs.declared.supply.Supply.{Supply}
 use Rattle.jc_ops.specs.Given.{loaded_in, verdict_in}
 use Rattle.jc_model.specs.Table.{value_of}
-use Rattle.jc_state.specs.Kept.{Kept, items_of, has_live}
-use Rattle.jc_state.specs.Noted.{Noted, HasPlaces, StoredIsTold}
+use Rattle.jc_state.specs.Kept.{items_of}
+use Rattle.jc_state.specs.Noted.{StoredIsTold}
+use Rattle.jc_state.specs.Visited.{Visited, HasPlacesIn, has_live_in}
 use Rattle.jc_ops.specs.Lines.{handed, shows, shows_loaded, creates, is_invoke, most_told}
 use Rattle.jc_ops.specs.Verdicts.{stores_by, hands_by}
 
@@ -78,28 +79,28 @@ OnLoaded a P = (loaded : Option (List ℕ)) → loaded_by a ≡ Some loaded → 
 abbrev pub OnVerdict : Answer → (Verdict → Type 0) → Type 0
 OnVerdict a P = (v : Verdict) → verdict_of a ≡ Some v → P v
 
--- The same of a step on a cache, as the cache is.
+-- The same of a step on a visit.
 
 -- the supply has the values for a step that begins
-abbrev pub CoversIn : Bool → Kept → KeyCall → Supply → Type 0
-CoversIn writer k call s = Covers writer k.config call (items_of k.cells) s
+abbrev pub CoversIn : Bool → Visited → KeyCall → Supply → Type 0
+CoversIn writer v call s = Covers writer v.cache.config call (items_of v.cache.cells) s
 
 -- and for one that waits, at this answer
-abbrev pub CoversAnswerIn : Kept → KeyWait → Answer → Supply → Type 0
-CoversAnswerIn k w a s = CoversAnswer k.config w a (items_of k.cells) s
+abbrev pub CoversAnswerIn : Visited → KeyWait → Answer → Supply → Type 0
+CoversAnswerIn v w a s = CoversAnswer v.cache.config w a (items_of v.cache.cells) s
 
 -- the most notices that it may tell
-abbrev pub most_told_in : Kept → ℕ → KeyCall → ℕ
-most_told_in k now call = most_told (has_live now call.key k) call.op
+abbrev pub most_told_in : Visited → KeyCall → ℕ
+most_told_in v call = most_told (has_live_in v call.key) call.op
 
 -- there are places for them
-abbrev pub HasPlacesFor : Kept → ℕ → KeyCall → Noted → Type 0
-HasPlacesFor k now call s = HasPlaces k.config (most_told_in k now call) s
+abbrev pub HasPlacesFor : KeyCall → Visited → Type 0
+HasPlacesFor call v = HasPlacesIn (most_told_in v call) v
 
--- whether it adds a row as it begins
-abbrev pub adds_in : Kept → ℕ → KeyCall → Bool
-adds_in k now call = adds (has_live now call.key k) k.config.writer call.op
+-- and room for the row that it may add as it begins
+abbrev pub HasRoomFor : KeyCall → Visited → Type 0
+HasRoomFor call v = HasRoom (adds (has_live_in v call.key) v.cache.config.writer call.op) v.spare
 
--- and at this answer
-abbrev pub adds_at_in : Kept → KeyWait → Answer → Bool
-adds_at_in k w a = adds_at (has_live w.now w.call.key k) k.config w a
+-- or at this answer
+abbrev pub HasRoomAt : KeyWait → Answer → Visited → Type 0
+HasRoomAt w a v = HasRoom (adds_at (has_live_in v w.call.key) v.cache.config w a) v.spare

@@ -2,51 +2,73 @@
 //!
 //! They are lines of the case table like any other. But most calls are such gets: so they are carried out here without
 //! the means of those that ask and tell.
-ghost use Rattle.std.specs.Prelude.{◌≡◌, ℕ, List, true, false, Some, None, IfOk, OnErr};
-ghost use Rattle.jc_model.specs.declared.call.Notice.{Notice};
+ghost use Rattle.std.specs.Prelude.{◌≡◌, ℕ, List, true, false, Some, None, IfOk, IfSome, OnErr};
 ghost use Rattle.jc_state.specs.Shelf.{has_row};
-ghost use Rattle.jc_state.specs.Kept.{has_live, with_miss};
-ghost use Rattle.jc_state.specs.Kept.{IsTied, IsUnmoved, Keeps, FoundRow};
+ghost use Rattle.jc_state.specs.Kept.{FoundRow, with_miss};
+ghost use Rattle.jc_state.specs.Visited.{SpendsAtMost, IsSameVisit, IsUnchanged, has_live_in};
 ghost use Rattle.jc_ops.specs.Stepped.{GetFinds};
 
 use jc_model::OutOfMemory;
-use jc_model::thrice::Thrice;
+use jc_model::copies::Copies;
+use jc_model::key::Key;
 use jc_model::value::Value;
 use jc_ring::ring::Ring;
 use jc_rows::rows::Rows;
-use jc_state::state::CacheState;
+use jc_state::visit::Visit;
 
 /// Gets the value of a live row by its key: a hit is counted, and the row is used. Refused where no copies of the value
 /// can be had; then nothing has changed.
-pub fn hit<R: Rows, G: Ring>(
-    state: &mut CacheState<G>,
-    rows: &mut R,
-    now: u64,
-    row: u32,
-) -> Result<Thrice<Value>, OutOfMemory>
-    requires tied { IsTied (R.contents rows.old) state.old }
-    requires there { has_row row state.old.cells ≡ true }
-    ensures keeps { Keeps 0
-        (R.contents rows.old) (R.spare rows.old) state.old
-        (R.contents rows.new) (R.spare rows.new) state.new }
-    ensures ok { IfOk result (λ value. (key : List ℕ) (told : List Notice) →
-        FoundRow key state.old (Some row) → has_live now key state.old ≡ true →
-        GetFinds state.old told now key (Some value) state.new) }
-    ensures same { OnErr result
-        (IsUnmoved (R.contents rows.old) state.old (R.contents rows.new) state.new) }
+fn hit<R: Rows, G: Ring>(visit: &mut Visit<R, G>, row: u32) -> Result<Copies<Value>, OutOfMemory>
+    requires there { has_row row visit.old.cache.cells ≡ true }
+    ensures spends { SpendsAtMost 0 0 visit.old visit.new }
+    ensures ok { IfOk result (λ value. (key : List ℕ) → FoundRow key visit.old.cache (Some row) →
+        has_live_in visit.old key ≡ true → GetFinds visit.old key (Some value) visit.new) }
+    ensures noted { visit.new.noted ≡ visit.old.noted }
+    ensures same { OnErr result (IsUnchanged visit.old visit.new) }
 {
-    let value = Thrice::of(state.value(row).first())?;
-    state.hit();
-    state.access(rows, now, row);
+    let value = Copies::of(visit.value(row).first())?;
+    visit.hit();
+    visit.access(row);
     Ok(value)
 }
 
 /// Gets nothing by a key without a row, where no loader is to be asked: a miss is counted.
-pub fn miss<G: Ring>(state: &mut CacheState<G>)
-    requires unasked { state.old.config.loader ≡ false }
-    ensures counted { state.new ≡ with_miss state.old }
-    ensures ended { (now : ℕ) (key : List ℕ) (told : List Notice) → FoundRow key state.old None →
-        GetFinds state.old told now key None state.new }
+fn miss<R: Rows, G: Ring>(visit: &mut Visit<R, G>)
+    requires unasked { visit.old.cache.config.loader ≡ false }
+    ensures counted { visit.new ≡ record visit.old { cache = with_miss visit.old.cache } }
+    ensures ended { (key : List ℕ) → FoundRow key visit.old.cache None →
+        GetFinds visit.old key None visit.new }
 {
-    state.miss();
+    visit.miss();
+}
+
+/// What a get of this key answers where it asks and tells no one: the value of the key's live row, or none, where it has
+/// no row and the cache no loader. Else nothing, and nothing has changed; also where no copies of the value can be had.
+pub fn get_at_once<R: Rows, G: Ring>(
+    visit: &mut Visit<R, G>,
+    key: &Key,
+) -> Option<Option<Copies<Value>>>
+    ensures same_visit { IsSameVisit visit.old visit.new }
+    ensures found { IfSome result (λ value. GetFinds visit.old key.now value visit.new) }
+    ensures noted { visit.new.noted ≡ visit.old.noted }
+    ensures same { result ≡ None → IsUnchanged visit.old visit.new }
+{
+    match visit.find(key) {
+        Some(row) => {
+            if !visit.is_live(row) {
+                return None;
+            }
+            match hit(visit, row) {
+                Ok(value) => Some(Some(value)),
+                Err(_) => None,
+            }
+        }
+        None => {
+            if visit.config().loader {
+                return None;
+            }
+            miss(visit);
+            Some(None)
+        }
+    }
 }

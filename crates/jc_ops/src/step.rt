@@ -9,25 +9,25 @@ mod request;
 
 ghost use Rattle.std.specs.Prelude.{◌≡◌, true, option_map};
 ghost use Rattle.jc_model.specs.Run.{ended};
-ghost use Rattle.jc_state.specs.Kept.{progress_at, IsTied, Stays, FoundRow};
+ghost use Rattle.jc_state.specs.Kept.{FoundRow};
+ghost use Rattle.jc_state.specs.Visited.{SpendsAtMost, progress_in};
 ghost use Rattle.jc_ops.specs.Given.{loaded_in, verdict_in};
 ghost use Rattle.jc_ops.specs.Lines.{asks_no_one};
-ghost use Rattle.jc_ops.specs.Supply.{CoversIn, CoversAnswerIn, HasPlacesFor, HasRoom};
-ghost use Rattle.jc_ops.specs.Supply.{most_told_in, adds_in, adds_at_in};
+ghost use Rattle.jc_ops.specs.Supply.{CoversIn, CoversAnswerIn, HasPlacesFor, HasRoomFor};
+ghost use Rattle.jc_ops.specs.Supply.{HasRoomAt, most_told_in};
 ghost use Rattle.jc_ops.specs.Stepped.{StepsFrom, StaysAt, WaitsIn};
 ghost use Rattle.jc_ops.specs.Stepped.{waits_first, step_run, answer_run};
 
-use crate::step::change::At;
+use crate::step::change::KeyRow;
 use crate::step::invoke::{Invocation, answer_invoke};
 use crate::step::line::{answer_line, begin, end_at_once};
 use crate::supply::Supply;
 use jc_model::call::{Answer, KeyCall, Op, Reply, Request, Verdict};
-use jc_model::thrice::Thrice;
+use jc_model::copies::Copies;
 use jc_model::value::Value;
 use jc_ring::ring::Ring;
 use jc_rows::rows::Rows;
-use jc_state::notices::Notices;
-use jc_state::state::CacheState;
+use jc_state::visit::Visit;
 use std::marker::Model;
 
 /// A key's step that waits, with what it was given so far.
@@ -58,7 +58,7 @@ impl Model for KeyStep {
 /// What a step or a call has come to: it has ended with its reply, or its next request is to be answered, and this
 /// waits for the answer.
 #[derive(Drop)]
-pub enum Next<W, E = Thrice<Reply>> {
+pub enum Next<W, E = Copies<Reply>> {
     Ended(E),
     Waiting(Request, W),
 }
@@ -113,105 +113,71 @@ impl KeyStep {
     /// Begins a step on the key that has this row, if it has one. It takes no memory beside its supply, and so can't be
     /// refused.
     pub fn start<R: Rows, G: Ring>(
-        state: &mut CacheState<G>,
-        rows: &mut R,
-        notices: &mut Notices,
-        now: u64,
+        visit: &mut Visit<R, G>,
         call: KeyCall,
         row: Option<u32>,
         supply: Supply,
     ) -> Next<KeyStep>
-        requires tied { IsTied (R.contents rows.old) state.old }
-        requires row { FoundRow call.key state.old row }
-        requires places { HasPlacesFor state.old now call notices.old }
-        requires covered { CoversIn state.old.config.writer state.old call supply }
-        requires room { HasRoom (adds_in state.old now call) (R.spare rows.old) }
-        ensures stays { Stays 1 (most_told_in state.old now call)
-            (R.contents rows.old) (R.spare rows.old) state.old notices.old
-            (R.contents rows.new) (R.spare rows.new) state.new notices.new }
-        ensures next { StepsFrom state.old
-            (step_run state.old notices.old now call) result state.new notices.new }
-        ensures call_stays { StaysAt now call result }
+        requires row { FoundRow call.key visit.old.cache row }
+        requires places { HasPlacesFor call visit.old }
+        requires covered { CoversIn visit.old.cache.config.writer visit.old call supply }
+        requires room { HasRoomFor call visit.old }
+        ensures spends { SpendsAtMost 1 (most_told_in visit.old call) visit.old visit.new }
+        ensures next { StepsFrom visit.old (step_run visit.old call) result visit.new }
+        ensures call_stays { StaysAt visit.old.moment call result }
     {
-        let row = state.purge(rows, notices, now, row);
+        let row = visit.purge(row);
         let KeyCall { key, op } = call;
-        let at = At {
-            moment: now,
-            key,
-            row,
-        };
-        begin(state, rows, notices, &at, op, supply)
+        begin(visit, &KeyRow { key, row }, op, supply)
     }
 
     /// The same of a step that asks no one, and so ends: its reply.
     pub fn end_at_once<R: Rows, G: Ring>(
-        state: &mut CacheState<G>,
-        rows: &mut R,
-        notices: &mut Notices,
-        now: u64,
+        visit: &mut Visit<R, G>,
         call: KeyCall,
         row: Option<u32>,
         supply: Supply,
-    ) -> Thrice<Reply>
-        requires tied { IsTied (R.contents rows.old) state.old }
-        requires row { FoundRow call.key state.old row }
-        requires places { HasPlacesFor state.old now call notices.old }
-        requires covered { CoversIn state.old.config.writer state.old call supply }
-        requires room { HasRoom (adds_in state.old now call) (R.spare rows.old) }
-        requires unasked { asks_no_one state.old.config call.op ≡ true }
-        ensures stays { Stays 1 (most_told_in state.old now call)
-            (R.contents rows.old) (R.spare rows.old) state.old notices.old
-            (R.contents rows.new) (R.spare rows.new) state.new notices.new }
-        ensures ended { step_run state.old notices.old now call
-            ≡ ended (progress_at state.new notices.new) result }
+    ) -> Copies<Reply>
+        requires row { FoundRow call.key visit.old.cache row }
+        requires places { HasPlacesFor call visit.old }
+        requires covered { CoversIn visit.old.cache.config.writer visit.old call supply }
+        requires room { HasRoomFor call visit.old }
+        requires unasked { asks_no_one visit.old.cache.config call.op ≡ true }
+        ensures spends { SpendsAtMost 1 (most_told_in visit.old call) visit.old visit.new }
+        ensures ended { step_run visit.old call ≡ ended (progress_in visit.new) result }
     {
-        let row = state.purge(rows, notices, now, row);
+        let row = visit.purge(row);
         let KeyCall { key, op } = call;
-        let at = At {
-            moment: now,
-            key,
-            row,
-        };
-        end_at_once(state, rows, notices, &at, &op, supply)
+        end_at_once(visit, &KeyRow { key, row }, &op, supply)
     }
 
     /// Goes on with the answer to the request for which the step waits, where the key has this row. It takes no memory
     /// beside its supply, and so can't be refused. No row number is kept while a step waits.
     pub fn answer<R: Rows, G: Ring>(
         self,
-        state: &mut CacheState<G>,
-        rows: &mut R,
-        notices: &mut Notices,
+        visit: &mut Visit<R, G>,
         answer: Answer,
         row: Option<u32>,
         supply: Supply,
     ) -> Next<KeyStep>
-        requires tied { IsTied (R.contents rows.old) state.old }
-        requires row { FoundRow self.call.key state.old row }
-        requires places { HasPlacesFor state.old self.now self.call notices.old }
-        requires waits { WaitsIn state.old notices.old self }
-        requires covered { CoversAnswerIn state.old self answer supply }
-        requires room { HasRoom (adds_at_in state.old self answer) (R.spare rows.old) }
-        ensures stays { Stays 1 (most_told_in state.old self.now self.call)
-            (R.contents rows.old) (R.spare rows.old) state.old notices.old
-            (R.contents rows.new) (R.spare rows.new) state.new notices.new }
-        ensures next { StepsFrom state.old
-            (answer_run state.old notices.old self answer) result state.new notices.new }
-        ensures call_stays { StaysAt self.now self.call result }
+        requires row { FoundRow self.call.key visit.old.cache row }
+        requires places { HasPlacesFor self.call visit.old }
+        requires waits { WaitsIn visit.old self }
+        requires covered { CoversAnswerIn visit.old self answer supply }
+        requires room { HasRoomAt self answer visit.old }
+        ensures spends { SpendsAtMost 1 (most_told_in visit.old self.call) visit.old visit.new }
+        ensures next { StepsFrom visit.old (answer_run visit.old self answer) result visit.new }
+        ensures call_stays { StaysAt visit.old.moment self.call result }
     {
         let KeyStep {
-            now,
+            now: _,
             call,
             loaded,
             verdict,
         } = self;
         let KeyCall { key, op } = call;
-        let row = state.purge(rows, notices, now, row);
-        let at = At {
-            moment: now,
-            key,
-            row,
-        };
+        let row = visit.purge(row);
+        let at = KeyRow { key, row };
         match op {
             Op::Invoke {
                 processor,
@@ -223,9 +189,9 @@ impl KeyStep {
                     argument,
                     loaded,
                 };
-                answer_invoke(state, rows, notices, invocation, verdict, answer, supply)
+                answer_invoke(visit, invocation, verdict, answer, supply)
             }
-            op => answer_line(state, rows, notices, &at, &op, &answer, supply),
+            op => answer_line(visit, &at, &op, &answer, supply),
         }
     }
 }

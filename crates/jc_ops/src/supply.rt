@@ -5,14 +5,14 @@
 //! while a call waits; room in the table may be used up by others meanwhile, and is made anew.
 mod needs;
 
-ghost use Rattle.std.specs.Prelude.{◌≡◌, ◌<◌, ◌≤◌, ◌+◌, ◌^◌, true, Some, None, option_map};
-ghost use Rattle.std.specs.Prelude.{IfOk, OnOk, IsOk};
-ghost use Rattle.std.specs.FinMap as map;
+ghost use Rattle.std.specs.Prelude.{◌≡◌, ℕ, List, true, Some, None, option_map, IfOk, OnOk};
 ghost use Rattle.jc_model.specs.State.{Item};
+ghost use Rattle.jc_state.specs.Shelf.{has_row};
 ghost use Rattle.jc_state.specs.Kept.{key_row, FoundRow};
+ghost use Rattle.jc_state.specs.Visited.{IsUnchanged};
 ghost use Rattle.jc_ops.specs.Lines.{takes_value};
 ghost use Rattle.jc_ops.specs.Supply.{CoversIn, CoversLoaded, CoversVerdict, CoversAnswerIn};
-ghost use Rattle.jc_ops.specs.Supply.{HasPlacesFor, HasRoom, adds_in, adds_at_in};
+ghost use Rattle.jc_ops.specs.Supply.{HasPlacesFor, HasRoomFor, HasRoomAt};
 
 use crate::step::KeyStep;
 use crate::supply::needs::{
@@ -22,15 +22,12 @@ pub use crate::supply::needs::{asks_no_one, creates, most_notices, takes_value};
 use jc_model::OutOfMemory;
 use jc_model::call::{Answer, KeyCall, Op, Verdict};
 use jc_model::config::CacheConfig;
-use jc_model::key::Key;
-use jc_model::thrice::Thrice;
+use jc_model::copies::Copies;
 use jc_model::value::Value;
 use jc_ring::ring::Ring;
 use jc_rows::rows::Rows;
-use jc_state::notices::Notices;
-use jc_state::state::CacheState;
 use jc_state::stored::Stored;
-use std::alloc::AllocError;
+use jc_state::visit::Visit;
 
 /// The values of one step.
 #[derive(Drop)]
@@ -38,40 +35,21 @@ pub struct Supply {
     /// What the step stores.
     pub stored: Option<Stored>,
     /// What the step replies.
-    pub shown: Option<Thrice<Value>>,
+    pub shown: Option<Copies<Value>>,
     /// What the writer is given, or the processor as its argument.
     pub copy: Option<Value>,
     /// What the processor is given as the value of its entry.
     pub entry: Option<Value>,
 }
 
-/// Room in the table for so many rows more. Nothing is done where none are wanted, or where the table has it.
-pub fn make_room<R: Rows>(rows: &mut R, more: usize) -> Result<(), OutOfMemory>
-    ensures same { R.contents rows.new ≡ R.contents rows.old }
-    ensures room { OnOk result (more ≤ R.spare rows.new) }
-    ensures kept { R.spare rows.old ≤ R.spare rows.new }
-    ensures there { more ≤ R.spare rows.old → R.spare rows.new ≡ R.spare rows.old }
-    ensures none { more ≡ 0 → IsOk result }
-    ensures stands { more ≤ R.spare rows.old →
-        map.len (R.contents rows.old) + more < 2 ^ 64 → IsOk result }
-{
-    if more == 0 {
-        return Ok(());
-    }
-    match rows.len().checked_add(more) {
-        Some(all) => rows.make_room(all),
-        None => Err(AllocError),
-    }
-}
-
 /// Copies of what is replied, if a value is.
-fn to_show(value: Option<&Value>) -> Result<Option<Thrice<Value>>, OutOfMemory>
+fn to_show(value: Option<&Value>) -> Result<Option<Copies<Value>>, OutOfMemory>
     ensures { IfOk result (λ shown. shown ≡ option_map (λ v. v.now) value.entry) }
 {
     match value {
         None => Ok(None),
         Some(value) => {
-            let shown = Thrice::of(value)?;
+            let shown = Copies::of(value)?;
             Ok(Some(shown))
         }
     }
@@ -90,25 +68,23 @@ fn to_hand(value: Option<&Value>) -> Result<Option<Value>, OutOfMemory>
     }
 }
 
-/// The value of the key's row, where it is wanted.
-fn value_if<'a, G: Ring>(
-    state: &'a CacheState<G>,
-    key: &Key,
+/// The value of a key's row, where it is wanted.
+fn value_if<'a, R: Rows, G: Ring>(
+    visit: &'a Visit<R, G>,
     row: Option<u32>,
     wanted: bool,
 ) -> Option<&'a Value>
-    requires row { wanted ≡ true → FoundRow key.now state.now row }
-    ensures { wanted ≡ true → (x : Item) → key_row state.now key.now ≡ Some x →
-        option_map (λ v. v.now) result ≡ Some x.value }
+    requires there { wanted ≡ true → (r : ℕ) → row ≡ Some r →
+        has_row r visit.now.cache.cells ≡ true }
+    ensures { wanted ≡ true → (key : List ℕ) (x : Item) → FoundRow key visit.now.cache row →
+        key_row visit.now.cache key ≡ Some x → option_map (λ v. v.now) result ≡ Some x.value }
 {
     if !wanted {
         return None;
     }
-    // The clauses alone name the key.
-    let _key = key.text().len();
     match row {
         None => None,
-        Some(row) => Some(state.value(row).first()),
+        Some(row) => Some(visit.value(row).first()),
     }
 }
 
@@ -127,18 +103,19 @@ impl Supply {
 
     /// The values of a step that stores at once, or that asks its writer first: then the writer alone is given a copy.
     /// The key's row is wanted only where a value of it is taken.
-    pub fn values_for<G: Ring>(
-        state: &CacheState<G>,
+    pub fn values_for<R: Rows, G: Ring>(
+        visit: &Visit<R, G>,
         row: Option<u32>,
         call: &KeyCall,
         writer: bool,
     ) -> Result<Supply, OutOfMemory>
-        requires row { takes_value call.now.op ≡ true → FoundRow call.now.key state.now row }
-        ensures { IfOk result (λ s. CoversIn writer state.now call.now s) }
+        requires row { takes_value call.now.op ≡ true →
+            FoundRow call.now.key visit.now.cache row }
+        ensures { IfOk result (λ s. CoversIn writer visit.now call.now s) }
     {
-        let shown = to_show(value_if(state, &call.key, row, shows(&call.op)))?;
-        let entry = to_hand(value_if(state, &call.key, row, is_invoke(&call.op)))?;
-        let stored = Stored::of_any(state.config(), stored_now(&call.op, writer))?;
+        let shown = to_show(value_if(visit, row, shows(&call.op)))?;
+        let entry = to_hand(value_if(visit, row, is_invoke(&call.op)))?;
+        let stored = Stored::of_any(visit.config(), stored_now(&call.op, writer))?;
         let copy = to_hand(handed(&call.op, writer))?;
         Ok(Supply {
             stored,
@@ -150,27 +127,23 @@ impl Supply {
 
     /// All that such a step may need: its values, places for its notices, and room in the table where it adds a row.
     pub fn for_step<R: Rows, G: Ring>(
-        state: &CacheState<G>,
-        rows: &mut R,
-        notices: &mut Notices,
-        now: u64,
+        visit: &mut Visit<R, G>,
         row: Option<u32>,
         call: &KeyCall,
     ) -> Result<Supply, OutOfMemory>
-        requires row { FoundRow call.now.key state.now row }
-        ensures same { R.contents rows.new ≡ R.contents rows.old }
-        ensures told { notices.new.told ≡ notices.old.told }
-        ensures places { OnOk result (HasPlacesFor state.now now call.now notices.new) }
-        ensures room { OnOk result (HasRoom (adds_in state.now now call.now) (R.spare rows.new)) }
-        ensures asks { HasRoom (adds_in state.now now call.now) (R.spare rows.old) →
-            R.spare rows.new ≡ R.spare rows.old }
-        ensures covers { IfOk result (λ s. CoversIn state.now.config.writer state.now call.now s) }
+        requires row { FoundRow call.now.key visit.old.cache row }
+        ensures same { IsUnchanged visit.old visit.new }
+        ensures places { OnOk result (HasPlacesFor call.now visit.new) }
+        ensures room { OnOk result (HasRoomFor call.now visit.new) }
+        ensures asks { HasRoomFor call.now visit.old → visit.new.spare ≡ visit.old.spare }
+        ensures covers { IfOk result (λ s.
+            CoversIn visit.old.cache.config.writer visit.old call.now s) }
     {
-        let there = state.has_live(row, now);
-        let writer = state.config().writer;
-        notices.reserve_for(state.config(), most_notices(&call.op, there))?;
-        make_room(rows, usize::from(adds(there, writer, &call.op)))?;
-        Supply::values_for(state, row, call, writer)
+        let there = visit.has_live(row);
+        let writer = visit.config().writer;
+        visit.reserve_notices(most_notices(&call.op, there))?;
+        visit.reserve_rows(usize::from(adds(there, writer, &call.op)))?;
+        Supply::values_for(visit, row, call, writer)
     }
 
     /// The values for a loader's answer: to store and reply for a line that loads, to hand on for a processor's step.
@@ -225,19 +198,19 @@ impl Supply {
     }
 
     /// The values for the answer to a step that waits, where its key has this row.
-    fn values_at<G: Ring>(
-        state: &CacheState<G>,
+    fn values_at<R: Rows, G: Ring>(
+        visit: &Visit<R, G>,
         row: Option<u32>,
         step: &KeyStep,
         answer: &Answer,
     ) -> Result<Supply, OutOfMemory>
-        requires row { FoundRow step.now.call.key state.now row }
-        ensures { IfOk result (λ s. CoversAnswerIn state.now step.entry.now answer.now s) }
+        requires row { FoundRow step.now.call.key visit.now.cache row }
+        ensures { IfOk result (λ s. CoversAnswerIn visit.now step.entry.now answer.now s) }
     {
-        let config = state.config();
+        let config = visit.config();
         match answer {
             Answer::Written => match step.verdict() {
-                None => Supply::values_for(state, row, step.call(), false),
+                None => Supply::values_for(visit, row, step.call(), false),
                 Some(verdict) => Supply::values_judged(config, step.loaded(), verdict, false),
             },
             Answer::Loaded(loaded) => {
@@ -255,30 +228,23 @@ impl Supply {
 
     /// All that a step that waits may need at this answer, where its key has this row.
     pub fn for_answer<R: Rows, G: Ring>(
-        state: &CacheState<G>,
-        rows: &mut R,
-        notices: &mut Notices,
+        visit: &mut Visit<R, G>,
         row: Option<u32>,
         step: &KeyStep,
         answer: &Answer,
     ) -> Result<Supply, OutOfMemory>
-        requires row { FoundRow step.now.call.key state.now row }
-        ensures same { R.contents rows.new ≡ R.contents rows.old }
-        ensures told { notices.new.told ≡ notices.old.told }
-        ensures places { OnOk result
-            (HasPlacesFor state.now step.entry.now.now step.entry.now.call notices.new) }
-        ensures room { OnOk result
-            (HasRoom (adds_at_in state.now step.entry.now answer.now) (R.spare rows.new)) }
-        ensures asks { HasRoom (adds_at_in state.now step.entry.now answer.now) (R.spare rows.old) →
-            R.spare rows.new ≡ R.spare rows.old }
-        ensures covers { IfOk result (λ s. CoversAnswerIn state.now step.entry.now answer.now s) }
+        requires row { FoundRow step.now.call.key visit.old.cache row }
+        ensures same { IsUnchanged visit.old visit.new }
+        ensures places { OnOk result (HasPlacesFor step.entry.now.call visit.new) }
+        ensures room { OnOk result (HasRoomAt step.entry.now answer.now visit.new) }
+        ensures asks { HasRoomAt step.entry.now answer.now visit.old →
+            visit.new.spare ≡ visit.old.spare }
+        ensures covers { IfOk result (λ s. CoversAnswerIn visit.old step.entry.now answer.now s) }
     {
-        let there = state.has_live(row, step.now());
-        notices.reserve_for(state.config(), most_notices(&step.call().op, there))?;
-        make_room(
-            rows,
-            usize::from(adds_at(there, state.config(), step, answer)),
-        )?;
-        Supply::values_at(state, row, step, answer)
+        let there = visit.has_live(row);
+        visit.reserve_notices(most_notices(&step.call().op, there))?;
+        let adds = adds_at(there, visit.config(), step, answer);
+        visit.reserve_rows(usize::from(adds))?;
+        Supply::values_at(visit, row, step, answer)
     }
 }

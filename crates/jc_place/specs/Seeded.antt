@@ -2,7 +2,7 @@
 use Rattle.std.specs.Prelude.{ℕ, ◌*◌, ◌%◌, ◌^◌, List, ◌++◌, fold, bit_xor}
 use Rattle.std.specs.Int.{to_le_bytes, w32}
 use Rattle.jc_place.specs.declared.place.Place.{Place}
-use Rattle.jc_place.specs.Place.{place_of}
+use Rattle.jc_place.specs.Place.{place_of_hash}
 
 -- one byte more
 abbrev pub fnv_step : ℕ → ℕ → ℕ
@@ -13,4 +13,4 @@ unfoldable pub seeded_hash : ℕ → ℕ → List ℕ → ℕ
 seeded_hash seed id key = fold fnv_step (bit_xor 0xcbf29ce484222325 seed) (to_le_bytes w32 id ++ key)
 
 abbrev pub seeded_place : ℕ → ℕ → List ℕ → Place
-seeded_place seed id key = place_of (seeded_hash seed id key)
+seeded_place seed id key = place_of_hash (seeded_hash seed id key)

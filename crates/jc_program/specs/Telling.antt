@@ -2,7 +2,7 @@
 use Rattle.std.specs.Prelude.{◌≡◌, ◌⊎◌, ℕ, List, Option, Some, None, Result, codes, ⊤}
 use Rattle.clap.specs.Words.{Text}
 use Rattle.jc_explain.specs.declared.kept.Kept.{Kept}
-use Rattle.jc_runner.specs.Program.{Ends}
+use Rattle.jc_runner.specs.Program.{ProgramEnds}
 use Rattle.jc_runner.specs.declared.exit.Ended.{Ended}
 use Rattle.jc_runner.specs.declared.exit.Ending.{Ending}
 use Rattle.jc_runner.specs.declared.exit.Ending.TheVariants.{Explained}
@@ -13,16 +13,16 @@ use Rattle.jc_runner.specs.declared.input.Watched.{Watched}
 use Rattle.jc_program.specs.Explaining.{TellsFault}
 
 -- the bytes that a file kept, or else standard input
-abbrev pub bytes_of : {F I : Type 0} → Option (Watched (Kept F)) → Watched (Kept I) → List ℕ
-bytes_of None input = input.inner.bytes.items
-bytes_of (Some file) input = file.inner.bytes.items
+abbrev pub kept_bytes : {F I : Type 0} → Option (Watched (Kept F)) → Watched (Kept I) → List ℕ
+kept_bytes None input = input.inner.bytes.items
+kept_bytes (Some file) input = file.inner.bytes.items
 
 module _ {F I : Type 0} (opened : Opened (Kept F)) (input : Watched (Kept I)) where
   abbrev pub config_bytes : List ℕ
-  config_bytes = bytes_of opened.config input
+  config_bytes = kept_bytes opened.config input
 
   abbrev pub script_bytes : List ℕ
-  script_bytes = bytes_of opened.script input
+  script_bytes = kept_bytes opened.script input
 
   -- the lines explain the fault; of an ending without a fault to explain they are not told
   abbrev pub TellsEnding : Ending → List ℕ → Type 0
@@ -30,12 +30,12 @@ module _ {F I : Type 0} (opened : Opened (Kept F)) (input : Watched (Kept I)) wh
   TellsEnding _ lines = ⊤
 
 -- memory is wanting for the explanation
-abbrev pub no_memory : List ℕ
-no_memory = codes "  out of memory for the explanation\n"
+abbrev pub no_memory_line : List ℕ
+no_memory_line = codes "  out of memory for the explanation\n"
 
 module _ {F I O E : Type 0} (of_file : F → Option (List ℕ)) (of_input : I → Option (List ℕ)) (contents : O → Option (List ℕ)) (said : E → Option (List ℕ)) (opened opened' : Opened (Kept F)) (standard standard' : Standard (Kept I) O E) where
   -- the program has obeyed the words, and said how that ended, with the lines that explain it
   pub record EndsTold (words : Result (List Text) WordsFault) (result : Ended) : Type 0 where
     pub lines : List ℕ
-    pub ends : Ends (λ (file : Kept F). of_file file.inner) (λ (input : Kept I). of_input input.inner) contents said (λ path. None) None None opened opened' standard standard' lines words result
-    pub tells : TellsEnding opened' standard'.input ends.ending lines ⊎ (lines ≡ no_memory)
+    pub ends : ProgramEnds (λ (file : Kept F). of_file file.inner) (λ (input : Kept I). of_input input.inner) contents said (λ path. None) None None opened opened' standard standard' lines words result
+    pub tells : TellsEnding opened' standard'.input ends.ending lines ⊎ (lines ≡ no_memory_line)

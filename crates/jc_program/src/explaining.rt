@@ -1,6 +1,6 @@
 //! The lines that explain a fault.
 ghost use Rattle.std.specs.Prelude.{◌≡◌, IfOk, map, string_bytes};
-ghost use Rattle.jc_config.specs.Limits.{names_in};
+ghost use Rattle.jc_config.specs.Limits.{names_of_caches};
 ghost use Rattle.jc_program.specs.Explaining.{TellsScript, TellsUnread, TellsRun, TellsFault};
 
 use jc_config::{ConfigFault, Settings, read_config};
@@ -15,7 +15,7 @@ use std::io::ErrorKind;
 
 /// The names of the caches.
 fn names_of(alloc: Global, settings: &Settings) -> Result<Vec<&str>, AllocError>
-    ensures { IfOk result (λ v. map (λ name. name.now) v.items ≡ names_in settings.now) }
+    ensures { IfOk result (λ v. map (λ name. name.now) v.items ≡ names_of_caches settings.now) }
 {
     let mut names = Vec::new(alloc);
     for cache in settings.caches() {

@@ -1,6 +1,6 @@
 //! The program with its explanations.
 ghost use Rattle.std.specs.Prelude.{◌≡◌, IfOk, IfErr, Ok, Err, MatchResult, map, string_bytes};
-ghost use Rattle.jc_program.specs.Telling.{config_bytes, script_bytes, no_memory, EndsTold, TellsEnding};
+ghost use Rattle.jc_program.specs.Telling.{config_bytes, script_bytes, no_memory_line, EndsTold, TellsEnding};
 
 use crate::disk::KeepingDisk;
 use crate::explaining::fault_lines;
@@ -97,7 +97,7 @@ fn lines_of<R, F: Read, I: Read>(
 /// The lines themselves, or what is told for want of memory.
 fn text_of(explanation: &Result<String, AllocError>) -> &str
     ensures { MatchResult explanation.now (λ s. result.now ≡ string_bytes s)
-        (λ e. result.now ≡ no_memory) }
+        (λ e. result.now ≡ no_memory_line) }
 {
     match explanation {
         Ok(lines) => lines.as_str(),

@@ -4,20 +4,20 @@ use Rattle.std.proofs.lemmas.Bool.Decides.{nat_tests}
 use Rattle.std.proofs.lemmas.Str.{IsUtf8-from_is_utf8, is_utf8-from_IsUtf8}
 use Rattle.std.specs.Str.{IsUtf8, is_utf8}
 use Rattle.jc_model.specs.Limits.{key_bytes}
-use Rattle.jc_replay.specs.Trace.{key_of}
+use Rattle.jc_replay.specs.Trace.{key_or_none}
 
 -- by the three tests
 by_tests : (bytes : List ℕ) (a b c : Bool) → a ≡ true → b ≡ true → c ≡ false → ◌≡◌ {A = Option (List ℕ)} (if a && b && not c then Some bytes else None) (Some bytes)
 by_tests bytes a b c p q r = rw (p, q, r) refl
 
-good : (bytes : List ℕ) → IsUtf8 bytes → 1 ≤ length bytes → length bytes ≤ key_bytes → key_of bytes ≡ Some bytes
+good : (bytes : List ℕ) → IsUtf8 bytes → 1 ≤ length bytes → length bytes ≤ key_bytes → key_or_none bytes ≡ Some bytes
 good bytes utf8 some few = by_tests bytes (is_utf8 bytes) (ltb 0 (length bytes)) (ltb key_bytes (length bytes)) (is_utf8-from_IsUtf8 bytes utf8) (grind (arith, nat_tests, some)) (grind (arith, nat_tests, few))
 
 no_text : (bytes : List ℕ) (b c : Bool) (a : Bool) → (a ≡ true → ⊥) → ◌≡◌ {A = Option (List ℕ)} (if a && b && c then Some bytes else None) None
 no_text bytes b c true never = absurd (never refl)
 no_text bytes b c false never = refl
 
-pub bad : (bytes : List ℕ) → (IsUtf8 bytes → ⊥) → key_of bytes ≡ None
+pub bad : (bytes : List ℕ) → (IsUtf8 bytes → ⊥) → key_or_none bytes ≡ None
 bad bytes never = no_text bytes (ltb 0 (length bytes)) (not (ltb key_bytes (length bytes))) (is_utf8 bytes) (λ is. never (IsUtf8-from_is_utf8 bytes is))
 
 nonempty : (bytes : List ℕ) → (bytes ≡ [] → ⊥) → 1 ≤ length bytes
@@ -25,7 +25,7 @@ nonempty [] never = absurd (never refl)
 nonempty (b ∷ bytes) never = omega arith
 
 -- a key was made of a text
-pub made : (bytes key : List ℕ) → IsUtf8 bytes → (bytes ≡ [] → ⊥) → (key_bytes < length bytes → ⊥) → (1 ≤ length bytes → length bytes ≤ key_bytes → key ≡ bytes) → Some key ≡ key_of bytes
+pub made : (bytes key : List ℕ) → IsUtf8 bytes → (bytes ≡ [] → ⊥) → (key_bytes < length bytes → ⊥) → (1 ≤ length bytes → length bytes ≤ key_bytes → key ≡ bytes) → Some key ≡ key_or_none bytes
 made bytes key utf8 some few is =
     let low : 1 ≤ length bytes = nonempty bytes some in
     let high : length bytes ≤ key_bytes = omega (arith, few) in

@@ -3,7 +3,7 @@ use Rattle.std.proofs.Common.{◌≡◌, ℕ, ◌+◌, ◌==◌, Bool, true, fal
 use Rattle.std.proofs.lemmas.List.{drop_more}
 use Rattle.jc_replay.specs.declared.fault.ReplayFault.{ReplayFault}
 use Rattle.jc_replay.specs.declared.fault.ReplayFault.TheVariants.{BadKey}
-use Rattle.jc_replay.specs.Trace.{is_key, key_of, with_front, keys_from}
+use Rattle.jc_replay.specs.Trace.{is_key, key_or_none, with_front, keys_from}
 
 regroup : (front : List (List ℕ)) (key : List ℕ) (read : Result (List (List ℕ)) ReplayFault) → with_front front (with_front (key ∷ []) read) ≡ with_front (front ++ key ∷ []) read
 regroup front key (Ok keys) = ap (λ (ks : List (List ℕ)). Ok ks) (simp append_assoc)
@@ -22,7 +22,7 @@ by_none : (line : List ℕ) (b : Bool) → ◌≡◌ {A = Option (List ℕ)} (if
 by_none line true is = absurd cc
 by_none line false is = refl
 
-pub takes : (n : ℕ) (front : List (List ℕ)) (line key : List ℕ) (rest : List (List ℕ)) (total : Result (List (List ℕ)) ReplayFault) → (length line == 0) ≡ false → key_of line ≡ Some key
+pub takes : (n : ℕ) (front : List (List ℕ)) (line key : List ℕ) (rest : List (List ℕ)) (total : Result (List (List ℕ)) ReplayFault) → (length line == 0) ≡ false → key_or_none line ≡ Some key
     → with_front front (keys_from n (line ∷ rest)) ≡ total → with_front (front ++ key ∷ []) (keys_from (n + 1) rest) ≡ total
 unfolding keys_from
 takes n front line key rest total some is so_far =
@@ -30,7 +30,7 @@ takes n front line key rest total some is so_far =
     let one : with_front front (keys_from n (line ∷ rest)) ≡ with_front (front ++ line ∷ []) (keys_from (n + 1) rest) = rw (some, p.0) (regroup front line (keys_from (n + 1) rest)) in
     rw p.1 (sym one ∙ so_far)
 
-pub stops : (n : ℕ) (front : List (List ℕ)) (line : List ℕ) (rest : List (List ℕ)) (total : Result (List (List ℕ)) ReplayFault) → (length line == 0) ≡ false → key_of line ≡ None
+pub stops : (n : ℕ) (front : List (List ℕ)) (line : List ℕ) (rest : List (List ℕ)) (total : Result (List (List ℕ)) ReplayFault) → (length line == 0) ≡ false → key_or_none line ≡ None
     → with_front front (keys_from n (line ∷ rest)) ≡ total → total ≡ Err (BadKey n)
 unfolding keys_from
 stops n front line rest total some is so_far =

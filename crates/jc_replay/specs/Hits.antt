@@ -13,19 +13,19 @@ use Rattle.jc_model.specs.Limits.{most_rows}
 use Rattle.jc_model.specs.Runs.{Lives, opened_from, answer_to, lives_after}
 use Rattle.jc_replay.specs.declared.fault.ReplayFault.{ReplayFault}
 use Rattle.jc_replay.specs.declared.ratio.HitRatio.{HitRatio}
-use Rattle.jc_replay.specs.Trace.{keys_in}
+use Rattle.jc_replay.specs.Trace.{trace_keys}
 
 -- how many rows a cache may have
 abbrev pub IsCapacity : ℕ → Type 0
 IsCapacity n = (1 ≤ n) × (n ≤ most_rows)
 
 -- no row expires, and there are no callbacks and no listeners
-abbrev pub config_of : ℕ → CacheConfig
-config_of capacity = record { name = codes "replay"; capacity = capacity; policy = Eternal; loader = false; writer = false; processors = []; listeners = 0 }
+abbrev pub replay_config : ℕ → CacheConfig
+replay_config capacity = record { name = codes "replay"; capacity = capacity; policy = Eternal; loader = false; writer = false; processors = []; listeners = 0 }
 
 -- one cache of this capacity, without rows
 abbrev pub first_lives : ℕ → Lives
-first_lives capacity = opened_from 0 (config_of capacity ∷ [])
+first_lives capacity = opened_from 0 (replay_config capacity ∷ [])
 
 -- a key is looked up
 abbrev pub lookup : List ℕ → Event
@@ -44,18 +44,18 @@ unfoldable pub hits : Lives → List ℕ → Bool
 hits lives key = is_value (answer_to lives (lookup key) false)
 
 -- the cache after an event
-unfoldable pub after : Lives → Event → Lives
-after lives event = lives_after lives event (answer_to lives event false)
+unfoldable pub lives_after_event : Lives → Event → Lives
+lives_after_event lives event = lives_after lives event (answer_to lives event false)
 
 -- after a key was looked up, and put where the lookup found none
-abbrev pub after_key : Lives → List ℕ → Lives
-after_key lives key =
-    let looked : Lives = after lives (lookup key) in if hits lives key then looked else after looked (filling key)
+abbrev pub lives_after_key : Lives → List ℕ → Lives
+lives_after_key lives key =
+    let looked : Lives = lives_after_event lives (lookup key) in if hits lives key then looked else lives_after_event looked (filling key)
 
 -- how many lookups of the keys, one after the other, find a value
 unfoldable pub hits_from : Lives → List (List ℕ) → ℕ
 hits_from lives [] = 0
-hits_from lives (key ∷ keys) = (if hits lives key then 1 else 0) + hits_from (after_key lives key) keys
+hits_from lives (key ∷ keys) = (if hits lives key then 1 else 0) + hits_from (lives_after_key lives key) keys
 
 abbrev pub ratio_of : List (List ℕ) → ℕ → HitRatio
 ratio_of keys capacity =
@@ -66,5 +66,5 @@ abbrev pub ratios_of : List ℕ → Result (List (List ℕ)) ReplayFault → Res
 ratios_of capacities (Ok keys) = Ok (map (ratio_of keys) capacities)
 ratios_of capacities (Err fault) = Err fault
 
-abbrev pub replayed : List ℕ → List ℕ → Result (List HitRatio) ReplayFault
-replayed trace capacities = ratios_of capacities (keys_in trace)
+abbrev pub replay_ratios : List ℕ → List ℕ → Result (List HitRatio) ReplayFault
+replay_ratios trace capacities = ratios_of capacities (trace_keys trace)

@@ -3,7 +3,7 @@ ghost use Rattle.std.specs.Prelude.{◌≡◌, false, IfOk, OnOk, []};
 ghost use Rattle.jc_model.specs.Runs.{for_memory};
 ghost use Rattle.jc_model.specs.declared.event.Outcome.TheVariants.{Step as Stepped, Refused};
 ghost use Rattle.jc_engine.specs.Caches.{lives_of};
-ghost use Rattle.jc_replay.specs.Hits.{is_value, hits, after, after_key, lookup, filling};
+ghost use Rattle.jc_replay.specs.Hits.{is_value, hits, lives_after_event, lives_after_key, lookup, filling};
 
 use jc_engine::engine::Engine;
 use jc_model::OutOfMemory;
@@ -32,10 +32,11 @@ fn unless_memory(cause: Cause) -> Result<(), OutOfMemory>
 }
 
 /// Looks a key up, and tells whether a value was found.
-#[tactic(auto, unfolding(crate::specs::Hits::hits, crate::specs::Hits::after))]
+#[tactic(auto, unfolding(crate::specs::Hits::hits, crate::specs::Hits::lives_after_event))]
 fn look_up<R: Rows, G: Ring>(engine: &mut Engine<R, G>, key: Key) -> Result<bool, OutOfMemory>
     ensures found { IfOk result (λ found. found ≡ hits (lives_of engine.old) key) }
-    ensures lives { OnOk result (lives_of engine.new ≡ after (lives_of engine.old) (lookup key)) }
+    ensures lives { OnOk result
+        (lives_of engine.new ≡ lives_after_event (lives_of engine.old) (lookup key)) }
 {
     match engine.begin(CacheId::new(0), 0, Call::Get(key)) {
         Ok(step) => Ok(is_value(&step)),
@@ -48,14 +49,15 @@ fn look_up<R: Rows, G: Ring>(engine: &mut Engine<R, G>, key: Key) -> Result<bool
 }
 
 /// Puts this empty value under a key.
-#[tactic(auto, unfolding(crate::specs::Hits::after))]
+#[tactic(auto, unfolding(crate::specs::Hits::lives_after_event))]
 fn fill<R: Rows, G: Ring>(
     engine: &mut Engine<R, G>,
     key: Key,
     empty: Value,
 ) -> Result<(), OutOfMemory>
     requires { empty ≡ [] }
-    ensures { OnOk result (lives_of engine.new ≡ after (lives_of engine.old) (filling key)) }
+    ensures { OnOk result
+        (lives_of engine.new ≡ lives_after_event (lives_of engine.old) (filling key)) }
 {
     match engine.begin(CacheId::new(0), 0, Call::Put(key, empty)) {
         Ok(step) => {
@@ -77,7 +79,7 @@ pub(crate) fn meet<R: Rows, G: Ring>(
 ) -> Result<bool, OutOfMemory>
     requires { empty.now ≡ [] }
     ensures found { IfOk result (λ found. found ≡ hits (lives_of engine.old) key) }
-    ensures lives { OnOk result (lives_of engine.new ≡ after_key (lives_of engine.old) key) }
+    ensures lives { OnOk result (lives_of engine.new ≡ lives_after_key (lives_of engine.old) key) }
 {
     let found = look_up(engine, key)?;
     if !found {

@@ -5,9 +5,9 @@ ghost use Rattle.std.specs.List.{All};
 ghost use Rattle.jc_model.specs.Limits.{most_rows, text_bytes};
 ghost use Rattle.jc_cuckoo.specs.Cells.{rows_in};
 ghost use Rattle.jc_engine.specs.Caches.{lives_of};
-ghost use Rattle.jc_replay.specs.Hits.{config_of, first_lives, hits_from, ratio_of, replayed, IsCapacity};
+ghost use Rattle.jc_replay.specs.Hits.{replay_config, first_lives, hits_from, ratio_of, replay_ratios, IsCapacity};
 ghost use Rattle.jc_replay.specs.Table.{replay_table};
-ghost use Rattle.jc_replay.specs.Trace.{Gives};
+ghost use Rattle.jc_replay.specs.Trace.{GivesReplay};
 
 use crate::fault::ReplayFault;
 use crate::lookup::meet;
@@ -44,7 +44,7 @@ fn table(alloc: Global, seed: u64) -> Result<Cuckoo<SeededPlacer, NoMirror>, Out
 
 /// The configuration of a replay's cache.
 fn config_of(alloc: Global, capacity: u32) -> CacheConfig
-    ensures { result ≡ config_of capacity }
+    ensures { result ≡ replay_config capacity }
 {
     match Key::from_text("replay") {
         Ok(name) => CacheConfig::new(alloc, name, capacity),
@@ -53,7 +53,7 @@ fn config_of(alloc: Global, capacity: u32) -> CacheConfig
 }
 
 /// A manager of one cache of this capacity, over an empty table.
-fn opened<R: Rows>(
+fn open_engine<R: Rows>(
     alloc: Global,
     rows: R,
     capacity: u32,
@@ -101,7 +101,7 @@ fn replay_at(
     requires capacity { IsCapacity capacity }
     ensures { IfOk result (λ ratio. ratio ≡ ratio_of keys.now capacity) }
 {
-    let mut engine = opened(alloc, table(alloc, seed)?, capacity)?;
+    let mut engine = open_engine(alloc, table(alloc, seed)?, capacity)?;
     let hits = count_hits(&mut engine, keys, empty)?;
     Ok(HitRatio {
         capacity,
@@ -151,7 +151,7 @@ pub fn replay(
     seed: u64,
 ) -> Result<Vec<HitRatio>, ReplayFault>
     requires { All IsCapacity capacities.now }
-    ensures { Gives (λ ratios. ratios.items) result (replayed trace.now capacities.now) }
+    ensures { GivesReplay (λ ratios. ratios.items) result (replay_ratios trace.now capacities.now) }
 {
     let keys = read_trace(alloc, trace)?;
     let ratios = replay_all(alloc, keys.as_slice(), capacities, seed)?;
@@ -166,7 +166,7 @@ pub fn replay_table(
     seed: u64,
 ) -> Result<String, ReplayFault>
     requires { All IsCapacity capacities.now }
-    ensures { Gives string_bytes result (replay_table trace.now capacities.now) }
+    ensures { GivesReplay string_bytes result (replay_table trace.now capacities.now) }
 {
     let ratios = replay(alloc, trace, capacities, seed)?;
     let text = table_text(alloc, ratios.as_slice())?;

@@ -1,6 +1,6 @@
 //! The table of a replay as text.
 ghost use Rattle.std.specs.Prelude.{◌≡◌, ◌++◌, IfOk, OnOk, string_bytes, decimal};
-ghost use Rattle.jc_replay.specs.Table.{spaced, hundredths, percent_text, line_text, table_text};
+ghost use Rattle.jc_replay.specs.Table.{number_cell, hundredths, percent_text, line_text, table_text};
 
 use crate::ratio::HitRatio;
 use std::alloc::{AllocError, Global};
@@ -13,7 +13,7 @@ fn push_number(alloc: Global, text: &mut String, number: u64) -> Result<(), Allo
 
 /// Adds a number, and a space behind it.
 fn push_spaced(alloc: Global, text: &mut String, number: u32) -> Result<(), AllocError>
-    ensures { OnOk result (string_bytes text.new ≡ string_bytes text.old ++ spaced number) }
+    ensures { OnOk result (string_bytes text.new ≡ string_bytes text.old ++ number_cell number) }
 {
     push_number(alloc, text, u64::from(number))?;
     text.push_str(" ")

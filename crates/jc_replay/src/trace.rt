@@ -2,7 +2,7 @@
 ghost use Rattle.std.specs.Prelude.{◌≡◌, ◌≤◌, ◌+◌, IfOk, length, map};
 ghost use Rattle.std.specs.List.{slice_split};
 ghost use Rattle.jc_model.specs.Limits.{text_bytes};
-ghost use Rattle.jc_replay.specs.Trace.{is_feed, key_of, keys_from, keys_in, Gives};
+ghost use Rattle.jc_replay.specs.Trace.{ends_trace_line, key_or_none, keys_from, trace_keys, GivesReplay};
 
 use crate::fault::ReplayFault;
 use jc_model::key::Key;
@@ -11,14 +11,15 @@ use std::alloc::{AllocError, Global};
 
 /// The bytes between the line feeds.
 fn lines_of<'a>(alloc: Global, trace: &'a [u8]) -> Result<Vec<&'a [u8]>, AllocError>
-    ensures { IfOk result (λ v. map (λ line. line.now) v.items ≡ slice_split is_feed trace.entry.now) }
+    ensures { IfOk result (λ v.
+        map (λ line. line.now) v.items ≡ slice_split ends_trace_line trace.entry.now) }
 {
     trace.split(|b| *b == b'\n').collect(alloc)
 }
 
 /// The key that these bytes are, if they are one.
 fn read_key(line: &[u8]) -> Option<Key>
-    ensures { result ≡ key_of line.now }
+    ensures { result ≡ key_or_none line.now }
 {
     match std::str::from_utf8(line) {
         Ok(text) => match Key::from_text(text) {
@@ -31,7 +32,7 @@ fn read_key(line: &[u8]) -> Option<Key>
 
 /// The keys in lines.
 fn read_lines(alloc: Global, lines: &[&[u8]]) -> Result<Vec<Key>, ReplayFault>
-    ensures read { Gives (λ v. v.items) result (keys_from 1 (map (λ line. line.now) lines.now)) }
+    ensures read { GivesReplay (λ v. v.items) result (keys_from 1 (map (λ line. line.now) lines.now)) }
     ensures few { IfOk result (λ v. length v.items ≤ length lines.now) }
 {
     let mut keys = Vec::new(alloc);
@@ -49,7 +50,7 @@ fn read_lines(alloc: Global, lines: &[&[u8]]) -> Result<Vec<Key>, ReplayFault>
 
 /// The keys of a trace, one a line; an empty line is passed over.
 pub(crate) fn read_trace(alloc: Global, trace: &[u8]) -> Result<Vec<Key>, ReplayFault>
-    ensures read { Gives (λ v. v.items) result (keys_in trace.now) }
+    ensures read { GivesReplay (λ v. v.items) result (trace_keys trace.now) }
     ensures few { IfOk result (λ v. length v.items ≤ text_bytes + 1) }
 {
     if trace.len() > TEXT_BYTES {

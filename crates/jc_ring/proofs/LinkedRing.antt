@@ -3,7 +3,7 @@ use Rattle.std.proofs.Common.{◌≡◌, ◌<◌, ◌≤◌, ◌+◌, ℕ, Bool,
 use Rattle.std.proofs.Math.ListN.{set}
 use Rattle.std.proofs.lemmas.List.{get_or-set_same, length-set, length_push, get_or_read}
 use Rattle.std.proofs.lemmas.Bool.{eq-eqb, ne_eqb, or_cases, eqb-true}
-use Rattle.jc_ring.specs.Ring.{on_ring, after, without, turned, touched}
+use Rattle.jc_ring.specs.Ring.{on_ring, row_behind, ring_without, ring_turned, ring_touched}
 use Rattle.jc_ring.specs.Links.{linked_list, IsLinked, AreLinks}
 use Rattle.jc_ring.proofs.Laws.{apart-push, apart-touched, apart-without, length-touched, length-without}
 use Rattle.jc_ring.proofs.Links.{on_below, previous_on, last_on, next_on, limit_off, frame, frame_used, snoc, redirect, unlinked, touched_bit, walk-is, after-is, turned-is}
@@ -75,7 +75,7 @@ module _ {next previous : List ℕ} {used : List Bool} {limit : ℕ} {ps : List 
         fits = omega (arith, length_push ps (r, false));
       })
 
-  pub dropped : (r a c : ℕ) → on_ring r ps ≡ true → a ≡ get_or previous r a → c ≡ get_or next r c → IsLinked (set next a c) (set previous c a) used limit (without r ps)
+  pub dropped : (r a c : ℕ) → on_ring r ps ≡ true → a ≡ get_or previous r a → c ≡ get_or next r c → IsLinked (set next a c) (set previous c a) used limit (ring_without r ps)
   dropped r a c on before behind =
       let end_off : on_ring limit ps ≡ false = limit_off next previous used limit ps limit limit links.leads in
       rw (previous_read r a (row_within r on) before, next_read r c (row_within r on) behind) (record {
@@ -87,7 +87,7 @@ module _ {next previous : List ℕ} {used : List Bool} {limit : ℕ} {ps : List 
         fits = omega (arith, length-without ps r links.apart on, links.fits);
       })
 
-  pub marked : (r : ℕ) → IsLinked next previous (set used r true) limit (touched r ps)
+  pub marked : (r : ℕ) → IsLinked next previous (set used r true) limit (ring_touched r ps)
   marked r = record {
     next_size = links.next_size;
     previous_size = links.previous_size;
@@ -99,15 +99,15 @@ module _ {next previous : List ℕ} {used : List Bool} {limit : ℕ} {ps : List 
 
   -- What is read.
 
-  pub after-end : (r c : ℕ) → on_ring r ps ≡ true → c ≡ get_or next r c → c ≡ limit → None ≡ after r ps
+  pub after-end : (r c : ℕ) → on_ring r ps ≡ true → c ≡ get_or next r c → c ≡ limit → None ≡ row_behind r ps
   after-end r c on read end =
       let is : c ≡ get_or next r 0 = next_read r c (row_within r on) read in
       sym (after-is next previous used limit ps limit r on links.leads ∙ ap (λ b. cond b None (Some (get_or next r 0))) (eq-eqb (get_or next r 0) limit (sym is ∙ end)))
 
-  pub after-row : (r c : ℕ) → on_ring r ps ≡ true → c ≡ get_or next r c → (c ≡ limit → ⊥) → Some c ≡ after r ps
+  pub after-row : (r c : ℕ) → on_ring r ps ≡ true → c ≡ get_or next r c → (c ≡ limit → ⊥) → Some c ≡ row_behind r ps
   after-row r c on read more =
       let is : c ≡ get_or next r 0 = next_read r c (row_within r on) read in
       ap (λ (at : ℕ). Some at) is ∙ sym (after-is next previous used limit ps limit r on links.leads ∙ ap (λ b. cond b None (Some (get_or next r 0))) (ne_eqb (get_or next r 0) limit (λ e. more (is ∙ e))))
 
-  pub turns : (r : ℕ) → 0 < length ps → r ≡ get_or next limit r → without r ps ++ (r, false) ∷ [] ≡ turned ps
+  pub turns : (r : ℕ) → 0 < length ps → r ≡ get_or next limit r → ring_without r ps ++ (r, false) ∷ [] ≡ ring_turned ps
   turns r more read = turned-is next previous used limit ps limit limit r links.apart links.leads more (next_read limit r (omega arith) read)

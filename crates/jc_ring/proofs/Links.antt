@@ -4,7 +4,7 @@ use Rattle.std.proofs.Math.ListN.{set}
 use Rattle.std.proofs.lemmas.List.{get_or-set_same, get_or-set_other}
 use Rattle.std.proofs.lemmas.Grind.{common_steps}
 use Rattle.std.proofs.lemmas.Bool.{eq-eqb, ne_eqb, eqb-true, eqb-false, and_parts, or_parts, or_left, or_right, or_cases, not-true, false_from_ne_true, both_ways, cases_Bool}
-use Rattle.jc_ring.specs.Ring.{on_ring, first, after, without, turned, touched, rows_apart}
+use Rattle.jc_ring.specs.Ring.{on_ring, first, row_behind, ring_without, ring_turned, ring_touched, rows_apart}
 use Rattle.jc_ring.specs.Links.{walk, Meets, Leads}
 use Rattle.jc_ring.proofs.Laws.{without-off}
 
@@ -26,11 +26,11 @@ apart_tail p ps apart = (and_parts (not (on_ring p.0 ps)) (rows_apart ps) apart)
 off_on : (ps : List (ℕ × Bool)) (r s : ℕ) → on_ring r ps ≡ false → on_ring s ps ≡ true → r ≡ s → ⊥
 off_on ps r s off on e = both_ways (on_ring r ps) off (rw e on)
 
-without_here : (p : ℕ × Bool) (ps : List (ℕ × Bool)) (r : ℕ) → p.0 ≡ r → rows_apart (p ∷ ps) ≡ true → without r (p ∷ ps) ≡ ps
+without_here : (p : ℕ × Bool) (ps : List (ℕ × Bool)) (r : ℕ) → p.0 ≡ r → rows_apart (p ∷ ps) ≡ true → ring_without r (p ∷ ps) ≡ ps
 without_here p ps r same apart =
     grind (arith, common_steps, eq-eqb p.0 r same, without-off ps r (subst (λ s. on_ring s ps ≡ false) same (apart_head p ps apart)))
 
-without_later : (p : ℕ × Bool) (ps : List (ℕ × Bool)) (r : ℕ) → eqb p.0 r ≡ false → without r (p ∷ ps) ≡ p ∷ without r ps
+without_later : (p : ℕ × Bool) (ps : List (ℕ × Bool)) (r : ℕ) → eqb p.0 r ≡ false → ring_without r (p ∷ ps) ≡ p ∷ ring_without r ps
 without_later p ps r other = grind (arith, common_steps, other)
 
 module _ (next previous : List ℕ) (used : List Bool) (limit : ℕ) where
@@ -112,17 +112,17 @@ module _ (next previous : List ℕ) (used : List Bool) (limit : ℕ) where
       subst (λ d. Leads (set next from d) (set previous d from) used limit from to (p ∷ ps)) (sym leads.0.0 ∙ is) ((get_or-set_same next from p.0 0 (omega arith), get_or-set_same previous p.0 from 0 (omega (arith, leads.2))), leads.1, leads.2, frame ps p.0 to from p.0 p.0 from (off_head p ps from off_from) (off_tail p ps from off_from) (λ e. off_head p ps to off_to (sym e)) (apart_head p ps apart) leads.3)
 
   -- one row less
-  pub unlinked : (ps : List (ℕ × Bool)) (from to r : ℕ) → length next ≡ limit + 1 → length previous ≡ limit + 1 → from ≤ limit → to ≤ limit → on_ring from ps ≡ false → on_ring to ps ≡ false → rows_apart ps ≡ true → on_ring r ps ≡ true → Leads next previous used limit from to ps → Leads (set next (get_or previous r 0) (get_or next r 0)) (set previous (get_or next r 0) (get_or previous r 0)) used limit from to (without r ps)
+  pub unlinked : (ps : List (ℕ × Bool)) (from to r : ℕ) → length next ≡ limit + 1 → length previous ≡ limit + 1 → from ≤ limit → to ≤ limit → on_ring from ps ≡ false → on_ring to ps ≡ false → rows_apart ps ≡ true → on_ring r ps ≡ true → Leads next previous used limit from to ps → Leads (set next (get_or previous r 0) (get_or next r 0)) (set previous (get_or next r 0) (get_or previous r 0)) used limit from to (ring_without r ps)
   unlinked [] from to r next_size previous_size low_from low_to off_from off_to apart on leads = cc
   unlinked (p ∷ ps) from to r next_size previous_size low_from low_to off_from off_to apart on leads = elim (cases_Bool (eqb p.0 r)) [
     | inl here ↦
         (let same = eqb-true p.0 r here in
-        let kept : without r (p ∷ ps) ≡ ps = without_here p ps r same apart in
+        let kept : ring_without r (p ∷ ps) ≡ ps = without_here p ps r same apart in
         let came : get_or previous r 0 ≡ from = ap (λ s. get_or previous s 0) (sym same) ∙ leads.0.1 in
         let skipped = skip ps from p.0 to (get_or next r 0) next_size previous_size low_from low_to (off_tail p ps from off_from) (off_tail p ps to off_to) (apart_tail p ps apart) leads.3 (ap (λ s. get_or next s 0) same) in
         subst (λ qs. Leads (set next (get_or previous r 0) (get_or next r 0)) (set previous (get_or next r 0) (get_or previous r 0)) used limit from to qs) (sym kept) (subst (λ a. Leads (set next a (get_or next r 0)) (set previous (get_or next r 0) a) used limit from to ps) (sym came) skipped))
     | inr other ↦
-        (let kept : without r (p ∷ ps) ≡ p ∷ without r ps = without_later p ps r other in
+        (let kept : ring_without r (p ∷ ps) ≡ p ∷ ring_without r ps = without_later p ps r other in
         let later : on_ring r ps ≡ true = on_later p ps r other on in
         let before : on_ring (get_or previous r 0) (p ∷ ps) ≡ true = previous_on ps p.0 to r p.1 leads.3 later in
         let behind : p.0 ≡ get_or next r 0 → ⊥ = not_behind p ps to (get_or next r 0) off_to apart (next_on ps p.0 to r leads.3 later) in
@@ -139,7 +139,7 @@ module _ (next previous : List ℕ) (used : List Bool) (limit : ℕ) where
       not_behind p ps to s off apart (inr end) same = off_head p ps to off (same ∙ end)
 
   -- a row used
-  pub touched_bit : (ps : List (ℕ × Bool)) (from to r : ℕ) → length used ≡ limit + 1 → Leads next previous used limit from to ps → Leads next previous (set used r true) limit from to (touched r ps)
+  pub touched_bit : (ps : List (ℕ × Bool)) (from to r : ℕ) → length used ≡ limit + 1 → Leads next previous used limit from to ps → Leads next previous (set used r true) limit from to (ring_touched r ps)
   touched_bit [] from to r size leads = leads
   touched_bit (p ∷ ps) from to r size leads = (leads.0, bit p leads.1 leads.2, leads.2, touched_bit ps p.0 to r size leads.3)
     where
@@ -167,7 +167,7 @@ module _ (next previous : List ℕ) (used : List Bool) (limit : ℕ) where
   first-is [] from leads = rw leads.0 (sym (ap (λ b. cond b None (Some limit)) (eq-eqb limit limit refl)))
   first-is (p ∷ ps) from leads = rw leads.0.0 (sym (ap (λ b. cond b None (Some p.0)) (ne_eqb p.0 limit (λ e. absurd (omega (arith, leads.2))))))
 
-  pub after-is : (ps : List (ℕ × Bool)) (from r : ℕ) → on_ring r ps ≡ true → Leads next previous used limit from limit ps → after r ps ≡ row_or_end (get_or next r 0)
+  pub after-is : (ps : List (ℕ × Bool)) (from r : ℕ) → on_ring r ps ≡ true → Leads next previous used limit from limit ps → row_behind r ps ≡ row_or_end (get_or next r 0)
   after-is [] from r on leads = cc
   after-is (p ∷ ps) from r on leads = elim (cases_Bool (eqb p.0 r)) [
     | inl here ↦ rw here (first-is ps p.0 leads.3 ∙ ap (λ s. row_or_end (get_or next s 0)) (eqb-true p.0 r here))
@@ -175,7 +175,7 @@ module _ (next previous : List ℕ) (used : List Bool) (limit : ℕ) where
   ]
 
   -- the first row goes last
-  pub turned-is : (ps : List (ℕ × Bool)) (from to r : ℕ) → rows_apart ps ≡ true → Leads next previous used limit from to ps → 0 < length ps → r ≡ get_or next from 0 → without r ps ++ (r, false) ∷ [] ≡ turned ps
+  pub turned-is : (ps : List (ℕ × Bool)) (from to r : ℕ) → rows_apart ps ≡ true → Leads next previous used limit from to ps → 0 < length ps → r ≡ get_or next from 0 → ring_without r ps ++ (r, false) ∷ [] ≡ ring_turned ps
   turned-is [] from to r apart leads more is = absurd (omega arith)
   turned-is (p ∷ ps) from to r apart leads more is =
       let same : r ≡ p.0 = is ∙ leads.0.0 in

@@ -5,7 +5,7 @@ use Rattle.std.specs.List.{remove}
 use Rattle.std.specs.Str.{bytes_eq}
 use Rattle.std.proofs.lemmas.List.Sums.{sum_by-cons}
 use Rattle.std.proofs.lemmas.Slice.Eq.{bytes_eq-Decides}
-use Rattle.jc_model.specs.Places.{all_there, Lacks, named_from, HaveNames}
+use Rattle.jc_model.specs.Places.{all_there, LacksName, named_from, HaveNames}
 use Rattle.jc_roster.specs.Fields.{numbers_from}
 
 -- Something more, behind all.
@@ -68,21 +68,21 @@ sum_less f (Some y ∷ xs) (suc id) x at =
 
 -- Names.
 
-none_named : {A : Type 0} (name_of : A → List ℕ) (name : List ℕ) (i : ℕ) (xs : List (Option A)) → Lacks name_of name xs → named_from name_of name i xs ≡ None
+none_named : {A : Type 0} (name_of : A → List ℕ) (name : List ℕ) (i : ℕ) (xs : List (Option A)) → LacksName name_of name xs → named_from name_of name i xs ≡ None
 none_named name_of name i [] lacks = refl
 none_named name_of name i (None ∷ xs) lacks = none_named name_of name (i + 1) xs lacks
 none_named name_of name i (Some x ∷ xs) lacks = ap (λ (b : Bool). if b then Some i else named_from name_of name (i + 1) xs) lacks.0 ∙ none_named name_of name (i + 1) xs lacks.1
 
-pub lacks_unnamed : {A : Type 0} (name_of : A → List ℕ) (name : List ℕ) (i : ℕ) (xs : List (Option A)) → named_from name_of name i xs ≡ None → Lacks name_of name xs
+pub lacks_unnamed : {A : Type 0} (name_of : A → List ℕ) (name : List ℕ) (i : ℕ) (xs : List (Option A)) → named_from name_of name i xs ≡ None → LacksName name_of name xs
 lacks_unnamed name_of name i [] none = tt
 lacks_unnamed name_of name i (None ∷ xs) none = lacks_unnamed name_of name (i + 1) xs none
 lacks_unnamed name_of name i (Some x ∷ xs) none = go (bytes_eq (name_of x) name) refl none (lacks_unnamed name_of name (i + 1) xs)
   where
-    go : (b : Bool) → bytes_eq (name_of x) name ≡ b → (if b then Some i else named_from name_of name (i + 1) xs) ≡ None → (named_from name_of name (i + 1) xs ≡ None → Lacks name_of name xs) → (bytes_eq (name_of x) name ≡ false) × Lacks name_of name xs
+    go : (b : Bool) → bytes_eq (name_of x) name ≡ b → (if b then Some i else named_from name_of name (i + 1) xs) ≡ None → (named_from name_of name (i + 1) xs ≡ None → LacksName name_of name xs) → (bytes_eq (name_of x) name ≡ false) × LacksName name_of name xs
     go true is none ih = absurd (cc)
     go false is none ih = (is, ih none)
 
-lacks_at : {A : Type 0} (name_of : A → List ℕ) (name : List ℕ) (xs : List (Option A)) (id : ℕ) (x : A) → Lacks name_of name xs → slice_get xs id ≡ Some (Some x) → bytes_eq (name_of x) name ≡ false
+lacks_at : {A : Type 0} (name_of : A → List ℕ) (name : List ℕ) (xs : List (Option A)) (id : ℕ) (x : A) → LacksName name_of name xs → slice_get xs id ≡ Some (Some x) → bytes_eq (name_of x) name ≡ false
 lacks_at name_of name [] id x lacks at = absurd (cc)
 lacks_at name_of name (None ∷ xs) zero x lacks at = absurd (cc)
 lacks_at name_of name (None ∷ xs) (suc id) x lacks at = lacks_at name_of name xs id x lacks at
@@ -90,7 +90,7 @@ lacks_at name_of name (Some y ∷ xs) zero x lacks at = let same : y ≡ x = cc 
 lacks_at name_of name (Some y ∷ xs) (suc id) x lacks at = lacks_at name_of name xs id x lacks.1 at
 
 -- with one more, whose name is new
-named_last : {A : Type 0} (name_of : A → List ℕ) (name : List ℕ) (i : ℕ) (xs : List (Option A)) (x : A) → Lacks name_of name xs → named_from name_of name i (xs ++ Some x ∷ []) ≡ (if bytes_eq (name_of x) name then Some (i + length xs) else None)
+named_last : {A : Type 0} (name_of : A → List ℕ) (name : List ℕ) (i : ℕ) (xs : List (Option A)) (x : A) → LacksName name_of name xs → named_from name_of name i (xs ++ Some x ∷ []) ≡ (if bytes_eq (name_of x) name then Some (i + length xs) else None)
 named_last name_of name i [] x lacks = let same : i ≡ i + 0 = omega arith in ap (λ n. if bytes_eq (name_of x) name then Some n else None) same
 named_last name_of name i (None ∷ xs) x lacks =
     let same : (i + 1) + length xs ≡ i + suc (length xs) = omega arith in
@@ -111,7 +111,7 @@ named_more name_of name i xs x none = go (bytes_eq (name_of x) name) refl
     go : (b : Bool) → bytes_eq (name_of x) name ≡ b → named_from name_of name i (xs ++ Some x ∷ []) ≡ (if b then Some (i + length xs) else named_from name_of name i xs)
     go true is =
         let same : name_of x ≡ name = (bytes_eq-Decides (name_of x) name).0 is in
-        let lacks : Lacks name_of name xs = subst (λ (n : List ℕ). Lacks name_of n xs) same (lacks_unnamed name_of (name_of x) i xs none) in
+        let lacks : LacksName name_of name xs = subst (λ (n : List ℕ). LacksName name_of n xs) same (lacks_unnamed name_of (name_of x) i xs none) in
         named_last name_of name i xs x lacks ∙ ap (λ (b : Bool). if b then Some (i + length xs) else None) is
     go false is = named_before name_of name i xs x is
 
@@ -125,7 +125,7 @@ named_less name_of name i (Some y ∷ xs) zero x names at =
     subst (λ z. named_from name_of name (i + 1) xs ≡ (if bytes_eq (name_of z) name then None else (if bytes_eq (name_of y) name then Some i else named_from name_of name (i + 1) xs))) same (go (bytes_eq (name_of y) name) refl)
   where
     go : (b : Bool) → bytes_eq (name_of y) name ≡ b → named_from name_of name (i + 1) xs ≡ (if b then None else (if b then Some i else named_from name_of name (i + 1) xs))
-    go true is = none_named name_of name (i + 1) xs (subst (λ (n : List ℕ). Lacks name_of n xs) ((bytes_eq-Decides (name_of y) name).0 is) names.0)
+    go true is = none_named name_of name (i + 1) xs (subst (λ (n : List ℕ). LacksName name_of n xs) ((bytes_eq-Decides (name_of y) name).0 is) names.0)
     go false is = refl
 named_less name_of name i (Some y ∷ xs) (suc id) x names at = go (bytes_eq (name_of y) name) (bytes_eq (name_of x) name) refl refl (named_less name_of name (i + 1) xs id x names.1 at)
   where
@@ -147,18 +147,18 @@ false_or_same x y false is differ = is
 other_way : (x y : List ℕ) → bytes_eq x y ≡ false → bytes_eq y x ≡ false
 other_way x y other = false_or_same y x (bytes_eq y x) refl (λ same. let is : bytes_eq x x ≡ false = ap (bytes_eq x) (sym same) ∙ other in let is' : bytes_eq x x ≡ true = (bytes_eq-Decides x x).1 refl in absurd (cc))
 
-lacks_more : {A : Type 0} (name_of : A → List ℕ) (name : List ℕ) (xs : List (Option A)) (x : A) → Lacks name_of name xs → bytes_eq (name_of x) name ≡ false → Lacks name_of name (xs ++ Some x ∷ [])
+lacks_more : {A : Type 0} (name_of : A → List ℕ) (name : List ℕ) (xs : List (Option A)) (x : A) → LacksName name_of name xs → bytes_eq (name_of x) name ≡ false → LacksName name_of name (xs ++ Some x ∷ [])
 lacks_more name_of name [] x lacks other = (other, tt)
 lacks_more name_of name (None ∷ xs) x lacks other = lacks_more name_of name xs x lacks other
 lacks_more name_of name (Some y ∷ xs) x lacks other = (lacks.0, lacks_more name_of name xs x lacks.1 other)
 
-pub names_more : {A : Type 0} (name_of : A → List ℕ) (xs : List (Option A)) (x : A) → HaveNames name_of xs → Lacks name_of (name_of x) xs → HaveNames name_of (xs ++ Some x ∷ [])
+pub names_more : {A : Type 0} (name_of : A → List ℕ) (xs : List (Option A)) (x : A) → HaveNames name_of xs → LacksName name_of (name_of x) xs → HaveNames name_of (xs ++ Some x ∷ [])
 names_more name_of [] x names lacks = (tt, tt)
 names_more name_of (None ∷ xs) x names lacks = names_more name_of xs x names lacks
 names_more name_of (Some y ∷ xs) x names lacks =
     (lacks_more name_of (name_of y) xs x names.0 (other_way (name_of y) (name_of x) lacks.0), names_more name_of xs x names.1 lacks.1)
 
-lacks_less : {A : Type 0} (name_of : A → List ℕ) (name : List ℕ) (xs : List (Option A)) (id : ℕ) → Lacks name_of name xs → Lacks name_of name (slice_set xs id None)
+lacks_less : {A : Type 0} (name_of : A → List ℕ) (name : List ℕ) (xs : List (Option A)) (id : ℕ) → LacksName name_of name xs → LacksName name_of name (slice_set xs id None)
 lacks_less name_of name [] id lacks = tt
 lacks_less name_of name (None ∷ xs) zero lacks = lacks
 lacks_less name_of name (None ∷ xs) (suc id) lacks = lacks_less name_of name xs id lacks

@@ -3,9 +3,10 @@ use Rattle.std.proofs.Common.{◌≡◌, ℕ, zero, suc, ◌+◌, ◌≤◌, Boo
 use Rattle.std.specs.Prelude.{◌==◌, slice_get}
 use Rattle.std.proofs.lemmas.Bool.Decides.{nat_tests}
 use Rattle.jc_model.specs.Places.{all_there, none_before}
-use Rattle.jc_roster.specs.Members.{Member, members}
+use Rattle.jc_roster.specs.Members.{members}
 use Rattle.jc_roster.specs.Fields.{spread, numbers_from}
 use Rattle.jc_roster.proofs.Listing.{at_least}
+use Rattle.jc_model.specs.Refusals.{Member}
 
 same_number : (i : ℕ) → (i == i) ≡ true
 same_number i = grind (arith, nat_tests)

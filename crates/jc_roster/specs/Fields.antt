@@ -3,7 +3,8 @@ use Rattle.std.specs.Prelude.{◌≡◌, ◌≤◌, ℕ, zero, suc, ◌+◌, ◌
 use Rattle.std.specs.Prelude.{Option, Some, None}
 use Rattle.jc_model.specs.Limits.{most_ids, most_rows_together}
 use Rattle.jc_model.specs.Places.{all_there, HaveNames}
-use Rattle.jc_roster.specs.Members.{Member, rows_of, id_named}
+use Rattle.jc_roster.specs.Members.{id_named}
+use Rattle.jc_model.specs.Refusals.{Member, rows_of}
 
 -- so many numbers from i on; those in the list have the members, one after the other
 abbrev pub spread : {A : Type 0} → ℕ → ℕ → List ℕ → List A → List (Option A)

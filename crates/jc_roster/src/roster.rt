@@ -1,17 +1,17 @@
 //! What a manager knows of its live caches: their names, numbers and capacities.
 ghost use Rattle.std.specs.Prelude.{◌≡◌, ◌≤◌, ◌<◌, ◌+◌, [], Some, None, IfOk, OnOk, OnErr, length, map, slice_set};
+ghost use Rattle.std.specs.List.{list_any};
+ghost use Rattle.std.specs.Str.{bytes_eq};
 ghost use Rattle.jc_model.specs.Limits.{most_ids, most_rows_together};
 ghost use Rattle.jc_model.specs.Places.{at_place, all_there, none_before};
-ghost use Rattle.jc_model.specs.Runs.{refusal_among};
-ghost use Rattle.jc_roster.specs.Members.{AddsMember, Member, rows_of, id_named, create_refusal_in};
+ghost use Rattle.jc_model.specs.Refusals.{Member, rows_of, refusal_beside};
+ghost use Rattle.jc_roster.specs.Members.{AddsMember, id_named};
 
 use jc_model::OutOfMemory;
 use jc_model::config::CacheConfig;
 use jc_model::event::CreateRefusal;
 use jc_model::key::Key;
-use jc_model::limits::{
-    MOST_CACHES, MOST_IDS, MOST_LISTENERS, MOST_PROCESSORS, MOST_ROWS, MOST_ROWS_TOGETHER,
-};
+use jc_model::limits::{MOST_CACHES, MOST_IDS, MOST_ROWS_TOGETHER};
 use std::alloc::Global;
 use std::collections::HashMap;
 use std::marker::Model;
@@ -38,7 +38,8 @@ impl Model for Roster {
     ghost use Rattle.std.specs.Prelude.{List, Option};
     ghost use Rattle.std.specs.HashMap.{get};
     ghost use Rattle.std.specs.Str.{bytes_eq};
-    ghost use Rattle.jc_roster.specs.Members.{Member, members};
+    ghost use Rattle.jc_model.specs.Refusals.{Member};
+    ghost use Rattle.jc_roster.specs.Members.{members};
     ghost use Rattle.jc_roster.specs.Fields.{spread, IsRoster};
 
     ghost Value = { List (Option Member) };
@@ -83,7 +84,8 @@ impl Roster {
 
     /// How many rows they may have together.
     pub fn total(&self) -> u64
-        ensures { result ≡ rows_of self.now }
+        ensures same { result ≡ rows_of self.now }
+        ensures bound { rows_of self.now ≤ most_rows_together }
     {
         self.total
     }
@@ -102,12 +104,33 @@ impl Roster {
         self.ids.get(name).copied()
     }
 
+    /// Whether a live cache has this name.
+    #[tactic(auto, using(crate::proofs::Members::any_named))]
+    fn has_name(&self, name: &Key) -> bool
+        ensures { result ≡ list_any (λ m. bytes_eq m.name name.now) (all_there self.now) }
+    {
+        self.find(name).is_some()
+    }
+
     /// Why no cache of this configuration is created, want of memory aside.
     pub fn refusal(&self, config: &CacheConfig) -> Option<CreateRefusal>
-        ensures { result ≡ create_refusal_in self.now config.now }
+        ensures { result ≡ refusal_beside self.now config.now }
     {
-        let taken = self.find(&config.name).is_some();
-        refusal_among(config, self.len(), taken, self.total, self.next)
+        if self.len() >= MOST_CACHES {
+            return Some(CreateRefusal::TooManyCaches);
+        }
+        if let Some(limit) = config.broken_limit() {
+            return Some(CreateRefusal::for_limit(limit));
+        }
+        if self.has_name(&config.name) {
+            Some(CreateRefusal::DuplicateName)
+        } else if self.total() + u64::from(config.capacity) > MOST_ROWS_TOGETHER {
+            Some(CreateRefusal::TotalCapacity)
+        } else if self.next() >= MOST_IDS {
+            Some(CreateRefusal::IdsSpent)
+        } else {
+            None
+        }
     }
 
     /// Adds a cache under the next number.
@@ -144,36 +167,5 @@ impl Roster {
         let name = self.names.remove(place);
         self.ids.remove(&name);
         self.total -= u64::from(self.capacities.remove(place));
-    }
-}
-
-/// Why a cache of this configuration is refused, if it is. `live` caches are there, `taken` says whether one has its
-/// name, `rows` is what they may hold together, and `next` is the number that it would get.
-fn refusal_among(
-    config: &CacheConfig,
-    live: usize,
-    taken: bool,
-    rows: u64,
-    next: u32,
-) -> Option<CreateRefusal>
-    requires { rows ≤ most_rows_together }
-    ensures { result ≡ refusal_among config.now live taken rows next }
-{
-    if live >= MOST_CACHES {
-        Some(CreateRefusal::TooManyCaches)
-    } else if config.capacity < 1 || config.capacity > MOST_ROWS {
-        Some(CreateRefusal::BadCapacity)
-    } else if config.listeners > MOST_LISTENERS {
-        Some(CreateRefusal::TooManyListeners)
-    } else if config.processors.items().len() > MOST_PROCESSORS {
-        Some(CreateRefusal::TooManyProcessors)
-    } else if taken {
-        Some(CreateRefusal::DuplicateName)
-    } else if rows + u64::from(config.capacity) > MOST_ROWS_TOGETHER {
-        Some(CreateRefusal::TotalCapacity)
-    } else if next >= MOST_IDS {
-        Some(CreateRefusal::IdsSpent)
-    } else {
-        None
     }
 }

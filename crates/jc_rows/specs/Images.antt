@@ -13,8 +13,8 @@ pub record Image : Type 0 where
   pub slots : List (Option Shown)
   pub stash : ℕ
 
-abbrev pub slot : Image → ℕ → Option Shown
-slot image i = slice_index_or image.slots i None
+abbrev pub image_slot : Image → ℕ → Option Shown
+image_slot image i = slice_index_or image.slots i None
 
 abbrev pub last_image : List Image → Image
 last_image [] = record { buckets = 0; slots = []; stash = 0 }
@@ -28,6 +28,6 @@ SeesLast image seen met = (last_image seen ≡ image) × (met ≡ true)
 -- an image shows rows: it places some of them, each with its expiry, its count is the number of the others, and where
 -- there are none it places all
 pub record Shows (rows : RowMap) (image : Image) : Type 0 where
-  pub placed : (i : ℕ) (s : Shown) → slot image i ≡ Some s → (row : ℕ) × (get rows s.0 ≡ Some (row, s.1))
+  pub placed : (i : ℕ) (s : Shown) → image_slot image i ≡ Some s → (row : ℕ) × (get rows s.0 ≡ Some (row, s.1))
   pub others : count_by is_some image.slots + image.stash ≡ len rows
-  pub whole : image.stash ≡ 0 → (place : ℕ × List ℕ) (row : ℕ × Expiry) → get rows place ≡ Some row → (i : ℕ) × (slot image i ≡ Some (place, row.1))
+  pub whole : image.stash ≡ 0 → (place : ℕ × List ℕ) (row : ℕ × Expiry) → get rows place ≡ Some row → (i : ℕ) × (image_slot image i ≡ Some (place, row.1))

@@ -19,8 +19,8 @@ abbrev pub number_at : RowMap → ℕ × List ℕ → Option ℕ
 number_at m place = option_map (λ row. row.0) (map.get m place)
 
 -- so many rows in all fit, where there is room for this many more
-abbrev pub HasRoomFor : ℕ → RowMap → ℕ → Type 0
-HasRoomFor n m spare = n ≤ map.len m + spare
+abbrev pub HasRoomForRows : ℕ → RowMap → ℕ → Type 0
+HasRoomForRows n m spare = n ≤ map.len m + spare
 
 -- the map, where the row found at a place has another expiry
 abbrev pub with_expiry_at : RowMap → ℕ × List ℕ → Expiry → Option (ℕ × Expiry) → RowMap

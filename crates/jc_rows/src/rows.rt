@@ -1,7 +1,7 @@
 //! The table of rows: a finite map from a cache and a key to a row number and an expiry.
 ghost use Rattle.std.specs.Prelude.{◌≡◌, ℕ, ◌+◌, ◌<◌, ◌≤◌, None, IsSome, IsOk, OnOk};
 ghost use Rattle.std.specs.FinMap as map;
-ghost use Rattle.jc_rows.specs.Rows.{HasRoomFor, RowMap, number_at, with_expiry};
+ghost use Rattle.jc_rows.specs.Rows.{HasRoomForRows, RowMap, number_at, with_expiry};
 
 use jc_model::OutOfMemory;
 use jc_model::config::Expiry;
@@ -25,9 +25,9 @@ pub trait Rows: Drop {
     /// the room stay as they were.
     fn make_room(&mut self, n: usize) -> Result<(), OutOfMemory>
         ensures same { contents self.new ≡ contents self.old }
-        ensures ok { OnOk result (HasRoomFor n (contents self.new) (spare self.new)) }
-        ensures succeeds { HasRoomFor n (contents self.old) (spare self.old) → IsOk result }
-        ensures there { HasRoomFor n (contents self.old) (spare self.old)
+        ensures ok { OnOk result (HasRoomForRows n (contents self.new) (spare self.new)) }
+        ensures succeeds { HasRoomForRows n (contents self.old) (spare self.old) → IsOk result }
+        ensures there { HasRoomForRows n (contents self.old) (spare self.old)
             → spare self.new ≡ spare self.old }
         ensures kept { spare self.old ≤ spare self.new };
 

@@ -1,8 +1,8 @@
 //! The program's loader, its processors and a filter as stored closures.
 
 ghost use Rattle.std.specs.Prelude.{◌≡◌, IfOk};
-ghost use Rattle.jc_hooks.specs.Program.{echoed};
-ghost use Rattle.jc_hooks.specs.Processors.{verdict_by};
+ghost use Rattle.jc_hooks.specs.Program.{echo_answer};
+ghost use Rattle.jc_hooks.specs.Processors.{program_verdict};
 ghost use Rattle.jc_trials.specs.Filters.{has_kind};
 
 use jc_hooks::program::{EchoLoader, ProgramProcessor};
@@ -22,7 +22,7 @@ pub fn echo_closure(alloc: Global) -> Result<ClosureLoader, OutOfMemory> {
     let closure: LoadClosure = Box::new(
         alloc,
         |alloc: Global, key: &Key| -> Result<Loaded, OutOfMemory>
-            ensures { IfOk result (λ l. l ≡ echoed key.now) }
+            ensures { IfOk result (λ l. l ≡ echo_answer key.now) }
         { EchoLoader.load(alloc, key) },
     )?;
     Ok(ClosureLoader::new(closure))
@@ -40,7 +40,7 @@ pub fn processor_closure(
             Result<Verdict, ProcessorFault>,
             OutOfMemory,
         >
-            ensures { IfOk result (λ v. v ≡ verdict_by processor value argument.now) }
+            ensures { IfOk result (λ v. v ≡ program_verdict processor value argument.now) }
         { processor.process(alloc, value.as_ref(), argument) },
     )?;
     Ok(ClosureProcessor::new(wants_value, closure))

@@ -57,9 +57,9 @@ struct WaitingLoader {
 }
 
 impl Loader for WaitingLoader {
-    ghost use Rattle.jc_hooks.specs.Program.{echoed};
+    ghost use Rattle.jc_hooks.specs.Program.{echo_answer};
 
-    ghost load_of = { λ _. echoed };
+    ghost load_of = { λ _. echo_answer };
 
     fn load(&self, alloc: Global, key: &Key) -> Result<Loaded, OutOfMemory> {
         self.raises.store(1, Ordering::SeqCst);

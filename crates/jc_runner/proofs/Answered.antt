@@ -13,9 +13,9 @@ use Rattle.jc_model.specs.declared.event.Step.TheVariants.{Done, Need}
 use Rattle.jc_model.specs.Changes.{Progress}
 use Rattle.jc_model.specs.Run.{Run, ended, waiting, resume, answered, awaits, is_answer_to}
 use Rattle.jc_model.specs.Runs.{shown}
-use Rattle.jc_model.specs.Legal.{Fits, told_now, told_in, told_after, end_by, with_outcome, with_answer}
+use Rattle.jc_model.specs.Legal.{Fits, told_now, told_in, told_with, end_by, with_outcome, with_answer}
 use Rattle.jc_model.proofs.Resume.{answered-append, told-answer}
-use Rattle.jc_runner.specs.Alone.{exchanged, end_of, entry_by}
+use Rattle.jc_runner.specs.Alone.{exchanges_of_call, end_of, entry_by}
 use Rattle.jc_script.specs.declared.line.LineCall.{LineCall}
 
 pub record Waits (run : Run) (q : Request) : Type 0 where
@@ -30,11 +30,11 @@ waits_for (waiting q' p resumed) q e = let same : q' ≡ q = cc in record { mean
 pub awaits-need : (run : Run) (q : Request) (a : Answer) → shown run ≡ Step (Need q) → IsTrue (is_answer_to q a) → IsTrue (awaits run a)
 awaits-need run q a e h = let w : Waits run q = waits_for run q e in subst (λ (x : Run). IsTrue (awaits x a)) (sym w.is) h
 
-pub exchanged-nil : (run : Run) → exchanged run [] ≡ []
+pub exchanged-nil : (run : Run) → exchanges_of_call run [] ≡ []
 exchanged-nil (ended p r) = refl
 exchanged-nil (waiting q p resumed) = refl
 
-pub exchanged-push : (run : Run) (answers : List Answer) (a : Answer) (q : Request) → Fits run answers → shown (answered run answers) ≡ Step (Need q) → exchanged run (answers ++ a ∷ []) ≡ exchanged run answers ++ (q, a) ∷ []
+pub exchanged-push : (run : Run) (answers : List Answer) (a : Answer) (q : Request) → Fits run answers → shown (answered run answers) ≡ Step (Need q) → exchanges_of_call run (answers ++ a ∷ []) ≡ exchanges_of_call run answers ++ (q, a) ∷ []
 exchanged-push (ended p r) [] a q fit e = absurd cc
 exchanged-push (ended p r) (b ∷ rest) a q fit e = absurd (false≢true fit.0)
 exchanged-push (waiting q' p resumed) [] a q fit e =
@@ -46,7 +46,7 @@ end-shown : (run : Run) → end_by (shown run) ≡ end_of run
 end-shown (ended p r) = refl
 end-shown (waiting q p resumed) = refl
 
-told-shown : (told : List Notice) (run : Run) → told_after told (shown run) ≡ told ++ told_now run
+told-shown : (told : List Notice) (run : Run) → told_with told (shown run) ≡ told ++ told_now run
 told-shown told (ended p r) = sym (append-nil told)
 told-shown told (waiting q p resumed) = refl
 

@@ -15,11 +15,11 @@ use Rattle.jc_model.specs.Legal.{History, IsLegal}
 use Rattle.jc_script.specs.declared.line.Line.{Line}
 use Rattle.jc_script.specs.declared.line.LineCall.{LineCall}
 use Rattle.jc_script.specs.declared.managed.Managed.{Managed}
-use Rattle.jc_script.specs.Calls.{calls_in}
-use Rattle.jc_script.specs.Managing.{lives_of, managed_of}
+use Rattle.jc_script.specs.Calls.{calls_in_lines}
+use Rattle.jc_script.specs.Managing.{lives_of_script, managed_of}
 use Rattle.jc_shared.specs.declared.hooks.SharedHooks.{SharedHooks}
 use Rattle.jc_shared.specs.Stated.{Stated, stated_by, shared_of}
-use Rattle.jc_threads.specs.Lines.{AreMade}
+use Rattle.jc_threads.specs.Lines.{AreCallsMade}
 use Rattle.jc_threads.specs.Managing.{AreManaged}
 use mathlib.Core.Logic.{inl, inr}
 use Rattle.jc_engine.specs.Opening.{open_refusal}
@@ -27,7 +27,7 @@ use Rattle.jc_engine.specs.declared.open.OpenRefusal.{OpenRefusal}
 use Rattle.jc_shared.specs.declared.fault.SharedRefusal.{SharedRefusal}
 use Rattle.jc_shared.specs.declared.fault.SharedRefusal.TheVariants.{Caches, HooksDiffer, OutOfMemory}
 use Rattle.jc_hooks.specs.Suits.{AllSuit}
-use Rattle.jc_shared.specs.Opening.{CanOpen, IsRefusal}
+use Rattle.jc_shared.specs.Opening.{CanOpen, IsOpeningRefusal}
 use Rattle.jc_runner.specs.Hooks.{AreSuited, CannotOpen}
 use Rattle.jc_runner.proofs.Suiting.{suited, each_suits}
 use Rattle.jc_runner.specs.Forms.{report_in}
@@ -38,13 +38,13 @@ use Rattle.jc_runner.specs.declared.exit.fault.RunFault.{RunFault}
 -- Why a shared manager does not open.
 
 module _ {L W P K : Type 0} (wants : P → Bool) where
-  pub refused_caches : (caches caches' : List CacheConfig) (hooks : List (CacheHooks L W P K)) (f : SharedRefusal) (r : OpenRefusal) → caches' ≡ caches → f ≡ Caches r → IsRefusal wants caches' hooks f → CannotOpen wants caches hooks
+  pub refused_caches : (caches caches' : List CacheConfig) (hooks : List (CacheHooks L W P K)) (f : SharedRefusal) (r : OpenRefusal) → caches' ≡ caches → f ≡ Caches r → IsOpeningRefusal wants caches' hooks f → CannotOpen wants caches hooks
   refused_caches caches caches' hooks f r same is refused =
-      let refused' : open_refusal caches' ≡ Some r = subst (IsRefusal wants caches' hooks) is refused in inr (ap is_some (ap open_refusal (sym same) ∙ refused'))
+      let refused' : open_refusal caches' ≡ Some r = subst (IsOpeningRefusal wants caches' hooks) is refused in inr (ap is_some (ap open_refusal (sym same) ∙ refused'))
 
-  pub refused_hooks : (caches caches' : List CacheConfig) (hooks : List (CacheHooks L W P K)) (f : SharedRefusal) (place : ℕ) → caches' ≡ caches → f ≡ HooksDiffer place → IsRefusal wants caches' hooks f → CannotOpen wants caches hooks
+  pub refused_hooks : (caches caches' : List CacheConfig) (hooks : List (CacheHooks L W P K)) (f : SharedRefusal) (place : ℕ) → caches' ≡ caches → f ≡ HooksDiffer place → IsOpeningRefusal wants caches' hooks f → CannotOpen wants caches hooks
   refused_hooks caches caches' hooks f place same is refused =
-      let refused' : IsRefusal wants caches hooks (HooksDiffer place) = subst (λ (cs : List CacheConfig). IsRefusal wants cs hooks (HooksDiffer place)) same (subst (IsRefusal wants caches' hooks) is refused) in
+      let refused' : IsOpeningRefusal wants caches hooks (HooksDiffer place) = subst (λ (cs : List CacheConfig). IsOpeningRefusal wants cs hooks (HooksDiffer place)) same (subst (IsOpeningRefusal wants caches' hooks) is refused) in
       inl (λ suits. refused'.1.here (each_suits wants caches hooks suits place))
 
   pub opened_suits : (caches caches' : List CacheConfig) (hooks : List (CacheHooks L W P K)) → caches' ≡ caches → CanOpen wants caches' hooks → AreSuited wants caches hooks
@@ -57,8 +57,8 @@ module _ {L W P K : Type 0} (wants : P → Bool) where
         | inr closed ↦ absurd (false≢true (ap is_some (sym opens.0 ∙ ap open_refusal same) ∙ closed))
       ]
 
-  pub opens_in_memory : (caches caches' : List CacheConfig) (hooks : List (CacheHooks L W P K)) (f : SharedRefusal) → caches' ≡ caches → f ≡ OutOfMemory → IsRefusal wants caches' hooks f → CannotOpen wants caches hooks → ⊥
-  opens_in_memory caches caches' hooks f same is refused = opened_takes caches caches' hooks same (subst (IsRefusal wants caches' hooks) is refused)
+  pub opens_in_memory : (caches caches' : List CacheConfig) (hooks : List (CacheHooks L W P K)) (f : SharedRefusal) → caches' ≡ caches → f ≡ OutOfMemory → IsOpeningRefusal wants caches' hooks f → CannotOpen wants caches hooks → ⊥
+  opens_in_memory caches caches' hooks f same is refused = opened_takes caches caches' hooks same (subst (IsOpeningRefusal wants caches' hooks) is refused)
 
   -- where nothing forbids to open, the caches are not refused
   pub never_refused : (caches : List CacheConfig) (hooks : List (CacheHooks L W P K)) → (CannotOpen wants caches hooks → ⊥) → open_refusal caches ≡ None
@@ -92,7 +92,7 @@ all_refused managed all i le same so_far = ap refusals_of (sym (take_all i manag
 -- The report of what was made.
 
 module _ (form : Form) (stated : List Stated) (caches : List CacheConfig) (all : List Line) where
-  pub gathers : (t : History) (managed : List Managed) (refused : List (Option CreateRefusal)) (bytes : List ℕ) → IsLegal t → t.lives ≡ lives_of caches all → AreMade stated (calls_in all) t.entries
+  pub gathers : (t : History) (managed : List Managed) (refused : List (Option CreateRefusal)) (bytes : List ℕ) → IsLegal t → t.lives ≡ lives_of_script caches all → AreCallsMade stated (calls_in_lines all) t.entries
       → managed ≡ managed_of caches all → refusals_of managed ≡ refused → AreManaged caches all refused → bytes ≡ report_in form (length caches) t managed → Gathers form stated caches all bytes
   gathers t managed refused bytes legal lives made is_of same answered told = record {
     transcript = t;
@@ -106,9 +106,9 @@ module _ (form : Form) (stated : List Stated) (caches : List CacheConfig) (all :
 
 -- the answers that were stated, and the transcript that was compared
 pub made_of : {L W P K : Type 0} (load_of : L → List ℕ → Loaded) (verdict_of : P → Option (List ℕ) → List ℕ → Result Verdict ProcessorFault) (shared : List (SharedHooks L P)) (hooks : List (CacheHooks L W P K)) (calls : List LineCall) (t t' : History)
-    → shared ≡ map shared_of hooks → t ≡ t' → AreMade (map (stated_by load_of verdict_of) shared) calls t'.entries → AreMade (stated_of load_of verdict_of hooks) calls t.entries
+    → shared ≡ map shared_of hooks → t ≡ t' → AreCallsMade (map (stated_by load_of verdict_of) shared) calls t'.entries → AreCallsMade (stated_of load_of verdict_of hooks) calls t.entries
 made_of load_of verdict_of shared hooks calls t t' handed same made =
-    subst (λ (h : History). AreMade (stated_of load_of verdict_of hooks) calls h.entries) (sym same) (subst (λ (ss : List Stated). AreMade ss calls t'.entries) (ap (map (stated_by load_of verdict_of)) handed) made)
+    subst (λ (h : History). AreCallsMade (stated_of load_of verdict_of hooks) calls h.entries) (sym same) (subst (λ (ss : List Stated). AreCallsMade ss calls t'.entries) (ap (map (stated_by load_of verdict_of)) handed) made)
 
 -- a fault that was passed on
 pub passed_fault : {T : Type 0} (r : Result T RunFault) (e f : RunFault) → (y : RunFault) × (r ≡ Err y) × (y ≡ e) → r ≡ Err f → e ≡ f

@@ -13,13 +13,13 @@ use Rattle.jc_hooks.specs.declared.loader.Loaded.{Loaded}
 use Rattle.jc_hooks.specs.Asking.{GivesAnswers, TellsAll}
 use Rattle.jc_hooks.proofs.Behind.{gives_more, tells_more}
 use Rattle.jc_shared.specs.Serving.{is_write}
-use Rattle.jc_runner.specs.Answering.{written_in, notices_in, AllStated, Heard, HeardAt}
-use Rattle.jc_runner.specs.Hooks.{HasNone}
+use Rattle.jc_runner.specs.Answering.{written_in, notices_told_in, AllStated, Heard, HeardAt}
+use Rattle.jc_runner.specs.Hooks.{HasNoHooks}
 
 written-append : (xs ys : List (Request × Answer)) → written_in (xs ++ ys) ≡ written_in xs ++ written_in ys
 written-append xs ys = filter-append (λ x. is_write x.0) xs ys
 
-notices-append : (xs ys : List (Request × Answer)) → notices_in (xs ++ ys) ≡ notices_in xs ++ notices_in ys
+notices-append : (xs ys : List (Request × Answer)) → notices_told_in (xs ++ ys) ≡ notices_told_in xs ++ notices_told_in ys
 notices-append xs ys = flat_map-append (λ x. told_by x.0) xs ys
 
 module _ {L W P K : Type 0} (load_of : L → List ℕ → Loaded) (may : W → List (Request × Answer) → Type 0) (verdict_of : P → Option (List ℕ) → List ℕ → Result Verdict ProcessorFault) (state_after : K → List Notice → List ℕ) where
@@ -44,7 +44,7 @@ module _ {L W P K : Type 0} (load_of : L → List ℕ → Loaded) (may : W → L
         (subst (λ (ps : List P). AllStatedHere h.loader ps ys) x.processors (subst (λ (o : Option L). AllStatedHere o h1.processors.items ys) x.loader y.stated));
     writes = subst (GivesAnswers may h.writer h2.writer) (sym (written-append xs ys)) (gives_more may h.writer h1.writer h2.writer (written_in xs) (written_in ys) x.writes y.writes);
     tells = subst (TellsAll state_after h.listeners.items h2.listeners.items) (sym (notices-append xs ys))
-        (tells_more state_after h.listeners.items h1.listeners.items h2.listeners.items (notices_in xs) (notices_in ys) x.tells y.tells);
+        (tells_more state_after h.listeners.items h1.listeners.items h2.listeners.items (notices_told_in xs) (notices_told_in ys) x.tells y.tells);
   }
 
   -- of the callbacks of a cache that has them or has none
@@ -64,5 +64,5 @@ module _ {L W P K : Type 0} (load_of : L → List ℕ → Loaded) (may : W → L
   more_heard (Some h) (Some h1) None xs ys x y = absurd y
   more_heard (Some h) (Some h1) (Some h2) xs ys x y = heard_more h h1 h2 xs ys x y
 
-  pub none_heard : (h h' : CacheHooks L W P K) (given : List (Request × Answer)) → HasNone h → HeardHere h h' given → HeardThere None None given
+  pub none_heard : (h h' : CacheHooks L W P K) (given : List (Request × Answer)) → HasNoHooks h → HeardHere h h' given → HeardThere None None given
   none_heard h h' given none x = subst (λ (ps : List P). AllStatedHere None ps given) none.processors (subst (λ (o : Option L). AllStatedHere o h.processors.items given) none.loader x.stated)

@@ -14,7 +14,7 @@ use Rattle.jc_threads.specs.declared.fault.WorkFault.{WorkFault}
 use Rattle.jc_threads.specs.declared.fault.WorkFault.TheVariants.{Close, OutOfMemory}
 use Rattle.jc_runner.specs.Faults.{of_work}
 use Rattle.jc_runner.specs.Halfway.{Replies, RepliesAt}
-use Rattle.jc_runner.specs.Hooks.{HasNone}
+use Rattle.jc_runner.specs.Hooks.{HasNoHooks}
 use Rattle.jc_runner.specs.Streams.{IsOfThreads}
 use Rattle.jc_runner.specs.declared.exit.fault.RunFault.{RunFault}
 use Rattle.jc_runner.specs.declared.exit.fault.RunFault.TheVariants as run
@@ -45,7 +45,7 @@ never_open OutOfMemory x is r tells opened = absurd cc
 
 module _ {L W P K : Type 0} (load_of : L → List ℕ → Loaded) (may : W → List (Request × Answer) → Type 0) (verdict_of : P → Option (List ℕ) → List ℕ → Result Verdict ProcessorFault) (state_after : K → List Notice → List ℕ) where
   -- a cache that has no callbacks is answered by none
-  pub without : (old new : Recording) (h h' : CacheHooks L W P K) (hooks : List (CacheHooks L W P K)) (l : LineCall) → HasNone h → slice_get hooks l.id ≡ None
+  pub without : (old new : Recording) (h h' : CacheHooks L W P K) (hooks : List (CacheHooks L W P K)) (l : LineCall) → HasNoHooks h → slice_get hooks l.id ≡ None
       → Replies load_of may verdict_of state_after old new (Some h) (Some h') l → RepliesAt load_of may verdict_of state_after old new hooks hooks l
   without old new h h' hooks l none absent r =
       let it = r.done.reached in

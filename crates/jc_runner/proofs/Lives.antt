@@ -20,7 +20,7 @@ use Rattle.jc_model.specs.declared.event.Life.{Life}
 use Rattle.jc_model.specs.declared.event.Outcome.{Outcome}
 use Rattle.jc_model.specs.declared.event.Outcome.TheVariants.{Created, CreateRefused, Destroyed}
 use Rattle.jc_model.specs.State.{first_state}
-use Rattle.jc_model.specs.Runs.{Status, fresh, opened, Lives, live_at, create_refusal, answer_to_create, answer_to_destroy, destroyed_by, answer_to, for_memory, creates, destroys, lives_by}
+use Rattle.jc_model.specs.Runs.{Status, fresh, opened, Lives, create_refusal, answer_to_create, answer_to_destroy, destroyed_by, answer_to, for_memory, creates, destroys, lives_by}
 use Rattle.jc_model.specs.Solo.{standing_from}
 use Rattle.jc_model.specs.Legal.{History, played, entries_of, config_of, recorded}
 use Rattle.jc_model.proofs.Bare.{create_refusal-bare, destroyed-bare}
@@ -35,12 +35,13 @@ use Rattle.jc_script.specs.declared.line.Line.{Line}
 use Rattle.jc_script.specs.declared.line.Line.TheVariants as line
 use Rattle.jc_script.specs.Managing.{life_unless}
 use Rattle.jc_script.specs.Named.{IsLive}
-use Rattle.jc_runner.specs.Alone.{calls_on, line_of, AllReplied, exchanges}
+use Rattle.jc_runner.specs.Alone.{calls_on, line_of_entry, AllReplied, exchanges}
 use Rattle.jc_runner.specs.Answering.{HeardAt}
-use Rattle.jc_runner.specs.Halfway.{lives_now, as_read, Moves, NoneOpen, IsIdle, IsAtRest, Goes, Comes}
+use Rattle.jc_runner.specs.Halfway.{lives_now, as_read, MovesRecording, NoneOpen, IsStandingIdle, IsAtRest, LifeGoesOn, IsStillToCome}
 use Rattle.jc_runner.proofs.Hearing.{nothing_heard}
 use Rattle.jc_runner.proofs.Reached.{still_told}
 use Rattle.jc_runner.proofs.Steps.{is_same, is_other, Follows, goes_past}
+use Rattle.jc_model.specs.Places.{at_place}
 
 -- Why a creating was refused.
 
@@ -92,13 +93,13 @@ grown_so : (refusal : Option CreateRefusal) (lives : Lives) (c : CacheConfig) �
 grown_so None lives c = let more = length_one_more lives (Some (opened c)) in omega (arith, more)
 grown_so (Some why) lives c = omega arith
 
-rests_so : (refusal : Option CreateRefusal) (lives : Lives) (c : CacheConfig) → ((id : ℕ) (k : Status) → live_at lives id ≡ Some k → IsIdle k.standing) → (id : ℕ) (k : Status) → live_at (lives_unless refusal lives c) id ≡ Some k → IsIdle k.standing
+rests_so : (refusal : Option CreateRefusal) (lives : Lives) (c : CacheConfig) → ((id : ℕ) (k : Status) → at_place lives id ≡ Some k → IsStandingIdle k.standing) → (id : ℕ) (k : Status) → at_place (lives_unless refusal lives c) id ≡ Some k → IsStandingIdle k.standing
 rests_so (Some why) lives c resting id k at = resting id k at
 rests_so None lives c resting id k at = go (length lives == id) refl
   where
-    go : (b : Bool) → (length lives == id) ≡ b → IsIdle k.standing
+    go : (b : Bool) → (length lives == id) ≡ b → IsStandingIdle k.standing
     go true is =
-        let there : live_at (lives ++ Some (opened c) ∷ []) (length lives) ≡ Some k = subst (λ (i : ℕ). live_at (lives ++ Some (opened c) ∷ []) i ≡ Some k) (sym (is_same (length lives) id is)) at in
+        let there : at_place (lives ++ Some (opened c) ∷ []) (length lives) ≡ Some k = subst (λ (i : ℕ). at_place (lives ++ Some (opened c) ∷ []) i ≡ Some k) (sym (is_same (length lives) id is)) at in
         let same : opened c ≡ k = same_Some (opened c) k (sym (live_last lives (Some (opened c))) ∙ there) in
         record { state = first_state; is = ap (λ (x : Status). x.standing) (sym same) }
     go false is = resting id k (sym (live_before lives (Some (opened c)) id (is_other (length lives) id is)) ∙ at)
@@ -123,7 +124,7 @@ found_so None lives next new id c is = go (config_of id lives) refl
     go (Some d) there = earlier (there ∙ sym (config_before lives life id d there) ∙ is)
     go None there = at_last (next == id) refl there (sym (config_last lives life id there) ∙ is)
 
-module _ (old new : Recording) (session : ℕ) (c : CacheConfig) (at_rest : IsAtRest old) (m : Moves old new session (Create c) (answer_to (lives_now old) (Create c) false)) where
+module _ (old new : Recording) (session : ℕ) (c : CacheConfig) (at_rest : IsAtRest old) (m : MovesRecording old new session (Create c) (answer_to (lives_now old) (Create c) false)) where
   abbrev refusal : Option CreateRefusal
   refusal = create_refusal (lives_now old) c
 
@@ -153,31 +154,31 @@ module _ (old new : Recording) (session : ℕ) (c : CacheConfig) (at_rest : IsAt
       told = still_told old new session (Create c) (answer_to (lives_now old) (Create c) false) at_rest.told (create_sure refusal next) m;
       counted = ap length begun_are ∙ counted_so refusal (lives_now old) c old.transcript.lives life at_rest.counted ∙ ap length (sym lives_are);
       closed = subst NoneOpen (sym entries_are) at_rest.closed;
-      resting = λ id k at. rests_so refusal (lives_now old) c at_rest.resting id k (ap (λ (ks : Lives). live_at ks id) (sym lives_are) ∙ at);
+      resting = λ id k at. rests_so refusal (lives_now old) c at_rest.resting id k (ap (λ (ks : Lives). at_place ks id) (sym lives_are) ∙ at);
     };
   }
 
   module _ {L W P K : Type 0} (load_of : L → List ℕ → Loaded) (may : W → List (Request × Answer) → Type 0) (verdict_of : P → Option (List ℕ) → List ℕ → Result Verdict ProcessorFault) (state_after : K → List Notice → List ℕ)
       (all rest : List Line) where
-    module _ (id : ℕ) (handed h h' : Option (CacheHooks L W P K)) (same : h' ≡ h) (comes : next ≤ id → Comes id all (line.Create session c ∷ rest) handed h) where
-      pub create_comes : length (lives_now new) ≤ id → Comes id all rest handed h'
+    module _ (id : ℕ) (handed h h' : Option (CacheHooks L W P K)) (same : h' ≡ h) (comes : next ≤ id → IsStillToCome id all (line.Create session c ∷ rest) handed h) where
+      pub create_comes : length (lives_now new) ≤ id → IsStillToCome id all rest handed h'
       create_comes beyond =
           let grown : next ≤ length (lives_now new) = subst (λ (ks : Lives). next ≤ length ks) (sym lives_are) (grown_so refusal (lives_now old) c) in
-          let before : Comes id all (line.Create session c ∷ rest) handed h = comes (omega (arith, grown, beyond)) in
+          let before : IsStillToCome id all (line.Create session c ∷ rest) handed h = comes (omega (arith, grown, beyond)) in
           record { calls = before.calls; same = same ∙ before.same }
 
-      pub create_goes : (d : CacheConfig) → (config_of id old.transcript.lives ≡ Some d → Goes load_of may verdict_of state_after d id all (line.Create session c ∷ rest) handed h old.transcript.entries) → config_of id new.transcript.lives ≡ Some d
-          → Goes load_of may verdict_of state_after d id all rest handed h' new.transcript.entries
+      pub create_goes : (d : CacheConfig) → (config_of id old.transcript.lives ≡ Some d → LifeGoesOn load_of may verdict_of state_after d id all (line.Create session c ∷ rest) handed h old.transcript.entries) → config_of id new.transcript.lives ≡ Some d
+          → LifeGoesOn load_of may verdict_of state_after d id all rest handed h' new.transcript.entries
       create_goes d goes config = go (found_so refusal old.transcript.lives next c id d (ap (config_of id) (sym begun_are) ∙ config))
         where
-          go : Found old.transcript.lives next c id d → Goes load_of may verdict_of state_after d id all rest handed h' new.transcript.entries
+          go : Found old.transcript.lives next c id d → LifeGoesOn load_of may verdict_of state_after d id all rest handed h' new.transcript.entries
           go (earlier is) = goes_past load_of may verdict_of state_after d id all (line.Create session c ∷ rest) rest handed h h' old.transcript.entries new.transcript.entries refl (ap (entries_of id) entries_are) same (goes is)
           go (just_now is none) =
-              let before : Comes id all (line.Create session c ∷ rest) handed h = comes (omega (arith, is)) in
+              let before : IsStillToCome id all (line.Create session c ∷ rest) handed h = comes (omega (arith, is)) in
               let nothing : entries_of id new.transcript.entries ≡ [] = ap (entries_of id) entries_are ∙ no_entries old.transcript.lives id old.transcript.entries none at_rest.told.legal.known in
               record {
                 left = record { state = first_state; is = ap (λ (es : List Entry). standing_from d fresh (map played es)) nothing };
-                calls = ap (λ (es : List Entry). map line_of es ++ calls_on id rest) nothing ∙ before.calls;
+                calls = ap (λ (es : List Entry). map line_of_entry es ++ calls_on id rest) nothing ∙ before.calls;
                 replied = subst AllReplied (sym nothing) tt;
                 heard = subst (λ (es : List Entry). HeardAt load_of may verdict_of state_after handed h' (exchanges d fresh es)) (sym nothing)
                     (subst (λ (o : Option (CacheHooks L W P K)). HeardAt load_of may verdict_of state_after handed o []) (sym (same ∙ before.same)) (nothing_heard load_of may verdict_of state_after handed));
@@ -188,7 +189,7 @@ module _ (old new : Recording) (session : ℕ) (c : CacheConfig) (at_rest : IsAt
 abbrev pub read_one : Status → Status
 read_one k = opened k.config
 
-pub live_read : (lives : Lives) (id : ℕ) → live_at (as_read lives) id ≡ option_map read_one (live_at lives id)
+pub live_read : (lives : Lives) (id : ℕ) → at_place (as_read lives) id ≡ option_map read_one (at_place lives id)
 live_read [] id = refl
 live_read (None ∷ lives) zero = refl
 live_read (Some k ∷ lives) zero = refl
@@ -197,36 +198,36 @@ live_read (l ∷ lives) (suc id) = live_read lives id
 -- a cache that the reader takes for live is live
 pub record LivesOn (lives : Lives) (id : ℕ) : Type 0 where
   pub status : Status
-  pub there : live_at lives id ≡ Some status
+  pub there : at_place lives id ≡ Some status
 
 pub lives_on : (lives : Lives) (id : ℕ) → IsLive (as_read lives) id → LivesOn lives id
-lives_on lives id live = go (live_at lives id) refl
+lives_on lives id live = go (at_place lives id) refl
   where
-    go : (found : Option Status) → live_at lives id ≡ found → LivesOn lives id
+    go : (found : Option Status) → at_place lives id ≡ found → LivesOn lives id
     go (Some k) is = record { status = k; there = is }
     go None is = absurd (none-some live.status (sym (live_read lives id ∙ ap (option_map read_one) is) ∙ live.there))
 
-pub destroys_so : (lives : Lives) (id : ℕ) (k : Status) → live_at lives id ≡ Some k → IsIdle k.standing → answer_to_destroy (live_at lives id) ≡ Destroyed
+pub destroys_so : (lives : Lives) (id : ℕ) (k : Status) → at_place lives id ≡ Some k → IsStandingIdle k.standing → answer_to_destroy (at_place lives id) ≡ Destroyed
 destroys_so lives id k at idle = ap answer_to_destroy at ∙ ap destroyed_by idle.is
 
 pub destroyed_well : (result : Result (Unit {0}) Cause) → of_destroy result ≡ Destroyed → is_err result ≡ true → ⊥
 destroyed_well (Ok done) e failed = false≢true failed
 destroyed_well (Err cause) e failed = absurd cc
 
-module _ (old new : Recording) (session id : ℕ) (at_rest : IsAtRest old) (live : IsLive (as_read (lives_now old)) id) (m : Moves old new session (Destroy id) Destroyed) where
+module _ (old new : Recording) (session id : ℕ) (at_rest : IsAtRest old) (live : IsLive (as_read (lives_now old)) id) (m : MovesRecording old new session (Destroy id) Destroyed) where
   lived : LivesOn (lives_now old) id
   lived = lives_on (lives_now old) id live
 
   as_many : length (lives_now new) ≡ length (lives_now old)
   as_many = ap length m.lives ∙ same_length {A = Option Status} (lives_now old) id None
 
-  rests_after : (i : ℕ) (k : Status) (b : Bool) → (id == i) ≡ b → live_at (lives_now new) i ≡ Some k → IsIdle k.standing
+  rests_after : (i : ℕ) (k : Status) (b : Bool) → (id == i) ≡ b → at_place (lives_now new) i ≡ Some k → IsStandingIdle k.standing
   rests_after i k true is at =
-      let here : live_at (lives_now new) id ≡ Some k = subst (λ (j : ℕ). live_at (lives_now new) j ≡ Some k) (sym (is_same id i is)) at in
-      absurd (none-some k (sym (ap (λ (ks : Lives). live_at ks id) m.lives ∙ live_same (lives_now old) id lived.status None lived.there) ∙ here))
-  rests_after i k false is at = at_rest.resting i k (sym (ap (λ (ks : Lives). live_at ks i) m.lives ∙ live_other (lives_now old) id i None (is_other id i is)) ∙ at)
+      let here : at_place (lives_now new) id ≡ Some k = subst (λ (j : ℕ). at_place (lives_now new) j ≡ Some k) (sym (is_same id i is)) at in
+      absurd (none-some k (sym (ap (λ (ks : Lives). at_place ks id) m.lives ∙ live_same (lives_now old) id lived.status None lived.there) ∙ here))
+  rests_after i k false is at = at_rest.resting i k (sym (ap (λ (ks : Lives). at_place ks i) m.lives ∙ live_other (lives_now old) id i None (is_other id i is)) ∙ at)
 
-  read_destroys : answer_to_destroy (live_at (as_read (lives_now old)) id) ≡ Destroyed
+  read_destroys : answer_to_destroy (at_place (as_read (lives_now old)) id) ≡ Destroyed
   read_destroys = ap answer_to_destroy (live_read (lives_now old) id ∙ ap (option_map read_one) lived.there)
 
   pub destroy_follows : Follows old new (line.Destroy session id)
@@ -243,13 +244,13 @@ module _ (old new : Recording) (session id : ℕ) (at_rest : IsAtRest old) (live
 
   module _ {L W P K : Type 0} (load_of : L → List ℕ → Loaded) (may : W → List (Request × Answer) → Type 0) (verdict_of : P → Option (List ℕ) → List ℕ → Result Verdict ProcessorFault) (state_after : K → List Notice → List ℕ)
       (all rest : List Line) (i : ℕ) (handed h h' : Option (CacheHooks L W P K)) (same : h' ≡ h) where
-    pub destroy_comes : (length (lives_now old) ≤ i → Comes i all (line.Destroy session id ∷ rest) handed h) → length (lives_now new) ≤ i → Comes i all rest handed h'
+    pub destroy_comes : (length (lives_now old) ≤ i → IsStillToCome i all (line.Destroy session id ∷ rest) handed h) → length (lives_now new) ≤ i → IsStillToCome i all rest handed h'
     destroy_comes comes beyond =
-        let before : Comes i all (line.Destroy session id ∷ rest) handed h = comes (omega (arith, as_many, beyond)) in
+        let before : IsStillToCome i all (line.Destroy session id ∷ rest) handed h = comes (omega (arith, as_many, beyond)) in
         record { calls = before.calls; same = same ∙ before.same }
 
-    pub destroy_goes : (d : CacheConfig) → (config_of i old.transcript.lives ≡ Some d → Goes load_of may verdict_of state_after d i all (line.Destroy session id ∷ rest) handed h old.transcript.entries) → config_of i new.transcript.lives ≡ Some d
-        → Goes load_of may verdict_of state_after d i all rest handed h' new.transcript.entries
+    pub destroy_goes : (d : CacheConfig) → (config_of i old.transcript.lives ≡ Some d → LifeGoesOn load_of may verdict_of state_after d i all (line.Destroy session id ∷ rest) handed h old.transcript.entries) → config_of i new.transcript.lives ≡ Some d
+        → LifeGoesOn load_of may verdict_of state_after d i all rest handed h' new.transcript.entries
     destroy_goes d goes config =
         goes_past load_of may verdict_of state_after d i all (line.Destroy session id ∷ rest) rest handed h h' old.transcript.entries new.transcript.entries refl (ap (λ (x : History). entries_of i x.entries) m.transcript) same
         (goes (ap (λ (x : History). config_of i x.lives) (sym m.transcript) ∙ config))

@@ -1,18 +1,18 @@
 -- Counting on.
 use Rattle.std.proofs.Common.{◌≡◌, ℕ, suc, ◌<◌, ◌==◌, Bool, true, false, refl, ap, ◌∙◌, arith}
 use Rattle.std.proofs.lemmas.Bool.Decides.{nat_tests}
-use Rattle.jc_runner.specs.Meters.{next, next_if, AddsAtMost}
+use Rattle.jc_runner.specs.Meters.{next_count, next_count_if, AddsAtMost}
 
 pub none_added : (most n : ℕ) → AddsAtMost most n n
 none_added most n = (0, omega arith, refl)
 
-pub one_added : (most most' old n new : ℕ) → AddsAtMost most old n → new ≡ next n → most < most' → AddsAtMost most' old new
-one_added most most' old n new a e lt = (suc a.0, omega (arith, a.1, lt), e ∙ ap next a.2)
+pub one_added : (most most' old n new : ℕ) → AddsAtMost most old n → new ≡ next_count n → most < most' → AddsAtMost most' old new
+one_added most most' old n new a e lt = (suc a.0, omega (arith, a.1, lt), e ∙ ap next_count a.2)
 
 -- a write that took something did not fail
-pub none_failed : (n old new : ℕ) → (n ≡ 0 → ⊥) → new ≡ next_if (n == 0) old → new ≡ old
+pub none_failed : (n old new : ℕ) → (n ≡ 0 → ⊥) → new ≡ next_count_if (n == 0) old → new ≡ old
 none_failed n old new some e = e ∙ go (n == 0) refl
   where
-    go : (b : Bool) → (n == 0) ≡ b → next_if b old ≡ old
+    go : (b : Bool) → (n == 0) ≡ b → next_count_if b old ≡ old
     go true is = absurd (some (grind (arith, nat_tests)))
     go false is = refl

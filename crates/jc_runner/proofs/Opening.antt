@@ -7,10 +7,10 @@ use Rattle.std.specs.Str.{bytes_eq}
 use Rattle.std.proofs.lemmas.Bool.Decides.{nat_tests}
 use Rattle.std.proofs.lemmas.List.{length-map, length-replicate}
 use Rattle.toml.specs.Data.{Data, Items, no_items, item, get, as_array}
-use Rattle.jc_config.specs.Config.{document_of, tables_of, cache_of, caches_of, check_totals, check_names, duplicate_from, total_of, provided, configuration_of}
-use Rattle.jc_config.specs.Faults.{◌>>=◌, name_of}
+use Rattle.jc_config.specs.Config.{document_of, tables_of, cache_of, caches_of, check_totals, check_names, duplicate_from, total_of, fault_unless, configuration_in}
+use Rattle.jc_config.specs.Faults.{◌>>=◌, config_member_name}
 use Rattle.jc_config.specs.Kinds.{loader_of, writer_of, processor_of, wants_value_of}
-use Rattle.jc_config.specs.Members.{whole, number, name_text, text_kind, kinds_of, count_of, few_kinds, processor_list, needed, found_or, optional, policy_of, no_other_entry}
+use Rattle.jc_config.specs.Members.{whole_number, number, name_text, text_kind, kinds_of, count_of, few_kinds, processor_list, needed_table_member, table_member_or, optional, table_policy, no_other_entry}
 use Rattle.jc_config.specs.declared.fault.Member.TheVariants as members
 use Rattle.jc_config.specs.declared.fault.ConfigFault.{ConfigFault}
 use Rattle.jc_config.specs.declared.fault.ConfigFault.TheVariants.{NotToml}
@@ -23,14 +23,15 @@ use Rattle.jc_config.specs.declared.kinds.WriterKind.{WriterKind}
 use Rattle.jc_config.specs.declared.kinds.WriterKind.TheVariants.{Check}
 use Rattle.jc_config.specs.declared.kinds.ProcessorKind.{ProcessorKind}
 use Rattle.jc_config.specs.declared.kinds.ProcessorKind.TheVariants as kind
-use Rattle.jc_engine.specs.Opening.{is_taken, limit_refusal, refusal_from, capacities, open_refusal}
+use Rattle.jc_engine.specs.Opening.{is_taken, refusal_from, capacities, open_refusal}
+use Rattle.jc_model.specs.Refusals.{broken_limit}
 use Rattle.jc_hooks.specs.Processors.{wants_of}
 use Rattle.jc_model.specs.Limits.{most_rows, most_listeners, most_processors, most_caches, most_rows_together, text_bytes}
 use Rattle.jc_model.specs.declared.config.CacheConfig.{CacheConfig}
 use Rattle.jc_hooks.specs.Suits.{Suits}
 use Rattle.jc_hooks.specs.Suits.{AllSuit}
-use Rattle.jc_runner.specs.Naming.{ProgramHooks, loader_named, writer_named, processor_named, fresh_listener, IsNamed, AllNamed}
-use Rattle.jc_runner.specs.Opens.{HasKinds, AllHaveKinds, Opens}
+use Rattle.jc_runner.specs.Naming.{ProgramHooks, loader_named, writer_named, processor_named, fresh_listener, AreHooksNamed, AllHooksNamed}
+use Rattle.jc_runner.specs.Opens.{HasKinds, AllHaveKinds, CanOpenConfiguration}
 use Rattle.jc_runner.specs.Program.{demonstration}
 
 -- A reading that succeeded.
@@ -42,7 +43,7 @@ bind_ok (Err w) f y e = cc
 ok_same : {A : Type 0} (x y : A) → ◌≡◌ {A = Result A ConfigFault} (Ok x) (Ok y) → x ≡ y
 ok_same x y e = cc
 
-provided_ok : (b : Bool) (w : ConfigFault) (u : Unit {0}) → provided b w ≡ Ok u → b ≡ true
+provided_ok : (b : Bool) (w : ConfigFault) (u : Unit {0}) → fault_unless b w ≡ Ok u → b ≡ true
 provided_ok true w u e = refl
 provided_ok false w u e = cc
 
@@ -76,16 +77,16 @@ not_above m n e = grind (arith, nat_tests)
 
 number_within : (low high : ℕ) (d : Data) (v : ℕ) → number low high d ≡ Some v → (nat_le low v ≡ true) × (nat_le v high ≡ true)
 number_within low high d v e =
-    let (n, found) = then_some (λ n. if nat_le low n && nat_le n high then Some n else None) (whole d) v e in
+    let (n, found) = then_some (λ n. if nat_le low n && nat_le n high then Some n else None) (whole_number d) v e in
     let (test, same) = if_some (nat_le low n && nat_le n high) (Some n) v found in
     both (nat_le low v) (nat_le v high) (subst (λ m. (nat_le low m && nat_le m high) ≡ true) (some_same n v same) test)
 
-capacity_within : (n : ℕ) (d : Data) (v : ℕ) → needed (number 1 most_rows) n members.Capacity d ≡ Ok v → (nat_le 1 v ≡ true) × (nat_le v most_rows ≡ true)
+capacity_within : (n : ℕ) (d : Data) (v : ℕ) → needed_table_member (number 1 most_rows) n members.Capacity d ≡ Ok v → (nat_le 1 v ≡ true) × (nat_le v most_rows ≡ true)
 capacity_within n d v e =
-    let (x, found) = then_some (number 1 most_rows) (get (name_of members.Capacity) d) v (ok_or_some _ _ v e) in
+    let (x, found) = then_some (number 1 most_rows) (get (config_member_name members.Capacity) d) v (ok_or_some _ _ v e) in
     number_within 1 most_rows x v found
 
-listeners_within : (n : ℕ) (o : Option Data) (v : ℕ) → found_or 0 (number 0 most_listeners) n members.Listeners o ≡ Ok v → nat_le v most_listeners ≡ true
+listeners_within : (n : ℕ) (o : Option Data) (v : ℕ) → table_member_or 0 (number 0 most_listeners) n members.Listeners o ≡ Ok v → nat_le v most_listeners ≡ true
 listeners_within n None v e = rw (← ok_same 0 v e) refl
 listeners_within n (Some d) v e = (number_within 0 most_listeners d v (ok_or_some _ _ v e)).1
 
@@ -97,7 +98,7 @@ kinds_count (item d ds) ks e =
     let (rest, more, same) = map_some (λ (kinds : List ProcessorKind). kind ∷ kinds) (kinds_of ds) ks one in
     rw (← same, kinds_count ds rest more) (add-one (length rest))
 
-few : (n : ℕ) (o : Option Data) (ks : List ProcessorKind) → found_or [] processor_list n members.Processors o ≡ Ok ks → nat_le (length ks) most_processors ≡ true
+few : (n : ℕ) (o : Option Data) (ks : List ProcessorKind) → table_member_or [] processor_list n members.Processors o ≡ Ok ks → nat_le (length ks) most_processors ≡ true
 few n None ks e = rw (← ok_same [] ks e) refl
 few n (Some v) ks e =
     let (items, found) = then_some few_kinds (as_array v) ks (ok_or_some _ _ ks e) in
@@ -116,19 +117,19 @@ record Sound (c : CacheSettings) : Type 0 where
 sound_cache : (n : ℕ) (d : Data) (c : CacheSettings) → cache_of n d ≡ Ok c → Sound c
 unfolding cache_of
 sound_cache n d c e =
-    let (name, e1, k1) = bind_ok (needed name_text n members.Name d) _ c e in
-    let (capacity, e2, k2) = bind_ok (needed (number 1 most_rows) n members.Capacity d) _ c k1 in
-    let (policy, e3, k3) = bind_ok (policy_of n d) _ c k2 in
+    let (name, e1, k1) = bind_ok (needed_table_member name_text n members.Name d) _ c e in
+    let (capacity, e2, k2) = bind_ok (needed_table_member (number 1 most_rows) n members.Capacity d) _ c k1 in
+    let (policy, e3, k3) = bind_ok (table_policy n d) _ c k2 in
     let (loader, e4, k4) = bind_ok (optional (text_kind loader_of) n members.Loader d) _ c k3 in
     let (writer, e5, k5) = bind_ok (optional (text_kind writer_of) n members.Writer d) _ c k4 in
-    let (kinds, e6, k6) = bind_ok (found_or [] processor_list n members.Processors (get (name_of members.Processors) d)) _ c k5 in
-    let (listeners, e7, k7) = bind_ok (found_or 0 (number 0 most_listeners) n members.Listeners (get (name_of members.Listeners) d)) _ c k6 in
+    let (kinds, e6, k6) = bind_ok (table_member_or [] processor_list n members.Processors (get (config_member_name members.Processors) d)) _ c k5 in
+    let (listeners, e7, k7) = bind_ok (table_member_or 0 (number 0 most_listeners) n members.Listeners (get (config_member_name members.Listeners) d)) _ c k6 in
     let (none, e8, k8) = bind_ok (no_other_entry n d) _ c k7 in
     subst Sound (ok_same _ c k8) (record {
       some = (capacity_within n d capacity e2).0;
       most = (capacity_within n d capacity e2).1;
-      listeners = listeners_within n (get (name_of members.Listeners) d) listeners e7;
-      processors = rw (length-map kinds wants_value_of) (few n (get (name_of members.Processors) d) kinds e6);
+      listeners = listeners_within n (get (config_member_name members.Listeners) d) listeners e7;
+      processors = rw (length-map kinds wants_value_of) (few n (get (config_member_name members.Processors) d) kinds e6);
       kinds = record { loads = refl; writes = refl; processes = refl };
     })
 
@@ -145,8 +146,8 @@ sound_caches n (item d ds) cs e =
 
 -- The manager refuses none of them.
 
-limits_none : (place : ℕ) (c : CacheSettings) → Sound c → limit_refusal place c.config ≡ None
-limits_none place c s =
+limits_none : (c : CacheSettings) → Sound c → broken_limit c.config ≡ None
+limits_none c s =
     rw (not_above 1 c.config.capacity s.some, not_above c.config.capacity most_rows s.most, not_above c.config.listeners most_listeners s.listeners, not_above (length c.config.processors) most_processors s.processors) refl
 
 or_swap : (a b c : Bool) → (a || (b || c)) ≡ (b || (a || c))
@@ -171,7 +172,7 @@ refused_none seen names n place (c ∷ cs) same sound e =
     let free : is_taken name names ≡ false = sym (same name) ∙ new in
     let rest : refusal_from (names ++ name ∷ []) (place + 1) (map (λ c. c.config) cs) ≡ None =
     refused_none (name ∷ seen) (names ++ name ∷ []) (n + 1) (place + 1) cs (λ x. ap (λ (b : Bool). bytes_eq name x || b) (same x) ∙ sym (any_push (λ y. bytes_eq y x) names name)) sound.1 more in
-    rw (limits_none place c sound.0, free, rest) refl
+    rw (limits_none c sound.0, free, rest) refl
 
 names_none : (o : Option ℕ) (u : Unit {0}) → check_names o ≡ Ok u → o ≡ None
 names_none None u e = refl
@@ -190,25 +191,25 @@ all_kinds (c ∷ cs) s = (s.0.kinds, all_kinds cs s.1)
 
 opens_none : (cs : List CacheSettings) (u : Unit {0}) → AllSound cs → check_totals cs ≡ Ok u → open_refusal (map (λ c. c.config) cs) ≡ None
 opens_none cs u sound e =
-    let (counted, e1, k1) = bind_ok (provided (nat_le (length cs) most_caches) _) _ u e in
+    let (counted, e1, k1) = bind_ok (fault_unless (nat_le (length cs) most_caches) _) _ u e in
     let (distinct, e2, k2) = bind_ok (check_names (duplicate_from [] 1 (map (λ c. c.config.name) cs))) _ u k1 in
     let fits : nat_le (length cs) most_caches ≡ true = provided_ok (nat_le (length cs) most_caches) _ counted e1 in
     let total : nat_le (sum (capacities (map (λ c. c.config) cs))) most_rows_together ≡ true = rw (← total_is_sum cs) (provided_ok (nat_le (total_of cs) most_rows_together) _ u k2) in
     let none : refusal_from [] 0 (map (λ c. c.config) cs) ≡ None = refused_none [] [] 1 0 cs (λ x. refl) sound (names_none _ distinct e2) in
     rw (length-map cs (λ (c : CacheSettings). c.config), not_above (length cs) most_caches fits, none, not_above (sum (capacities (map (λ c. c.config) cs))) most_rows_together total) refl
 
-pub configuration_opens : (bytes : List ℕ) (c : Configuration) → configuration_of bytes ≡ Ok c → Opens c
-unfolding configuration_of
+pub configuration_opens : (bytes : List ℕ) (c : Configuration) → configuration_in bytes ≡ Ok c → CanOpenConfiguration c
+unfolding configuration_in
 configuration_opens bytes c e =
-    let (short, e1, k1) = bind_ok (provided (nat_le (length bytes) text_bytes) _) _ c e in
+    let (short, e1, k1) = bind_ok (fault_unless (nat_le (length bytes) text_bytes) _) _ c e in
     let (document, e2, k2) = bind_ok (ok_or (document_of bytes) NotToml) _ c k1 in
     let (tables, e3, k3) = bind_ok (tables_of document) _ c k2 in
     let (cs, e4, k4) = bind_ok (caches_of 1 tables) _ c k3 in
     let (within, e5, k5) = bind_ok (check_totals cs) _ c k4 in
     let sound : AllSound cs = sound_caches 1 tables cs e4 in
-    subst Opens (ok_same _ c k5) (record { kinds = all_kinds cs sound; refuses_nothing = opens_none cs within sound e5 })
+    subst CanOpenConfiguration (ok_same _ c k5) (record { kinds = all_kinds cs sound; refuses_nothing = opens_none cs within sound e5 })
 
-pub demonstration_opens : Opens demonstration
+pub demonstration_opens : CanOpenConfiguration demonstration
 demonstration_opens = record {
   kinds = (record { loads = refl; writes = refl; processes = refl }, (record { loads = refl; writes = refl; processes = refl }, tt));
   refuses_nothing = refl;
@@ -231,7 +232,7 @@ same_wants (kind.Fail ∷ ks) = ap (λ (bs : List Bool). false ∷ bs) (same_wan
 same_wants (kind.Drop ∷ ks) = ap (λ (bs : List Bool). false ∷ bs) (same_wants ks)
 same_wants (kind.Peek ∷ ks) = ap (λ (bs : List Bool). true ∷ bs) (same_wants ks)
 
-named_suits : (c : CacheConfig) (k : HookKinds) (h : ProgramHooks) → HasKinds c k → IsNamed c k h → Suits wants_of c h
+named_suits : (c : CacheConfig) (k : HookKinds) (h : ProgramHooks) → HasKinds c k → AreHooksNamed c k h → Suits wants_of c h
 named_suits c k h has named = record {
   loads = has.loads ∙ sym (same_loader k.loader) ∙ ap is_some (sym named.loader);
   writes = has.writes ∙ sym (same_writer k.writer) ∙ ap is_some (sym named.writer);
@@ -239,7 +240,7 @@ named_suits c k h has named = record {
   listens = sym (length-replicate c.listeners fresh_listener) ∙ ap length (sym named.listeners);
 }
 
-pub all_named_suit : (caches : List CacheConfig) (kinds : List HookKinds) (hooks : List ProgramHooks) → AllHaveKinds caches kinds → AllNamed caches kinds hooks → AllSuit wants_of caches hooks
+pub all_named_suit : (caches : List CacheConfig) (kinds : List HookKinds) (hooks : List ProgramHooks) → AllHaveKinds caches kinds → AllHooksNamed caches kinds hooks → AllSuit wants_of caches hooks
 all_named_suit [] [] [] has named place = tt
 all_named_suit [] [] (h ∷ hooks) has named place = absurd named
 all_named_suit [] (k ∷ kinds) hooks has named place = absurd has

@@ -6,12 +6,13 @@ use Rattle.std.proofs.lemmas.Bool.Decides.{nat_tests}
 use Rattle.std.proofs.lemmas.List.Elements.{All-head, All-tail, All-weaker}
 use Rattle.std.proofs.lemmas.Option.{none-some, same_Some}
 use Rattle.jc_model.specs.declared.event.Life.{Life}
-use Rattle.jc_model.specs.Runs.{Status, live_at}
+use Rattle.jc_model.specs.Runs.{Status}
 use Rattle.jc_model.specs.Legal.{InOrder, config_of}
 use Rattle.jc_model.proofs.Lives.{live_within}
 use Rattle.jc_engine.specs.Recording.{Recording}
 use Rattle.jc_engine.proofs.Entries.{some_at}
 use Rattle.jc_runner.specs.Halfway.{lives_now, IsAtRest}
+use Rattle.jc_model.specs.Places.{at_place}
 
 -- ids that rise leave room for as many
 room : (least : ℕ) (lives : List Life) (n : ℕ) → InOrder least lives → All (λ l. l.id < n) lives → least ≤ n → least + length lives ≤ n
@@ -56,10 +57,10 @@ pub record HasLife (r : Recording) (id : ℕ) (k : Status) : Type 0 where
   pub there : slice_get r.transcript.lives id ≡ Some life
   pub config : life.config ≡ k.config
 
-pub life_within : (r : Recording) (id : ℕ) (k : Status) → IsAtRest r → live_at (lives_now r) id ≡ Some k → id < length r.transcript.lives
+pub life_within : (r : Recording) (id : ℕ) (k : Status) → IsAtRest r → at_place (lives_now r) id ≡ Some k → id < length r.transcript.lives
 life_within r id k rest at = subst (λ (n : ℕ). id < n) (sym rest.counted) (live_within (lives_now r) id k at)
 
-pub its_life : (r : Recording) (id : ℕ) (k : Status) → IsAtRest r → live_at (lives_now r) id ≡ Some k → HasLife r id k
+pub its_life : (r : Recording) (id : ℕ) (k : Status) → IsAtRest r → at_place (lives_now r) id ≡ Some k → HasLife r id k
 its_life r id k rest at =
     let found = some_at r.transcript.lives id (life_within r id k rest at) in
     let below : All (λ l. l.id < 0 + length r.transcript.lives) r.transcript.lives =

@@ -4,7 +4,7 @@ use Rattle.std.specs.Prelude.{IfSome, IfOk, IfErr}
 use Rattle.std.proofs.lemmas.List.{take_all, take_more, drop_all, drop_more, map_push, replicate_more}
 use Rattle.jc_config.specs.declared.kinds.HookKinds.{HookKinds}
 use Rattle.jc_model.specs.declared.config.CacheConfig.{CacheConfig}
-use Rattle.jc_runner.specs.Naming.{ProgramHooks, IsNamed, AllNamed}
+use Rattle.jc_runner.specs.Naming.{ProgramHooks, AreHooksNamed, AllHooksNamed}
 
 pub more_mapped : {A B : Type 0} (f : A → B) (xs : List A) (i : ℕ) (d : A) (old new : List B) (y : B) → i < length xs → old ≡ map f (take i xs) → y ≡ f (get_or xs i d) → new ≡ old ++ y ∷ [] → new ≡ map f (take (i + 1) xs)
 more_mapped f xs i d old new y lt so_far is pushed =
@@ -18,20 +18,20 @@ more_copies n x old new so_far pushed = pushed ∙ ap (λ ys. ys ++ x ∷ []) so
 
 -- the callbacks of the caches from i on complete those before
 abbrev pub Completes : List CacheConfig → List HookKinds → ℕ → List ProgramHooks → Type 0
-Completes caches kinds i hooks = (rest : List ProgramHooks) → AllNamed (drop i caches) (drop i kinds) rest → AllNamed caches kinds (hooks ++ rest)
+Completes caches kinds i hooks = (rest : List ProgramHooks) → AllHooksNamed (drop i caches) (drop i kinds) rest → AllHooksNamed caches kinds (hooks ++ rest)
 
 pub more_named : (caches : List CacheConfig) (kinds : List HookKinds) (i : ℕ) (c : CacheConfig) (k : HookKinds) (h : ProgramHooks) (old new : List ProgramHooks) → i < length caches → i < length kinds → c ≡ get_or caches i c → k ≡ get_or kinds i k
-    → IsNamed c k h → Completes caches kinds i old → new ≡ old ++ h ∷ [] → Completes caches kinds (i + 1) new
+    → AreHooksNamed c k h → Completes caches kinds i old → new ≡ old ++ h ∷ [] → Completes caches kinds (i + 1) new
 more_named caches kinds i c k h old new lt lt' is is' named so_far pushed rest left =
-    let here : AllNamed (c ∷ drop (i + 1) caches) (k ∷ drop (i + 1) kinds) (h ∷ rest) = (named, left) in
+    let here : AllHooksNamed (c ∷ drop (i + 1) caches) (k ∷ drop (i + 1) kinds) (h ∷ rest) = (named, left) in
     let at_c : c ∷ drop (i + 1) caches ≡ drop i caches = ap (λ x. x ∷ drop (i + 1) caches) is ∙ sym (drop_more caches i c lt) in
     let at_k : k ∷ drop (i + 1) kinds ≡ drop i kinds = ap (λ x. x ∷ drop (i + 1) kinds) is' ∙ sym (drop_more kinds i k lt') in
-    let all : AllNamed (drop i caches) (drop i kinds) (h ∷ rest) = subst (λ (ks : List HookKinds). AllNamed (drop i caches) ks (h ∷ rest)) at_k (subst (λ (cs : List CacheConfig). AllNamed cs (k ∷ drop (i + 1) kinds) (h ∷ rest)) at_c here) in
-    subst (AllNamed caches kinds) (sym (append_assoc old (h ∷ []) rest) ∙ ap (λ (hs : List ProgramHooks). hs ++ rest) (sym pushed)) (so_far (h ∷ rest) all)
+    let all : AllHooksNamed (drop i caches) (drop i kinds) (h ∷ rest) = subst (λ (ks : List HookKinds). AllHooksNamed (drop i caches) ks (h ∷ rest)) at_k (subst (λ (cs : List CacheConfig). AllHooksNamed cs (k ∷ drop (i + 1) kinds) (h ∷ rest)) at_c here) in
+    subst (AllHooksNamed caches kinds) (sym (append_assoc old (h ∷ []) rest) ∙ ap (λ (hs : List ProgramHooks). hs ++ rest) (sym pushed)) (so_far (h ∷ rest) all)
 
-pub all_named : (caches : List CacheConfig) (kinds : List HookKinds) (i : ℕ) (hooks : List ProgramHooks) → length caches ≤ i → Completes caches kinds i hooks → AllNamed caches kinds hooks
+pub all_named : (caches : List CacheConfig) (kinds : List HookKinds) (i : ℕ) (hooks : List ProgramHooks) → length caches ≤ i → Completes caches kinds i hooks → AllHooksNamed caches kinds hooks
 all_named caches kinds i hooks le so_far =
-    subst (AllNamed caches kinds) (append-nil hooks) (so_far [] (subst (λ (cs : List CacheConfig). AllNamed cs (drop i kinds) []) (sym (drop_all i caches le)) tt))
+    subst (AllHooksNamed caches kinds) (append-nil hooks) (so_far [] (subst (λ (cs : List CacheConfig). AllHooksNamed cs (drop i kinds) []) (sym (drop_all i caches le)) tt))
 
 pub none_of : {A B : Type 0} (f : A → B) (xs : List A) → map f xs ≡ [] → xs ≡ []
 none_of f [] none = refl

@@ -22,7 +22,7 @@ use Rattle.jc_model.specs.declared.event.Step.{Step}
 use Rattle.jc_model.specs.declared.event.Step.TheVariants.{Done, Need}
 use Rattle.jc_model.specs.State.{State}
 use Rattle.jc_model.specs.Run.{Run, ended, waiting, resume, answered, awaited_by, fits, is_answer_to}
-use Rattle.jc_model.specs.Runs.{Status, Standing, idle, Lives, live_at, begins, answers, shown, standing_of, has_processor, reply_of, moved_by, moved, for_memory, refuse_last, answer_of, answer_to, put_moved}
+use Rattle.jc_model.specs.Runs.{Status, Standing, idle, Lives, begins, answers, shown, standing_of, has_processor, reply_of, moved_by, moved, for_memory, refuse_last, answer_of, answer_to, put_moved}
 use Rattle.jc_model.specs.Legal.{Fits, is_waiting, is_open, on_open, with_outcome, with_answer, History, recorded, Tells}
 use Rattle.jc_model.proofs.EachCache.{reply_kept}
 use Rattle.jc_model.proofs.Law.{whole-within}
@@ -33,13 +33,14 @@ use Rattle.jc_engine.specs.Recording.{Recording}
 use Rattle.jc_engine.proofs.Entries.{set_set}
 use Rattle.jc_hooks.specs.declared.cache_hooks.CacheHooks.{CacheHooks}
 use Rattle.jc_hooks.specs.declared.loader.Loaded.{Loaded}
-use Rattle.jc_runner.specs.Alone.{exchanged, end_of, run_alone, entry_by}
+use Rattle.jc_runner.specs.Alone.{exchanges_of_call, end_of, run_alone, entry_by}
 use Rattle.jc_runner.specs.Answering.{HeardAt}
 use Rattle.jc_script.specs.declared.line.LineCall.{LineCall}
-use Rattle.jc_runner.specs.Halfway.{lives_now, event_of, CanMove, Moves, NoneOpen, IsReady, ReachedFrom, Reached, Replies}
+use Rattle.jc_runner.specs.Halfway.{lives_now, event_of, CanMove, MovesRecording, NoneOpen, IsLineReady, ReachedFrom, Reached, Replies}
 use Rattle.jc_runner.proofs.Answered.{awaits-need, exchanged-nil, exchanged-push, entry-push, entry-first}
 use Rattle.jc_runner.proofs.Bounds.{fewer_answers, answers_in, most_asked, most_at}
 use Rattle.jc_runner.proofs.Hearing.{nothing_heard, more_heard}
+use Rattle.jc_model.specs.Places.{at_place}
 
 -- what a run shows, as a step
 abbrev pub step_shown : Run → Step
@@ -97,14 +98,14 @@ counted l run given transcript transcript' fit is =
     ∙ length-append (answers_in transcript) (given ++ []) ∙ ap (λ (gave : List Answer). length (answers_in transcript) + length gave) (append-nil given)
 
 -- an event more: the transcript goes on telling how the caches stand
-pub still_told : (old new : Recording) (session : ℕ) (event : Event) (o : Outcome) → Tells old.transcript (lives_now old) → o ≡ answer_to (lives_now old) event (for_memory o) → Moves old new session event o → Tells new.transcript (lives_now new)
+pub still_told : (old new : Recording) (session : ℕ) (event : Event) (o : Outcome) → Tells old.transcript (lives_now old) → o ≡ answer_to (lives_now old) event (for_memory o) → MovesRecording old new session event o → Tells new.transcript (lives_now new)
 still_told old new session event o told is m =
     subst (λ (history : History). Tells history (lives_now new)) (sym m.transcript)
     (subst (λ (ks : Lives). Tells (recorded session event o old.transcript) ks) (sym m.lives) (one_more_event session (lives_now old) old.transcript event o told is))
 
 module _ {L W P K : Type 0} (load_of : L → List ℕ → Loaded) (may : W → List (Request × Answer) → Type 0) (verdict_of : P → Option (List ℕ) → List ℕ → Result Verdict ProcessorFault) (state_after : K → List Notice → List ℕ) where
   -- a call has begun
-  pub has_begun : (old new : Recording) (h : Option (CacheHooks L W P K)) (l : LineCall) (step : Step) → IsReady old l → Moves old new l.session (event_of l) (Stepped step) → Reached load_of may verdict_of state_after old new h h l step
+  pub has_begun : (old new : Recording) (h : Option (CacheHooks L W P K)) (l : LineCall) (step : Step) → IsLineReady old l → MovesRecording old new l.session (event_of l) (Stepped step) → Reached load_of may verdict_of state_after old new h h l step
   has_begun old new h l step ready m =
       let c : CacheConfig = ready.config in
       let s : State = ready.state in
@@ -127,17 +128,17 @@ module _ {L W P K : Type 0} (load_of : L → List ℕ → Loaded) (may : W → L
       }
 
   module _ (c : CacheConfig) (s : State) (old now : Recording) (h h1 : Option (CacheHooks L W P K)) (l : LineCall) (q : Request) (a : Answer)
-      (r : ReachedFrom load_of may verdict_of state_after c s old now h h1 l (Need q)) (there : live_at (lives_now old) l.id ≡ Some (record { config = c; standing = idle s })) (fit : IsTrue (is_answer_to q a)) where
+      (r : ReachedFrom load_of may verdict_of state_after c s old now h h1 l (Need q)) (there : at_place (lives_now old) l.id ≡ Some (record { config = c; standing = idle s })) (fit : IsTrue (is_answer_to q a)) where
     abbrev first_run : Run
     first_run = run_alone c s l
 
     abbrev run_now : Run
     run_now = answered first_run r.answers
 
-    stands_now : live_at (lives_now now) l.id ≡ Some (status c (standing_of run_now))
-    stands_now = ap (λ (ks : Lives). live_at ks l.id) r.lives ∙ live_same (lives_now old) l.id (status c (idle s)) (Some (status c (standing_of run_now))) there
+    stands_now : at_place (lives_now now) l.id ≡ Some (status c (standing_of run_now))
+    stands_now = ap (λ (ks : Lives). at_place ks l.id) r.lives ∙ live_same (lives_now old) l.id (status c (idle s)) (Some (status c (standing_of run_now))) there
 
-    replies_now : answer_of (live_at (lives_now now) l.id) (answers a) false ≡ shown (resume run_now a)
+    replies_now : answer_of (at_place (lives_now now) l.id) (answers a) false ≡ shown (resume run_now a)
     replies_now = ap (λ (found : Option Status). answer_of found (answers a) false) stands_now ∙ reply_kept (reply_of c (standing_of run_now) (answers a)) ∙ reply_waits c run_now q a r.shows fit
 
     -- its request can be answered
@@ -150,7 +151,7 @@ module _ {L W P K : Type 0} (load_of : L → List ℕ → Loaded) (may : W → L
     fit_next : Fits first_run (r.answers ++ a ∷ [])
     fit_next = Fits-append first_run r.answers a r.fit (awaits-need run_now q a r.shows fit)
 
-    entries_next : NoneOpen old.transcript.entries → (next : Recording) (step : Step) → ((session : ℕ) → Moves now next session (Answered l.id a) (Stepped step)) → next.transcript.entries ≡ old.transcript.entries ++ entry_by l first_run (r.answers ++ a ∷ []) ∷ []
+    entries_next : NoneOpen old.transcript.entries → (next : Recording) (step : Step) → ((session : ℕ) → MovesRecording now next session (Answered l.id a) (Stepped step)) → next.transcript.entries ≡ old.transcript.entries ++ entry_by l first_run (r.answers ++ a ∷ []) ∷ []
     entries_next closed next step m =
         let f : Entry → Entry = λ e. with_outcome (Stepped step) (with_answer a e) in
         let e : Entry = entry_by l first_run r.answers in
@@ -158,7 +159,7 @@ module _ {L W P K : Type 0} (load_of : L → List ℕ → Loaded) (may : W → L
         ∙ ap (λ (d : Entry). old.transcript.entries ++ d ∷ []) (ap (λ (o : Outcome). with_outcome o (with_answer a e)) ((m 0).answers ∙ replies_now) ∙ entry-push l first_run r.answers a)
 
     -- and has been answered
-    pub goes_on : NoneOpen old.transcript.entries → (next : Recording) (h2 : Option (CacheHooks L W P K)) (step : Step) → HeardAt load_of may verdict_of state_after h1 h2 ((q, a) ∷ []) → ((session : ℕ) → Moves now next session (Answered l.id a) (Stepped step))
+    pub goes_on : NoneOpen old.transcript.entries → (next : Recording) (h2 : Option (CacheHooks L W P K)) (step : Step) → HeardAt load_of may verdict_of state_after h1 h2 ((q, a) ∷ []) → ((session : ℕ) → MovesRecording now next session (Answered l.id a) (Stepped step))
         → ReachedFrom load_of may verdict_of state_after c s old next h h2 l step
     goes_on closed next h2 step hears m =
         let shows : Stepped step ≡ shown (resume run_now a) = (m 0).answers ∙ replies_now in
@@ -174,15 +175,15 @@ module _ {L W P K : Type 0} (load_of : L → List ℕ → Loaded) (may : W → L
           begun = ap (λ (history : History). history.lives) (m 0).transcript ∙ r.begun;
           entries = entries_next closed next step m;
           told = still_told now next 0 (Answered l.id a) (Stepped step) r.told (m 0).answers (m 0);
-          heard = subst (HeardAt load_of may verdict_of state_after h h2) (sym (exchanged-push first_run r.answers a q r.fit r.shows)) (more_heard load_of may verdict_of state_after h h1 h2 (exchanged first_run r.answers) ((q, a) ∷ []) r.heard hears);
+          heard = subst (HeardAt load_of may verdict_of state_after h h2) (sym (exchanged-push first_run r.answers a q r.fit r.shows)) (more_heard load_of may verdict_of state_after h h1 h2 (exchanges_of_call first_run r.answers) ((q, a) ∷ []) r.heard hears);
         }
 
     -- one answer nearer to the most that there can be
-    pub comes_nearer : NoneOpen old.transcript.entries → (next : Recording) (step : Step) → ((session : ℕ) → Moves now next session (Answered l.id a) (Stepped step))
-        → (most_at (live_at (lives_now old) l.id) l.at l.call + length (answers_in old.transcript.entries)) - length (answers_in next.transcript.entries)
-        < (most_at (live_at (lives_now old) l.id) l.at l.call + length (answers_in old.transcript.entries)) - length (answers_in now.transcript.entries)
+    pub comes_nearer : NoneOpen old.transcript.entries → (next : Recording) (step : Step) → ((session : ℕ) → MovesRecording now next session (Answered l.id a) (Stepped step))
+        → (most_at (at_place (lives_now old) l.id) l.at l.call + length (answers_in old.transcript.entries)) - length (answers_in next.transcript.entries)
+        < (most_at (at_place (lives_now old) l.id) l.at l.call + length (answers_in old.transcript.entries)) - length (answers_in now.transcript.entries)
     comes_nearer closed next step m =
-        let most : most_at (live_at (lives_now old) l.id) l.at l.call ≡ most_asked c l.at l.call s = ap (λ (found : Option Status). most_at found l.at l.call) there in
+        let most : most_at (at_place (lives_now old) l.id) l.at l.call ≡ most_asked c l.at l.call s = ap (λ (found : Option Status). most_at found l.at l.call) there in
         let fewer : length r.answers < most_asked c l.at l.call s = fewer_answers (most_asked c l.at l.call s) first_run r.answers q (whole-within c l.at l.call s) r.fit r.shows in
         let before : length (answers_in now.transcript.entries) ≡ length (answers_in old.transcript.entries) + length r.answers = counted l first_run r.answers old.transcript.entries now.transcript.entries r.fit r.entries in
         let after : length (answers_in next.transcript.entries) ≡ length (answers_in old.transcript.entries) + length (r.answers ++ a ∷ []) = counted l first_run (r.answers ++ a ∷ []) old.transcript.entries next.transcript.entries fit_next (entries_next closed next step m) in
@@ -197,7 +198,7 @@ module _ {L W P K : Type 0} (load_of : L → List ℕ → Loaded) (may : W → L
     pub can_answer : (q : Request) (a : Answer) → step ≡ Need q → IsTrue (is_answer_to q a) → CanMove now (Answered l.id a)
     can_answer q a is fit = can_resume r.config r.state old now h h1 l q a (at_need q is) r.there fit
 
-    module _ (q : Request) (a : Answer) (is : step ≡ Need q) (fit : IsTrue (is_answer_to q a)) (closed : NoneOpen old.transcript.entries) (next : Recording) (after : Step) (m : (session : ℕ) → Moves now next session (Answered l.id a) (Stepped after)) where
+    module _ (q : Request) (a : Answer) (is : step ≡ Need q) (fit : IsTrue (is_answer_to q a)) (closed : NoneOpen old.transcript.entries) (next : Recording) (after : Step) (m : (session : ℕ) → MovesRecording now next session (Answered l.id a) (Stepped after)) where
       pub answer_taken : (h2 : Option (CacheHooks L W P K)) → HeardAt load_of may verdict_of state_after h1 h2 ((q, a) ∷ []) → Reached load_of may verdict_of state_after old next h h2 l after
       answer_taken h2 hears = record {
         config = r.config;
@@ -206,8 +207,8 @@ module _ {L W P K : Type 0} (load_of : L → List ℕ → Loaded) (may : W → L
         reached = goes_on r.config r.state old now h h1 l q a (at_need q is) r.there fit closed next h2 after hears m;
       }
 
-      pub one_answer_nearer : (most_at (live_at (lives_now old) l.id) l.at l.call + length (answers_in old.transcript.entries)) - length (answers_in next.transcript.entries)
-          < (most_at (live_at (lives_now old) l.id) l.at l.call + length (answers_in old.transcript.entries)) - length (answers_in now.transcript.entries)
+      pub one_answer_nearer : (most_at (at_place (lives_now old) l.id) l.at l.call + length (answers_in old.transcript.entries)) - length (answers_in next.transcript.entries)
+          < (most_at (at_place (lives_now old) l.id) l.at l.call + length (answers_in old.transcript.entries)) - length (answers_in now.transcript.entries)
       one_answer_nearer = comes_nearer r.config r.state old now h h1 l q a (at_need q is) r.there fit closed next after m
 
     pub has_replied : (reply : Reply) → step ≡ Done reply → Replies load_of may verdict_of state_after old now h h1 l

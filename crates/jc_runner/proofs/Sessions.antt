@@ -10,7 +10,7 @@ use Rattle.jc_model.specs.Legal.{entries_of}
 use Rattle.jc_script.specs.declared.line.Line.{Line}
 use Rattle.jc_script.specs.declared.line.Line.TheVariants as line
 use Rattle.jc_script.specs.declared.line.LineCall.{LineCall}
-use Rattle.jc_script.specs.Calls.{line_of, calls_in, calls_on}
+use Rattle.jc_script.specs.Calls.{line_of_entry, calls_in_lines, calls_on}
 use Rattle.jc_shared.specs.Accounts.{calls_of}
 use Rattle.jc_threads.specs.Lines.{lines_by}
 use Rattle.jc_threads.proofs.Lists.{all_by_class}
@@ -72,9 +72,9 @@ one_on : (id : ℕ) (l : LineCall) (b : Bool) (calls lines : List LineCall) → 
 one_on id l true calls lines rest = ap (λ (xs : List LineCall). l ∷ xs) rest
 one_on id l false calls lines rest = rest
 
-calls_by_id : (id : ℕ) (all : List Line) → calls_on id all ≡ filter (on id) (calls_in all)
+calls_by_id : (id : ℕ) (all : List Line) → calls_on id all ≡ filter (on id) (calls_in_lines all)
 calls_by_id id [] = refl
-calls_by_id id (line.Call l ∷ ls) = one_on id l (l.id == id) (calls_on id ls) (calls_in ls) (calls_by_id id ls)
+calls_by_id id (line.Call l ∷ ls) = one_on id l (l.id == id) (calls_on id ls) (calls_in_lines ls) (calls_by_id id ls)
 calls_by_id id (line.Create session c ∷ ls) = calls_by_id id ls
 calls_by_id id (line.Destroy session i ∷ ls) = calls_by_id id ls
 
@@ -99,9 +99,9 @@ module _ (made lines : List LineCall) (each : (session : ℕ) → filter (by ses
       sym (kept_by made only_made) ∙ turned (by session) (on id) made ∙ ap (filter (on id)) (each session) ∙ turned (on id) (by session) lines ∙ kept_by lines only_lines
 
 -- the calls of a cache that one session calls are those of its lines
-pub calls_alone : (entries : List Entry) (all : List Line) (id session : ℕ) → ((s : ℕ) → map line_of (calls_of s entries) ≡ lines_by s (calls_in all)) → All (λ l. l.session ≡ session) (calls_on id all)
-    → map line_of (entries_of id entries) ≡ calls_on id all
+pub calls_alone : (entries : List Entry) (all : List Line) (id session : ℕ) → ((s : ℕ) → map line_of_entry (calls_of s entries) ≡ lines_by s (calls_in_lines all)) → All (λ l. l.session ≡ session) (calls_on id all)
+    → map line_of_entry (entries_of id entries) ≡ calls_on id all
 calls_alone entries all id session each one =
-    mapped line_of (on id) entries
-    ∙ same_on (map line_of entries) (calls_in all) (λ s. sym (mapped line_of (by s) entries) ∙ each s) id session (subst (All (λ l. l.session ≡ session)) (calls_by_id id all) one)
+    mapped line_of_entry (on id) entries
+    ∙ same_on (map line_of_entry entries) (calls_in_lines all) (λ s. sym (mapped line_of_entry (by s) entries) ∙ each s) id session (subst (All (λ l. l.session ≡ session)) (calls_by_id id all) one)
     ∙ sym (calls_by_id id all)

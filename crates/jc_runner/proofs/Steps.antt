@@ -19,8 +19,9 @@ use Rattle.jc_model.specs.declared.event.Step.TheVariants.{Done}
 use Rattle.jc_model.specs.Changes.{Progress}
 use Rattle.jc_model.specs.State.{State}
 use Rattle.jc_model.specs.Run.{Run, ended, answered}
-use Rattle.jc_model.specs.Runs.{Status, Standing, idle, fresh, opened, Lives, live_at, standing_of}
-use Rattle.jc_model.specs.Solo.{Played, state_of, run_of, left_by, after_call, standing_from}
+use Rattle.jc_model.specs.Runs.{Status, Standing, idle, fresh, opened, Lives, standing_of}
+use Rattle.jc_model.specs.Whole.{whole}
+use Rattle.jc_model.specs.Solo.{PlayedCall, state_in, standing_left, after_call, standing_from}
 use Rattle.jc_model.specs.Legal.{is_waiting, is_open, entries_of, config_of, was_given_up, played, IsTold}
 use Rattle.jc_model.proofs.Lives.{same_length, live_within, live_same, live_other}
 use Rattle.jc_engine.specs.Recording.{Recording}
@@ -29,13 +30,14 @@ use Rattle.jc_hooks.specs.declared.loader.Loaded.{Loaded}
 use Rattle.jc_script.specs.declared.line.Line.{Line}
 use Rattle.jc_script.specs.declared.line.Line.TheVariants as line
 use Rattle.jc_script.specs.Live.{after_line}
-use Rattle.jc_script.specs.Managing.{begun_by}
-use Rattle.jc_runner.specs.Alone.{calls_on, line_of, IsReply, AllReplied, exchanged, exchanges, end_of, run_alone, entry_by}
+use Rattle.jc_script.specs.Managing.{lives_begun_by}
+use Rattle.jc_runner.specs.Alone.{calls_on, line_of_entry, IsReply, AllReplied, exchanges_of_call, exchanges, end_of, run_alone, entry_by}
 use Rattle.jc_runner.specs.Answering.{HeardAt}
 use Rattle.jc_script.specs.declared.line.LineCall.{LineCall}
-use Rattle.jc_runner.specs.Halfway.{lives_now, as_read, NoneOpen, IsIdle, IsAtRest, ReachedFrom, Reached, RepliesAt, Goes, Comes}
+use Rattle.jc_runner.specs.Halfway.{lives_now, as_read, NoneOpen, IsStandingIdle, IsAtRest, ReachedFrom, Reached, RepliesAt, LifeGoesOn, IsStillToCome}
 use Rattle.jc_runner.proofs.Answered.{Ends, ends_with}
 use Rattle.jc_runner.proofs.Hearing.{more_heard}
+use Rattle.jc_model.specs.Places.{at_place}
 
 -- Entries and calls of one life.
 
@@ -76,28 +78,28 @@ over l run given reply e = ap (λ (now : Run). is_waiting (end_of now)) e.is
 
 -- One entry more of a life.
 
-standing_push : (c : CacheConfig) (standing : Standing) (ps : List Played) (p : Played) → standing_from c standing (ps ++ p ∷ []) ≡ after_call c (state_of (standing_from c standing ps)) p
+standing_push : (c : CacheConfig) (standing : Standing) (ps : List PlayedCall) (p : PlayedCall) → standing_from c standing (ps ++ p ∷ []) ≡ after_call c (state_in (standing_from c standing ps)) p
 standing_push c standing [] p = refl
-standing_push c standing (q ∷ ps) p = standing_push c (after_call c (state_of standing) q) ps p
+standing_push c standing (q ∷ ps) p = standing_push c (after_call c (state_in standing) q) ps p
 
-exchanges_push : (c : CacheConfig) (standing : Standing) (es : List Entry) (e : Entry) → exchanges c standing (es ++ e ∷ []) ≡ exchanges c standing es ++ exchanged (run_of c (state_of (standing_from c standing (map played es))) (played e)) e.answers
-exchanges_push c standing [] e = append-nil (exchanged (run_of c (state_of standing) (played e)) e.answers)
+exchanges_push : (c : CacheConfig) (standing : Standing) (es : List Entry) (e : Entry) → exchanges c standing (es ++ e ∷ []) ≡ exchanges c standing es ++ exchanges_of_call (whole c e.at e.call (state_in (standing_from c standing (map played es)))) e.answers
+exchanges_push c standing [] e = append-nil (exchanges_of_call (whole c e.at e.call (state_in standing)) e.answers)
 exchanges_push c standing (d ∷ es) e =
-    let here : List (Request × Answer) = exchanged (run_of c (state_of standing) (played d)) d.answers in
-    let next : Standing = after_call c (state_of standing) (played d) in
-    ap (λ (xs : List (Request × Answer)). here ++ xs) (exchanges_push c next es e) ∙ sym (append_assoc here (exchanges c next es) (exchanged (run_of c (state_of (standing_from c next (map played es))) (played e)) e.answers))
+    let here : List (Request × Answer) = exchanges_of_call (whole c d.at d.call (state_in standing)) d.answers in
+    let next : Standing = after_call c (state_in standing) (played d) in
+    ap (λ (xs : List (Request × Answer)). here ++ xs) (exchanges_push c next es e) ∙ sym (append_assoc here (exchanges c next es) (exchanges_of_call (whole c e.at e.call (state_in (standing_from c next (map played es)))) e.answers))
 
 replied_push : (es : List Entry) (e : Entry) → AllReplied es → IsReply e.end → AllReplied (es ++ e ∷ [])
 replied_push [] e all last = (last, tt)
 replied_push (d ∷ es) e all last = (all.0, replied_push es e all.1 last)
 
-left_ended : (run : Run) (p : Progress) (reply : Reply) → run ≡ ended p reply → left_by run (was_given_up (end_of run)) ≡ idle p.state
-left_ended run p reply e = ap (λ (x : Run). left_by x (was_given_up (end_of x))) e
+left_ended : (run : Run) (p : Progress) (reply : Reply) → run ≡ ended p reply → standing_left run (was_given_up (end_of run)) ≡ idle p.state
+left_ended run p reply e = ap (λ (x : Run). standing_left x (was_given_up (end_of x))) e
 
 -- The caches as a reader follows them.
 
 -- no call changes a configuration
-read_same : (lives : Lives) (i : ℕ) (k k' : Status) → live_at lives i ≡ Some k → k'.config ≡ k.config → as_read (slice_set lives i (Some k')) ≡ as_read lives
+read_same : (lives : Lives) (i : ℕ) (k k' : Status) → at_place lives i ≡ Some k → k'.config ≡ k.config → as_read (slice_set lives i (Some k')) ≡ as_read lives
 read_same [] i k k' at same = refl
 read_same (x ∷ lives) zero k k' at same =
     ap (λ (c : CacheConfig). Some (opened c) ∷ as_read lives) same ∙ ap (λ (o : Option Status). option_map (λ k. opened k.config) o ∷ as_read lives) (sym at)
@@ -106,12 +108,12 @@ read_same (x ∷ lives) (suc i) k k' at same = ap (λ (ks : Lives). option_map (
 -- what a line leaves is what the reader thinks, and no call is open
 pub record Follows (old new : Recording) (l : Line) : Type 0 where
   pub read : as_read (lives_now new) ≡ after_line (as_read (lives_now old)) l
-  pub begun : new.transcript.lives ≡ old.transcript.lives ++ begun_by (as_read (lives_now old)) l
+  pub begun : new.transcript.lives ≡ old.transcript.lives ++ lives_begun_by (as_read (lives_now old)) l
   pub rest : IsAtRest new
 
 module _ {L W P K : Type 0} (load_of : L → List ℕ → Loaded) (may : W → List (Request × Answer) → Type 0) (verdict_of : P → Option (List ℕ) → List ℕ → Result Verdict ProcessorFault) (state_after : K → List Notice → List ℕ) where
   abbrev GoesHere : CacheConfig → ℕ → List Line → List Line → Option (CacheHooks L W P K) → Option (CacheHooks L W P K) → List Entry → Type 0
-  GoesHere = Goes load_of may verdict_of state_after
+  GoesHere = LifeGoesOn load_of may verdict_of state_after
 
   -- the life of a call
   module _ (c : CacheConfig) (s : State) (all rest : List Line) (l : LineCall) (old new : Recording) (handed h h' : Option (CacheHooks L W P K)) (reply : Reply) (left : standing_from c fresh (map played (entries_of l.id old.transcript.entries)) ≡ idle s)
@@ -139,25 +141,25 @@ module _ {L W P K : Type 0} (load_of : L → List ℕ → Loaded) (may : W → L
       left = record {
         state = ends.finally.state;
         is = ap (λ (es : List Entry). standing_from c fresh (map played es)) added ∙ ap (standing_from c fresh) (map_push played before added_entry)
-            ∙ standing_push c fresh (map played before) (played added_entry) ∙ ap (λ (standing : Standing). after_call c (state_of standing) (played added_entry)) left
+            ∙ standing_push c fresh (map played before) (played added_entry) ∙ ap (λ (standing : Standing). after_call c (state_in standing) (played added_entry)) left
             ∙ left_ended (answered run r.answers) ends.finally reply ends.is;
       };
-      calls = ap (λ (es : List Entry). map line_of es ++ calls_on l.id rest) added ∙ ap (λ (ls : List LineCall). ls ++ calls_on l.id rest) (map_push line_of before added_entry)
-          ∙ append_assoc (map line_of before) (l ∷ []) (calls_on l.id rest) ∙ ap (λ (ls : List LineCall). map line_of before ++ ls) (sym (call_of_same l.id l rest own)) ∙ g.calls;
+      calls = ap (λ (es : List Entry). map line_of_entry es ++ calls_on l.id rest) added ∙ ap (λ (ls : List LineCall). ls ++ calls_on l.id rest) (map_push line_of_entry before added_entry)
+          ∙ append_assoc (map line_of_entry before) (l ∷ []) (calls_on l.id rest) ∙ ap (λ (ls : List LineCall). map line_of_entry before ++ ls) (sym (call_of_same l.id l rest own)) ∙ g.calls;
       replied = subst AllReplied (sym added) (replied_push before added_entry g.replied (subst (λ (now : Run). IsReply (end_of now)) (sym ends.is) tt));
       heard =
-          let exchanged_here : exchanges c fresh (entries_of l.id new.transcript.entries) ≡ exchanges c fresh before ++ exchanged run r.answers =
+          let exchanged_here : exchanges c fresh (entries_of l.id new.transcript.entries) ≡ exchanges c fresh before ++ exchanges_of_call run r.answers =
           ap (exchanges c fresh) added ∙ exchanges_push c fresh before added_entry
-          ∙ ap (λ (standing : Standing). exchanges c fresh before ++ exchanged (run_of c (state_of standing) (played added_entry)) r.answers) left in
-          subst (HeardAt load_of may verdict_of state_after handed h') (sym exchanged_here) (more_heard load_of may verdict_of state_after handed h h' (exchanges c fresh before) (exchanged run r.answers) g.heard r.heard);
+          ∙ ap (λ (standing : Standing). exchanges c fresh before ++ exchanges_of_call (whole c added_entry.at added_entry.call (state_in standing)) r.answers) left in
+          subst (HeardAt load_of may verdict_of state_after handed h') (sym exchanged_here) (more_heard load_of may verdict_of state_after handed h h' (exchanges c fresh before) (exchanges_of_call run r.answers) g.heard r.heard);
     }
 
   -- a line that is none of a life's calls
   pub goes_past : (c : CacheConfig) (id : ℕ) (all rest rest' : List Line) (handed h h' : Option (CacheHooks L W P K)) (entries entries' : List Entry) → calls_on id rest' ≡ calls_on id rest → entries_of id entries' ≡ entries_of id entries → h' ≡ h
       → GoesHere c id all rest handed h entries → GoesHere c id all rest' handed h' entries'
   goes_past c id all rest rest' handed h h' entries entries' passed same_entries same g = record {
-    left = subst (λ (es : List Entry). IsIdle (standing_from c fresh (map played es))) (sym same_entries) g.left;
-    calls = ap (λ (es : List Entry). map line_of es ++ calls_on id rest') same_entries ∙ ap (λ (ls : List LineCall). map line_of (entries_of id entries) ++ ls) passed ∙ g.calls;
+    left = subst (λ (es : List Entry). IsStandingIdle (standing_from c fresh (map played es))) (sym same_entries) g.left;
+    calls = ap (λ (es : List Entry). map line_of_entry es ++ calls_on id rest') same_entries ∙ ap (λ (ls : List LineCall). map line_of_entry (entries_of id entries) ++ ls) passed ∙ g.calls;
     replied = subst AllReplied (sym same_entries) g.replied;
     heard = subst (λ (es : List Entry). HeardAt load_of may verdict_of state_after handed h' (exchanges c fresh es)) (sym same_entries)
         (subst (λ (o : Option (CacheHooks L W P K)). HeardAt load_of may verdict_of state_after handed o (exchanges c fresh (entries_of id entries))) (sym same) g.heard);
@@ -184,14 +186,14 @@ module _ {L W P K : Type 0} (load_of : L → List ℕ → Loaded) (may : W → L
     ended_so : Ends answered_run r.replies.reply
     ended_so = ends_with answered_run r.replies.reply done.reached.shows
 
-    rests : (id : ℕ) (k : Status) (b : Bool) → (l.id == id) ≡ b → live_at (lives_now new) id ≡ Some k → IsIdle k.standing
+    rests : (id : ℕ) (k : Status) (b : Bool) → (l.id == id) ≡ b → at_place (lives_now new) id ≡ Some k → IsStandingIdle k.standing
     rests id k true is at =
-        let here : live_at (lives_now new) l.id ≡ Some k = subst (λ (i : ℕ). live_at (lives_now new) i ≡ Some k) (sym (is_same l.id id is)) at in
-        let there : live_at (lives_now new) l.id ≡ Some stands = ap (λ (ks : Lives). live_at ks l.id) done.reached.lives ∙ live_same (lives_now old) l.id stood (Some stands) done.there in
+        let here : at_place (lives_now new) l.id ≡ Some k = subst (λ (i : ℕ). at_place (lives_now new) i ≡ Some k) (sym (is_same l.id id is)) at in
+        let there : at_place (lives_now new) l.id ≡ Some stands = ap (λ (ks : Lives). at_place ks l.id) done.reached.lives ∙ live_same (lives_now old) l.id stood (Some stands) done.there in
         let same : stands ≡ k = same_Some stands k (sym there ∙ here) in
         record { state = ended_so.finally.state; is = ap (λ (x : Status). x.standing) (sym same) ∙ ap standing_of ended_so.is }
     rests id k false is at =
-        at_rest.resting id k (sym (ap (λ (ks : Lives). live_at ks id) done.reached.lives ∙ live_other (lives_now old) l.id id (Some stands) (is_other l.id id is)) ∙ at)
+        at_rest.resting id k (sym (ap (λ (ks : Lives). at_place ks id) done.reached.lives ∙ live_other (lives_now old) l.id id (Some stands) (is_other l.id id is)) ∙ at)
 
     pub call_follows : Follows old new (line.Call l)
     call_follows = record {
@@ -231,10 +233,10 @@ module _ {L W P K : Type 0} (load_of : L → List ℕ → Loaded) (may : W → L
           let config' : config_of id old.transcript.lives ≡ Some c = sym (ap (config_of id) done.reached.begun) ∙ config in
           goes_by id c (l.id == id) refl config' (goes config')
 
-      pub call_comes : (id : ℕ) → (length (lives_now old) ≤ id → Comes id all (line.Call l ∷ rest) (slice_get handed id) (slice_get hooks id)) → length (lives_now new) ≤ id → Comes id all rest (slice_get handed id) (slice_get hooks' id)
+      pub call_comes : (id : ℕ) → (length (lives_now old) ≤ id → IsStillToCome id all (line.Call l ∷ rest) (slice_get handed id) (slice_get hooks id)) → length (lives_now new) ≤ id → IsStillToCome id all rest (slice_get handed id) (slice_get hooks' id)
       call_comes id comes beyond =
           let as_many : length (lives_now new) ≡ length (lives_now old) = ap length done.reached.lives ∙ same_length (lives_now old) l.id (Some stands) in
           let given : l.id < length (lives_now old) = live_within (lives_now old) l.id stood done.there in
           let apart : (l.id == id) ≡ false = grind (arith, nat_tests) in
-          let before : Comes id all (line.Call l ∷ rest) (slice_get handed id) (slice_get hooks id) = comes (omega (arith, beyond, as_many)) in
+          let before : IsStillToCome id all (line.Call l ∷ rest) (slice_get handed id) (slice_get hooks id) = comes (omega (arith, beyond, as_many)) in
           record { calls = sym (call_of_other id l rest apart) ∙ before.calls; same = r.others id (is_other l.id id apart) ∙ before.same }

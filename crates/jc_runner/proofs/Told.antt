@@ -11,8 +11,8 @@ use Rattle.jc_model.specs.declared.config.CacheConfig.{CacheConfig}
 use Rattle.jc_model.specs.declared.event.Entry.{Entry}
 use Rattle.jc_model.specs.declared.event.Life.{Life}
 use Rattle.jc_model.specs.State.{first_state}
-use Rattle.jc_model.specs.Runs.{opened, opened_from, Lives, live_at}
-use Rattle.jc_model.specs.Legal.{History, IsLegal, Tells, config_of, entries_of, numbered, at_first}
+use Rattle.jc_model.specs.Runs.{opened, opened_from, Lives}
+use Rattle.jc_model.specs.Legal.{History, IsLegal, Tells, config_of, entries_of, numbered_lives, at_first}
 use Rattle.jc_model.proofs.Histories.{opened_length, opened_so}
 use Rattle.jc_model.proofs.Recording.{nothing_told}
 use Rattle.jc_engine.specs.Recording.{Recording}
@@ -20,21 +20,22 @@ use Rattle.jc_hooks.specs.declared.cache_hooks.CacheHooks.{CacheHooks}
 use Rattle.jc_hooks.specs.declared.loader.Loaded.{Loaded}
 use Rattle.jc_script.specs.declared.line.Line.{Line}
 use Rattle.jc_script.specs.declared.managed.Managed.{Managed}
-use Rattle.jc_script.specs.Managing.{lives_of, managed_of, begun_from, managed_from}
+use Rattle.jc_script.specs.Managing.{lives_of_script, managed_of, lives_begun_from, managed_from}
 use Rattle.jc_script.specs.Named.{AllName}
 use Rattle.jc_script.specs.Script.{lines}
 use Rattle.jc_strict.specs.Stray.{stray_line}
 use Rattle.jc_script.specs.Report.{header, entry_text, lives_text, managed_text}
 use Rattle.jc_json.specs.Report.{json}
 use Rattle.jc_words.specs.declared.run.Format.{Format}
-use Rattle.jc_runner.specs.Alone.{line_of, alone_from}
+use Rattle.jc_runner.specs.Alone.{line_of_entry, alone_from}
 use Rattle.jc_runner.specs.Forms.{form_of, report_in, IsToldIn}
 use Rattle.jc_runner.specs.declared.output.form.Form.{Form}
 use Rattle.jc_runner.specs.declared.output.form.Form.TheVariants as form
-use Rattle.jc_runner.specs.Halfway.{lives_now, as_read, NoneOpen, IsAtRest, Goes, Halfway}
+use Rattle.jc_runner.specs.Halfway.{lives_now, as_read, NoneOpen, IsAtRest, LifeGoesOn, Halfway}
 use Rattle.jc_runner.specs.Reports.{Reports, ReportsOf}
 use Rattle.jc_runner.specs.Streams.{IsAll}
 use Rattle.jc_runner.proofs.Hearing.{nothing_heard}
+use Rattle.jc_model.specs.Places.{at_place}
 
 -- Opened caches, as a reader follows them.
 
@@ -42,7 +43,7 @@ read_opened : (caches : List CacheConfig) → as_read (opened_from 0 caches) ≡
 read_opened [] = refl
 read_opened (c ∷ cs) = ap (λ (ks : Lives). Some (opened c) ∷ ks) (read_opened cs)
 
-as_many_lives : (first : ℕ) (caches : List CacheConfig) → length (numbered first caches) ≡ length caches
+as_many_lives : (first : ℕ) (caches : List CacheConfig) → length (numbered_lives first caches) ≡ length caches
 as_many_lives first [] = refl
 as_many_lives first (c ∷ cs) = ap suc (as_many_lives (first + 1) cs)
 
@@ -58,15 +59,15 @@ module _ (caches : List CacheConfig) (r : Recording) (new : lives_now r ≡ open
     told = subst (λ (h : History). Tells h (lives_now r)) (sym uncalled) (subst (λ (ks : Lives). Tells (at_first 0 caches) ks) (sym new) (nothing_told 0 caches));
     counted = ap (λ (h : History). length h.lives) uncalled ∙ as_many_lives 0 caches ∙ sym (ap length new ∙ opened_length 0 caches ∙ omega arith);
     closed = subst (λ (h : History). NoneOpen h.entries) (sym uncalled) (λ id f. refl);
-    resting = λ id k at. record { state = first_state; is = (opened_so 0 id caches k (ap (λ (ks : Lives). live_at ks id) (sym new) ∙ at)).fresh };
+    resting = λ id k at. record { state = first_state; is = (opened_so 0 id caches k (ap (λ (ks : Lives). at_place ks id) (sym new) ∙ at)).fresh };
   }
 
   module _ {L W P K : Type 0} (load_of : L → List ℕ → Loaded) (may : W → List (Request × Answer) → Type 0) (verdict_of : P → Option (List ℕ) → List ℕ → Result Verdict ProcessorFault) (state_after : K → List Notice → List ℕ) where
     pub first_moment : (hooks : List (CacheHooks L W P K)) (all : List Line) → Halfway load_of may verdict_of state_after caches hooks all all r hooks []
     first_moment hooks all = record {
-      lives = ap (λ (h : History). h.lives ++ begun_from (as_read (lives_now r)) all) uncalled ∙ ap (λ (ks : Lives). numbered 0 caches ++ begun_from ks all) read_new;
+      lives = ap (λ (h : History). h.lives ++ lives_begun_from (as_read (lives_now r)) all) uncalled ∙ ap (λ (ks : Lives). numbered_lives 0 caches ++ lives_begun_from ks all) read_new;
       answers = ap (λ (ks : Lives). managed_from ks all) read_new;
-      each = λ id c at. subst (λ (h : History). Goes load_of may verdict_of state_after c id all all (slice_get hooks id) (slice_get hooks id) h.entries) (sym uncalled) (record {
+      each = λ id c at. subst (λ (h : History). LifeGoesOn load_of may verdict_of state_after c id all all (slice_get hooks id) (slice_get hooks id) h.entries) (sym uncalled) (record {
         left = record { state = first_state; is = refl };
         calls = refl;
         replied = tt;
@@ -82,11 +83,11 @@ each_text [] entries = refl
 each_text (life ∷ lives) entries = ap (λ (rest : List ℕ). header life.config.name ++ flat_map entry_text (entries_of life.id entries) ++ rest) (each_text lives entries)
 
 -- in any form, by the entries that were recorded
-told_in : (form : Form) (caches : List CacheConfig) (all : List Line) (h : History) (managed : List Managed) (bytes : List ℕ) → h.lives ≡ lives_of caches all → managed ≡ managed_of caches all → bytes ≡ report_in form (length caches) h managed
+told_in : (form : Form) (caches : List CacheConfig) (all : List Line) (h : History) (managed : List Managed) (bytes : List ℕ) → h.lives ≡ lives_of_script caches all → managed ≡ managed_of caches all → bytes ≡ report_in form (length caches) h managed
     → IsToldIn form (λ id. entries_of id h.entries) caches all bytes
 told_in form.Text caches all h managed bytes lives answers is =
     is ∙ ap (λ (xs : List ℕ). xs ++ managed_text managed) (each_text h.lives h.entries) ∙ ap (λ (ls : List Life). alone_from (λ id. entries_of id h.entries) ls ++ managed_text managed) lives
-    ∙ ap (λ (ms : List Managed). alone_from (λ id. entries_of id h.entries) (lives_of caches all) ++ managed_text ms) answers
+    ∙ ap (λ (ms : List Managed). alone_from (λ id. entries_of id h.entries) (lives_of_script caches all) ++ managed_text ms) answers
 told_in (form.Json outline) caches all h managed bytes lives answers is = record {
   transcript = h;
   has = record { lives = lives; each = λ id. refl };
@@ -95,7 +96,7 @@ told_in (form.Json outline) caches all h managed bytes lives answers is = record
 
 module _ {L W P K : Type 0} (load_of : L → List ℕ → Loaded) (may : W → List (Request × Answer) → Type 0) (verdict_of : P → Option (List ℕ) → List ℕ → Result Verdict ProcessorFault) (state_after : K → List Notice → List ℕ) where
   pub lives_recorded : (caches : List CacheConfig) (handed : List (CacheHooks L W P K)) (all : List Line) (r : Recording) (hooks : List (CacheHooks L W P K)) (managed : List Managed) → Halfway load_of may verdict_of state_after caches handed all [] r hooks managed
-      → r.transcript.lives ≡ lives_of caches all
+      → r.transcript.lives ≡ lives_of_script caches all
   lives_recorded caches handed all r hooks managed half = sym (append-nil r.transcript.lives) ∙ half.lives
 
   pub last_moment : (form : Form) (bytes : List ℕ) (caches : List CacheConfig) (handed : List (CacheHooks L W P K)) (all : List Line) (r : Recording) (hooks : List (CacheHooks L W P K)) (managed : List Managed)
@@ -103,17 +104,17 @@ module _ {L W P K : Type 0} (load_of : L → List ℕ → Loaded) (may : W → L
       → Reports load_of may verdict_of state_after form caches all handed hooks bytes
   last_moment form bytes caches handed all r hooks managed half legal is =
       let entries : List Entry = r.transcript.entries in
-      let lives : r.transcript.lives ≡ lives_of caches all = lives_recorded caches handed all r hooks managed half in
+      let lives : r.transcript.lives ≡ lives_of_script caches all = lives_recorded caches handed all r hooks managed half in
       let answers : managed ≡ managed_of caches all = sym (append-nil managed) ∙ half.answers in
       record {
         entries = λ id. entries_of id entries;
         told = told_in form caches all r.transcript managed bytes lives answers is;
         each = λ id c at.
             let at' : config_of id r.transcript.lives ≡ Some c = ap (config_of id) lives ∙ at in
-            let g : Goes load_of may verdict_of state_after c id all [] (slice_get handed id) (slice_get hooks id) entries = half.each id c at' in
+            let g : LifeGoesOn load_of may verdict_of state_after c id all [] (slice_get handed id) (slice_get hooks id) entries = half.each id c at' in
             record {
               alone = record {
-                calls = sym (append-nil (map line_of (entries_of id entries))) ∙ g.calls;
+                calls = sym (append-nil (map line_of_entry (entries_of id entries))) ∙ g.calls;
                 legal = legal.each id c at';
                 replied = g.replied;
               };

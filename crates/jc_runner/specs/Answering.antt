@@ -18,8 +18,8 @@ abbrev pub written_in : List (Request × Answer) → List (Request × Answer)
 written_in given = filter (λ x. is_write x.0) given
 
 -- the notices that these requests tell
-abbrev pub notices_in : List (Request × Answer) → List Notice
-notices_in given = flat_map (λ x. told_by x.0) given
+abbrev pub notices_told_in : List (Request × Answer) → List Notice
+notices_told_in given = flat_map (λ x. told_by x.0) given
 
 module _ {L W P K : Type 0} (load_of : L → List ℕ → Loaded) (may : W → List (Request × Answer) → Type 0) (verdict_of : P → Option (List ℕ) → List ℕ → Result Verdict ProcessorFault) (state_after : K → List Notice → List ℕ) where
   -- each answer of loader and processors is their function of its request
@@ -38,7 +38,7 @@ module _ {L W P K : Type 0} (load_of : L → List ℕ → Loaded) (may : W → L
     pub processors : new.processors.items ≡ old.processors.items
     pub stated : AllStated old.loader old.processors.items given
     pub writes : GivesAnswers may old.writer new.writer (written_in given)
-    pub tells : TellsAll state_after old.listeners.items new.listeners.items (notices_in given)
+    pub tells : TellsAll state_after old.listeners.items new.listeners.items (notices_told_in given)
 
   -- of the callbacks of a cache that has them or has none
   abbrev pub HeardAt : Option (CacheHooks L W P K) → Option (CacheHooks L W P K) → List (Request × Answer) → Type 0

@@ -2,10 +2,10 @@
 use Rattle.std.specs.Prelude.{◌≡◌, ◌⊎◌, ℕ, List, [], ◌∷◌, ◌++◌, Option, Some, None, ⊤}
 
 -- a file that was opened, by what its path holds
-abbrev pub IsFound : Option (Option (List ℕ)) → Option (List ℕ) → Type 0
-IsFound None left = ⊤
-IsFound (Some None) left = ⊥
-IsFound (Some (Some bytes)) left = left ≡ Some bytes
+abbrev pub IsFileFound : Option (Option (List ℕ)) → Option (List ℕ) → Type 0
+IsFileFound None left = ⊤
+IsFileFound (Some None) left = ⊥
+IsFileFound (Some (Some bytes)) left = left ≡ Some bytes
 
 -- a path that does not open
 abbrev pub MayBeMissing : Option (Option (List ℕ)) → Type 0
@@ -17,10 +17,10 @@ abbrev pub FailsToOpen : {E : Type 0} → E → E → Option (Option (List ℕ))
 FailsToOpen unreadable memory held fault = ((fault ≡ unreadable) × MayBeMissing held) ⊎ (fault ≡ memory)
 
 -- this was asked for next
-abbrev pub Asks : Option (List (List ℕ)) → Option (List (List ℕ)) → List ℕ → Type 0
-Asks None None path = ⊤
-Asks (Some old) (Some new) path = new ≡ old ++ path ∷ []
-Asks _ _ path = ⊥
+abbrev pub AsksForPath : Option (List (List ℕ)) → Option (List (List ℕ)) → List ℕ → Type 0
+AsksForPath None None path = ⊤
+AsksForPath (Some old) (Some new) path = new ≡ old ++ path ∷ []
+AsksForPath _ _ path = ⊥
 
 -- what is true of the bytes of a path that was opened
 abbrev pub OfBytes : Option (Option (List ℕ)) → (List ℕ → Type 0) → Type 0

@@ -2,7 +2,7 @@
 use Rattle.std.specs.Prelude.{ℕ, Bool, true, false, List, ◌++◌, Option, Some, None, codes, decimal}
 use Rattle.jc_config.specs.declared.fault.ConfigFault.{ConfigFault}
 use Rattle.jc_config.specs.declared.fault.ConfigFault.TheVariants as config
-use Rattle.jc_config.specs.Faults.{name_of}
+use Rattle.jc_config.specs.Faults.{config_member_name}
 use Rattle.jc_script.specs.declared.fault.ScriptFault.{ScriptFault}
 use Rattle.jc_script.specs.declared.fault.ScriptFault.TheVariants as script
 use Rattle.jc_script.specs.Member.{member_name}
@@ -43,7 +43,7 @@ abbrev pub config_line : ConfigFault → List ℕ
 config_line config.TooLong = codes "config: too long\n"
 config_line config.NotToml = codes "config: not TOML\n"
 config_line config.UnknownEntry = codes "config: unknown entry\n"
-config_line (config.Bad n member) = bad_cache_line n (name_of member)
+config_line (config.Bad n member) = bad_cache_line n (config_member_name member)
 config_line config.TooManyCaches = codes "config: too many caches\n"
 config_line (config.DuplicateName n) = at_cache n (codes ": duplicate name\n")
 config_line config.TotalCapacity = codes "config: total capacity\n"

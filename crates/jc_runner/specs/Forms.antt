@@ -8,7 +8,7 @@ use Rattle.jc_model.specs.declared.event.Entry.{Entry}
 use Rattle.jc_model.specs.Legal.{History, entries_of}
 use Rattle.jc_script.specs.declared.line.Line.{Line}
 use Rattle.jc_script.specs.declared.managed.Managed.{Managed}
-use Rattle.jc_script.specs.Managing.{lives_of, managed_of}
+use Rattle.jc_script.specs.Managing.{lives_of_script, managed_of}
 use Rattle.jc_script.specs.Report as report
 use Rattle.jc_words.specs.declared.run.Format.{Format}
 use Rattle.jc_words.specs.declared.run.Format.TheVariants as format
@@ -28,7 +28,7 @@ report_in (form.Json outline) first h managed = json first outline h managed
 
 -- these lives, and of each these entries
 pub record Has (entries : ℕ → List Entry) (caches : List CacheConfig) (all : List Line) (h : History) : Type 0 where
-  pub lives : h.lives ≡ lives_of caches all
+  pub lives : h.lives ≡ lives_of_script caches all
   pub each : (id : ℕ) → entries_of id h.entries ≡ entries id
 
 -- a text that is a report of these entries of each life as JSON; which of two lives' entries came first it does not tell

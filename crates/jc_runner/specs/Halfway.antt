@@ -18,7 +18,7 @@ use Rattle.jc_model.specs.declared.event.Step.{Step}
 use Rattle.jc_model.specs.declared.event.Step.TheVariants.{Done}
 use Rattle.jc_model.specs.State.{State}
 use Rattle.jc_model.specs.Run.{answered}
-use Rattle.jc_model.specs.Runs.{Status, Standing, idle, fresh, opened, Lives, live_at, shown, standing_of, answer_to, create_refusal, lives_after}
+use Rattle.jc_model.specs.Runs.{Status, Standing, idle, fresh, opened, Lives, shown, standing_of, answer_to, create_refusal, lives_after}
 use Rattle.jc_model.specs.Solo.{standing_from}
 use Rattle.jc_model.specs.Legal.{Fits, played, entries_of, config_of, on_open, recorded, Tells}
 use Rattle.jc_engine.specs.Caches.{lives_of}
@@ -28,10 +28,11 @@ use Rattle.jc_hooks.specs.declared.loader.Loaded.{Loaded}
 use Rattle.jc_script.specs.declared.line.Line.{Line}
 use Rattle.jc_script.specs.declared.line.Line.TheVariants as line
 use Rattle.jc_script.specs.declared.managed.Managed.{Managed}
-use Rattle.jc_script.specs.Managing.{begun_from, managed_by, managed_from, managed_of, lives_of as lives_of_all}
-use Rattle.jc_runner.specs.Alone.{calls_on, line_of, AllReplied, exchanged, exchanges, run_alone, entry_by}
+use Rattle.jc_script.specs.Managing.{lives_begun_from, managed_by, managed_from, managed_of, lives_of_script as lives_of_all}
+use Rattle.jc_runner.specs.Alone.{calls_on, line_of_entry, AllReplied, exchanges_of_call, exchanges, run_alone, entry_by}
 use Rattle.jc_runner.specs.Answering.{HeardAt}
 use Rattle.jc_script.specs.declared.line.LineCall.{LineCall}
+use Rattle.jc_model.specs.Places.{at_place}
 
 abbrev pub lives_now : Recording → Lives
 lives_now r = lives_of r.caches
@@ -49,7 +50,7 @@ pub record CanMove (r : Recording) (event : Event) : Type 0 where
   pub outcome : answer_to (lives_now r) event false ≡ Stepped step
 
 -- an event had this outcome, and was recorded
-pub record Moves (old new : Recording) (session : ℕ) (event : Event) (outcome : Outcome) : Type 0 where
+pub record MovesRecording (old new : Recording) (session : ℕ) (event : Event) (outcome : Outcome) : Type 0 where
   pub answers : outcome ≡ answer_to (lives_now old) event false
   pub lives : lives_now new ≡ lives_after (lives_now old) event outcome
   pub transcript : new.transcript ≡ recorded session event outcome old.transcript
@@ -59,20 +60,20 @@ abbrev pub refusal_now : Recording → CacheConfig → Option CreateRefusal
 refusal_now r config = create_refusal (lives_now r) config
 
 -- a cache was created, or refused
-abbrev pub Creates : Recording → Recording → ℕ → CacheConfig → Type 0
-Creates old new session config = Moves old new session (Create config) (answer_to (lives_now old) (Create config) false)
+abbrev pub CreatesCache : Recording → Recording → ℕ → CacheConfig → Type 0
+CreatesCache old new session config = MovesRecording old new session (Create config) (answer_to (lives_now old) (Create config) false)
 
 -- a cache was destroyed
-abbrev pub Destroys : Recording → Recording → ℕ → ℕ → Type 0
-Destroys old new session id = Moves old new session (Destroy id) Destroyed
+abbrev pub DestroysCache : Recording → Recording → ℕ → ℕ → Type 0
+DestroysCache old new session id = MovesRecording old new session (Destroy id) Destroyed
 
 -- the call of a line has begun, and came to this step
-abbrev pub BeginsCall : Recording → Recording → LineCall → Step → Type 0
-BeginsCall old new l step = Moves old new l.session (event_of l) (Stepped step)
+abbrev pub BeginsLineCall : Recording → Recording → LineCall → Step → Type 0
+BeginsLineCall old new l step = MovesRecording old new l.session (event_of l) (Stepped step)
 
 -- the open call of a cache was handed this answer, and came to this step, whichever session made it
 abbrev pub HandsAnswer : Recording → Recording → ℕ → Answer → Step → Type 0
-HandsAnswer old new id answer step = (session : ℕ) → Moves old new session (Answered id answer) (Stepped step)
+HandsAnswer old new id answer step = (session : ℕ) → MovesRecording old new session (Answered id answer) (Stepped step)
 
 -- behind what was noted, it was noted what became of a line, where it creates or destroys a cache
 abbrev pub NotesLine : Recording → Line → List Managed → List Managed → Type 0
@@ -82,7 +83,7 @@ NotesLine r l before after = after ≡ before ++ managed_by (as_read (lives_now 
 abbrev pub NoneOpen : List Entry → Type 0
 NoneOpen entries = (id : ℕ) (f : Entry → Entry) → on_open id f entries ≡ entries
 
-pub record IsIdle (standing : Standing) : Type 0 where
+pub record IsStandingIdle (standing : Standing) : Type 0 where
   pub state : State
   pub is : standing ≡ idle state
 
@@ -91,18 +92,18 @@ pub record IsAtRest (r : Recording) : Type 0 where
   pub told : Tells r.transcript (lives_now r)
   pub counted : length r.transcript.lives ≡ length (lives_now r)
   pub closed : NoneOpen r.transcript.entries
-  pub resting : (id : ℕ) (k : Status) → live_at (lives_now r) id ≡ Some k → IsIdle k.standing
+  pub resting : (id : ℕ) (k : Status) → at_place (lives_now r) id ≡ Some k → IsStandingIdle k.standing
 
 -- a line's call can begin
-pub record IsReady (r : Recording) (l : LineCall) : Type 0 where
+pub record IsLineReady (r : Recording) (l : LineCall) : Type 0 where
   pub config : CacheConfig
   pub state : State
-  pub there : live_at (lives_now r) l.id ≡ Some (record { config = config; standing = idle state })
+  pub there : at_place (lives_now r) l.id ≡ Some (record { config = config; standing = idle state })
   pub moves : CanMove r (event_of l)
   pub rest : IsAtRest r
 
 -- an id that is still to come has not been called
-pub record Comes {L W P K : Type 0} (id : ℕ) (all rest : List Line) (handed hooks : Option (CacheHooks L W P K)) : Type 0 where
+pub record IsStillToCome {L W P K : Type 0} (id : ℕ) (all rest : List Line) (handed hooks : Option (CacheHooks L W P K)) : Type 0 where
   pub calls : calls_on id rest ≡ calls_on id all
   pub same : hooks ≡ handed
 
@@ -116,12 +117,12 @@ module _ {L W P K : Type 0} (load_of : L → List ℕ → Loaded) (may : W → L
     pub begun : new.transcript.lives ≡ old.transcript.lives
     pub entries : new.transcript.entries ≡ old.transcript.entries ++ entry_by l (run_alone c s l) answers ∷ []
     pub told : Tells new.transcript (lives_now new)
-    pub heard : HeardAt load_of may verdict_of state_after h h' (exchanged (run_alone c s l) answers)
+    pub heard : HeardAt load_of may verdict_of state_after h h' (exchanges_of_call (run_alone c s l) answers)
 
   pub record Reached (old new : Recording) (h h' : Option (CacheHooks L W P K)) (l : LineCall) (step : Step) : Type 0 where
     pub config : CacheConfig
     pub state : State
-    pub there : live_at (lives_now old) l.id ≡ Some (record { config = config; standing = idle state })
+    pub there : at_place (lives_now old) l.id ≡ Some (record { config = config; standing = idle state })
     pub reached : ReachedFrom config state old new h h' l step
 
   -- it has replied
@@ -137,18 +138,18 @@ module _ {L W P K : Type 0} (load_of : L → List ℕ → Loaded) (may : W → L
   -- a line was run
   abbrev pub RunsLine : Recording → Recording → List (CacheHooks L W P K) → List (CacheHooks L W P K) → Line → Type 0
   RunsLine old new hooks hooks' (line.Call l) = RepliesAt old new hooks hooks' l
-  RunsLine old new hooks hooks' (line.Create session c) = Creates old new session c × (hooks' ≡ hooks)
-  RunsLine old new hooks hooks' (line.Destroy session id) = Destroys old new session id × (hooks' ≡ hooks)
+  RunsLine old new hooks hooks' (line.Create session c) = CreatesCache old new session c × (hooks' ≡ hooks)
+  RunsLine old new hooks hooks' (line.Destroy session id) = DestroysCache old new session id × (hooks' ≡ hooks)
 
   -- what was recorded of a life, with the lines that are left, are all of its calls
-  pub record Goes (c : CacheConfig) (id : ℕ) (all rest : List Line) (handed hooks : Option (CacheHooks L W P K)) (entries : List Entry) : Type 0 where
-    pub left : IsIdle (standing_from c fresh (map played (entries_of id entries)))
-    pub calls : map line_of (entries_of id entries) ++ calls_on id rest ≡ calls_on id all
+  pub record LifeGoesOn (c : CacheConfig) (id : ℕ) (all rest : List Line) (handed hooks : Option (CacheHooks L W P K)) (entries : List Entry) : Type 0 where
+    pub left : IsStandingIdle (standing_from c fresh (map played (entries_of id entries)))
+    pub calls : map line_of_entry (entries_of id entries) ++ calls_on id rest ≡ calls_on id all
     pub replied : AllReplied (entries_of id entries)
     pub heard : HeardAt load_of may verdict_of state_after handed hooks (exchanges c fresh (entries_of id entries))
 
   pub record Halfway (caches : List CacheConfig) (handed : List (CacheHooks L W P K)) (all rest : List Line) (r : Recording) (hooks : List (CacheHooks L W P K)) (managed : List Managed) : Type 0 where
-    pub lives : r.transcript.lives ++ begun_from (as_read (lives_now r)) rest ≡ lives_of_all caches all
+    pub lives : r.transcript.lives ++ lives_begun_from (as_read (lives_now r)) rest ≡ lives_of_all caches all
     pub answers : managed ++ managed_from (as_read (lives_now r)) rest ≡ managed_of caches all
-    pub each : (id : ℕ) (c : CacheConfig) → config_of id r.transcript.lives ≡ Some c → Goes c id all rest (slice_get handed id) (slice_get hooks id) r.transcript.entries
-    pub others : (id : ℕ) → length (lives_now r) ≤ id → Comes id all rest (slice_get handed id) (slice_get hooks id)
+    pub each : (id : ℕ) (c : CacheConfig) → config_of id r.transcript.lives ≡ Some c → LifeGoesOn c id all rest (slice_get handed id) (slice_get hooks id) r.transcript.entries
+    pub others : (id : ℕ) → length (lives_now r) ≤ id → IsStillToCome id all rest (slice_get handed id) (slice_get hooks id)

@@ -6,7 +6,7 @@ use Rattle.jc_model.specs.declared.config.CacheConfig.{CacheConfig}
 use Rattle.jc_engine.specs.Opening.{open_refusal}
 
 -- a cache that has none
-pub record HasNone {L W P K : Type 0} (h : CacheHooks L W P K) : Type 0 where
+pub record HasNoHooks {L W P K : Type 0} (h : CacheHooks L W P K) : Type 0 where
   pub loader : h.loader ≡ None
   pub writer : h.writer ≡ None
   pub processors : h.processors.items ≡ []

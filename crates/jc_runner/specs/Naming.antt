@@ -15,8 +15,8 @@ use Rattle.jc_hooks.specs.declared.program.ProgramProcessor.TheVariants.{Append,
 use Rattle.jc_hooks.specs.declared.filter.AdmitAll.{AdmitAll}
 use Rattle.jc_hooks.specs.declared.hook.ListenerHook.{ListenerHook}
 use Rattle.jc_hooks.specs.declared.tally.Tally.{Tally}
-use Rattle.jc_hooks.specs.Asking.{admitted}
-use Rattle.jc_hooks.specs.Tallies.{no_notices, numbers, tallied}
+use Rattle.jc_hooks.specs.Asking.{admitted_notices}
+use Rattle.jc_hooks.specs.Tallies.{no_notices, tally_numbers, tally_after}
 use Rattle.jc_model.specs.declared.call.Notice.{Notice}
 use Rattle.jc_model.specs.declared.config.CacheConfig.{CacheConfig}
 
@@ -30,7 +30,7 @@ fresh_listener = record { filter = record {}; listener = no_notices }
 
 -- what such a listener states for a list of notices: it is told all that its filter admits
 abbrev pub heard_by : ProgramListener → List Notice → List ℕ
-heard_by h notices = numbers (tallied h.listener (admitted (λ _. true) notices))
+heard_by h notices = tally_numbers (tally_after h.listener (admitted_notices (λ _. true) notices))
 
 -- the program's callbacks of a cache
 abbrev pub ProgramHooks : Type 0
@@ -51,13 +51,13 @@ processor_named kind.Drop = Drop
 processor_named kind.Peek = Peek
 
 -- fresh callbacks of these kinds, and as many listeners as the cache is to have
-pub record IsNamed (c : CacheConfig) (k : HookKinds) (h : ProgramHooks) : Type 0 where
+pub record AreHooksNamed (c : CacheConfig) (k : HookKinds) (h : ProgramHooks) : Type 0 where
   pub loader : h.loader ≡ loader_named k.loader
   pub writer : h.writer ≡ writer_named k.writer
   pub processors : h.processors.items ≡ map processor_named k.processors
   pub listeners : h.listeners.items ≡ replicate c.listeners fresh_listener
 
-abbrev pub AllNamed : List CacheConfig → List HookKinds → List ProgramHooks → Type 0
-AllNamed [] kinds [] = ⊤
-AllNamed (c ∷ caches) (k ∷ kinds) (h ∷ hooks) = IsNamed c k h × AllNamed caches kinds hooks
-AllNamed _ _ _ = ⊥
+abbrev pub AllHooksNamed : List CacheConfig → List HookKinds → List ProgramHooks → Type 0
+AllHooksNamed [] kinds [] = ⊤
+AllHooksNamed (c ∷ caches) (k ∷ kinds) (h ∷ hooks) = AreHooksNamed c k h × AllHooksNamed caches kinds hooks
+AllHooksNamed _ _ _ = ⊥

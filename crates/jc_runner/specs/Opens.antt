@@ -16,6 +16,6 @@ AllHaveKinds [] [] = ⊤
 AllHaveKinds (c ∷ caches) (k ∷ kinds) = HasKinds c k × AllHaveKinds caches kinds
 AllHaveKinds _ _ = ⊥
 
-pub record Opens (c : Configuration) : Type 0 where
+pub record CanOpenConfiguration (c : Configuration) : Type 0 where
   pub kinds : AllHaveKinds c.settings c.hooks
   pub refuses_nothing : open_refusal c.settings ≡ None

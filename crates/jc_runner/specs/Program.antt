@@ -7,8 +7,8 @@ use Rattle.clap.specs.declared.error.Error.{Error}
 use Rattle.clap.specs.declared.error.kind.ErrorKind.TheVariants.{DisplayHelp, DisplayVersion, OutOfMemory}
 use Rattle.jc_config.specs.declared.kinds.Configuration.{Configuration}
 use Rattle.jc_config.specs.declared.kinds.HookKinds.{HookKinds}
-use Rattle.jc_hooks.specs.Processors.{verdict_by}
-use Rattle.jc_hooks.specs.Program.{echoed, AllChecked}
+use Rattle.jc_hooks.specs.Processors.{program_verdict}
+use Rattle.jc_hooks.specs.Program.{echo_answer, AllChecked}
 use Rattle.jc_model.specs.declared.config.CacheConfig.{CacheConfig}
 use Rattle.jc_replay.specs.Table.{replay_table}
 use Rattle.jc_script.specs.declared.line.Line.{Line}
@@ -22,16 +22,16 @@ use Rattle.jc_words.specs.declared.run.Format.{Format}
 use Rattle.jc_words.specs.declared.run.Format.TheVariants as format
 use Rattle.jc_words.specs.declared.run.Run.{Run}
 use Rattle.jc_runner.specs.Demonstration.{demonstration_caches}
-use Rattle.jc_runner.specs.Disks.{IsFound, FailsToOpen, Asks}
-use Rattle.jc_runner.specs.Endings.{ending_of, no_memory, HasStatus, SaysSo, Leaves}
+use Rattle.jc_runner.specs.Disks.{IsFileFound, FailsToOpen, AsksForPath}
+use Rattle.jc_runner.specs.Endings.{ending_of, memory_ending, HasStatus, SaysSo, Leaves}
 use Rattle.jc_runner.specs.Forms.{form_of}
 use Rattle.jc_runner.specs.Meters.{most_reads, AddsAtMost}
-use Rattle.jc_runner.specs.Naming.{ProgramHooks, AllNamed, heard_by}
+use Rattle.jc_runner.specs.Naming.{ProgramHooks, AllHooksNamed, heard_by}
 use Rattle.jc_runner.specs.Reports.{ReportsOf}
-use Rattle.jc_runner.specs.Strictness.{HasNone, HasOne}
+use Rattle.jc_runner.specs.Strictness.{HasNoStray, HasStray}
 use Rattle.jc_runner.specs.Texts.{IsConfiguration, ConfigHasFault, ScriptIsGood, ScriptHasFault}
 use Rattle.jc_runner.specs.Together.{stated_of, GathersSo}
-use Rattle.jc_runner.specs.Watching.{unread, InputIsTooLong, ReadFails, AddsText, AddsFront, AddsNothing, WriteFails}
+use Rattle.jc_runner.specs.Watching.{unread_reader, InputIsTooLong, ReadFails, AddsText, AddsFront, AddsNothing, WriteFails}
 use Rattle.jc_runner.specs.declared.exit.Ended.{Ended}
 use Rattle.jc_runner.specs.declared.exit.Ending.{Ending}
 use Rattle.jc_runner.specs.declared.exit.Ending.TheVariants.{Refused, Mistaken, NotText}
@@ -47,24 +47,24 @@ use Rattle.jc_runner.specs.declared.input.Watched.{Watched}
 use Rattle.jc_runner.specs.declared.output.WatchedWriter.{WatchedWriter}
 
 -- the report of a script, with fresh callbacks of the kinds that the configuration names, of which this is true
-pub record Reported (format : Format) (c : Configuration) (script : List ℕ) (IsSo : List ℕ → Type 0) : Type 0 where
+pub record ReportsSerially (format : Format) (c : Configuration) (script : List ℕ) (IsSo : List ℕ → Type 0) : Type 0 where
   pub hooks : List ProgramHooks
   pub hooks' : List ProgramHooks
-  pub named : AllNamed c.settings c.hooks hooks
-  pub reports : ReportsOf (λ l. echoed) (λ w given. AllChecked given) verdict_by heard_by format c.settings script hooks hooks' IsSo
+  pub named : AllHooksNamed c.settings c.hooks hooks
+  pub reports : ReportsOf (λ l. echo_answer) (λ w given. AllChecked given) program_verdict heard_by format c.settings script hooks hooks' IsSo
 
 -- the same of a run on worker threads
-pub record Gathered (format : Format) (c : Configuration) (script : List ℕ) (IsSo : List ℕ → Type 0) : Type 0 where
+pub record GathersFromWorkers (format : Format) (c : Configuration) (script : List ℕ) (IsSo : List ℕ → Type 0) : Type 0 where
   pub hooks : List ProgramHooks
-  pub named : AllNamed c.settings c.hooks hooks
+  pub named : AllHooksNamed c.settings c.hooks hooks
   pub all : List Line
   pub read : lines c.settings script ≡ Ok all
-  pub gathers : GathersSo (form_of format script all) (stated_of (λ l. echoed) verdict_by hooks) c.settings all IsSo
+  pub gathers : GathersSo (form_of format script all) (stated_of (λ l. echo_answer) program_verdict hooks) c.settings all IsSo
 
 -- by one thread, or by workers
-abbrev pub Tells : Bool → Format → Configuration → List ℕ → (List ℕ → Type 0) → Type 0
-Tells true format c script IsSo = Reported format c script IsSo
-Tells false format c script IsSo = Gathered format c script IsSo
+abbrev pub ReportsOneWay : Bool → Format → Configuration → List ℕ → (List ℕ → Type 0) → Type 0
+ReportsOneWay true format c script IsSo = ReportsSerially format c script IsSo
+ReportsOneWay false format c script IsSo = GathersFromWorkers format c script IsSo
 
 -- what is not told as a failed reading came without one
 abbrev pub HasNotFailed : {T E F : Type 0} → E → Result T E → Watched F → Watched F → Type 0
@@ -74,27 +74,27 @@ HasNotFailed fault result old new = result ≢ Err fault → new.failures ≡ ol
 module _ {I O : Type 0} (remaining : I → Option (List ℕ)) (contents : O → Option (List ℕ)) (serial strict : Bool) (format : Format) (c : Configuration) (reader reader' : Watched I) (writer writer' : WatchedWriter O) where
   abbrev pub RunEnds : Result (Unit {0}) RunFault → Type 0
   RunEnds (Ok done) =
-      IfSome (remaining reader.inner) (λ script. Tells serial format c script (AddsText contents writer writer'))
-      × HasNone strict (remaining reader.inner) × IsAtEnd (remaining reader'.inner) × (writer'.failures ≡ writer.failures) × (writer'.flushed ≡ true)
+      IfSome (remaining reader.inner) (λ script. ReportsOneWay serial format c script (AddsText contents writer writer'))
+      × HasNoStray strict (remaining reader.inner) × IsAtEnd (remaining reader'.inner) × (writer'.failures ≡ writer.failures) × (writer'.flushed ≡ true)
   RunEnds (Err run.Read) = ReadFails reader reader' × AddsNothing contents writer writer'
   RunEnds (Err run.TooLong) = InputIsTooLong remaining reader × AddsNothing contents writer writer'
   RunEnds (Err (run.Script fault)) = ScriptHasFault remaining c.settings reader fault × AddsNothing contents writer writer'
-  RunEnds (Err (run.Entry n)) = HasOne strict c.settings (remaining reader.inner) n × AddsNothing contents writer writer'
+  RunEnds (Err (run.Entry n)) = HasStray strict c.settings (remaining reader.inner) n × AddsNothing contents writer writer'
   RunEnds (Err run.Open) = ⊥
   RunEnds (Err run.Close) = (serial ≡ false) × AddsNothing contents writer writer'
   RunEnds (Err run.Write) =
-      IfSome (remaining reader.inner) (λ script. Tells serial format c script (AddsFront contents writer writer'))
-      × HasNone strict (remaining reader.inner) × WriteFails writer writer'
+      IfSome (remaining reader.inner) (λ script. ReportsOneWay serial format c script (AddsFront contents writer writer'))
+      × HasNoStray strict (remaining reader.inner) × WriteFails writer writer'
   RunEnds (Err run.Memory) = AddsNothing contents writer writer'
 
 -- A script that is read and not run: how that ends.
 module _ {I : Type 0} (remaining : I → Option (List ℕ)) (strict : Bool) (caches : List CacheConfig) (reader reader' : Watched I) where
   abbrev pub LinesEnd : Result (Unit {0}) RunFault → Type 0
-  LinesEnd (Ok done) = ScriptIsGood remaining caches reader × HasNone strict (remaining reader.inner) × IsAtEnd (remaining reader'.inner)
+  LinesEnd (Ok done) = ScriptIsGood remaining caches reader × HasNoStray strict (remaining reader.inner) × IsAtEnd (remaining reader'.inner)
   LinesEnd (Err run.Read) = ReadFails reader reader'
   LinesEnd (Err run.TooLong) = InputIsTooLong remaining reader
   LinesEnd (Err (run.Script fault)) = ScriptHasFault remaining caches reader fault
-  LinesEnd (Err (run.Entry n)) = HasOne strict caches (remaining reader.inner) n
+  LinesEnd (Err (run.Entry n)) = HasStray strict caches (remaining reader.inner) n
   LinesEnd (Err run.Memory) = ⊤
   LinesEnd (Err _) = ⊥
 
@@ -111,27 +111,27 @@ module _ {I : Type 0} (remaining : I → Option (List ℕ)) (reader reader' : Wa
 module _ {F : Type 0} (remaining : F → Option (List ℕ)) (held : Option (Option (List ℕ))) where
   -- it was opened, and not read yet
   abbrev pub IsUnreadFile : Watched F → Type 0
-  IsUnreadFile reader = (reader ≡ unread reader.inner) × IsFound held (remaining reader.inner)
+  IsUnreadFile reader = (reader ≡ unread_reader reader.inner) × IsFileFound held (remaining reader.inner)
 
   -- the file does not open, or it is read to its end or its fault
   abbrev pub ConfigEnds : Option (Watched F) → Result Configuration ProgramFault → Type 0
   ConfigEnds None result = FailsToOpen (Err program.ConfigRead) (Err (program.Run run.Memory)) held result
   ConfigEnds (Some reader) result =
-      (file : F) × IsFound held (remaining file) × AddsAtMost most_reads 0 reader.reads × HasNotFailed program.ConfigRead result (unread file) reader × ConfigRead remaining (unread file) reader result
+      (file : F) × IsFileFound held (remaining file) × AddsAtMost most_reads 0 reader.reads × HasNotFailed program.ConfigRead result (unread_reader file) reader × ConfigRead remaining (unread_reader file) reader result
 
   -- the same of the script
   module _ {O : Type 0} (contents : O → Option (List ℕ)) (serial strict : Bool) (format : Format) (c : Configuration) (writer writer' : WatchedWriter O) where
     abbrev pub ScriptEnds : Option (Watched F) → Result (Unit {0}) RunFault → Type 0
     ScriptEnds None result = FailsToOpen (Err run.Read) (Err run.Memory) held result × AddsNothing contents writer writer'
     ScriptEnds (Some reader) result =
-        (file : F) × IsFound held (remaining file) × AddsAtMost most_reads 0 reader.reads × HasNotFailed run.Read result (unread file) reader
-        × RunEnds remaining contents serial strict format c (unread file) reader writer writer' result
+        (file : F) × IsFileFound held (remaining file) × AddsAtMost most_reads 0 reader.reads × HasNotFailed run.Read result (unread_reader file) reader
+        × RunEnds remaining contents serial strict format c (unread_reader file) reader writer writer' result
 
   -- of a script that is not run
   abbrev pub ScriptRead : Bool → List CacheConfig → Option (Watched F) → Result (Unit {0}) RunFault → Type 0
   ScriptRead strict caches None result = FailsToOpen (Err run.Read) (Err run.Memory) held result
   ScriptRead strict caches (Some reader) result =
-      (file : F) × IsFound held (remaining file) × AddsAtMost most_reads 0 reader.reads × HasNotFailed run.Read result (unread file) reader × LinesEnd remaining strict caches (unread file) reader result
+      (file : F) × IsFileFound held (remaining file) × AddsAtMost most_reads 0 reader.reads × HasNotFailed run.Read result (unread_reader file) reader × LinesEnd remaining strict caches (unread_reader file) reader result
 
 -- What a path names: standard input, for which the disk is not asked, or a file. Standard input is read on from where it
 -- stands.
@@ -139,19 +139,19 @@ module _ {F I : Type 0} (of_file : F → Option (List ℕ)) (of_input : I → Op
   abbrev pub ConfigFrom : Bool → Option (Watched F) → Result Configuration ProgramFault → Type 0
   ConfigFrom true opened result =
       (opened ≡ None) × (asked' ≡ asked) × AddsAtMost most_reads input.reads input'.reads × HasNotFailed program.ConfigRead result input input' × ConfigRead of_input input input' result
-  ConfigFrom false opened result = (input' ≡ input) × Asks asked asked' path × ConfigEnds of_file held opened result
+  ConfigFrom false opened result = (input' ≡ input) × AsksForPath asked asked' path × ConfigEnds of_file held opened result
 
   module _ {O : Type 0} (contents : O → Option (List ℕ)) (serial strict : Bool) (format : Format) (c : Configuration) (writer writer' : WatchedWriter O) where
     abbrev pub ScriptFrom : Bool → Option (Watched F) → Result (Unit {0}) RunFault → Type 0
     ScriptFrom true opened result =
         (opened ≡ None) × (asked' ≡ asked) × AddsAtMost most_reads input.reads input'.reads × HasNotFailed run.Read result input input'
         × RunEnds of_input contents serial strict format c input input' writer writer' result
-    ScriptFrom false opened result = (input' ≡ input) × Asks asked asked' path × ScriptEnds of_file held contents serial strict format c writer writer' opened result
+    ScriptFrom false opened result = (input' ≡ input) × AsksForPath asked asked' path × ScriptEnds of_file held contents serial strict format c writer writer' opened result
 
   abbrev pub LinesFrom : Bool → List CacheConfig → Bool → Option (Watched F) → Result (Unit {0}) RunFault → Type 0
   LinesFrom strict caches true opened result =
       (opened ≡ None) × (asked' ≡ asked) × AddsAtMost most_reads input.reads input'.reads × HasNotFailed run.Read result input input' × LinesEnd of_input strict caches input input' result
-  LinesFrom strict caches false opened result = (input' ≡ input) × Asks asked asked' path × ScriptRead of_file held strict caches opened result
+  LinesFrom strict caches false opened result = (input' ≡ input) × AsksForPath asked asked' path × ScriptRead of_file held strict caches opened result
 
 -- The same of the path itself, by what the disk holds there.
 module _ {F I : Type 0} (of_file : F → Option (List ℕ)) (of_input : I → Option (List ℕ)) (holds : List ℕ → Option (Option (List ℕ))) (path : List ℕ) (asked asked' : Option (List (List ℕ))) (input input' : Watched I) where
@@ -172,17 +172,17 @@ as_program (Ok done) = Ok done
 as_program (Err fault) = Err (program.Run fault)
 
 -- what was read as a configuration, where one without caches is refused if that is asked for
-abbrev pub allowed : Bool → Result Configuration ProgramFault → Result Configuration ProgramFault
-allowed strict (Err fault) = Err fault
-allowed strict (Ok c) = if strict && (length c.settings == 0) then Err program.NoCaches else Ok c
+abbrev pub allowed_config : Bool → Result Configuration ProgramFault → Result Configuration ProgramFault
+allowed_config strict (Err fault) = Err fault
+allowed_config strict (Ok c) = if strict && (length c.settings == 0) then Err program.NoCaches else Ok c
 
 -- the two files of a run: what the disk holds, what it was asked for, and how they were read
 module _ {F I O : Type 0} (of_file : F → Option (List ℕ)) (of_input : I → Option (List ℕ)) (contents : O → Option (List ℕ)) (holds : List ℕ → Option (Option (List ℕ))) (asked asked' : Option (List (List ℕ))) (run : Run)
     (config script : Option (Watched F)) (input input' : Watched I) (writer writer' : WatchedWriter O) where
   -- after the configuration's fault no script is asked for
-  abbrev pub GoesOn : Option (List (List ℕ)) → Watched I → Result Configuration ProgramFault → Result (Unit {0}) ProgramFault → Type 0
-  GoesOn before between (Err fault) result = (result ≡ Err fault) × (script ≡ None) × (asked' ≡ before) × (input' ≡ between) × AddsNothing contents writer writer'
-  GoesOn before between (Ok c) result =
+  abbrev pub GoesOnToScript : Option (List (List ℕ)) → Watched I → Result Configuration ProgramFault → Result (Unit {0}) ProgramFault → Type 0
+  GoesOnToScript before between (Err fault) result = (result ≡ Err fault) × (script ≡ None) × (asked' ≡ before) × (input' ≡ between) × AddsNothing contents writer writer'
+  GoesOnToScript before between (Ok c) result =
       (ran : Result (Unit {0}) RunFault) × (result ≡ as_program ran)
       × AskedScriptEnds of_file of_input contents holds run c before asked' between input' writer writer' script ran
 
@@ -191,7 +191,7 @@ module _ {F I O : Type 0} (of_file : F → Option (List ℕ)) (of_input : I → 
     pub between : Watched I
     pub read : Result Configuration ProgramFault
     pub reads : ConfigAt of_file of_input holds (string_bytes run.config) asked before input between config read
-    pub goes_on : GoesOn before between (allowed run.strict read) result
+    pub goes_on : GoesOnToScript before between (allowed_config run.strict read) result
 
 -- the files of a check, of which the second may be left out: the same, and nothing is run
 module _ {F I : Type 0} (of_file : F → Option (List ℕ)) (of_input : I → Option (List ℕ)) (holds : List ℕ → Option (Option (List ℕ))) (asked asked' : Option (List (List ℕ))) (check : Check)
@@ -201,32 +201,32 @@ module _ {F I : Type 0} (of_file : F → Option (List ℕ)) (of_input : I → Op
   ReadsAt before between caches None read = (read ≡ Ok tt) × (script ≡ None) × (asked' ≡ before) × (input' ≡ between)
   ReadsAt before between caches (Some path) read = LinesAt of_file of_input holds (string_bytes path) before asked' between input' check.strict caches script read
 
-  abbrev pub ReadsOn : Option (List (List ℕ)) → Watched I → Result Configuration ProgramFault → Result (Unit {0}) ProgramFault → Type 0
-  ReadsOn before between (Err fault) result = (result ≡ Err fault) × (script ≡ None) × (asked' ≡ before) × (input' ≡ between)
-  ReadsOn before between (Ok c) result = (read : Result (Unit {0}) RunFault) × (result ≡ as_program read) × ReadsAt before between c.settings check.script read
+  abbrev pub ReadsOnToScript : Option (List (List ℕ)) → Watched I → Result Configuration ProgramFault → Result (Unit {0}) ProgramFault → Type 0
+  ReadsOnToScript before between (Err fault) result = (result ≡ Err fault) × (script ≡ None) × (asked' ≡ before) × (input' ≡ between)
+  ReadsOnToScript before between (Ok c) result = (read : Result (Unit {0}) RunFault) × (result ≡ as_program read) × ReadsAt before between c.settings check.script read
 
   pub record CheckEnds (result : Result (Unit {0}) ProgramFault) : Type 0 where
     pub before : Option (List (List ℕ))
     pub between : Watched I
     pub read : Result Configuration ProgramFault
     pub reads : ConfigAt of_file of_input holds (string_bytes check.config) asked before input between config read
-    pub goes_on : ReadsOn before between (allowed check.strict read) result
+    pub goes_on : ReadsOnToScript before between (allowed_config check.strict read) result
 
 -- the table of a trace's replay, of which this is true
-abbrev pub Tables : List ℕ → (List ℕ → Type 0) → List ℕ → Type 0
-Tables capacities IsSo trace = (text : List ℕ) × (replay_table trace capacities ≡ Ok text) × IsSo text
+abbrev pub TablesTrace : List ℕ → (List ℕ → Type 0) → List ℕ → Type 0
+TablesTrace capacities IsSo trace = (text : List ℕ) × (replay_table trace capacities ≡ Ok text) × IsSo text
 
 -- A trace that is replayed: how that ends. The table is written, or a front of it.
 module _ {I O : Type 0} (remaining : I → Option (List ℕ)) (contents : O → Option (List ℕ)) (capacities : List ℕ) (reader reader' : Watched I) (writer writer' : WatchedWriter O) where
   abbrev pub TraceEnds : Result (Unit {0}) ProgramFault → Type 0
   TraceEnds (Ok done) =
-      IfSome (remaining reader.inner) (Tables capacities (AddsText contents writer writer'))
+      IfSome (remaining reader.inner) (TablesTrace capacities (AddsText contents writer writer'))
       × IsAtEnd (remaining reader'.inner) × (writer'.failures ≡ writer.failures) × (writer'.flushed ≡ true)
   TraceEnds (Err program.TraceRead) = ReadFails reader reader' × AddsNothing contents writer writer'
   TraceEnds (Err (program.Trace fault)) =
       IfSome (remaining reader.inner) (λ trace. replay_table trace capacities ≡ Err fault) × AddsNothing contents writer writer'
   TraceEnds (Err (program.Run run.Write)) =
-      IfSome (remaining reader.inner) (Tables capacities (AddsFront contents writer writer')) × WriteFails writer writer'
+      IfSome (remaining reader.inner) (TablesTrace capacities (AddsFront contents writer writer')) × WriteFails writer writer'
   TraceEnds (Err (program.Run run.Memory)) = AddsNothing contents writer writer'
   TraceEnds (Err _) = ⊥
 
@@ -236,8 +236,8 @@ module _ {F O : Type 0} (of_file : F → Option (List ℕ)) (contents : O → Op
   TraceFileEnds None result =
       FailsToOpen (Err program.TraceRead) (Err (program.Run run.Memory)) held result × AddsNothing contents writer writer'
   TraceFileEnds (Some reader) result =
-      (file : F) × IsFound held (of_file file) × AddsAtMost most_reads 0 reader.reads × HasNotFailed program.TraceRead result (unread file) reader
-      × TraceEnds of_file contents capacities (unread file) reader writer writer' result
+      (file : F) × IsFileFound held (of_file file) × AddsAtMost most_reads 0 reader.reads × HasNotFailed program.TraceRead result (unread_reader file) reader
+      × TraceEnds of_file contents capacities (unread_reader file) reader writer writer' result
 
 -- or on standard input
 module _ {F I O : Type 0} (of_file : F → Option (List ℕ)) (of_input : I → Option (List ℕ)) (contents : O → Option (List ℕ)) (held : Option (Option (List ℕ))) (path : List ℕ) (asked asked' : Option (List (List ℕ))) (capacities : List ℕ)
@@ -246,7 +246,7 @@ module _ {F I O : Type 0} (of_file : F → Option (List ℕ)) (of_input : I → 
   TraceFrom true opened result =
       (opened ≡ None) × (asked' ≡ asked) × AddsAtMost most_reads input.reads input'.reads × HasNotFailed program.TraceRead result input input'
       × TraceEnds of_input contents capacities input input' writer writer' result
-  TraceFrom false opened result = (input' ≡ input) × Asks asked asked' path × TraceFileEnds of_file contents held capacities writer writer' opened result
+  TraceFrom false opened result = (input' ≡ input) × AsksForPath asked asked' path × TraceFileEnds of_file contents held capacities writer writer' opened result
 
 -- the trace of a replay; no configuration is read
 module _ {F I O : Type 0} (of_file : F → Option (List ℕ)) (of_input : I → Option (List ℕ)) (contents : O → Option (List ℕ)) (holds : List ℕ → Option (Option (List ℕ))) (asked asked' : Option (List (List ℕ))) (replay : Replay)
@@ -293,18 +293,18 @@ module _ {F I O : Type 0} (of_file : F → Option (List ℕ)) (of_input : I → 
       checks : (check : Check) → AsksFor words (asks.Check check) → (ran : Result (Unit {0}) ProgramFault) → CheckEnds of_file of_input holds asked asked' check opened'.config opened'.script input input' ran → writer' ≡ writer → ending ≡ ending_of check.explain ran → WordsEnd
       replays : (replay : Replay) → AsksFor words (asks.Replay replay) → (ran : Result (Unit {0}) ProgramFault) → ReplayEnds of_file of_input contents holds asked asked' replay opened'.config opened'.script input input' writer writer' ran → ending ≡ ending_of false ran → WordsEnd
       refuses : (e : Error) → words ≢ [] → MayRefuse words e → kind_of e ≢ OutOfMemory → RefusesSo words e ending → RunsNone → WordsEnd
-      lacks_memory : ending ≡ no_memory → RunsNone → WordsEnd
+      lacks_memory : ending ≡ memory_ending → RunsNone → WordsEnd
 
   abbrev pub Obeys : Result (List Text) WordsFault → Ending → Type 0
   Obeys (Ok words) ending = WordsEnd words ending
   Obeys (Err fault.NotText) ending = (ending ≡ NotText) × RunsNone
   Obeys (Err (fault.Explained text)) ending = (ending ≡ Mistaken text) × RunsNone
-  Obeys (Err fault.OutOfMemory) ending = (ending ≡ no_memory) × RunsNone
+  Obeys (Err fault.OutOfMemory) ending = (ending ≡ memory_ending) × RunsNone
 
 module _ {F I O E : Type 0} (of_file : F → Option (List ℕ)) (of_input : I → Option (List ℕ)) (contents : O → Option (List ℕ)) (said : E → Option (List ℕ)) (holds : List ℕ → Option (Option (List ℕ))) (asked asked' : Option (List (List ℕ)))
     (opened opened' : Opened F) (standard standard' : Standard I O E) where
   -- the program has obeyed the words, and then said how that ended, with these lines below a fault that is explained
-  pub record Ends (lines : List ℕ) (words : Result (List Text) WordsFault) (result : Ended) : Type 0 where
+  pub record ProgramEnds (lines : List ℕ) (words : Result (List Text) WordsFault) (result : Ended) : Type 0 where
     pub ending : Ending
     pub written : WatchedWriter O
     pub obeys : Obeys of_file of_input contents holds asked asked' opened opened' standard.input standard'.input standard.output written words ending

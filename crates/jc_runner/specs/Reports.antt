@@ -12,7 +12,7 @@ use Rattle.jc_model.specs.Runs.{fresh}
 use Rattle.jc_hooks.specs.declared.cache_hooks.CacheHooks.{CacheHooks}
 use Rattle.jc_hooks.specs.declared.loader.Loaded.{Loaded}
 use Rattle.jc_script.specs.declared.line.Line.{Line}
-use Rattle.jc_script.specs.Managing.{lives_of}
+use Rattle.jc_script.specs.Managing.{lives_of_script}
 use Rattle.jc_script.specs.Script.{lines}
 use Rattle.jc_runner.specs.Alone.{calls_on, IsAlone, exchanges}
 use Rattle.jc_runner.specs.Answering.{HeardAt}
@@ -24,7 +24,7 @@ use Rattle.jc_runner.specs.declared.output.form.Form.{Form}
 
 module _ {L W P K : Type 0} (load_of : L → List ℕ → Loaded) (may : W → List (Request × Answer) → Type 0) (verdict_of : P → Option (List ℕ) → List ℕ → Result Verdict ProcessorFault) (state_after : K → List Notice → List ℕ) where
   -- the entries of a life alone, its callbacks having answered their requests, and what they state afterwards
-  pub record AnswersBy (c : CacheConfig) (own : List LineCall) (entries : List Entry) (old new : Option (CacheHooks L W P K)) : Type 0 where
+  pub record LifeAnswersBy (c : CacheConfig) (own : List LineCall) (entries : List Entry) (old new : Option (CacheHooks L W P K)) : Type 0 where
     pub alone : IsAlone c own entries
     pub heard : HeardAt load_of may verdict_of state_after old new (exchanges c fresh entries)
 
@@ -33,7 +33,7 @@ module _ {L W P K : Type 0} (load_of : L → List ℕ → Loaded) (may : W → L
   pub record Reports (form : Form) (caches : List CacheConfig) (all : List Line) (old new : List (CacheHooks L W P K)) (text : List ℕ) : Type 0 where
     pub entries : ℕ → List Entry
     pub told : IsToldIn form entries caches all text
-    pub each : (id : ℕ) (c : CacheConfig) → config_of id (lives_of caches all) ≡ Some c → AnswersBy c (calls_on id all) (entries id) (slice_get old id) (slice_get new id)
+    pub each : (id : ℕ) (c : CacheConfig) → config_of id (lives_of_script caches all) ≡ Some c → LifeAnswersBy c (calls_on id all) (entries id) (slice_get old id) (slice_get new id)
 
   -- the report of the lines of these bytes, of which this is true
   pub record ReportsOf (format : Format) (caches : List CacheConfig) (bytes : List ℕ) (old new : List (CacheHooks L W P K)) (IsSo : List ℕ → Type 0) : Type 0 where

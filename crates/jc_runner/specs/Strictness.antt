@@ -5,9 +5,9 @@ use Rattle.jc_script.specs.Script.{lines}
 use Rattle.jc_strict.specs.Stray.{stray_line}
 
 -- there are none, where that is asked for
-abbrev pub HasNone : Bool → Option (List ℕ) → Type 0
-HasNone strict left = strict ≡ true → IfSome left (λ script. stray_line script ≡ None)
+abbrev pub HasNoStray : Bool → Option (List ℕ) → Type 0
+HasNoStray strict left = strict ≡ true → IfSome left (λ script. stray_line script ≡ None)
 
 -- that is asked for, and this line of a script without other faults has one
-abbrev pub HasOne : Bool → List CacheConfig → Option (List ℕ) → ℕ → Type 0
-HasOne strict caches left n = (strict ≡ true) × IfSome left (λ script. IsOk (lines caches script) × (stray_line script ≡ Some n))
+abbrev pub HasStray : Bool → List CacheConfig → Option (List ℕ) → ℕ → Type 0
+HasStray strict caches left n = (strict ≡ true) × IfSome left (λ script. IsOk (lines caches script) × (stray_line script ≡ Some n))

@@ -1,6 +1,6 @@
 -- What a reader has left, read as a configuration or as a script, and the faults of it that a run tells.
 use Rattle.std.specs.Prelude.{◌≡◌, ℕ, List, Option, IfSome, Result, Ok, Err, IsOk}
-use Rattle.jc_config.specs.Config.{configuration_of}
+use Rattle.jc_config.specs.Config.{configuration_in}
 use Rattle.jc_config.specs.declared.fault.ConfigFault.{ConfigFault}
 use Rattle.jc_config.specs.declared.fault.ConfigFault.TheVariants.{TooLong}
 use Rattle.jc_config.specs.declared.kinds.Configuration.{Configuration}
@@ -16,10 +16,10 @@ use Rattle.jc_runner.specs.declared.input.Watched.{Watched}
 
 module _ {R : Type 0} (remaining : R → Option (List ℕ)) where
   abbrev pub IsConfiguration : Watched R → Configuration → Type 0
-  IsConfiguration reader c = IfSome (remaining reader.inner) (λ bytes. configuration_of bytes ≡ Ok c)
+  IsConfiguration reader c = IfSome (remaining reader.inner) (λ bytes. configuration_in bytes ≡ Ok c)
 
   abbrev pub ConfigHasFault : Watched R → ConfigFault → Type 0
-  ConfigHasFault reader fault = IfSome (remaining reader.inner) (λ bytes. configuration_of bytes ≡ Err fault)
+  ConfigHasFault reader fault = IfSome (remaining reader.inner) (λ bytes. configuration_in bytes ≡ Err fault)
 
   -- a fault of the configuration is only that it is too long
   abbrev pub FaultIsOfLength : Watched R → ProgramFault → Type 0

@@ -9,10 +9,10 @@ use Rattle.jc_model.specs.declared.event.CreateRefusal.{CreateRefusal}
 use Rattle.jc_model.specs.Legal.{History, IsLegal}
 use Rattle.jc_script.specs.declared.line.Line.{Line}
 use Rattle.jc_script.specs.declared.managed.Managed.{Managed}
-use Rattle.jc_script.specs.Calls.{calls_in}
-use Rattle.jc_script.specs.Managing.{lives_of, managed_of}
+use Rattle.jc_script.specs.Calls.{calls_in_lines}
+use Rattle.jc_script.specs.Managing.{lives_of_script, managed_of}
 use Rattle.jc_shared.specs.Stated.{Stated, stated_by, shared_of}
-use Rattle.jc_threads.specs.Lines.{AreMade}
+use Rattle.jc_threads.specs.Lines.{AreCallsMade}
 use Rattle.jc_threads.specs.Managing.{AreManaged}
 use Rattle.jc_runner.specs.Forms.{report_in}
 use Rattle.jc_runner.specs.Hooks.{AreSuited, CannotOpen}
@@ -32,8 +32,8 @@ module _ (stated : List Stated) (caches : List CacheConfig) (all : List Line) wh
   -- reply, under answers that were stated.
   pub record IsMade (transcript : History) : Type 0 where
     pub legal : IsLegal transcript
-    pub lives : transcript.lives ≡ lives_of caches all
-    pub made : AreMade stated (calls_in all) transcript.entries
+    pub lives : transcript.lives ≡ lives_of_script caches all
+    pub made : AreCallsMade stated (calls_in_lines all) transcript.entries
 
 module _ (form : Form) (stated : List Stated) (caches : List CacheConfig) (all : List Line) where
   -- A text that is the report of such a transcript, and of the manager's lines as they come to, one after the other.

@@ -2,18 +2,18 @@
 use Rattle.std.specs.Prelude.{◌≡◌, ℕ, ◌<◌, List, length, true, false, Option, IfSome}
 use Rattle.std.specs.Io.KnownBytes.{Appends, Keeps}
 use Rattle.jc_model.specs.Limits.{text_bytes}
-use Rattle.jc_runner.specs.Meters.{next}
+use Rattle.jc_runner.specs.Meters.{next_count}
 use Rattle.jc_runner.specs.Streams.{IsAll, WritesFront}
 use Rattle.jc_runner.specs.declared.input.Watched.{Watched}
 use Rattle.jc_runner.specs.declared.output.WatchedWriter.{WatchedWriter}
 
 -- a reader that was not read yet
-abbrev pub unread : {R : Type 0} → R → Watched R
-unread reader = record { inner = reader; reads = 0; failures = 0 }
+abbrev pub unread_reader : {R : Type 0} → R → Watched R
+unread_reader reader = record { inner = reader; reads = 0; failures = 0 }
 
 -- a writer that was not called yet
-abbrev pub unused : {W : Type 0} → W → WatchedWriter W
-unused writer = record { inner = writer; failures = 0; unheard = false; flushed = false }
+abbrev pub unused_writer : {W : Type 0} → W → WatchedWriter W
+unused_writer writer = record { inner = writer; failures = 0; unheard = false; flushed = false }
 
 -- What a reader has left, before and after.
 module _ {R : Type 0} (remaining : R → Option (List ℕ)) where
@@ -26,7 +26,7 @@ module _ {R : Type 0} (remaining : R → Option (List ℕ)) where
 
 -- the reader failed once
 abbrev pub ReadFails : {R : Type 0} → Watched R → Watched R → Type 0
-ReadFails old new = new.failures ≡ next old.failures
+ReadFails old new = new.failures ≡ next_count old.failures
 
 -- What was added to a writer: a text, a front of one, or nothing.
 module _ {W : Type 0} (contents : W → Option (List ℕ)) where
@@ -45,4 +45,4 @@ FlushesAll old new = (new.flushed ≡ true) × (new.failures ≡ old.failures)
 
 -- the writer failed once
 abbrev pub WriteFails : {W : Type 0} → WatchedWriter W → WatchedWriter W → Type 0
-WriteFails old new = new.failures ≡ next old.failures
+WriteFails old new = new.failures ≡ next_count old.failures

@@ -2,7 +2,7 @@
 ghost use Rattle.std.specs.Prelude.{◌≡◌, ◌↔◌, ◌∷◌, [], IsTrue, IfOk};
 ghost use Rattle.jc_model.specs.Run.{is_answer_to};
 ghost use Rattle.jc_runner.specs.Answering.{Heard};
-ghost use Rattle.jc_runner.specs.Hooks.{AreSuited, HasNone, asked_of};
+ghost use Rattle.jc_runner.specs.Hooks.{AreSuited, HasNoHooks, asked_of};
 
 pub mod named;
 
@@ -29,7 +29,7 @@ pub fn all_suit<L: Loader, W: Writer, P: Processor, K: Hearer>(
 pub(crate) fn no_hooks<L: Loader, W: Writer, P: Processor, K: Hearer>(
     alloc: Global,
 ) -> CacheHooks<L, W, P, K>
-    ensures { HasNone result }
+    ensures { HasNoHooks result }
 {
     CacheHooks {
         loader: None,

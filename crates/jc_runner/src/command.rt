@@ -1,7 +1,7 @@
 //! The program: it does what its words ask for, over a disk and the standard streams, and says how that ended.
 ghost use Rattle.std.specs.Prelude.{◌≡◌, ◌↔◌, ℕ, List, [], IsTrue, IfOk, IfErr, Ok, Err, map, string_bytes};
 ghost use Rattle.clap.specs.Words.{kind_of};
-ghost use Rattle.jc_runner.specs.Program.{WordsEnd, Obeys, Ends, RefusesSo};
+ghost use Rattle.jc_runner.specs.Program.{WordsEnd, Obeys, ProgramEnds, RefusesSo};
 
 pub mod demonstration;
 pub mod streams;
@@ -58,7 +58,7 @@ fn refusal(alloc: Global, words: &[&str], error: Error) -> Ending
 }
 
 /// Does what the words after the program's name ask for.
-fn obey<D: Disk, I: Read, O: Write, R: Threads + Wait + Sync>(
+fn obey_words<D: Disk, I: Read, O: Write, R: Threads + Wait + Sync>(
     rt: &R,
     alloc: Global,
     words: &[String],
@@ -120,7 +120,7 @@ pub fn heed<D: Disk, I: Read, O: Write, R: Threads + Wait + Sync>(
     ensures same { (other : List ℕ) → D.holds disk.new other ≡ D.holds disk.old other }
 {
     match words {
-        Ok(words) => obey(rt, alloc, words.as_slice(), disk, opened, input, output),
+        Ok(words) => obey_words(rt, alloc, words.as_slice(), disk, opened, input, output),
         Err(WordsFault::NotText) => Ending::NotText,
         Err(WordsFault::Explained(text)) => Ending::Mistaken(text),
         Err(WordsFault::OutOfMemory) => Ending::Faulty(ProgramFault::Run(RunFault::Memory)),
@@ -146,11 +146,11 @@ pub fn program<D: Disk, I: Read, O: Write, E: Write, R: Threads + Wait + Sync>(
     opened: &mut Opened<D::File>,
     standard: &mut Standard<I, O, E>,
 ) -> Ended
-    ensures ends { IfOk words (λ v. Ends D.File.remaining I.remaining O.contents E.contents
+    ensures ends { IfOk words (λ v. ProgramEnds D.File.remaining I.remaining O.contents E.contents
         (D.holds disk.old) (D.asked disk.old) (D.asked disk.new) opened.old opened.new
         standard.old standard.new [] (Ok (map string_bytes v.items)) result) }
-    ensures wordless { IfErr words (λ fault. Ends D.File.remaining I.remaining O.contents E.contents
-        (D.holds disk.old) (D.asked disk.old) (D.asked disk.new) opened.old opened.new
+    ensures wordless { IfErr words (λ fault. ProgramEnds D.File.remaining I.remaining O.contents
+        E.contents (D.holds disk.old) (D.asked disk.old) (D.asked disk.new) opened.old opened.new
         standard.old standard.new [] (Err fault) result) }
     ensures same { (other : List ℕ) → D.holds disk.new other ≡ D.holds disk.old other }
 {

@@ -1,9 +1,9 @@
 //! How the program ends, with which status, and what it says; and, before that, what it says to a person at a terminal.
 ghost use Rattle.std.specs.Prelude.{◌≡◌, ◌++◌, ◌&&◌, ◌==◌, length, true, is_err, OnOk, IfOk, IfErr, [], codes};
 ghost use Rattle.std.specs.Option.{option_copied};
-ghost use Rattle.jc_runner.specs.Endings.{Greets, HasStatus, SaysNothing, SaysSo, SaysFault, TellsLine, IsPrinted, Leaves, ending_of, is_unheard, unwritten, no_text_line};
+ghost use Rattle.jc_runner.specs.Endings.{Greets, HasStatus, SaysNothing, SaysSo, SaysFault, TellsLine, IsPrinted, Leaves, ending_of, is_unheard, unwritten_status, no_text_line};
 ghost use Rattle.jc_runner.specs.Faults.{told_lines};
-ghost use Rattle.jc_runner.specs.Meters.{next_if};
+ghost use Rattle.jc_runner.specs.Meters.{next_count_if};
 ghost use Rattle.jc_runner.specs.Watching.{AddsText};
 
 pub mod fault;
@@ -99,7 +99,7 @@ pub fn ending_of(explain: bool, ran: Result<(), ProgramFault>) -> Ending
 
 fn write_no_text<E: Write>(errors: &mut WatchedWriter<E>) -> io::Result<()>
     ensures bytes { OnOk result (AddsText E.contents errors.old errors.new no_text_line) }
-    ensures failures { errors.new.failures ≡ next_if (is_err result) errors.old.failures }
+    ensures failures { errors.new.failures ≡ next_count_if (is_err result) errors.old.failures }
 {
     writeln!(errors, "error: a word is not UTF-8")
 }
@@ -153,7 +153,7 @@ fn say_fault<E: Write>(
     unheard: bool,
     errors: &mut WatchedWriter<E>,
 ) -> Ended
-    ensures status { result.status ≡ unwritten (is_unheard fault.now unheard) }
+    ensures status { result.status ≡ unwritten_status (is_unheard fault.now unheard) }
     ensures says { SaysFault E.contents (is_unheard fault.now unheard)
         (told_lines fault.now (option_copied lines.entry)) result.told errors.old errors.new }
 {

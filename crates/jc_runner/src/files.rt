@@ -1,9 +1,9 @@
 //! The two files of a run: the configuration, and the script that is played with its callbacks.
 ghost use Rattle.std.specs.Prelude.{◌≡◌, ◌≢◌, ◌<◌, ℕ, true, false, List, IfOk, IfErr, Ok, Err, string_bytes};
-ghost use Rattle.jc_runner.specs.Disks.{Asks, FailsToOpen};
+ghost use Rattle.jc_runner.specs.Disks.{AsksForPath, FailsToOpen};
 ghost use Rattle.jc_runner.specs.Meters.{most_reads, AddsAtMost};
-ghost use Rattle.jc_runner.specs.Opens.{Opens};
-ghost use Rattle.jc_runner.specs.Program.{RunEnds, ConfigEnds, ScriptEnds, FilesEnd, allowed, IsUnreadFile, ConfigAt, AskedScriptEnds};
+ghost use Rattle.jc_runner.specs.Opens.{CanOpenConfiguration};
+ghost use Rattle.jc_runner.specs.Program.{RunEnds, ConfigEnds, ScriptEnds, FilesEnd, allowed_config, IsUnreadFile, ConfigAt, AskedScriptEnds};
 ghost use Rattle.jc_runner.specs.declared.exit.fault.RunFault.TheVariants.{Read, Memory};
 
 pub mod check;
@@ -30,15 +30,15 @@ use std::sync::Wait;
 use std::thread::Threads;
 
 /// Opens a configuration and reads it to its end.
-pub(crate) fn configured<D: Disk>(
+pub(crate) fn open_configuration<D: Disk>(
     alloc: Global,
     disk: &mut D,
     path: &str,
     config: &mut Option<Watched<D::File>>,
 ) -> Result<Configuration, ProgramFault>
     ensures ends { ConfigEnds D.File.remaining (D.holds disk.old path.now) config.new result }
-    ensures opens { IfOk result Opens }
-    ensures asked { Asks (D.asked disk.old) (D.asked disk.new) path.now }
+    ensures opens { IfOk result CanOpenConfiguration }
+    ensures asked { AsksForPath (D.asked disk.old) (D.asked disk.new) path.now }
     ensures same { (other : List ℕ) → D.holds disk.new other ≡ D.holds disk.old other }
 {
     *config = None;
@@ -63,22 +63,22 @@ pub(crate) fn configured_from<D: Disk, I: Read>(
 ) -> Result<Configuration, ProgramFault>
     ensures ends { ConfigAt D.File.remaining I.remaining (D.holds disk.old) path.now
         (D.asked disk.old) (D.asked disk.new) input.old input.new config.new result }
-    ensures opens { IfOk result Opens }
+    ensures opens { IfOk result CanOpenConfiguration }
     ensures same { (other : List ℕ) → D.holds disk.new other ≡ D.holds disk.old other }
 {
     if is_input(path) {
         *config = None;
         return read_configuration(alloc, input);
     }
-    configured(alloc, disk, path, config)
+    open_configuration(alloc, disk, path, config)
 }
 
 /// A configuration, where it has caches or may have none.
-pub(crate) fn allowed(
+pub(crate) fn require_caches(
     strict: bool,
     configuration: Configuration,
 ) -> Result<Configuration, ProgramFault>
-    ensures same { result ≡ allowed strict (Ok configuration) }
+    ensures same { result ≡ allowed_config strict (Ok configuration) }
     ensures only { IfOk result (λ c. c ≡ configuration) }
 {
     if strict && configuration.settings.caches().is_empty() {
@@ -97,7 +97,7 @@ pub fn play<I: Read, O: Write>(
     reader: &mut Watched<I>,
     writer: &mut WatchedWriter<O>,
 ) -> Result<(), RunFault>
-    requires { Opens configuration }
+    requires { CanOpenConfiguration configuration }
     ensures ends { RunEnds I.remaining O.contents true strict format configuration
         reader.old reader.new writer.old writer.new result }
     ensures unfailed { result ≢ Err Read → reader.new.failures ≡ reader.old.failures }
@@ -126,7 +126,7 @@ fn play_together<I: Read, O: Write, R: Threads + Wait + Sync>(
     reader: &mut Watched<I>,
     writer: &mut WatchedWriter<O>,
 ) -> Result<(), RunFault>
-    requires opens { Opens configuration }
+    requires opens { CanOpenConfiguration configuration }
     requires workers { 0 < run.now.workers }
     ensures ends { RunEnds I.remaining O.contents false run.now.strict run.now.format configuration
         reader.old reader.new writer.old writer.new result }
@@ -160,7 +160,7 @@ fn play_so<I: Read, O: Write, R: Threads + Wait + Sync>(
     reader: &mut Watched<I>,
     writer: &mut WatchedWriter<O>,
 ) -> Result<(), RunFault>
-    requires opens { Opens configuration }
+    requires opens { CanOpenConfiguration configuration }
     requires workers { 0 < run.now.workers }
     ensures ends { RunEnds I.remaining O.contents
         run.now.serial run.now.strict run.now.format configuration
@@ -187,7 +187,7 @@ fn play_so<I: Read, O: Write, R: Threads + Wait + Sync>(
 pub(crate) fn open_script<D: Disk>(disk: &mut D, path: &str) -> Result<Watched<D::File>, RunFault>
     ensures unread { IfOk result (IsUnreadFile D.File.remaining (D.holds disk.old path.now)) }
     ensures unopened { IfErr result (FailsToOpen Read Memory (D.holds disk.old path.now)) }
-    ensures asked { Asks (D.asked disk.old) (D.asked disk.new) path.now }
+    ensures asked { AsksForPath (D.asked disk.old) (D.asked disk.new) path.now }
     ensures same { (other : List ℕ) → D.holds disk.new other ≡ D.holds disk.old other }
 {
     match disk.open(path) {
@@ -198,7 +198,7 @@ pub(crate) fn open_script<D: Disk>(disk: &mut D, path: &str) -> Result<Watched<D
 }
 
 /// Opens a script and runs it.
-fn scripted<D: Disk, O: Write, R: Threads + Wait + Sync>(
+fn run_script_file<D: Disk, O: Write, R: Threads + Wait + Sync>(
     rt: &R,
     alloc: Global,
     disk: &mut D,
@@ -207,12 +207,12 @@ fn scripted<D: Disk, O: Write, R: Threads + Wait + Sync>(
     script: &mut Option<Watched<D::File>>,
     writer: &mut WatchedWriter<O>,
 ) -> Result<(), RunFault>
-    requires opens { Opens configuration }
+    requires opens { CanOpenConfiguration configuration }
     requires workers { 0 < run.now.workers }
     ensures ends { ScriptEnds D.File.remaining (D.holds disk.old (string_bytes run.now.script))
         O.contents run.now.serial run.now.strict run.now.format configuration
         writer.old writer.new script.new result }
-    ensures asked { Asks (D.asked disk.old) (D.asked disk.new) (string_bytes run.now.script) }
+    ensures asked { AsksForPath (D.asked disk.old) (D.asked disk.new) (string_bytes run.now.script) }
     ensures same { (other : List ℕ) → D.holds disk.new other ≡ D.holds disk.old other }
 {
     *script = None;
@@ -233,7 +233,7 @@ fn scripted_from<D: Disk, I: Read, O: Write, R: Threads + Wait + Sync>(
     input: &mut Watched<I>,
     writer: &mut WatchedWriter<O>,
 ) -> Result<(), RunFault>
-    requires opens { Opens configuration }
+    requires opens { CanOpenConfiguration configuration }
     requires workers { 0 < run.now.workers }
     ensures ends { AskedScriptEnds D.File.remaining I.remaining O.contents (D.holds disk.old)
         run.now configuration (D.asked disk.old) (D.asked disk.new)
@@ -244,7 +244,7 @@ fn scripted_from<D: Disk, I: Read, O: Write, R: Threads + Wait + Sync>(
         *script = None;
         return play_so(rt, alloc, configuration, run, input, writer);
     }
-    scripted(rt, alloc, disk, run, configuration, script, writer)
+    run_script_file(rt, alloc, disk, run, configuration, script, writer)
 }
 
 /// Runs the two files that the words name: first the configuration is read, then the script. Either may be standard
@@ -268,7 +268,7 @@ pub fn run_files<D: Disk, I: Read, O: Write, R: Threads + Wait + Sync>(
     opened.script = None;
     let path = run.config.as_str();
     let read = configured_from(alloc, disk, path, &mut opened.config, input)?;
-    let configuration = allowed(run.strict, read)?;
+    let configuration = require_caches(run.strict, read)?;
     match scripted_from(
         rt,
         alloc,

@@ -3,9 +3,9 @@ ghost use Rattle.std.specs.Prelude.{◌≡◌, ◌≢◌, ◌≤◌, is_err, len
 ghost use Rattle.std.specs.Io.{ReadsAtMost};
 ghost use Rattle.std.specs.Io.KnownBytes.{ReadConsumes};
 ghost use Rattle.jc_model.specs.Limits.{text_bytes};
-ghost use Rattle.jc_runner.specs.Meters.{next, next_if, most_reads, AddsAtMost};
+ghost use Rattle.jc_runner.specs.Meters.{next_count, next_count_if, most_reads, AddsAtMost};
 ghost use Rattle.jc_runner.specs.Streams.{IsOfReading};
-ghost use Rattle.jc_runner.specs.Watching.{unread, ReadsAll, InputIsTooLong, ReadFails};
+ghost use Rattle.jc_runner.specs.Watching.{unread_reader, ReadsAll, InputIsTooLong, ReadFails};
 ghost use Rattle.jc_runner.specs.declared.exit.fault.RunFault.TheVariants as faults;
 
 use crate::exit::fault::RunFault;
@@ -16,14 +16,14 @@ use std::io::Read;
 
 /// One more. A count goes round after `u64::MAX`, so that what was added to it is always seen in full.
 fn next(count: u64) -> u64
-    ensures { result ≡ next count }
+    ensures { result ≡ next_count count }
 {
     if count == u64::MAX { 0 } else { count + 1 }
 }
 
 /// The count, and one more where something failed.
 pub(crate) fn next_if(failed: bool, count: u64) -> u64
-    ensures { result ≡ next_if failed count }
+    ensures { result ≡ next_count_if failed count }
 {
     if failed { next(count) } else { count }
 }
@@ -39,7 +39,7 @@ pub struct Watched<R> {
 impl<R: Read> Watched<R> {
     /// A reader that was not read yet.
     pub fn new(inner: R) -> Watched<R>
-        ensures { result ≡ unread inner }
+        ensures { result ≡ unread_reader inner }
     {
         Watched {
             inner,
@@ -73,8 +73,8 @@ impl<R: Read> Watched<R> {
         ensures bound { ReadsAtMost result buf.new }
         ensures bytes { ReadConsumes (R.remaining self.old.inner) (R.remaining self.new.inner)
             result buf.new }
-        ensures reads { self.new.reads ≡ next self.old.reads }
-        ensures failures { self.new.failures ≡ next_if (is_err result) self.old.failures }
+        ensures reads { self.new.reads ≡ next_count self.old.reads }
+        ensures failures { self.new.failures ≡ next_count_if (is_err result) self.old.failures }
     {
         let result = self.inner.read(buf);
         self.reads = next(self.reads);

@@ -8,7 +8,7 @@ ghost use Rattle.jc_script.specs.declared.line.Line.{Line};
 ghost use Rattle.jc_script.specs.Managing.{managed_of};
 ghost use Rattle.jc_script.specs.Report as report;
 ghost use Rattle.jc_shared.specs.Stated.{Stated};
-ghost use Rattle.jc_runner.specs.Apart.{AreApart, TellsAlone, AnswerAlike};
+ghost use Rattle.jc_runner.specs.Apart.{HaveOneCallerEach, TellsAlone, AnswerAlike};
 ghost use Rattle.jc_runner.specs.Reports.{Reports};
 ghost use Rattle.jc_runner.specs.Together.{IsMade};
 ghost use Rattle.jc_runner.specs.declared.output.form.Form.TheVariants as form;
@@ -19,7 +19,7 @@ use jc_hooks::{Hearer, Loader, Processor, Writer};
 pub fn apart_is_alone()
     ensures { (stated : List Stated) (caches : List CacheConfig) (all : List Line)
         (transcript : History)
-        → IsMade stated caches all transcript → AreApart all
+        → IsMade stated caches all transcript → HaveOneCallerEach all
         → TellsAlone caches all (λ id. entries_of id transcript.entries)
         (report.text transcript (managed_of caches all)) }
 {}

@@ -2,9 +2,9 @@
 ghost use Rattle.std.specs.Prelude.{◌≡◌, true, false, is_err, is_ok, IfSome, IfErr, OnOk, Err};
 ghost use Rattle.std.specs.Io.{WritesAtMost};
 ghost use Rattle.std.specs.Io.KnownBytes.{WriteAppends};
-ghost use Rattle.jc_runner.specs.Meters.{next_if};
+ghost use Rattle.jc_runner.specs.Meters.{next_count_if};
 ghost use Rattle.jc_runner.specs.Streams.{takes_nothing, UnheardAfter};
-ghost use Rattle.jc_runner.specs.Watching.{unused, AddsText, AddsFront, AddsNothing, WriteFails};
+ghost use Rattle.jc_runner.specs.Watching.{unused_writer, AddsText, AddsFront, AddsNothing, WriteFails};
 ghost use Rattle.jc_runner.specs.declared.exit.fault.RunFault.TheVariants as faults;
 
 pub mod form;
@@ -38,7 +38,7 @@ pub struct WatchedWriter<W> {
 impl<W: Write> WatchedWriter<W> {
     /// A writer that was not called yet.
     pub fn new(inner: W) -> WatchedWriter<W>
-        ensures { result ≡ unused inner }
+        ensures { result ≡ unused_writer inner }
     {
         WatchedWriter {
             inner,
@@ -67,7 +67,7 @@ impl<W: Write> WatchedWriter<W> {
     pub(crate) fn write_fmt<T: Display + Drop>(&mut self, text: T) -> io::Result<()>
         ensures bytes { OnOk result (IfSome (T.output text)
             (AddsText W.contents self.old self.new)) }
-        ensures failures { self.new.failures ≡ next_if (is_err result) self.old.failures }
+        ensures failures { self.new.failures ≡ next_count_if (is_err result) self.old.failures }
         ensures unheard { UnheardAfter result self.old.unheard self.new.unheard }
         ensures flushed { self.new.flushed ≡ false }
     {
@@ -82,7 +82,7 @@ impl<W: Write> WatchedWriter<W> {
         ensures bound { WritesAtMost result buf.now }
         ensures bytes { WriteAppends (W.contents self.old.inner) (W.contents self.new.inner)
             result buf.now }
-        ensures failures { self.new.failures ≡ next_if (takes_nothing result) self.old.failures }
+        ensures failures { self.new.failures ≡ next_count_if (takes_nothing result) self.old.failures }
         ensures unheard { UnheardAfter result self.old.unheard self.new.unheard }
         ensures flushed { self.new.flushed ≡ false }
     {
@@ -99,7 +99,7 @@ impl<W: Write> WatchedWriter<W> {
 
     pub(crate) fn flush(&mut self) -> io::Result<()>
         ensures bytes { AddsNothing W.contents self.old self.new }
-        ensures failures { self.new.failures ≡ next_if (is_err result) self.old.failures }
+        ensures failures { self.new.failures ≡ next_count_if (is_err result) self.old.failures }
         ensures unheard { UnheardAfter result self.old.unheard self.new.unheard }
         ensures flushed { self.new.flushed ≡ is_ok result }
     {

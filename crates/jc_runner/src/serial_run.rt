@@ -12,7 +12,7 @@ ghost use Rattle.jc_runner.specs.Hooks.{AreKept, AreSuited, CannotOpen};
 ghost use Rattle.jc_runner.specs.Reports.{Reports, ReportsInput};
 ghost use Rattle.jc_runner.specs.Meters.{most_reads, AddsAtMost};
 ghost use Rattle.jc_runner.specs.Streams.{IsOfRunning, IsOfScript, IsOfStrictness, IsBeforeCalls, HasRun};
-ghost use Rattle.jc_runner.specs.Strictness.{HasNone, HasOne};
+ghost use Rattle.jc_runner.specs.Strictness.{HasNoStray, HasStray};
 ghost use Rattle.jc_runner.specs.Texts.{ScriptIsGood, ScriptHasFault, IfScriptFault, IfStrayLine};
 ghost use Rattle.jc_runner.specs.Watching.{InputIsTooLong, ReadFails, AddsText, AddsFront, AddsNothing, FlushesAll, WriteFails};
 ghost use Rattle.jc_strict.specs.Stray.{stray_line};
@@ -61,7 +61,7 @@ pub(crate) fn lines_of(
     }
 }
 
-fn opened<T: Rows>(
+fn open_engine<T: Rows>(
     alloc: Global,
     rows: T,
     settings: Settings,
@@ -103,7 +103,7 @@ fn report_as<T: Rows, L: Loader, W: Writer, P: Processor, K: Hearer>(
     ensures refused { result ≡ Err faults.Open → IsSome (open_refusal settings) }
 {
     let caches = settings.caches().len();
-    let mut recorded = opened(alloc, rows, settings)?;
+    let mut recorded = open_engine(alloc, rows, settings)?;
     let managed = run_all(alloc, &mut recorded, hooks, lines)?;
     let transcript = recorded.transcript();
     let text = report_in(
@@ -173,8 +173,8 @@ pub(crate) fn serial_as<L: Loader, W: Writer, P: Processor, K: Hearer, R: Read, 
         (AddsText O.contents writer.old writer.new)) }
     ensures end { OnOk result (IsAtEnd (R.remaining reader.new.inner)) }
     ensures script { IfScriptFault result (ScriptHasFault R.remaining settings reader.old) }
-    ensures entry { IfStrayLine result (HasOne strict settings (R.remaining reader.old.inner)) }
-    ensures known { HasRun result → HasNone strict (R.remaining reader.old.inner) }
+    ensures entry { IfStrayLine result (HasStray strict settings (R.remaining reader.old.inner)) }
+    ensures known { HasRun result → HasNoStray strict (R.remaining reader.old.inner) }
     ensures long { result ≡ Err faults.TooLong → InputIsTooLong R.remaining reader.old }
     ensures open { result ≡ Err faults.Open → CannotOpen P.wants settings hooks.old }
     ensures good { result ≡ Err faults.Open → ScriptIsGood R.remaining settings reader.old }

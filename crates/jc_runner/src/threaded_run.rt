@@ -2,10 +2,10 @@
 ghost use Rattle.std.specs.Prelude.{◌≡◌, ◌≢◌, ◌<◌, ◌↔◌, IsTrue, IfOk, IfErr, OnOk, OnErr, Err, map, string_bytes};
 ghost use Rattle.jc_model.specs.Legal.{IsLegal};
 ghost use Rattle.jc_model.specs.Runs.{opened_from};
-ghost use Rattle.jc_script.specs.Calls.{calls_in};
+ghost use Rattle.jc_script.specs.Calls.{calls_in_lines};
 ghost use Rattle.jc_script.specs.Named.{AllName};
 ghost use Rattle.jc_shared.specs.Stated.{stated_by, shared_of};
-ghost use Rattle.jc_threads.specs.Lines.{AreMade};
+ghost use Rattle.jc_threads.specs.Lines.{AreCallsMade};
 ghost use Rattle.jc_threads.specs.Managing.{AreManaged};
 ghost use Rattle.jc_runner.specs.Streams.{IsOfThreads, HasRun};
 ghost use Rattle.jc_runner.specs.Together.{refusals_of, SetupSuits, SetupCannotOpen, SetupGathers, SetupGathersSo};
@@ -45,7 +45,7 @@ pub struct Crew<'a, G> {
 }
 
 /// The manager, before it has a name.
-fn unnamed<L: Loader, W: Writer, P: Processor, K: Hearer>(
+fn open_unnamed<L: Loader, W: Writer, P: Processor, K: Hearer>(
     alloc: Global,
     setup: Setup<L, W, P, K>,
 ) -> Result<Shared<L, W, P, K>, RunFault>
@@ -72,7 +72,7 @@ fn unnamed<L: Loader, W: Writer, P: Processor, K: Hearer>(
 }
 
 /// The lines made by the crew, on a manager of this name.
-fn made_under<
+fn make_lines_under<
     N: Name + Send + Sync,
     L: Loader,
     W: Writer,
@@ -92,7 +92,8 @@ fn made_under<
     requires stated { map (stated_by L.load_of P.verdict_of) shared.shared ≡ N.stated }
     requires index { shared.index ≡ N.index }
     ensures legal { IfOk result (λ t. IsLegal t.transcript) }
-    ensures made { IfOk result (λ t. AreMade N.stated (calls_in lines.items) t.transcript.entries) }
+    ensures made { IfOk result (λ t.
+        AreCallsMade N.stated (calls_in_lines lines.items) t.transcript.entries) }
     ensures managed { IfOk result (λ t. AreManaged N.configs lines.items t.refusals.items) }
     ensures faults { IfErr result IsOfThreads }
     ensures opened { result ≢ Err faults.Open }
@@ -105,7 +106,7 @@ fn made_under<
 }
 
 /// The same, under a name that this call picks.
-fn made<L: Loader, W: Writer, P: Processor, K: Hearer, G: Gate, R: Threads + Wait + Sync>(
+fn make_lines<L: Loader, W: Writer, P: Processor, K: Hearer, G: Gate, R: Threads + Wait + Sync>(
     rt: &R,
     alloc: Global,
     shared: Shared<L, W, P, K>,
@@ -114,13 +115,13 @@ fn made<L: Loader, W: Writer, P: Processor, K: Hearer, G: Gate, R: Threads + Wai
 ) -> Result<Transcription, RunFault>
     requires workers { 0 < crew.now.workers }
     ensures legal { IfOk result (λ t. IsLegal t.transcript) }
-    ensures made { IfOk result (λ t. AreMade (map (stated_by L.load_of P.verdict_of) shared.shared)
-        (calls_in lines.items) t.transcript.entries) }
+    ensures made { IfOk result (λ t. AreCallsMade (map (stated_by L.load_of P.verdict_of) shared.shared)
+        (calls_in_lines lines.items) t.transcript.entries) }
     ensures managed { IfOk result (λ t. AreManaged shared.configs lines.items t.refusals.items) }
     ensures faults { IfErr result IsOfThreads }
     ensures opened { result ≢ Err faults.Open }
 {
-    made_under::<Brand, L, W, P, K, G, R>(rt, alloc, shared, crew, lines)
+    make_lines_under::<Brand, L, W, P, K, G, R>(rt, alloc, shared, crew, lines)
 }
 
 /// Whether these lines were refused as here.
@@ -139,7 +140,7 @@ fn are_refused_so(managed: &[Managed], refusals: &[Option<CreateRefusal>]) -> bo
 }
 
 /// The transcript, where its lives are those that the lines come to, and the manager has refused as they do.
-fn compared(followed: &Followed, made: Transcription) -> Result<Transcript, RunFault>
+fn compare_lives(followed: &Followed, made: Transcription) -> Result<Transcript, RunFault>
     ensures same { IfOk result (λ t. t ≡ made.transcript) }
     ensures lives { IfOk result (λ t. t.lives ≡ followed.now.lives.items) }
     ensures refusals { OnOk result (refusals_of followed.now.managed.items ≡ made.refusals.items) }
@@ -161,7 +162,7 @@ fn compared(followed: &Followed, made: Transcription) -> Result<Transcript, RunF
 }
 
 /// The report of a run on threads, in this form.
-fn gathered<L: Loader, W: Writer, P: Processor, K: Hearer, G: Gate, R: Threads + Wait + Sync>(
+fn gather_report<L: Loader, W: Writer, P: Processor, K: Hearer, G: Gate, R: Threads + Wait + Sync>(
     rt: &R,
     alloc: Global,
     setup: Setup<L, W, P, K>,
@@ -181,9 +182,9 @@ fn gathered<L: Loader, W: Writer, P: Processor, K: Hearer, G: Gate, R: Threads +
     let followed = follow(alloc, &setup.settings, lines.as_slice())?;
     let caches = setup.settings.caches().len();
     let seed = setup.seed;
-    let shared = unnamed(alloc, setup)?;
-    let made = made(rt, alloc, shared, crew, lines)?;
-    let transcript = compared(&followed, made)?;
+    let shared = open_unnamed(alloc, setup)?;
+    let made = make_lines(rt, alloc, shared, crew, lines)?;
+    let transcript = compare_lives(&followed, made)?;
     let managed = followed.managed.as_slice();
     let text = report_in(alloc, form, caches as u32, &transcript, managed, seed)?;
     Ok(text)
@@ -223,7 +224,7 @@ pub(crate) fn threaded_as<
         e ≢ faults.Write → AddsNothing O.contents writer.old writer.new) }
     ensures others { IfErr result (λ e. e ≢ faults.Write → IsOfThreads e) }
 {
-    let text = gathered(rt, alloc, setup, crew, lines, form)?;
+    let text = gather_report(rt, alloc, setup, crew, lines, form)?;
     write_text(writer, text.as_bytes())
 }
 

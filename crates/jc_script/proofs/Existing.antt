@@ -10,18 +10,18 @@ use Rattle.jc_model.specs.declared.call.Call.{Call}
 use Rattle.jc_model.specs.declared.call.Call.TheVariants as calls
 use Rattle.jc_model.specs.declared.config.CacheConfig.{CacheConfig}
 use Rattle.jc_model.specs.Limits.{sessions, text_bytes}
-use Rattle.jc_model.specs.Places.{named_from}
-use Rattle.jc_model.specs.Runs.{Status, Lives, live_at, opened_from, has_processor}
+use Rattle.jc_model.specs.Places.{named_from, at_place}
+use Rattle.jc_model.specs.Runs.{Status, Lives, opened_from, has_processor}
 use Rattle.jc_script.specs.declared.fault.Member.TheVariants as members
 use Rattle.jc_script.specs.declared.fault.ScriptFault.{ScriptFault}
 use Rattle.jc_script.specs.declared.fault.ScriptFault.TheVariants.{TooLong, Bad}
 use Rattle.jc_script.specs.declared.line.Line.{Line}
 use Rattle.jc_config.specs.FirstFault.{◌>>=◌}
 use Rattle.jc_script.specs.declared.line.Line.TheVariants as line
-use Rattle.jc_script.specs.Creating.{asks_to_create, cache_name, capacity, policy_of, creating}
+use Rattle.jc_script.specs.Creating.{asks_to_create, cache_name, capacity, line_policy, creating}
 use Rattle.jc_script.specs.Line.{calling, on_cache, line_of}
-use Rattle.jc_script.specs.Live.{after_line, id_of, processors_of, processors_at}
-use Rattle.jc_script.specs.Member.{member_name, needed, whole, whole_below, cache, key, keys, pairs, value, object_of}
+use Rattle.jc_script.specs.Live.{after_line, id_of_live, processors_of, processors_at}
+use Rattle.jc_script.specs.Member.{member_name, needed_line_member, whole_u64, whole_u64_below, cache, key, keys, pairs, value, object_of}
 use Rattle.jc_script.specs.Operation.{Reading, of_key, of_key_value, of_key_expected, of_key_expected_value, of_key_processor, of_keys, of_keys_replace, of_keys_processor, of_pairs, on_one, on_many, chosen, call_of}
 use Rattle.jc_script.specs.Script.{piece_of, lines_from, lines, is_blank, is_feed}
 use Rattle.jc_script.specs.Named.{IsLive, Names, AllName}
@@ -50,7 +50,7 @@ record IsPlace (lives : Lives) (first id : ℕ) : Type 0 where
   offset : ℕ
   status : Status
   is : id ≡ first + offset
-  there : live_at lives offset ≡ Some status
+  there : at_place lives offset ≡ Some status
 
 one_further : (l : Option Status) (lives : Lives) (first : ℕ) (o : Option ℕ) → IfSome o (IsPlace lives (first + 1)) → IfSome o (IsPlace (l ∷ lives) first)
 one_further l lives first None h = tt
@@ -69,12 +69,12 @@ from_first : (lives : Lives) (o : Option ℕ) → IfSome o (IsPlace lives 0) →
 from_first lives None h = tt
 from_first lives (Some id) h =
     let same : h.offset ≡ id = omega (arith, h.is) in
-    record { status = h.status; there = ap (live_at lives) (sym same) ∙ h.there }
+    record { status = h.status; there = ap (at_place lives) (sym same) ∙ h.there }
 
-cache_stands : (lives : Lives) (n : ℕ) (d : Data) → IfOk (needed (cache lives) n members.Cache d) (IsLive lives)
+cache_stands : (lives : Lives) (n : ℕ) (d : Data) → IfOk (needed_line_member (cache lives) n members.Cache d) (IsLive lives)
 cache_stands lives n d =
     needed_ok (IsLive lives) (option_and_then (cache lives) (get (member_name members.Cache) d)) (Bad n members.Cache)
-    (found_in (IsLive lives) (cache lives) (get (member_name members.Cache) d) (λ m. found_in (IsLive lives) (id_of lives) (key m) (λ name. from_first lives (id_of lives name) (place_there name 0 lives))))
+    (found_in (IsLive lives) (cache lives) (get (member_name members.Cache) d) (λ m. found_in (IsLive lives) (id_of_live lives) (key m) (λ name. from_first lives (id_of_live lives name) (place_there name 0 lives))))
 
 -- Calls.
 
@@ -82,17 +82,17 @@ cache_stands lives n d =
 abbrev IsWithin : ℕ → Call → Type 0
 IsWithin processors call = (c : CacheConfig) → processors ≡ length c.processors → has_processor c call ≡ true
 
-below : (limit : ℕ) (d : Data) → IfSome (whole_below limit d) (λ n. nat_lt n limit ≡ true)
-below limit d = found_in (λ n. nat_lt n limit ≡ true) (λ n. if nat_lt n limit then Some n else None) (whole d) (λ n. go n (nat_lt n limit) refl)
+below : (limit : ℕ) (d : Data) → IfSome (whole_u64_below limit d) (λ n. nat_lt n limit ≡ true)
+below limit d = found_in (λ n. nat_lt n limit ≡ true) (λ n. if nat_lt n limit then Some n else None) (whole_u64 d) (λ n. go n (nat_lt n limit) refl)
   where
     go : (n : ℕ) (b : Bool) → nat_lt n limit ≡ b → IfSome (if b then Some n else None) (λ i. nat_lt i limit ≡ true)
     go n true e = e
     go n false e = tt
 
-processor_below : (processors n : ℕ) (d : Data) → IfOk (needed (whole_below processors) n members.Processor d) (λ p. nat_lt p processors ≡ true)
+processor_below : (processors n : ℕ) (d : Data) → IfOk (needed_line_member (whole_u64_below processors) n members.Processor d) (λ p. nat_lt p processors ≡ true)
 processor_below processors n d =
-    needed_ok (λ p. nat_lt p processors ≡ true) (option_and_then (whole_below processors) (get (member_name members.Processor) d)) (Bad n members.Processor)
-    (found_in (λ p. nat_lt p processors ≡ true) (whole_below processors) (get (member_name members.Processor) d) (below processors))
+    needed_ok (λ p. nat_lt p processors ≡ true) (option_and_then (whole_u64_below processors) (get (member_name members.Processor) d)) (Bad n members.Processor)
+    (found_in (λ p. nat_lt p processors ≡ true) (whole_u64_below processors) (get (member_name members.Processor) d) (below processors))
 
 -- a call that names no processor is within any number of them
 abbrev IsWithinAll : Call → Type 0
@@ -102,39 +102,39 @@ abbrev ReadsWithin : Reading → Type 0
 ReadsWithin reading = (processors n : ℕ) (d : Data) → IfOk (reading processors n d) (IsWithin processors)
 
 key_within : (call : List ℕ → Call) → ((k : List ℕ) → IsWithinAll (call k)) → ReadsWithin (of_key call)
-key_within call all m n d = behind (IsWithin m) (needed key n members.Key d) _ (λ k. all k m)
+key_within call all m n d = behind (IsWithin m) (needed_line_member key n members.Key d) _ (λ k. all k m)
 
 value_within : (call : List ℕ → List ℕ → Call) → ((k v : List ℕ) → IsWithinAll (call k v)) → ReadsWithin (of_key_value call)
-value_within call all m n d = behind (IsWithin m) (needed key n members.Key d) _ (λ k. behind (IsWithin m) (needed value n members.Value d) _ (λ v. all k v m))
+value_within call all m n d = behind (IsWithin m) (needed_line_member key n members.Key d) _ (λ k. behind (IsWithin m) (needed_line_member value n members.Value d) _ (λ v. all k v m))
 
 expected_within : (call : List ℕ → List ℕ → Call) → ((k x : List ℕ) → IsWithinAll (call k x)) → ReadsWithin (of_key_expected call)
-expected_within call all m n d = behind (IsWithin m) (needed key n members.Key d) _ (λ k. behind (IsWithin m) (needed value n members.Expect d) _ (λ x. all k x m))
+expected_within call all m n d = behind (IsWithin m) (needed_line_member key n members.Key d) _ (λ k. behind (IsWithin m) (needed_line_member value n members.Expect d) _ (λ x. all k x m))
 
 both_within : (call : List ℕ → List ℕ → List ℕ → Call) → ((k x v : List ℕ) → IsWithinAll (call k x v)) → ReadsWithin (of_key_expected_value call)
 both_within call all m n d =
-    behind (IsWithin m) (needed key n members.Key d) _ (λ k. behind (IsWithin m) (needed value n members.Expect d) _ (λ x. behind (IsWithin m) (needed value n members.Value d) _ (λ v. all k x v m)))
+    behind (IsWithin m) (needed_line_member key n members.Key d) _ (λ k. behind (IsWithin m) (needed_line_member value n members.Expect d) _ (λ x. behind (IsWithin m) (needed_line_member value n members.Value d) _ (λ v. all k x v m)))
 
 keys_within : (call : List (List ℕ) → Call) → ((ks : List (List ℕ)) → IsWithinAll (call ks)) → ReadsWithin (of_keys call)
-keys_within call all m n d = behind (IsWithin m) (needed keys n members.Keys d) _ (λ ks. all ks m)
+keys_within call all m n d = behind (IsWithin m) (needed_line_member keys n members.Keys d) _ (λ ks. all ks m)
 
 replace_within : (call : List (List ℕ) → Bool → Call) → ((ks : List (List ℕ)) (replace : Bool) → IsWithinAll (call ks replace)) → ReadsWithin (of_keys_replace call)
-replace_within call all m n d = behind (IsWithin m) (needed keys n members.Keys d) _ (λ ks. behind (IsWithin m) (needed as_bool n members.Replace d) _ (λ replace. all ks replace m))
+replace_within call all m n d = behind (IsWithin m) (needed_line_member keys n members.Keys d) _ (λ ks. behind (IsWithin m) (needed_line_member as_bool n members.Replace d) _ (λ replace. all ks replace m))
 
 pairs_within : (call : List (List ℕ × List ℕ) → Call) → ((ps : List (List ℕ × List ℕ)) → IsWithinAll (call ps)) → ReadsWithin (of_pairs call)
-pairs_within call all m n d = behind (IsWithin m) (needed pairs n members.Pairs d) _ (λ ps. all ps m)
+pairs_within call all m n d = behind (IsWithin m) (needed_line_member pairs n members.Pairs d) _ (λ ps. all ps m)
 
 -- a processor that was read is among those that there are
 processor_within : (m n : ℕ) (d : Data) (call : ℕ → List ℕ → Call) → ((p : ℕ) (a : List ℕ) → nat_lt p m ≡ true → IsWithin m (call p a))
-    → IfOk (needed (whole_below m) n members.Processor d >>= λ p. needed value n members.Argument d >>= λ a. Ok (call p a)) (IsWithin m)
+    → IfOk (needed_line_member (whole_u64_below m) n members.Processor d >>= λ p. needed_line_member value n members.Argument d >>= λ a. Ok (call p a)) (IsWithin m)
 processor_within m n d call all =
-    knowing (λ p. nat_lt p m ≡ true) (IsWithin m) (needed (whole_below m) n members.Processor d) _ (processor_below m n d)
-    (λ p lt. behind (IsWithin m) (needed value n members.Argument d) _ (λ a. all p a lt))
+    knowing (λ p. nat_lt p m ≡ true) (IsWithin m) (needed_line_member (whole_u64_below m) n members.Processor d) _ (processor_below m n d)
+    (λ p lt. behind (IsWithin m) (needed_line_member value n members.Argument d) _ (λ a. all p a lt))
 
 invoke_within : ReadsWithin (of_key_processor calls.Invoke)
-invoke_within m n d = behind (IsWithin m) (needed key n members.Key d) _ (λ k. processor_within m n d (calls.Invoke k) (λ p a lt c e. subst (λ (i : ℕ). ltb p i ≡ true) e lt))
+invoke_within m n d = behind (IsWithin m) (needed_line_member key n members.Key d) _ (λ k. processor_within m n d (calls.Invoke k) (λ p a lt c e. subst (λ (i : ℕ). ltb p i ≡ true) e lt))
 
 invoke_all_within : ReadsWithin (of_keys_processor calls.InvokeAll)
-invoke_all_within m n d = behind (IsWithin m) (needed keys n members.Keys d) _ (λ ks. processor_within m n d (calls.InvokeAll ks) (λ p a lt c e. subst (λ (i : ℕ). ltb p i ≡ true) e lt))
+invoke_all_within m n d = behind (IsWithin m) (needed_line_member keys n members.Keys d) _ (λ ks. processor_within m n d (calls.InvokeAll ks) (λ p a lt c e. subst (λ (i : ℕ). ltb p i ≡ true) e lt))
 
 abbrev AllWithin : List (List ℕ × Reading) → Type 0
 AllWithin [] = ⊤
@@ -194,8 +194,8 @@ calling_named lives s id moment name n d at =
 on_cache_named : (lives : Lives) (s n : ℕ) (d : Data) → IfOk (on_cache lives s n d) (Names lives)
 unfolding on_cache
 on_cache_named lives s n d =
-    knowing (IsLive lives) (Names lives) (needed (cache lives) n members.Cache d) _ (cache_stands lives n d)
-    (λ id at. behind (Names lives) (needed whole n members.At d) _ (λ moment. behind (Names lives) (needed as_str n members.Op d) _ (λ name. go id moment name at (bytes_eq name (codes "destroy")))))
+    knowing (IsLive lives) (Names lives) (needed_line_member (cache lives) n members.Cache d) _ (cache_stands lives n d)
+    (λ id at. behind (Names lives) (needed_line_member whole_u64 n members.At d) _ (λ moment. behind (Names lives) (needed_line_member as_str n members.Op d) _ (λ name. go id moment name at (bytes_eq name (codes "destroy")))))
   where
     go : (id moment : ℕ) (name : List ℕ) → IsLive lives id → (b : Bool) → IfOk (if b then Ok (line.Destroy s id) else calling lives s id moment name n d) (Names lives)
     go id moment name at true = at
@@ -204,12 +204,12 @@ on_cache_named lives s n d =
 creating_named : (lives : Lives) (s n : ℕ) (d : Data) → IfOk (creating s n d) (Names lives)
 unfolding creating
 creating_named lives s n d =
-    behind (Names lives) (needed cache_name n members.Cache d) _ (λ name. behind (Names lives) (needed whole n members.At d) _ (λ moment. behind (Names lives) (needed capacity n members.Capacity d) _
-    (λ rows. behind (Names lives) (policy_of n d) _ (λ policy. tt))))
+    behind (Names lives) (needed_line_member cache_name n members.Cache d) _ (λ name. behind (Names lives) (needed_line_member whole_u64 n members.At d) _ (λ moment. behind (Names lives) (needed_line_member capacity n members.Capacity d) _
+    (λ rows. behind (Names lives) (line_policy n d) _ (λ policy. tt))))
 
 line_named : (lives : Lives) (n : ℕ) (d : Data) → IfOk (line_of lives n d) (Names lives)
 unfolding line_of
-line_named lives n d = behind (Names lives) (needed (whole_below sessions) n members.Session d) _ (λ s. go s (asks_to_create d))
+line_named lives n d = behind (Names lives) (needed_line_member (whole_u64_below sessions) n members.Session d) _ (λ s. go s (asks_to_create d))
   where
     go : (s : ℕ) (b : Bool) → IfOk (if b then creating s n d else on_cache lives s n d) (Names lives)
     go s true = creating_named lives s n d

@@ -12,7 +12,7 @@ use Rattle.jc_config.specs.FirstFault.{◌>>=◌, FailsUnless}
 use Rattle.jc_script.specs.Live.{after_line}
 use Rattle.jc_script.specs.declared.line.Line.{Line}
 use Rattle.jc_script.specs.declared.fault.ScriptFault.{ScriptFault}
-use Rattle.jc_script.specs.Faults.{is_want}
+use Rattle.jc_script.specs.Faults.{script_wants_memory}
 use Rattle.jc_script.specs.Script.{piece_of, lines_from, is_blank, is_feed, lines}
 
 -- what was read before, and what is still read
@@ -53,8 +53,8 @@ fails_by true e step total up h = tt
 fails_by false e step total up h = up h
 
 pub ends : (e : ScriptFault) (lives : Lives) (front : List Line) (n : ℕ) (pieces rest : List (List ℕ)) (piece : List ℕ) (total : Result (List Line) ScriptFault) → pieces ≡ piece ∷ rest → is_blank piece ≡ false
-    → with_front front (lines_from lives n pieces) ≡ total → FailsUnless (is_want e) e (piece_of lives n piece) → FailsUnless (is_want e) e total
-ends e lives front n pieces rest piece total cut full so_far h = fails_by (is_want e) e (piece_of lives n piece) total (stops lives front n pieces rest piece e total cut full so_far) h
+    → with_front front (lines_from lives n pieces) ≡ total → FailsUnless (script_wants_memory e) e (piece_of lives n piece) → FailsUnless (script_wants_memory e) e total
+ends e lives front n pieces rest piece total cut full so_far h = fails_by (script_wants_memory e) e (piece_of lives n piece) total (stops lives front n pieces rest piece e total cut full so_far) h
 
 pub fewer : (o : Option (Bor (List ℕ))) (most : ℕ) → IfSome o (λ r. length r.now < most) → room o ≤ most
 fewer None most h = omega arith

@@ -15,8 +15,8 @@ call_in (line.Create session c) = []
 call_in (line.Destroy session id) = []
 
 -- those of all lines
-abbrev pub calls_in : List Line → List LineCall
-calls_in lines = flat_map call_in lines
+abbrev pub calls_in_lines : List Line → List LineCall
+calls_in_lines lines = flat_map call_in lines
 
 -- the call that a line makes on the cache with this id
 abbrev pub call_on : ℕ → Line → List LineCall
@@ -29,8 +29,8 @@ abbrev pub calls_on : ℕ → List Line → List LineCall
 calls_on id lines = flat_map (call_on id) lines
 
 -- the line's call that an entry is
-abbrev pub line_of : Entry → LineCall
-line_of e = record { session = e.session; id = e.id; at = e.at; call = e.call }
+abbrev pub line_of_entry : Entry → LineCall
+line_of_entry e = record { session = e.session; id = e.id; at = e.at; call = e.call }
 
 abbrev pub IsReply : End → Type 0
 IsReply (Replied reply) = ⊤

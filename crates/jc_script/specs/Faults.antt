@@ -5,10 +5,10 @@ use Rattle.jc_script.specs.declared.fault.ScriptFault.{ScriptFault}
 use Rattle.jc_script.specs.declared.fault.ScriptFault.TheVariants.{OutOfMemory}
 
 -- the fault is want of memory
-abbrev pub is_want : ScriptFault → Bool
-is_want OutOfMemory = true
-is_want _ = false
+abbrev pub script_wants_memory : ScriptFault → Bool
+script_wants_memory OutOfMemory = true
+script_wants_memory _ = false
 
 -- what a function returned is what reading gives, unless memory ran out
-abbrev pub Gives : {X Y : Type 0} → (X → Y) → Result X ScriptFault → Result Y ScriptFault → Type 0
-Gives seen result reading = GivesUnless is_want seen result reading
+abbrev pub GivesScript : {X Y : Type 0} → (X → Y) → Result X ScriptFault → Result Y ScriptFault → Type 0
+GivesScript seen result reading = GivesUnless script_wants_memory seen result reading

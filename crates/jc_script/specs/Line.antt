@@ -12,7 +12,7 @@ use Rattle.jc_script.specs.declared.line.Line.{Line}
 use Rattle.jc_script.specs.declared.line.Line.TheVariants.{Call, Destroy}
 use Rattle.jc_script.specs.Creating.{asks_to_create, creating}
 use Rattle.jc_script.specs.Live.{processors_at}
-use Rattle.jc_script.specs.Member.{needed, whole, whole_below, cache}
+use Rattle.jc_script.specs.Member.{needed_line_member, whole_u64, whole_u64_below, cache}
 use Rattle.jc_script.specs.Operation.{call_of}
 
 -- a call on a cache, in which the op's name has its own members
@@ -24,12 +24,12 @@ calling lives s id moment name n d = do
 -- a line that names a live cache
 unfoldable pub on_cache : Lives → ℕ → ℕ → Data → Result Line ScriptFault
 on_cache lives s n d = do
-  id ← needed (cache lives) n members.Cache d
-  moment ← needed whole n members.At d
-  name ← needed as_str n members.Op d
+  id ← needed_line_member (cache lives) n members.Cache d
+  moment ← needed_line_member whole_u64 n members.At d
+  name ← needed_line_member as_str n members.Op d
   if bytes_eq name (codes "destroy") then Ok (Destroy s id) else calling lives s id moment name n d
 
 unfoldable pub line_of : Lives → ℕ → Data → Result Line ScriptFault
 line_of lives n d = do
-  s ← needed (whole_below sessions) n members.Session d
+  s ← needed_line_member (whole_u64_below sessions) n members.Session d
   if asks_to_create d then creating s n d else on_cache lives s n d

@@ -5,11 +5,11 @@ use Rattle.std.specs.Prelude.{Option, Some, None}
 use Rattle.std.specs.Option.{option_map}
 use Rattle.jc_model.specs.declared.config.CacheConfig.{CacheConfig}
 use Rattle.jc_model.specs.Limits.{most_processors}
-use Rattle.jc_model.specs.Places.{named_from}
-use Rattle.jc_model.specs.Runs.{Status, Lives, live_at, opened, creates, destroys, answer_in, lives_by}
-use Rattle.jc_roster.specs.Members.{Member, members_of}
+use Rattle.jc_model.specs.Places.{named_from, at_place}
+use Rattle.jc_model.specs.Runs.{Status, Lives, opened, creates, destroys, answer_in, lives_by, members_of}
 use Rattle.jc_script.specs.declared.line.Line.{Line}
 use Rattle.jc_script.specs.declared.line.Line.TheVariants.{Call, Create, Destroy}
+use Rattle.jc_model.specs.Refusals.{Member}
 
 -- the line creates or destroys a cache
 abbrev pub manages : Line → Bool
@@ -32,8 +32,8 @@ after_line lives (Create session c) = after_creating lives c
 after_line lives (Destroy session id) = after_destroying lives id
 
 -- the id of the live cache of that name
-abbrev pub id_of : Lives → List ℕ → Option ℕ
-id_of lives name = named_from (λ k. k.config.name) name 0 lives
+abbrev pub id_of_live : Lives → List ℕ → Option ℕ
+id_of_live lives name = named_from (λ k. k.config.name) name 0 lives
 
 abbrev pub processors_of : Option Status → ℕ
 processors_of None = 0
@@ -41,7 +41,7 @@ processors_of (Some k) = length k.config.processors
 
 -- how many processors the cache at an id has
 abbrev pub processors_at : Lives → ℕ → ℕ
-processors_at lives id = processors_of (live_at lives id)
+processors_at lives id = processors_of (at_place lives id)
 
 -- as a reader keeps them: by id, the configurations of those that are live
 abbrev pub lives_in : List (Option CacheConfig) → Lives

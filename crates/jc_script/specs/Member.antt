@@ -14,7 +14,7 @@ use Rattle.jc_script.specs.declared.fault.Member.{Member}
 use Rattle.jc_script.specs.declared.fault.Member.TheVariants as members
 use Rattle.jc_script.specs.declared.fault.ScriptFault.{ScriptFault}
 use Rattle.jc_script.specs.declared.fault.ScriptFault.TheVariants.{NotJson, NotObject, Bad}
-use Rattle.jc_script.specs.Live.{id_of}
+use Rattle.jc_script.specs.Live.{id_of_live}
 
 -- a text as `Value::from_slice` reads it: bytes that are not UTF-8 are no JSON
 unfoldable pub json_of : List ℕ → Option Data
@@ -45,45 +45,45 @@ member_name members.Processor = codes "p"
 member_name members.Argument = codes "arg"
 
 -- a member that is needed, as f takes it
-abbrev pub needed : {A : Type 0} → (Data → Option A) → ℕ → Member → Data → Result A ScriptFault
-needed f n m d = first.needed f (Bad n m) (get (member_name m) d)
+abbrev pub needed_line_member : {A : Type 0} → (Data → Option A) → ℕ → Member → Data → Result A ScriptFault
+needed_line_member f n m d = first.needed_member f (Bad n m) (get (member_name m) d)
 
-abbrev pub whole : Data → Option ℕ
-whole d = option_and_then as_u64 (as_number d)
+abbrev pub whole_u64 : Data → Option ℕ
+whole_u64 d = option_and_then as_u64 (as_number d)
 
-abbrev pub whole_below : ℕ → Data → Option ℕ
-whole_below limit d = option_and_then (λ n. if nat_lt n limit then Some n else None) (whole d)
+abbrev pub whole_u64_below : ℕ → Data → Option ℕ
+whole_u64_below limit d = option_and_then (λ n. if nat_lt n limit then Some n else None) (whole_u64 d)
 
-abbrev pub key_text : List ℕ → Option (List ℕ)
-key_text text = if nat_lt 0 (length text) && nat_le (length text) key_bytes then Some text else None
+abbrev pub text_as_key : List ℕ → Option (List ℕ)
+text_as_key text = if nat_lt 0 (length text) && nat_le (length text) key_bytes then Some text else None
 
 abbrev pub key : Data → Option (List ℕ)
-key d = option_and_then key_text (as_str d)
+key d = option_and_then text_as_key (as_str d)
 
 -- the id of the live cache of that name
 abbrev pub cache : Lives → Data → Option ℕ
-cache lives d = option_and_then (id_of lives) (key d)
+cache lives d = option_and_then (id_of_live lives) (key d)
 
-abbrev pub value_text : List ℕ → Option (List ℕ)
-value_text text = if nat_le (length text) value_bytes then Some text else None
+abbrev pub text_as_value : List ℕ → Option (List ℕ)
+text_as_value text = if nat_le (length text) value_bytes then Some text else None
 
 abbrev pub value : Data → Option (List ℕ)
-value d = option_and_then value_text (as_str d)
+value d = option_and_then text_as_value (as_str d)
 
 -- a key, and its value
-abbrev pub pair_of : Items → Option (List ℕ × List ℕ)
-pair_of (item k (item v no_items)) = option_and_then (λ a. option_map (λ b. (a, b)) (value v)) (key k)
-pair_of _ = None
+abbrev pub pair_in : Items → Option (List ℕ × List ℕ)
+pair_in (item k (item v no_items)) = option_and_then (λ a. option_map (λ b. (a, b)) (value v)) (key k)
+pair_in _ = None
 
 abbrev pub pair : Data → Option (List ℕ × List ℕ)
-pair d = option_and_then pair_of (as_array d)
+pair d = option_and_then pair_in (as_array d)
 
 -- Lists.
 
 -- every item as f takes it, if f takes them all
-abbrev pub each : {A : Type 0} → (Data → Option A) → Items → Option (List A)
-each f no_items = Some []
-each f (item d ds) = option_and_then (λ x. option_map (λ xs. x ∷ xs) (each f ds)) (f d)
+abbrev pub each_item : {A : Type 0} → (Data → Option A) → Items → Option (List A)
+each_item f no_items = Some []
+each_item f (item d ds) = option_and_then (λ x. option_map (λ xs. x ∷ xs) (each_item f ds)) (f d)
 
 -- the keys of one call: few enough, and all different
 abbrev pub are_keys : List (List ℕ) → Bool
@@ -93,10 +93,10 @@ abbrev pub distinct_keys : List (List ℕ) → Option (List (List ℕ))
 distinct_keys ks = if are_keys ks then Some ks else None
 
 abbrev pub keys : Data → Option (List (List ℕ))
-keys d = option_and_then (λ ds. option_and_then distinct_keys (each key ds)) (as_array d)
+keys d = option_and_then (λ ds. option_and_then distinct_keys (each_item key ds)) (as_array d)
 
 abbrev pub distinct_pairs : List (List ℕ × List ℕ) → Option (List (List ℕ × List ℕ))
 distinct_pairs ps = if are_keys (map (λ p. p.0) ps) then Some ps else None
 
 abbrev pub pairs : Data → Option (List (List ℕ × List ℕ))
-pairs d = option_and_then (λ ds. option_and_then distinct_pairs (each pair ds)) (as_array d)
+pairs d = option_and_then (λ ds. option_and_then distinct_pairs (each_item pair ds)) (as_array d)

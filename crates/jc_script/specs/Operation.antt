@@ -9,32 +9,32 @@ use Rattle.jc_config.specs.FirstFault.{◌>>=◌}
 use Rattle.jc_script.specs.declared.fault.Member.TheVariants as members
 use Rattle.jc_script.specs.declared.fault.ScriptFault.{ScriptFault}
 use Rattle.jc_script.specs.declared.fault.ScriptFault.TheVariants.{Bad}
-use Rattle.jc_script.specs.Member.{needed, whole_below, key, keys, pairs, value}
+use Rattle.jc_script.specs.Member.{needed_line_member, whole_u64_below, key, keys, pairs, value}
 
 -- a call's name in a script and in a report
-abbrev pub name_of : Call → List ℕ
-name_of (calls.Get k) = codes "get"
-name_of (calls.GetAll ks) = codes "get_all"
-name_of (calls.Contains k) = codes "contains"
-name_of (calls.Put k v) = codes "put"
-name_of (calls.GetAndPut k v) = codes "get_and_put"
-name_of (calls.PutIfAbsent k v) = codes "put_if_absent"
-name_of (calls.Replace k v) = codes "replace"
-name_of (calls.ReplaceIf k expected v) = codes "replace_if"
-name_of (calls.GetAndReplace k v) = codes "get_and_replace"
-name_of (calls.Remove k) = codes "remove"
-name_of (calls.RemoveIf k expected) = codes "remove_if"
-name_of (calls.GetAndRemove k) = codes "get_and_remove"
-name_of (calls.Invoke k processor argument) = codes "invoke"
-name_of (calls.InvokeAll ks processor argument) = codes "invoke_all"
-name_of (calls.PutAll ps) = codes "put_all"
-name_of (calls.RemoveKeys ks) = codes "remove_keys"
-name_of calls.RemoveAll = codes "remove_all"
-name_of calls.Clear = codes "clear"
-name_of (calls.LoadAll ks replace) = codes "load_all"
-name_of calls.Entries = codes "entries"
-name_of calls.Stats = codes "stats"
-name_of calls.ClearStats = codes "clear_stats"
+abbrev pub call_name : Call → List ℕ
+call_name (calls.Get k) = codes "get"
+call_name (calls.GetAll ks) = codes "get_all"
+call_name (calls.Contains k) = codes "contains"
+call_name (calls.Put k v) = codes "put"
+call_name (calls.GetAndPut k v) = codes "get_and_put"
+call_name (calls.PutIfAbsent k v) = codes "put_if_absent"
+call_name (calls.Replace k v) = codes "replace"
+call_name (calls.ReplaceIf k expected v) = codes "replace_if"
+call_name (calls.GetAndReplace k v) = codes "get_and_replace"
+call_name (calls.Remove k) = codes "remove"
+call_name (calls.RemoveIf k expected) = codes "remove_if"
+call_name (calls.GetAndRemove k) = codes "get_and_remove"
+call_name (calls.Invoke k processor argument) = codes "invoke"
+call_name (calls.InvokeAll ks processor argument) = codes "invoke_all"
+call_name (calls.PutAll ps) = codes "put_all"
+call_name (calls.RemoveKeys ks) = codes "remove_keys"
+call_name calls.RemoveAll = codes "remove_all"
+call_name calls.Clear = codes "clear"
+call_name (calls.LoadAll ks replace) = codes "load_all"
+call_name calls.Entries = codes "entries"
+call_name calls.Stats = codes "stats"
+call_name calls.ClearStats = codes "clear_stats"
 
 -- What a call is made of: the number of its cache's processors, the line's number and its object.
 
@@ -46,56 +46,56 @@ of_nothing call processors n d = Ok call
 
 abbrev pub of_key : (List ℕ → Call) → Reading
 of_key call processors n d = do
-  k ← needed key n members.Key d
+  k ← needed_line_member key n members.Key d
   Ok (call k)
 
 abbrev pub of_key_value : (List ℕ → List ℕ → Call) → Reading
 of_key_value call processors n d = do
-  k ← needed key n members.Key d
-  v ← needed value n members.Value d
+  k ← needed_line_member key n members.Key d
+  v ← needed_line_member value n members.Value d
   Ok (call k v)
 
 abbrev pub of_key_expected : (List ℕ → List ℕ → Call) → Reading
 of_key_expected call processors n d = do
-  k ← needed key n members.Key d
-  expected ← needed value n members.Expect d
+  k ← needed_line_member key n members.Key d
+  expected ← needed_line_member value n members.Expect d
   Ok (call k expected)
 
 abbrev pub of_key_expected_value : (List ℕ → List ℕ → List ℕ → Call) → Reading
 of_key_expected_value call processors n d = do
-  k ← needed key n members.Key d
-  expected ← needed value n members.Expect d
-  v ← needed value n members.Value d
+  k ← needed_line_member key n members.Key d
+  expected ← needed_line_member value n members.Expect d
+  v ← needed_line_member value n members.Value d
   Ok (call k expected v)
 
 abbrev pub of_key_processor : (List ℕ → ℕ → List ℕ → Call) → Reading
 of_key_processor call processors n d = do
-  k ← needed key n members.Key d
-  p ← needed (whole_below processors) n members.Processor d
-  a ← needed value n members.Argument d
+  k ← needed_line_member key n members.Key d
+  p ← needed_line_member (whole_u64_below processors) n members.Processor d
+  a ← needed_line_member value n members.Argument d
   Ok (call k p a)
 
 abbrev pub of_keys : (List (List ℕ) → Call) → Reading
 of_keys call processors n d = do
-  ks ← needed keys n members.Keys d
+  ks ← needed_line_member keys n members.Keys d
   Ok (call ks)
 
 abbrev pub of_keys_replace : (List (List ℕ) → Bool → Call) → Reading
 of_keys_replace call processors n d = do
-  ks ← needed keys n members.Keys d
-  replace ← needed as_bool n members.Replace d
+  ks ← needed_line_member keys n members.Keys d
+  replace ← needed_line_member as_bool n members.Replace d
   Ok (call ks replace)
 
 abbrev pub of_keys_processor : (List (List ℕ) → ℕ → List ℕ → Call) → Reading
 of_keys_processor call processors n d = do
-  ks ← needed keys n members.Keys d
-  p ← needed (whole_below processors) n members.Processor d
-  a ← needed value n members.Argument d
+  ks ← needed_line_member keys n members.Keys d
+  p ← needed_line_member (whole_u64_below processors) n members.Processor d
+  a ← needed_line_member value n members.Argument d
   Ok (call ks p a)
 
 abbrev pub of_pairs : (List (List ℕ × List ℕ) → Call) → Reading
 of_pairs call processors n d = do
-  ps ← needed pairs n members.Pairs d
+  ps ← needed_line_member pairs n members.Pairs d
   Ok (call ps)
 
 -- The call of each name.

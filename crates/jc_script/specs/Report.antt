@@ -25,7 +25,7 @@ use Rattle.jc_model.specs.Legal.{History, entries_of}
 use Rattle.jc_script.specs.declared.managed.ManageOp.{ManageOp}
 use Rattle.jc_script.specs.declared.managed.ManageOp.TheVariants as op
 use Rattle.jc_script.specs.declared.managed.Managed.{Managed}
-use Rattle.jc_script.specs.Operation.{name_of}
+use Rattle.jc_script.specs.Operation.{call_name}
 
 -- a text comes behind what was there
 abbrev pub Appends : {Z : Type 0} → List ℕ → String Z → String Z → Type 0
@@ -42,24 +42,24 @@ found_text None = codes "none"
 found_text (Some bytes) = codes "some " ++ bytes_text bytes
 
 -- what stands before a key's value
-abbrev pub key_text : List ℕ → List ℕ
-key_text key = codes " " ++ bytes_text key ++ codes "="
+abbrev pub key_label : List ℕ → List ℕ
+key_label key = codes " " ++ bytes_text key ++ codes "="
 
 abbrev pub pair_text : List ℕ × List ℕ → List ℕ
-pair_text p = key_text p.0 ++ bytes_text p.1
+pair_text p = key_label p.0 ++ bytes_text p.1
 
 abbrev pub answered_text : Result (List ℕ) ProcessorFault → List ℕ
 answered_text (Ok bytes) = codes "some " ++ bytes_text bytes
 answered_text (Err fault) = codes "fault"
 
 abbrev pub result_text : List ℕ × Result (List ℕ) ProcessorFault → List ℕ
-result_text r = key_text r.0 ++ answered_text r.1
+result_text r = key_label r.0 ++ answered_text r.1
 
-abbrev pub spaced : ℕ → List ℕ
-spaced n = decimal n ++ codes " "
+abbrev pub spaced_number : ℕ → List ℕ
+spaced_number n = decimal n ++ codes " "
 
 abbrev pub counts_text : Counts → List ℕ
-counts_text c = spaced c.hits ++ spaced c.misses ++ spaced c.puts ++ spaced c.removals ++ decimal c.evictions
+counts_text c = spaced_number c.hits ++ spaced_number c.misses ++ spaced_number c.puts ++ spaced_number c.removals ++ decimal c.evictions
 
 abbrev pub by_text : By → List ℕ
 by_text by.Loader = codes "loader"
@@ -97,7 +97,7 @@ end_text (Replied reply) = reply_text reply
 end_text GivenUp = codes "gave up"
 
 abbrev pub call_text : Entry → List ℕ
-call_text e = spaced e.session ++ name_of e.call ++ codes " " ++ end_text e.end ++ codes "\n"
+call_text e = spaced_number e.session ++ call_name e.call ++ codes " " ++ end_text e.end ++ codes "\n"
 
 -- the notices that were told, then the call and its end
 abbrev pub entry_text : Entry → List ℕ
@@ -144,7 +144,7 @@ answer_text (Some create.IdsSpent) = codes "fault ids spent"
 answer_text (Some create.OutOfMemory) = codes "fault out of memory"
 
 abbrev pub managed_line : Managed → List ℕ
-managed_line m = spaced m.session ++ op_text m.op ++ codes " " ++ m.name ++ codes " " ++ answer_text m.refusal ++ codes "\n"
+managed_line m = spaced_number m.session ++ op_text m.op ++ codes " " ++ m.name ++ codes " " ++ answer_text m.refusal ++ codes "\n"
 
 -- the manager's lines, where there are some
 abbrev pub managed_text : List Managed → List ℕ

@@ -1,7 +1,7 @@
 //! The members of a line that creates a cache, by the rules of a configuration's.
 ghost use Rattle.std.specs.Prelude.{◌≡◌};
 ghost use Rattle.jc_script.specs.declared.fault.Member.TheVariants as members;
-ghost use Rattle.jc_script.specs.Creating.{asks_to_create, cache_name, capacity, policy_of, creating, expiry_or_eternal};
+ghost use Rattle.jc_script.specs.Creating.{asks_to_create, cache_name, capacity, line_policy, creating, line_expiry_or_eternal};
 ghost use Rattle.jc_script.specs.Reading.{Reads, ReadsMember, object_in};
 
 use crate::fault::{Member, ScriptFault};
@@ -52,7 +52,7 @@ impl<'o, 'a> Reader<'o, 'a> {
     }
 
     fn expiry(&self) -> Result<ExpiryKind, ScriptFault>
-        ensures { Reads expiry_or_eternal self.now result }
+        ensures { Reads line_expiry_or_eternal self.now result }
     {
         let member = Member::Expiry;
         match self.member(member) {
@@ -64,9 +64,9 @@ impl<'o, 'a> Reader<'o, 'a> {
     }
 
     /// The members `expiry` and `duration`.
-    #[tactic(auto, unfolding(crate::specs::Creating::policy_of))]
+    #[tactic(auto, unfolding(crate::specs::Creating::line_policy))]
     fn policy(&self) -> Result<Policy, ScriptFault>
-        ensures { Reads policy_of self.now result }
+        ensures { Reads line_policy self.now result }
     {
         let kind = self.expiry()?;
         let member = Member::Duration;

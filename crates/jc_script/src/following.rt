@@ -1,11 +1,11 @@
 //! What becomes of a script's lines that create and destroy caches.
 ghost use Rattle.std.specs.Prelude.{◌≡◌, IfOk, OnOk};
 ghost use Rattle.std.specs.Bool.{Decides};
-ghost use Rattle.jc_model.specs.Legal.{numbered};
+ghost use Rattle.jc_model.specs.Legal.{numbered_lives};
 ghost use Rattle.jc_model.specs.Runs.{opened_from};
 ghost use Rattle.jc_script.specs.declared.line.Line.TheVariants as lines;
 ghost use Rattle.jc_script.specs.Live.{lives_in, AreAfter};
-ghost use Rattle.jc_script.specs.Managing.{lives_of, managed_of, AddsLives, AddsManaged};
+ghost use Rattle.jc_script.specs.Managing.{lives_of_script, managed_of, AddsLives, AddsManaged};
 ghost use Rattle.jc_script.specs.Named.{Names, AllName, IsLive};
 
 use crate::line::Line;
@@ -28,7 +28,7 @@ pub struct Followed {
 
 /// The lives that these caches begin, with ids from 0.
 fn first_lives(alloc: Global, settings: &Settings) -> Result<Vec<Life>, OutOfMemory>
-    ensures { IfOk result (λ lives. lives.items ≡ numbered 0 settings.now) }
+    ensures { IfOk result (λ lives. lives.items ≡ numbered_lives 0 settings.now) }
 {
     let mut lives = Vec::new(alloc);
     let mut id = 0;
@@ -119,7 +119,7 @@ fn follow_line(
 /// Follows a script's lines from its caches on.
 pub fn follow(alloc: Global, settings: &Settings, lines: &[Line]) -> Result<Followed, OutOfMemory>
     requires { AllName (opened_from 0 settings.now) lines.now }
-    ensures lives { IfOk result (λ f. f.lives.items ≡ lives_of settings.now lines.now) }
+    ensures lives { IfOk result (λ f. f.lives.items ≡ lives_of_script settings.now lines.now) }
     ensures managed { IfOk result (λ f. f.managed.items ≡ managed_of settings.now lines.now) }
 {
     let mut live = Live::new(alloc, settings)?;

@@ -1,7 +1,7 @@
 //! What a JSON value is read as: a key, a value, a pair of both, and lists of keys and of pairs.
 ghost use Rattle.std.specs.Prelude.{◌≡◌, IfOk, option_map};
 ghost use Rattle.serde_json.specs.Data.{no_items, item};
-ghost use Rattle.jc_script.specs.Member.{key, pair_of, each, distinct_keys, distinct_pairs};
+ghost use Rattle.jc_script.specs.Member.{key, pair_in, each_item, distinct_keys, distinct_pairs};
 ghost use Rattle.jc_script.specs.Tree.{data_in, items_in};
 
 use crate::tree::{array_in, text_in};
@@ -69,7 +69,7 @@ fn pair(
     second: &Value<'_>,
 ) -> Result<Option<(Key, value::Value)>, AllocError>
     ensures { IfOk result (λ o. o
-        ≡ pair_of (item (data_in first.now) (item (data_in second.now) no_items))) }
+        ≡ pair_in (item (data_in first.now) (item (data_in second.now) no_items))) }
 {
     match key_in(first) {
         None => Ok(None),
@@ -78,7 +78,7 @@ fn pair(
 }
 
 fn pair_of(alloc: Global, items: &[Value<'_>]) -> Result<Option<(Key, value::Value)>, AllocError>
-    ensures { IfOk result (λ o. o ≡ pair_of (items_in items.now)) }
+    ensures { IfOk result (λ o. o ≡ pair_in (items_in items.now)) }
 {
     if items.len() != 2 {
         return Ok(None);
@@ -104,7 +104,8 @@ impl Item for (Key, value::Value) {
 
 /// All items, if each of them can be read.
 fn read_each<T: Item>(alloc: Global, items: &[Value<'_>]) -> Result<Option<Vec<T>>, AllocError>
-    ensures { IfOk result (λ o. option_map (λ v. v.items) o ≡ each T.reading (items_in items.now)) }
+    ensures { IfOk result (λ o.
+        option_map (λ v. v.items) o ≡ each_item T.reading (items_in items.now)) }
 {
     let mut list = Vec::new(alloc);
     for item in items {

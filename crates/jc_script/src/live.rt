@@ -2,9 +2,9 @@
 ghost use Rattle.std.specs.Prelude.{◌≡◌, ◌≤◌, length, None, IfOk, option_map, slice_set};
 ghost use Rattle.jc_model.specs.Places.{at_place};
 ghost use Rattle.jc_model.specs.Limits.{most_processors};
-ghost use Rattle.jc_model.specs.Runs.{opened_from, live_at, create_refusal};
+ghost use Rattle.jc_model.specs.Runs.{opened_from, create_refusal};
 ghost use Rattle.jc_script.specs.declared.fault.Member.TheVariants as members;
-ghost use Rattle.jc_script.specs.Live.{id_of, processors_at, lives_in, after_creating, after_destroying, AreAfter};
+ghost use Rattle.jc_script.specs.Live.{id_of_live, processors_at, lives_in, after_creating, after_destroying, AreAfter};
 ghost use Rattle.jc_script.specs.Member.{cache};
 ghost use Rattle.jc_script.specs.Reading.{ReadsMember};
 
@@ -77,7 +77,7 @@ impl Live {
 
     /// The id of the live cache of that name.
     fn find(&self, name: &Key) -> Option<u32>
-        ensures { result ≡ id_of (lives_in self.now) name.now }
+        ensures { result ≡ id_of_live (lives_in self.now) name.now }
     {
         self.roster.find(name)
     }
@@ -109,7 +109,7 @@ impl Live {
 
     /// The name of the live cache with that id.
     pub fn name(&self, id: CacheId) -> Option<Key>
-        ensures { result ≡ option_map (λ k. k.config.name) (live_at (lives_in self.now) id) }
+        ensures { result ≡ option_map (λ k. k.config.name) (at_place (lives_in self.now) id) }
     {
         match live_in(&self.caches, id.number()) {
             Some(cache) => Some(cache.name),

@@ -4,8 +4,8 @@ ghost use Rattle.serde_json.specs.Find.{get, as_bool, as_str};
 ghost use Rattle.jc_model.specs.Limits.{sessions, most_processors};
 ghost use Rattle.jc_script.specs.declared.fault.Member.TheVariants as members;
 ghost use Rattle.jc_script.specs.declared.fault.ScriptFault.TheVariants.{Bad};
-ghost use Rattle.jc_script.specs.Faults.{Gives};
-ghost use Rattle.jc_script.specs.Member.{member_name, needed, whole, whole_below, key, keys, pairs, value};
+ghost use Rattle.jc_script.specs.Faults.{GivesScript};
+ghost use Rattle.jc_script.specs.Member.{member_name, needed_line_member, whole_u64, whole_u64_below, key, keys, pairs, value};
 ghost use Rattle.jc_script.specs.Tree.{data_in};
 ghost use Rattle.jc_script.specs.Reading.{ReadsMember, object_in};
 
@@ -47,7 +47,7 @@ impl<'o, 'a> Reader<'o, 'a> {
 
     /// The session's number, 0 to 63.
     pub fn session(&self) -> Result<u32, ScriptFault>
-        ensures { ReadsMember (whole_below sessions) members.Session self.now result }
+        ensures { ReadsMember (whole_u64_below sessions) members.Session self.now result }
     {
         let member = Member::Session;
         match self.member(member).and_then(whole_in) {
@@ -58,7 +58,7 @@ impl<'o, 'a> Reader<'o, 'a> {
 
     /// The moment, in milliseconds.
     pub fn moment(&self) -> Result<u64, ScriptFault>
-        ensures { ReadsMember whole members.At self.now result }
+        ensures { ReadsMember whole_u64 members.At self.now result }
     {
         let member = Member::At;
         match self.member(member).and_then(whole_in) {
@@ -69,8 +69,8 @@ impl<'o, 'a> Reader<'o, 'a> {
 
     /// The name of what the line asks for.
     pub fn op(&self) -> Result<&'a str, ScriptFault>
-        ensures { Gives (λ name. name.now) result
-            (needed as_str self.now.line members.Op (object_in self.now)) }
+        ensures { GivesScript (λ name. name.now) result
+            (needed_line_member as_str self.now.line members.Op (object_in self.now)) }
     {
         let member = Member::Op;
         match self.member(member).and_then(text_in) {
@@ -93,7 +93,7 @@ impl<'o, 'a> Reader<'o, 'a> {
     /// The place of a processor among so many.
     pub fn processor(&self, processors: usize) -> Result<u8, ScriptFault>
         requires { processors ≤ most_processors }
-        ensures { ReadsMember (whole_below processors) members.Processor self.now result }
+        ensures { ReadsMember (whole_u64_below processors) members.Processor self.now result }
     {
         let member = Member::Processor;
         match self.member(member).and_then(whole_in) {

@@ -1,7 +1,7 @@
 //! The object that a line is, as a tree over the line's bytes.
 ghost use Rattle.std.specs.Prelude.{◌≡◌, IfOk, option_map};
 ghost use Rattle.serde_json.specs.Read.{read};
-ghost use Rattle.jc_script.specs.Faults.{Gives};
+ghost use Rattle.jc_script.specs.Faults.{GivesScript};
 ghost use Rattle.jc_script.specs.Member.{json_of, object_of};
 ghost use Rattle.jc_script.specs.Tree.{data_in};
 
@@ -59,7 +59,7 @@ pub fn read_object<'a>(
     line: usize,
     scratch: &'a mut Scratch,
 ) -> Result<Value<'a>, ScriptFault>
-    ensures { Gives data_in result (object_of line bytes.now) }
+    ensures { GivesScript data_in result (object_of line bytes.now) }
 {
     match read_tree(alloc, bytes, scratch)? {
         None => Err(ScriptFault::NotJson { line }),

@@ -1,7 +1,7 @@
 //! The ops of a script, each in two tables: the name of a call, and the call of a name.
 ghost use Rattle.std.specs.Prelude.{◌≡◌, ◌≤◌, codes};
 ghost use Rattle.jc_model.specs.Limits.{most_processors};
-ghost use Rattle.jc_script.specs.Operation.{name_of, chosen, on_many, call_of};
+ghost use Rattle.jc_script.specs.Operation.{call_name, chosen, on_many, call_of};
 ghost use Rattle.jc_script.specs.Reading.{Reads};
 
 use crate::fault::{Member, ScriptFault};
@@ -10,7 +10,7 @@ use jc_model::call::Call;
 
 /// A call's name in a script and in a report.
 pub fn name_of(call: &Call) -> &'static str
-    ensures { result.now ≡ name_of call.now }
+    ensures { result.now ≡ call_name call.now }
 {
     match call {
         Call::Get(_) => "get",

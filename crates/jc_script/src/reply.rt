@@ -1,7 +1,7 @@
 //! Replies as text.
 ghost use Rattle.std.specs.Prelude.{◌≡◌, ◌++◌, IfOk, OnOk, string_bytes, decimal, codes};
 ghost use Rattle.std.specs.List.{flat_map};
-ghost use Rattle.jc_script.specs.Report.{found_text, key_text, pair_text, answered_text, result_text, spaced, counts_text, by_text, done_text, reply_text, Appends};
+ghost use Rattle.jc_script.specs.Report.{found_text, key_label, pair_text, answered_text, result_text, spaced_number, counts_text, by_text, done_text, reply_text, Appends};
 
 use crate::quote::push_bytes;
 use itoa::Buffer;
@@ -31,7 +31,7 @@ fn push_found(alloc: Global, text: &mut String, found: &Option<Value>) -> Result
 }
 
 fn push_key(alloc: Global, text: &mut String, key: &Key) -> Result<(), AllocError>
-    ensures { OnOk result (Appends (key_text key.now) text.old text.new) }
+    ensures { OnOk result (Appends (key_label key.now) text.old text.new) }
 {
     text.push_str(" ")?;
     push_bytes(alloc, text, key.text().as_bytes())?;
@@ -99,7 +99,7 @@ fn push_results(
 
 /// Adds a number and a space.
 pub fn push_spaced(text: &mut String, number: u64) -> Result<(), AllocError>
-    ensures { OnOk result (Appends (spaced number) text.old text.new) }
+    ensures { OnOk result (Appends (spaced_number number) text.old text.new) }
 {
     push_number(text, number)?;
     text.push_str(" ")

@@ -2,7 +2,7 @@
 ghost use Rattle.std.specs.Prelude.{◌≡◌, ◌<◌, ◌∷◌, length, map, IfSome, IfOk};
 ghost use Rattle.std.specs.List.{slice_split, list_all};
 ghost use Rattle.jc_model.specs.Runs.{opened_from};
-ghost use Rattle.jc_script.specs.Faults.{Gives};
+ghost use Rattle.jc_script.specs.Faults.{GivesScript};
 ghost use Rattle.jc_script.specs.Line.{line_of, on_cache};
 ghost use Rattle.jc_script.specs.Live.{lives_in};
 ghost use Rattle.jc_script.specs.Named.{AllName};
@@ -63,7 +63,7 @@ fn read_piece(
     line: usize,
     scratch: &mut Scratch,
 ) -> Result<Line, ScriptFault>
-    ensures { Gives (λ x. x) result (piece_of (lives_in live.now) line piece.now) }
+    ensures { GivesScript (λ x. x) result (piece_of (lives_in live.now) line piece.now) }
 {
     let object = read_object(alloc, piece, line, scratch)?;
     read_line(
@@ -110,7 +110,7 @@ pub fn read_script(
     bytes: &[u8],
     settings: &Settings,
 ) -> Result<Vec<Line>, ScriptFault>
-    ensures read { Gives (λ v. v.items) result (lines settings.now bytes.now) }
+    ensures read { GivesScript (λ v. v.items) result (lines settings.now bytes.now) }
     ensures named { IfOk result (λ v. AllName (opened_from 0 settings.now) v.items) }
 {
     if bytes.len() > TEXT_BYTES {

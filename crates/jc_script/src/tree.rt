@@ -2,7 +2,7 @@
 ghost use Rattle.std.specs.Prelude.{◌≡◌, is_some, option_map};
 ghost use Rattle.json.specs.Value.{value_view, items_view, members_view};
 ghost use Rattle.serde_json.specs.Find.{get, as_str, as_bool, as_array, as_object};
-ghost use Rattle.jc_script.specs.Member.{whole};
+ghost use Rattle.jc_script.specs.Member.{whole_u64};
 ghost use Rattle.jc_script.specs.Tree.{data_in, items_in, has_numbers, items_have_numbers, members_have_numbers};
 
 use crate::number::{is_number, whole_of};
@@ -71,7 +71,7 @@ pub fn truth_in(value: &Value<'_>) -> Option<bool>
 
 /// The whole number of 64 bits that a value is, if it is one.
 pub fn whole_in(value: &Value<'_>) -> Option<u64>
-    ensures { result ≡ whole (data_in value.now) }
+    ensures { result ≡ whole_u64 (data_in value.now) }
 {
     match value {
         Value::Number(text) => whole_of(text),

@@ -3,7 +3,7 @@ use Rattle.std.proofs.Common.{◌≡◌, ℕ, ltb, true, false, Result, Ok, Err,
 use Rattle.std.proofs.lemmas.List.{append-nil, append_assoc}
 use Rattle.jc_seat.specs.declared.status.Fault.{Fault}
 use Rattle.jc_seat.specs.declared.status.Fault.TheVariants.{BadLengths}
-use Rattle.jc_seat.specs.Reading.{and_then, before, list_in}
+use Rattle.jc_seat.specs.Reading.{read_then, with_item_before, list_in}
 
 abbrev pub prefixed : {A : Type 0} → List A → Result (List A) Fault → Result (List A) Fault
 prefixed xs (Ok ys) = Ok (xs ++ ys)
@@ -13,19 +13,19 @@ pub none_yet : {A : Type 0} (r : Result (List A) Fault) → r ≡ prefixed [] r
 none_yet (Ok ys) = refl
 none_yet (Err fault) = refl
 
-one_more : {A : Type 0} (xs : List A) (x : A) (r : Result (List A) Fault) → prefixed xs (before x r) ≡ prefixed (xs ++ x ∷ []) r
+one_more : {A : Type 0} (xs : List A) (x : A) (r : Result (List A) Fault) → prefixed xs (with_item_before x r) ≡ prefixed (xs ++ x ∷ []) r
 one_more xs x (Ok ys) = ap Ok (sym (append_assoc xs (x ∷ []) ys))
 one_more xs x (Err fault) = refl
 
 module _ {W A : Type 0} (width : W → ℕ) (item : W → List ℕ → Result A Fault) (xs : List A) (w : W) (lengths : List W) (left : List ℕ) where
-  chosen : ltb (length left) (width w) ≡ false → list_in width item (w ∷ lengths) left ≡ and_then (item w left) (λ x. before x (list_in width item lengths (drop (width w) left)))
+  chosen : ltb (length left) (width w) ≡ false → list_in width item (w ∷ lengths) left ≡ read_then (item w left) (λ x. with_item_before x (list_in width item lengths (drop (width w) left)))
   chosen fits = rw fits refl
 
   pub goes_on : (x : A) → ltb (length left) (width w) ≡ false → item w left ≡ Ok x → prefixed xs (list_in width item (w ∷ lengths) left) ≡ prefixed (xs ++ x ∷ []) (list_in width item lengths (drop (width w) left))
-  goes_on x fits is = ap (prefixed xs) (chosen fits ∙ ap (λ r. and_then r (λ y. before y (list_in width item lengths (drop (width w) left)))) is) ∙ one_more xs x _
+  goes_on x fits is = ap (prefixed xs) (chosen fits ∙ ap (λ r. read_then r (λ y. with_item_before y (list_in width item lengths (drop (width w) left)))) is) ∙ one_more xs x _
 
   pub fails : (fault : Fault) → ltb (length left) (width w) ≡ false → item w left ≡ Err fault → prefixed xs (list_in width item (w ∷ lengths) left) ≡ Err fault
-  fails fault fits is = ap (prefixed xs) (chosen fits ∙ ap (λ r. and_then r (λ y. before y (list_in width item lengths (drop (width w) left)))) is)
+  fails fault fits is = ap (prefixed xs) (chosen fits ∙ ap (λ r. read_then r (λ y. with_item_before y (list_in width item lengths (drop (width w) left)))) is)
 
   pub too_short : ltb (length left) (width w) ≡ true → prefixed xs (list_in width item (w ∷ lengths) left) ≡ Err BadLengths
   too_short short = rw short refl

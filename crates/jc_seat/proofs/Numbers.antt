@@ -2,7 +2,7 @@
 use Rattle.std.proofs.Common.{◌≡◌, ℕ, nat_eq, if◌then◌else◌, List, [], ◌∷◌, Option, Some, None, refl, sym, ap, ◌∙◌}
 use Rattle.jc_seat.specs.declared.status.Status.{Status}
 use Rattle.jc_seat.specs.declared.status.Status.TheVariants as status
-use Rattle.jc_seat.specs.Status.{number_of}
+use Rattle.jc_seat.specs.Status.{status_number}
 
 abbrev all : List Status
 all =
@@ -17,9 +17,9 @@ all =
 
 abbrev first_of : List Status → ℕ → Option Status
 first_of [] n = None
-first_of (s ∷ statuses) n = if nat_eq (number_of s) n then Some s else first_of statuses n
+first_of (s ∷ statuses) n = if nat_eq (status_number s) n then Some s else first_of statuses n
 
-back : (s : Status) → first_of all (number_of s) ≡ Some s
+back : (s : Status) → first_of all (status_number s) ≡ Some s
 back status.Done = refl
 back status.False = refl
 back status.True = refl
@@ -63,5 +63,5 @@ back status.ShortBuffer = refl
 from_some : {A : Type 0} (x y : A) → Some x ≡ Some y → x ≡ y
 from_some x y e = cc
 
-pub numbers_differ : (a b : Status) → number_of a ≡ number_of b → a ≡ b
+pub numbers_differ : (a b : Status) → status_number a ≡ status_number b → a ≡ b
 numbers_differ a b e = from_some a b (sym (back a) ∙ ap (first_of all) e ∙ back b)

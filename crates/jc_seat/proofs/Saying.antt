@@ -8,5 +8,5 @@ use Rattle.jc_seat.specs.Seated.{Seated, Creates, CreatesOr}
 
 pub creates_or : (old new : Seated) (status : Status) (id id' : ℕ) (said what : Result CacheConfig Fault) → IsRead what said → Creates old said status id id' new → CreatesOr old what status id id' new
 creates_or old new status id id' (Ok config) what read did = inl (subst (λ w. Creates old w status id id' new) (sym read) did)
-creates_or old new status id id' (Err fault) what (inl memory) did = inr (subst (λ (f : Fault). status ≡ Rattle.jc_seat.specs.Status.of_fault f) memory did.0, did.1, did.2)
+creates_or old new status id id' (Err fault) what (inl memory) did = inr (subst (λ (f : Fault). status ≡ Rattle.jc_seat.specs.Status.fault_status f) memory did.0, did.1, did.2)
 creates_or old new status id id' (Err fault) what (inr is) did = inl (subst (λ w. Creates old w status id id' new) (sym is) did)

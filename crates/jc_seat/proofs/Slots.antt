@@ -8,7 +8,7 @@ use Rattle.jc_model.specs.declared.event.Event.TheVariants.{Create}
 use Rattle.jc_model.specs.declared.event.Outcome.{Outcome}
 use Rattle.jc_model.specs.declared.event.Outcome.TheVariants.{Created, Destroyed}
 use Rattle.jc_model.specs.Places.{at_place, there}
-use Rattle.jc_model.specs.Runs.{Lives, Status, Said, gives_up, says, idle, busy, moved, put_moved, live_at, answer_of, answer_in, answer_to, answer_to_destroy, answer_to_create, create_refusal, for_memory, is_refused, lives_after, lives_by}
+use Rattle.jc_model.specs.Runs.{Lives, Status, CacheEvent, gives_up, on_cache, idle, busy, moved, put_moved, answer_of, answer_in, answer_to, answer_to_destroy, answer_to_create, create_refusal, for_memory, is_refused, lives_after, lives_by}
 use Rattle.jc_model.proofs.Lives.{at_same, at_other, same_length}
 use Rattle.jc_engine.proofs.Names.{at_place_map}
 use Rattle.jc_engine.specs.Caches.{Cache, status_of, lives_of, fresh_cache}
@@ -16,15 +16,15 @@ use Rattle.jc_engine.specs.Free.{takes_none}
 use Rattle.jc_engine.specs.Sound.{NoneFrom, places_of}
 use Rattle.jc_engine.proofs.Numbered.{Puts, put_here, put_other, places_put, places_more}
 use Rattle.jc_engine.proofs.Places.{place_of}
-use Rattle.jc_seat.specs.Seated.{HaveSlots, Does, shown_by}
-pub use Rattle.jc_seat.specs.Seated.{seen}
+use Rattle.jc_seat.specs.Seated.{HaveSlots, Does, shown_with}
+pub use Rattle.jc_seat.specs.Seated.{seated_of}
 
 pub some_map : {A B : Type 0} (h : A → B) (o : Option A) → is_some (option_map h o) ≡ is_some o
 some_map h None = refl
 some_map h (Some x) = refl
 
 -- whether a cache is live, by the caches or by how they stand
-pub live_there : (caches : List (Option Cache)) (id : ℕ) → is_some (live_at (lives_of caches) id) ≡ is_some (at_place caches id)
+pub live_there : (caches : List (Option Cache)) (id : ℕ) → is_some (at_place (lives_of caches) id) ≡ is_some (at_place caches id)
 live_there caches id = ap is_some (at_place_map status_of caches id) ∙ some_map status_of (at_place caches id)
 
 some_of : {A : Type 0} (o : Option A) → is_some o ≡ true → (x : A) × (o ≡ Some x)
@@ -44,19 +44,19 @@ set_there : {A : Type 0} (xs : List (Option A)) (id other : ℕ) (o : Option A) 
 set_there xs id other o differ = ap there (at_other xs id other o differ)
 
 -- an accepted event finds its cache
-accepted_live : (found : Option Status) (said : Said) (memory : Bool) (o : Outcome) → o ≡ answer_of found said memory → is_refused o ≡ false → is_some found ≡ true
+accepted_live : (found : Option Status) (said : CacheEvent) (memory : Bool) (o : Outcome) → o ≡ answer_of found said memory → is_refused o ≡ false → is_some found ≡ true
 accepted_live None said memory o is accepted = (let refused = ap is_refused is in absurd cc)
 accepted_live (Some k) said memory o is accepted = refl
 
-moved_live : (lives : Lives) (id : ℕ) (said : Said) (found : Option Status) → live_at lives id ≡ found → (i : ℕ) → is_some (live_at (put_moved lives id said found) i) ≡ is_some (live_at lives i)
+moved_live : (lives : Lives) (id : ℕ) (said : CacheEvent) (found : Option Status) → at_place lives id ≡ found → (i : ℕ) → is_some (at_place (put_moved lives id said found) i) ≡ is_some (at_place lives i)
 moved_live lives id said None at i = refl
 moved_live lives id said (Some k) at i = elim (cases_eq id i) [
-  | inl same ↦ subst (λ (n : ℕ). is_some (live_at (slice_set lives id (Some (moved k said))) n) ≡ is_some (live_at lives n)) same
+  | inl same ↦ subst (λ (n : ℕ). is_some (at_place (slice_set lives id (Some (moved k said))) n) ≡ is_some (at_place lives n)) same
       (ap is_some (set_here lives id (Some (moved k said)) (ap is_some at)) ∙ sym (ap is_some at))
   | inr differ ↦ ap is_some (set_there lives id i (Some (moved k said)) differ)
 ]
 
-moved_length : (lives : Lives) (id : ℕ) (said : Said) (found : Option Status) → length (put_moved lives id said found) ≡ length lives
+moved_length : (lives : Lives) (id : ℕ) (said : CacheEvent) (found : Option Status) → length (put_moved lives id said found) ≡ length lives
 moved_length lives id said None = refl
 moved_length lives id said (Some k) = same_length lives id (Some (moved k said))
 
@@ -65,27 +65,27 @@ same_places f g zero same = refl
 same_places f g (suc n) same = ap₂ (λ xs x. xs ++ x ∷ []) (same_places f g n same) (same n)
 
 -- An event of one cache was accepted.
-module _ (caches caches' : List (Option Cache)) (f g : ℕ → Option Outcome) (id : ℕ) (said : Said) (o : Outcome) (slots : HaveSlots caches f)
-    (memory : Bool) (answer : o ≡ answer_in (lives_of caches) (says id said) memory) (accepted : is_refused o ≡ false) where
+module _ (caches caches' : List (Option Cache)) (f g : ℕ → Option Outcome) (id : ℕ) (said : CacheEvent) (o : Outcome) (slots : HaveSlots caches f)
+    (memory : Bool) (answer : o ≡ answer_in (lives_of caches) (on_cache id said) memory) (accepted : is_refused o ≡ false) where
   live : is_some (at_place caches id) ≡ true
-  live = sym (live_there caches id) ∙ accepted_live (live_at (lives_of caches) id) said memory o answer accepted
+  live = sym (live_there caches id) ∙ accepted_live (at_place (lives_of caches) id) said memory o answer accepted
 
   pub slot : is_some (f id) ≡ true
   slot = slots id ∙ live
 
-  module _ (after : lives_of caches' ≡ lives_by (lives_of caches) (says id said) o) (puts : Puts f id (Some o) g) where
-    changed : lives_of caches' ≡ put_moved (lives_of caches) id said (live_at (lives_of caches) id)
+  module _ (after : lives_of caches' ≡ lives_by (lives_of caches) (on_cache id said) o) (puts : Puts f id (Some o) g) where
+    changed : lives_of caches' ≡ put_moved (lives_of caches) id said (at_place (lives_of caches) id)
     changed = rw accepted at after
 
     live_after : (i : ℕ) → is_some (at_place caches' i) ≡ is_some (at_place caches i)
     live_after i =
-        sym (live_there caches' i) ∙ ap (λ (ls : Lives). is_some (live_at ls i)) changed
-        ∙ moved_live (lives_of caches) id said (live_at (lives_of caches) id) refl i ∙ live_there caches i
+        sym (live_there caches' i) ∙ ap (λ (ls : Lives). is_some (at_place ls i)) changed
+        ∙ moved_live (lives_of caches) id said (at_place (lives_of caches) id) refl i ∙ live_there caches i
 
     length_after : length caches' ≡ length caches
     length_after =
         sym (length-map caches' (option_map status_of)) ∙ ap length changed
-        ∙ moved_length (lives_of caches) id said (live_at (lives_of caches) id) ∙ length-map caches (option_map status_of)
+        ∙ moved_length (lives_of caches) id said (at_place (lives_of caches) id) ∙ length-map caches (option_map status_of)
 
     pub slots_after : HaveSlots caches' g
     slots_after i = elim (cases_eq i id) [
@@ -102,7 +102,7 @@ slots_same caches caches' f slots same = subst (λ (ks : List (Option Cache)). H
 
 pub refused_does : (caches caches' : List (Option Cache)) (f g : ℕ → Option Outcome) (event : Event) (o : Outcome) → is_refused o ≡ true → o ≡ answer_to (lives_of caches) event (for_memory o)
     → lives_of caches' ≡ lives_after (lives_of caches) event o → (takes_none event ≡ true → o ≡ answer_to (lives_of caches) event false) → caches' ≡ caches → ((i : ℕ) → g i ≡ f i)
-    → Does (seen caches f) event o (seen caches' g)
+    → Does (seated_of caches f) event o (seated_of caches' g)
 refused_does caches caches' f g event o refused answer lives free same also =
     let shown : places_of g (length caches') ≡ places_of f (length caches) = ap (λ (ks : List (Option Cache)). places_of g (length ks)) same ∙ same_places f g (length caches) also in
     record {
@@ -115,8 +115,8 @@ refused_does caches caches' f g event o refused answer lives free same also =
 
 pub accepted_does : (caches caches' : List (Option Cache)) (f g : ℕ → Option Outcome) (event : Event) (o : Outcome) → is_refused o ≡ false → o ≡ answer_to (lives_of caches) event (for_memory o)
     → lives_of caches' ≡ lives_after (lives_of caches) event o → (takes_none event ≡ true → o ≡ answer_to (lives_of caches) event false)
-    → places_of g (length caches') ≡ shown_by (places_of f (length caches)) event o
-    → Does (seen caches f) event o (seen caches' g)
+    → places_of g (length caches') ≡ shown_with (places_of f (length caches)) event o
+    → Does (seated_of caches f) event o (seated_of caches' g)
 accepted_does caches caches' f g event o accepted answer lives free shown =
     record {
       outcome_is = answer;
@@ -136,14 +136,14 @@ give_up_any (Some k) memory = by k.standing
     by (busy w p resumed) = refl
 
 -- A cache was destroyed.
-module _ (caches caches' : List (Option Cache)) (f g : ℕ → Option Outcome) (id : ℕ) (slots : HaveSlots caches f) (answer : Destroyed ≡ answer_to_destroy (live_at (lives_of caches) id))
+module _ (caches caches' : List (Option Cache)) (f g : ℕ → Option Outcome) (id : ℕ) (slots : HaveSlots caches f) (answer : Destroyed ≡ answer_to_destroy (at_place (lives_of caches) id))
     (gone : caches' ≡ slice_set caches id None) (puts : Puts f id None g) where
   there_to_destroy : (found : Option Status) → Destroyed ≡ answer_to_destroy found → is_some found ≡ true
   there_to_destroy None is = absurd cc
   there_to_destroy (Some k) is = refl
 
   was_live : is_some (at_place caches id) ≡ true
-  was_live = sym (live_there caches id) ∙ there_to_destroy (live_at (lives_of caches) id) answer
+  was_live = sym (live_there caches id) ∙ there_to_destroy (at_place (lives_of caches) id) answer
 
   pub slots_without : HaveSlots caches' g
   slots_without i = elim (cases_eq i id) [

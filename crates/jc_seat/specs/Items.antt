@@ -21,82 +21,82 @@ abbrev pub Bytes : Type 0
 Bytes = Option (List ℕ)
 
 -- `value` of a row, `before` it was changed, `argument` of a processor
-pub record Item : Type 0 where
+pub record ShownItem : Type 0 where
   pub key : Bytes
   pub value : Bytes
   pub before : Bytes
   pub argument : Bytes
 
-abbrev pub bare : Item
-bare = record { key = None; value = None; before = None; argument = None }
+abbrev pub bare_item : ShownItem
+bare_item = record { key = None; value = None; before = None; argument = None }
 
-abbrev pub of_key : List ℕ → Item
-of_key k = record bare { key = Some k }
+abbrev pub item_of_key : List ℕ → ShownItem
+item_of_key k = record bare_item { key = Some k }
 
-abbrev pub of_pair : List ℕ × List ℕ → Item
-of_pair p = record bare { key = Some p.0; value = Some p.1 }
+abbrev pub item_of_pair : List ℕ × List ℕ → ShownItem
+item_of_pair p = record bare_item { key = Some p.0; value = Some p.1 }
 
 -- the value of what went well
-abbrev pub well : {E : Type 0} → Result (List ℕ) E → Bytes
-well (Ok v) = Some v
-well (Err e) = None
+abbrev pub value_if_ok : {E : Type 0} → Result (List ℕ) E → Bytes
+value_if_ok (Ok v) = Some v
+value_if_ok (Err e) = None
 
-abbrev pub of_result : List ℕ × Result (List ℕ) ProcessorFault → Item
-of_result p = record bare { key = Some p.0; value = well p.1 }
+abbrev pub item_of_result : List ℕ × Result (List ℕ) ProcessorFault → ShownItem
+item_of_result p = record bare_item { key = Some p.0; value = value_if_ok p.1 }
 
-abbrev pub of_notice : Notice → Item
-of_notice n = record { key = Some n.key; value = n.value; before = n.before; argument = None }
+abbrev pub item_of_notice : Notice → ShownItem
+item_of_notice n = record { key = Some n.key; value = n.value; before = n.before; argument = None }
 
-abbrev pub in_reply : Reply → List Item
-in_reply (reply.Found (Some v)) = record bare { value = Some v } ∷ []
-in_reply (reply.Listed pairs) = map of_pair pairs
-in_reply (reply.Results results) = map of_result results
+abbrev pub in_reply : Reply → List ShownItem
+in_reply (reply.Found (Some v)) = record bare_item { value = Some v } ∷ []
+in_reply (reply.Listed pairs) = map item_of_pair pairs
+in_reply (reply.Results results) = map item_of_result results
 in_reply _ = []
 
-abbrev pub in_request : Request → List Item
-in_request (request.Load k) = of_key k ∷ []
-in_request (request.Write k v) = record bare { key = Some k; value = Some v } ∷ []
-in_request (request.Delete k) = of_key k ∷ []
+abbrev pub in_request : Request → List ShownItem
+in_request (request.Load k) = item_of_key k ∷ []
+in_request (request.Write k v) = record bare_item { key = Some k; value = Some v } ∷ []
+in_request (request.Delete k) = item_of_key k ∷ []
 in_request (request.Process k processor v a) = record { key = Some k; value = v; before = None; argument = Some a } ∷ []
-in_request (request.Tell notices) = map of_notice notices
+in_request (request.Tell notices) = map item_of_notice notices
 
-abbrev pub items_of : Outcome → List Item
-items_of (outcome.Step (step.Done r)) = in_reply r
-items_of (outcome.Step (step.Need q)) = in_request q
-items_of (outcome.GivenUp notices) = map of_notice notices
-items_of _ = []
+abbrev pub items_shown : Outcome → List ShownItem
+items_shown (outcome.Step (step.Done r)) = in_reply r
+items_shown (outcome.Step (step.Need q)) = in_request q
+items_shown (outcome.GivenUp notices) = map item_of_notice notices
+items_shown _ = []
 
 -- Numbers.
 
-abbrev pub of_kind : Kind → ℕ
-of_kind kind.Created = 0
-of_kind kind.Updated = 1
-of_kind kind.Removed = 2
-of_kind kind.Expired = 3
+abbrev pub kind_number : Kind → ℕ
+kind_number kind.Created = 0
+kind_number kind.Updated = 1
+kind_number kind.Removed = 2
+kind_number kind.Expired = 3
 
-abbrev pub of_counts : Counts → List ℕ
-of_counts c = c.hits ∷ c.misses ∷ c.puts ∷ c.removals ∷ c.evictions ∷ []
+abbrev pub count_numbers : Counts → List ℕ
+count_numbers c = c.hits ∷ c.misses ∷ c.puts ∷ c.removals ∷ c.evictions ∷ []
 
 -- the counters; the keys done before a fault; a processor; of each notice its kind
 abbrev pub numbers_of : Outcome → List ℕ
-numbers_of (outcome.Step (step.Done (reply.Counted c))) = of_counts c
+numbers_of (outcome.Step (step.Done (reply.Counted c))) = count_numbers c
 numbers_of (outcome.Step (step.Done (reply.Fault who (Some n)))) = n ∷ []
 numbers_of (outcome.Step (step.Need (request.Process k processor v a))) = processor ∷ []
-numbers_of (outcome.Step (step.Need (request.Tell notices))) = map (λ n. of_kind n.kind) notices
-numbers_of (outcome.GivenUp notices) = map (λ n. of_kind n.kind) notices
+numbers_of (outcome.Step (step.Need (request.Tell notices))) = map (λ n. kind_number n.kind) notices
+numbers_of (outcome.GivenUp notices) = map (λ n. kind_number n.kind) notices
 numbers_of _ = []
 
 -- What is copied into a buffer, and what is told of it.
 
 -- the first bytes that fit, and behind them what was there
-abbrev pub filled : Bytes → List ℕ → List ℕ
-filled None out = out
-filled (Some bytes) out = take (length out) bytes ++ drop (length bytes) out
+abbrev pub buffer_after : Bytes → List ℕ → List ℕ
+buffer_after None out = out
+buffer_after (Some bytes) out = take (length out) bytes ++ drop (length bytes) out
 
 abbrev pub length_told : Bytes → ℕ → ℕ
 length_told None n = n
 length_told (Some bytes) n = length bytes
 
-abbrev pub copied : Bytes → ℕ → Status
-copied None room = NoItem
-copied (Some bytes) room = if ltb room (length bytes) then ShortBuffer else Done
+abbrev pub copy_status : Bytes → ℕ → Status
+copy_status None room = NoItem
+copy_status (Some bytes) room = if ltb room (length bytes) then ShortBuffer else Done

@@ -8,22 +8,22 @@ use Rattle.jc_seat.specs.declared.items.Part.TheVariants as part
 use Rattle.jc_seat.specs.declared.status.Fault.{Fault}
 use Rattle.jc_seat.specs.declared.status.Status.{Status}
 use Rattle.jc_seat.specs.declared.status.Status.TheVariants.{Done, NoItem, NoSuchCache}
-use Rattle.jc_seat.specs.Status.{of_fault}
-use Rattle.jc_seat.specs.Items.{Bytes, Item, items_of, numbers_of, copied}
+use Rattle.jc_seat.specs.Status.{fault_status}
+use Rattle.jc_seat.specs.Items.{Bytes, ShownItem, items_shown, numbers_of, copy_status}
 
-abbrev pub part_of : Part → Item → Bytes
-part_of part.Key x = x.key
-part_of part.Value x = x.value
-part_of part.Before x = x.before
-part_of part.Argument x = x.argument
+abbrev pub item_part : Part → ShownItem → Bytes
+item_part part.Key x = x.key
+item_part part.Value x = x.value
+item_part part.Before x = x.before
+item_part part.Argument x = x.argument
 
-abbrev pub part_in : Part → Option Item → Bytes
+abbrev pub part_in : Part → Option ShownItem → Bytes
 part_in p None = None
-part_in p (Some x) = part_of p x
+part_in p (Some x) = item_part p x
 
 -- of the item at a place
 abbrev pub part_at : Part → ℕ → Outcome → Bytes
-part_at p place outcome = part_in p (slice_get (items_of outcome) place)
+part_at p place outcome = part_in p (slice_get (items_shown outcome) place)
 
 -- of a cache that may be none
 abbrev pub part_shown : Part → ℕ → Option Outcome → Bytes
@@ -32,11 +32,11 @@ part_shown p place (Some outcome) = part_at p place outcome
 
 abbrev pub part_status : Part → ℕ → ℕ → Option Outcome → Status
 part_status p place room None = NoSuchCache
-part_status p place room (Some outcome) = copied (part_at p place outcome) room
+part_status p place room (Some outcome) = copy_status (part_at p place outcome) room
 
 abbrev pub count_shown : ℕ → Option Outcome → ℕ
 count_shown before None = before
-count_shown before (Some outcome) = length (items_of outcome)
+count_shown before (Some outcome) = length (items_shown outcome)
 
 abbrev pub count_status : Option Outcome → Status
 count_status None = NoSuchCache
@@ -60,10 +60,10 @@ number_status place None = NoSuchCache
 number_status place (Some outcome) = status_there NoItem (slice_get (numbers_of outcome) place)
 
 -- the live cache of a name that bytes say
-abbrev pub found : Result (List ℕ) Fault → List (Option Cache) → Option ℕ
-found (Ok name) caches = id_of name caches
-found (Err fault) caches = None
+abbrev pub cache_found : Result (List ℕ) Fault → List (Option Cache) → Option ℕ
+cache_found (Ok name) caches = id_of name caches
+cache_found (Err fault) caches = None
 
 abbrev pub find_status : Result (List ℕ) Fault → List (Option Cache) → Status
 find_status (Ok name) caches = status_there NoSuchCache (id_of name caches)
-find_status (Err fault) caches = of_fault fault
+find_status (Err fault) caches = fault_status fault

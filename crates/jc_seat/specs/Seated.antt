@@ -16,7 +16,7 @@ use Rattle.jc_engine.specs.Sound.{places_of}
 use Rattle.jc_seat.specs.declared.status.Fault.{Fault}
 use Rattle.jc_seat.specs.declared.status.Status.{Status}
 use Rattle.jc_seat.specs.declared.status.Status.TheVariants.{OutOfMemory}
-use Rattle.jc_seat.specs.Status.{of_fault, status_of}
+use Rattle.jc_seat.specs.Status.{fault_status, outcome_status}
 
 -- by id, the live caches as the engine has them, and of each the outcome of the last event that it accepted
 pub record Seated : Type 0 where
@@ -24,8 +24,8 @@ pub record Seated : Type 0 where
   pub shown : List (Option Outcome)
 
 -- what is seen of the fields
-abbrev pub seen : List (Option Cache) → (ℕ → Option Outcome) → Seated
-seen caches f = record { caches = caches; shown = places_of f (length caches) }
+abbrev pub seated_of : List (Option Cache) → (ℕ → Option Outcome) → Seated
+seated_of caches f = record { caches = caches; shown = places_of f (length caches) }
 
 -- what was shown last of a cache
 abbrev pub shown_of : ℕ → Seated → Option Outcome
@@ -36,15 +36,15 @@ abbrev pub HaveSlots : List (Option Cache) → (ℕ → Option Outcome) → Type
 HaveSlots caches shown = (id : ℕ) → is_some (shown id) ≡ is_some (at_place caches id)
 
 -- what is shown after an event that was not refused
-abbrev pub shown_by : List (Option Outcome) → Event → Outcome → List (Option Outcome)
-shown_by shown (Begin id now call) outcome = slice_set shown id (Some outcome)
-shown_by shown (Answer id answer) outcome = slice_set shown id (Some outcome)
-shown_by shown (GiveUp id) outcome = slice_set shown id (Some outcome)
-shown_by shown (Create config) outcome = shown ++ Some outcome ∷ []
-shown_by shown (Destroy id) outcome = slice_set shown id None
+abbrev pub shown_with : List (Option Outcome) → Event → Outcome → List (Option Outcome)
+shown_with shown (Begin id now call) outcome = slice_set shown id (Some outcome)
+shown_with shown (Answer id answer) outcome = slice_set shown id (Some outcome)
+shown_with shown (GiveUp id) outcome = slice_set shown id (Some outcome)
+shown_with shown (Create config) outcome = shown ++ Some outcome ∷ []
+shown_with shown (Destroy id) outcome = slice_set shown id None
 
 abbrev pub shown_after : List (Option Outcome) → Event → Outcome → List (Option Outcome)
-shown_after shown event outcome = if is_refused outcome then shown else shown_by shown event outcome
+shown_after shown event outcome = if is_refused outcome then shown else shown_with shown event outcome
 
 -- The outcome is the engine's, and so are the lives after it; what takes no memory is not refused for want of it; of
 -- its cache it is shown; what is refused leaves all as it was.
@@ -56,50 +56,50 @@ pub record Does (old : Seated) (event : Event) (outcome : Outcome) (new : Seated
   pub refused : is_refused outcome ≡ true → new ≡ old
 
 -- and the status is its outcome's
-pub record Answered (old : Seated) (event : Event) (status : Status) (new : Seated) : Type 0 where
+pub record DoesWithStatus (old : Seated) (event : Event) (status : Status) (new : Seated) : Type 0 where
   pub outcome : Outcome
   pub does : Does old event outcome new
-  pub status_is : status ≡ status_of outcome
+  pub status_is : status ≡ outcome_status outcome
 
 -- what bytes say was asked; where they say nothing, that is told and nothing is done
-abbrev pub Called : {A : Type 0} → Seated → (A → Event) → Result A Fault → Status → Seated → Type 0
-Called old event (Ok said) status new = Answered old (event said) status new
-Called old event (Err fault) status new = (status ≡ of_fault fault) × (new ≡ old)
+abbrev pub DoesIfSaid : {A : Type 0} → Seated → (A → Event) → Result A Fault → Status → Seated → Type 0
+DoesIfSaid old event (Ok said) status new = DoesWithStatus old (event said) status new
+DoesIfSaid old event (Err fault) status new = (status ≡ fault_status fault) × (new ≡ old)
 
 -- the same, or memory was wanting before the manager was asked
-abbrev pub CalledOr : {A : Type 0} → Seated → (A → Event) → Result A Fault → Status → Seated → Type 0
-CalledOr old event said status new = Called old event said status new ⊎ ((status ≡ OutOfMemory) × (new ≡ old))
+abbrev pub DoesIfSaidOr : {A : Type 0} → Seated → (A → Event) → Result A Fault → Status → Seated → Type 0
+DoesIfSaidOr old event said status new = DoesIfSaid old event said status new ⊎ ((status ≡ OutOfMemory) × (new ≡ old))
 
 -- a cache begins the call that bytes say
 abbrev pub BeginsCall : Seated → ℕ → ℕ → Result Call Fault → Status → Seated → Type 0
-BeginsCall old id now said status new = Called old (λ call. Begin id now call) said status new
+BeginsCall old id now said status new = DoesIfSaid old (λ call. Begin id now call) said status new
 
 abbrev pub BeginsCallOr : Seated → ℕ → ℕ → Result Call Fault → Status → Seated → Type 0
-BeginsCallOr old id now said status new = CalledOr old (λ call. Begin id now call) said status new
+BeginsCallOr old id now said status new = DoesIfSaidOr old (λ call. Begin id now call) said status new
 
 -- its open call gets the answer that bytes say
 abbrev pub ResumesCall : Seated → ℕ → Result SomeAnswer Fault → Status → Seated → Type 0
-ResumesCall old id said status new = Called old (λ answer. Answer id answer) said status new
+ResumesCall old id said status new = DoesIfSaid old (λ answer. Answer id answer) said status new
 
 abbrev pub ResumesCallOr : Seated → ℕ → Result SomeAnswer Fault → Status → Seated → Type 0
-ResumesCallOr old id said status new = CalledOr old (λ answer. Answer id answer) said status new
+ResumesCallOr old id said status new = DoesIfSaidOr old (λ answer. Answer id answer) said status new
 
 -- a cache was created with this id, or the id stays as it was
-abbrev pub given : Outcome → ℕ → ℕ
-given (Created id) before = id
-given _ before = before
+abbrev pub id_given : Outcome → ℕ → ℕ
+id_given (Created id) before = id
+id_given _ before = before
 
 pub record CreatesBy (old : Seated) (config : CacheConfig) (status : Status) (id id' : ℕ) (new : Seated) : Type 0 where
   pub outcome : Outcome
   pub does : Does old (Create config) outcome new
-  pub status_is : status ≡ status_of outcome
-  pub id_is : id' ≡ given outcome id
+  pub status_is : status ≡ outcome_status outcome
+  pub id_is : id' ≡ id_given outcome id
 
 -- a configuration that bytes say was created, or is refused; where they say none, that is told; memory may be wanting
 -- before the manager is asked
 abbrev pub Creates : Seated → Result CacheConfig Fault → Status → ℕ → ℕ → Seated → Type 0
 Creates old (Ok config) status id id' new = CreatesBy old config status id id' new ⊎ ((status ≡ OutOfMemory) × (id' ≡ id) × (new ≡ old))
-Creates old (Err fault) status id id' new = (status ≡ of_fault fault) × (id' ≡ id) × (new ≡ old)
+Creates old (Err fault) status id id' new = (status ≡ fault_status fault) × (id' ≡ id) × (new ≡ old)
 
 -- what was read of these bytes, or memory was wanting
 abbrev pub CreatesOr : Seated → Result CacheConfig Fault → Status → ℕ → ℕ → Seated → Type 0

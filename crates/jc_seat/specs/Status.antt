@@ -19,106 +19,106 @@ use Rattle.jc_seat.specs.declared.status.Fault.TheVariants as fault
 use Rattle.jc_seat.specs.declared.status.Status.{Status}
 use Rattle.jc_seat.specs.declared.status.Status.TheVariants as status
 
-abbrev pub number_of : Status → ℕ
-number_of status.Done = 0
-number_of status.False = 1
-number_of status.True = 2
-number_of status.Found = 3
-number_of status.Nothing = 4
-number_of status.Listed = 5
-number_of status.Results = 6
-number_of status.Counted = 7
-number_of status.LoaderFailed = 8
-number_of status.WriterFailed = 9
-number_of status.ProcessorFailed = 10
-number_of status.NeedLoad = 16
-number_of status.NeedWrite = 17
-number_of status.NeedDelete = 18
-number_of status.NeedProcess = 19
-number_of status.NeedTell = 20
-number_of status.NoSuchCache = 32
-number_of status.Busy = 33
-number_of status.NoSuchProcessor = 34
-number_of status.NoTurn = 35
-number_of status.WrongAnswer = 36
-number_of status.OutOfMemory = 37
-number_of status.TooManyCaches = 48
-number_of status.BadCapacity = 49
-number_of status.TooManyListeners = 50
-number_of status.TooManyProcessors = 51
-number_of status.DuplicateName = 52
-number_of status.TotalCapacity = 53
-number_of status.IdsSpent = 54
-number_of status.Closed = 64
-number_of status.InUse = 65
-number_of status.BadKey = 66
-number_of status.BadValue = 67
-number_of status.BadLengths = 68
-number_of status.TooManyKeys = 69
-number_of status.DuplicateKey = 70
-number_of status.BadChoice = 71
-number_of status.NoItem = 72
-number_of status.ShortBuffer = 73
+abbrev pub status_number : Status → ℕ
+status_number status.Done = 0
+status_number status.False = 1
+status_number status.True = 2
+status_number status.Found = 3
+status_number status.Nothing = 4
+status_number status.Listed = 5
+status_number status.Results = 6
+status_number status.Counted = 7
+status_number status.LoaderFailed = 8
+status_number status.WriterFailed = 9
+status_number status.ProcessorFailed = 10
+status_number status.NeedLoad = 16
+status_number status.NeedWrite = 17
+status_number status.NeedDelete = 18
+status_number status.NeedProcess = 19
+status_number status.NeedTell = 20
+status_number status.NoSuchCache = 32
+status_number status.Busy = 33
+status_number status.NoSuchProcessor = 34
+status_number status.NoTurn = 35
+status_number status.WrongAnswer = 36
+status_number status.OutOfMemory = 37
+status_number status.TooManyCaches = 48
+status_number status.BadCapacity = 49
+status_number status.TooManyListeners = 50
+status_number status.TooManyProcessors = 51
+status_number status.DuplicateName = 52
+status_number status.TotalCapacity = 53
+status_number status.IdsSpent = 54
+status_number status.Closed = 64
+status_number status.InUse = 65
+status_number status.BadKey = 66
+status_number status.BadValue = 67
+status_number status.BadLengths = 68
+status_number status.TooManyKeys = 69
+status_number status.DuplicateKey = 70
+status_number status.BadChoice = 71
+status_number status.NoItem = 72
+status_number status.ShortBuffer = 73
 
-abbrev pub of_cause : Cause → Status
-of_cause cause.NoSuchCache = status.NoSuchCache
-of_cause cause.Busy = status.Busy
-of_cause cause.NoSuchProcessor = status.NoSuchProcessor
-of_cause cause.NoTurn = status.NoTurn
-of_cause cause.WrongAnswer = status.WrongAnswer
-of_cause cause.OutOfMemory = status.OutOfMemory
+abbrev pub cause_status : Cause → Status
+cause_status cause.NoSuchCache = status.NoSuchCache
+cause_status cause.Busy = status.Busy
+cause_status cause.NoSuchProcessor = status.NoSuchProcessor
+cause_status cause.NoTurn = status.NoTurn
+cause_status cause.WrongAnswer = status.WrongAnswer
+cause_status cause.OutOfMemory = status.OutOfMemory
 
-abbrev pub of_refusal : CreateRefusal → Status
-of_refusal create.TooManyCaches = status.TooManyCaches
-of_refusal create.BadCapacity = status.BadCapacity
-of_refusal create.TooManyListeners = status.TooManyListeners
-of_refusal create.TooManyProcessors = status.TooManyProcessors
-of_refusal create.DuplicateName = status.DuplicateName
-of_refusal create.TotalCapacity = status.TotalCapacity
-of_refusal create.IdsSpent = status.IdsSpent
-of_refusal create.OutOfMemory = status.OutOfMemory
+abbrev pub refusal_status : CreateRefusal → Status
+refusal_status create.TooManyCaches = status.TooManyCaches
+refusal_status create.BadCapacity = status.BadCapacity
+refusal_status create.TooManyListeners = status.TooManyListeners
+refusal_status create.TooManyProcessors = status.TooManyProcessors
+refusal_status create.DuplicateName = status.DuplicateName
+refusal_status create.TotalCapacity = status.TotalCapacity
+refusal_status create.IdsSpent = status.IdsSpent
+refusal_status create.OutOfMemory = status.OutOfMemory
 
-abbrev pub of_fault : Fault → Status
-of_fault fault.BadKey = status.BadKey
-of_fault fault.BadValue = status.BadValue
-of_fault fault.BadLengths = status.BadLengths
-of_fault fault.TooManyKeys = status.TooManyKeys
-of_fault fault.DuplicateKey = status.DuplicateKey
-of_fault fault.BadChoice = status.BadChoice
-of_fault fault.OutOfMemory = status.OutOfMemory
+abbrev pub fault_status : Fault → Status
+fault_status fault.BadKey = status.BadKey
+fault_status fault.BadValue = status.BadValue
+fault_status fault.BadLengths = status.BadLengths
+fault_status fault.TooManyKeys = status.TooManyKeys
+fault_status fault.DuplicateKey = status.DuplicateKey
+fault_status fault.BadChoice = status.BadChoice
+fault_status fault.OutOfMemory = status.OutOfMemory
 
 -- whose fault ended a call
-abbrev pub of_by : By → Status
-of_by by.Loader = status.LoaderFailed
-of_by by.Writer = status.WriterFailed
-of_by by.Processor = status.ProcessorFailed
+abbrev pub by_status : By → Status
+by_status by.Loader = status.LoaderFailed
+by_status by.Writer = status.WriterFailed
+by_status by.Processor = status.ProcessorFailed
 
-abbrev pub of_reply : Reply → Status
-of_reply reply.Done = status.Done
-of_reply (reply.Truth false) = status.False
-of_reply (reply.Truth true) = status.True
-of_reply (reply.Found (Some v)) = status.Found
-of_reply (reply.Found None) = status.Nothing
-of_reply (reply.Listed pairs) = status.Listed
-of_reply (reply.Results results) = status.Results
-of_reply (reply.Counted counts) = status.Counted
-of_reply (reply.Fault who count) = of_by who
+abbrev pub reply_status : Reply → Status
+reply_status reply.Done = status.Done
+reply_status (reply.Truth false) = status.False
+reply_status (reply.Truth true) = status.True
+reply_status (reply.Found (Some v)) = status.Found
+reply_status (reply.Found None) = status.Nothing
+reply_status (reply.Listed pairs) = status.Listed
+reply_status (reply.Results results) = status.Results
+reply_status (reply.Counted counts) = status.Counted
+reply_status (reply.Fault who count) = by_status who
 
-abbrev pub of_request : Request → Status
-of_request (request.Load k) = status.NeedLoad
-of_request (request.Write k v) = status.NeedWrite
-of_request (request.Delete k) = status.NeedDelete
-of_request (request.Process k processor v argument) = status.NeedProcess
-of_request (request.Tell notices) = status.NeedTell
+abbrev pub request_status : Request → Status
+request_status (request.Load k) = status.NeedLoad
+request_status (request.Write k v) = status.NeedWrite
+request_status (request.Delete k) = status.NeedDelete
+request_status (request.Process k processor v argument) = status.NeedProcess
+request_status (request.Tell notices) = status.NeedTell
 
-abbrev pub of_step : Step → Status
-of_step (step.Done r) = of_reply r
-of_step (step.Need q) = of_request q
+abbrev pub step_status : Step → Status
+step_status (step.Done r) = reply_status r
+step_status (step.Need q) = request_status q
 
-abbrev pub status_of : Outcome → Status
-status_of (outcome.Step s) = of_step s
-status_of (outcome.Refused why) = of_cause why
-status_of (outcome.GivenUp notices) = status.Done
-status_of (outcome.Created id) = status.Done
-status_of (outcome.CreateRefused refusal) = of_refusal refusal
-status_of outcome.Destroyed = status.Done
+abbrev pub outcome_status : Outcome → Status
+outcome_status (outcome.Step s) = step_status s
+outcome_status (outcome.Refused why) = cause_status why
+outcome_status (outcome.GivenUp notices) = status.Done
+outcome_status (outcome.Created id) = status.Done
+outcome_status (outcome.CreateRefused refusal) = refusal_status refusal
+outcome_status outcome.Destroyed = status.Done

@@ -1,7 +1,7 @@
 //! Calls and answers, out of bytes.
 ghost use Rattle.std.specs.Prelude.{◌≡◌};
 ghost use Rattle.jc_seat.specs.Reading.{IsRead};
-ghost use Rattle.jc_seat.specs.Calls.{with_key, with_value, with_keys, replace_if, remove_if, invoke, invoke_all, put_all, load_all, loaded, action_of, answer_of, processed};
+ghost use Rattle.jc_seat.specs.Calls.{call_with_key, call_with_value, call_with_keys, replace_if, remove_if, invoke, invoke_all, put_all, load_all, loaded_answer, action_of, verdict_answer_said, processed_answer};
 
 use crate::reading::{PairLengths, read_key, read_keys, read_pairs, read_value};
 use crate::status::Fault;
@@ -10,40 +10,40 @@ use jc_model::value::Value;
 use std::alloc::Global;
 
 pub fn get(key: &[u8]) -> Result<Call, Fault>
-    ensures { result ≡ with_key Call.Get key.now }
+    ensures { result ≡ call_with_key Call.Get key.now }
 {
     Ok(Call::Get(read_key(key)?))
 }
 
 pub fn contains(key: &[u8]) -> Result<Call, Fault>
-    ensures { result ≡ with_key Call.Contains key.now }
+    ensures { result ≡ call_with_key Call.Contains key.now }
 {
     Ok(Call::Contains(read_key(key)?))
 }
 
 pub fn put(alloc: Global, key: &[u8], value: &[u8]) -> Result<Call, Fault>
-    ensures { IsRead (with_value Call.Put key.now value.now) result }
+    ensures { IsRead (call_with_value Call.Put key.now value.now) result }
 {
     let key = read_key(key)?;
     Ok(Call::Put(key, read_value(alloc, value)?))
 }
 
 pub fn get_and_put(alloc: Global, key: &[u8], value: &[u8]) -> Result<Call, Fault>
-    ensures { IsRead (with_value Call.GetAndPut key.now value.now) result }
+    ensures { IsRead (call_with_value Call.GetAndPut key.now value.now) result }
 {
     let key = read_key(key)?;
     Ok(Call::GetAndPut(key, read_value(alloc, value)?))
 }
 
 pub fn put_if_absent(alloc: Global, key: &[u8], value: &[u8]) -> Result<Call, Fault>
-    ensures { IsRead (with_value Call.PutIfAbsent key.now value.now) result }
+    ensures { IsRead (call_with_value Call.PutIfAbsent key.now value.now) result }
 {
     let key = read_key(key)?;
     Ok(Call::PutIfAbsent(key, read_value(alloc, value)?))
 }
 
 pub fn replace(alloc: Global, key: &[u8], value: &[u8]) -> Result<Call, Fault>
-    ensures { IsRead (with_value Call.Replace key.now value.now) result }
+    ensures { IsRead (call_with_value Call.Replace key.now value.now) result }
 {
     let key = read_key(key)?;
     Ok(Call::Replace(key, read_value(alloc, value)?))
@@ -63,14 +63,14 @@ pub fn replace_if(alloc: Global, key: &[u8], expected: &[u8], value: &[u8]) -> R
 }
 
 pub fn get_and_replace(alloc: Global, key: &[u8], value: &[u8]) -> Result<Call, Fault>
-    ensures { IsRead (with_value Call.GetAndReplace key.now value.now) result }
+    ensures { IsRead (call_with_value Call.GetAndReplace key.now value.now) result }
 {
     let key = read_key(key)?;
     Ok(Call::GetAndReplace(key, read_value(alloc, value)?))
 }
 
 pub fn remove(key: &[u8]) -> Result<Call, Fault>
-    ensures { result ≡ with_key Call.Remove key.now }
+    ensures { result ≡ call_with_key Call.Remove key.now }
 {
     Ok(Call::Remove(read_key(key)?))
 }
@@ -84,7 +84,7 @@ pub fn remove_if(alloc: Global, key: &[u8], expected: &[u8]) -> Result<Call, Fau
 }
 
 pub fn get_and_remove(key: &[u8]) -> Result<Call, Fault>
-    ensures { result ≡ with_key Call.GetAndRemove key.now }
+    ensures { result ≡ call_with_key Call.GetAndRemove key.now }
 {
     Ok(Call::GetAndRemove(read_key(key)?))
 }
@@ -102,7 +102,7 @@ pub fn invoke(alloc: Global, key: &[u8], processor: u8, argument: &[u8]) -> Resu
 }
 
 pub fn get_all(alloc: Global, lengths: &[u32], keys: &[u8]) -> Result<Call, Fault>
-    ensures { IsRead (with_keys Call.GetAll lengths.now keys.now) result }
+    ensures { IsRead (call_with_keys Call.GetAll lengths.now keys.now) result }
 {
     Ok(Call::GetAll(read_keys(alloc, lengths, keys)?))
 }
@@ -114,7 +114,7 @@ pub fn put_all(alloc: Global, lengths: &[PairLengths], pairs: &[u8]) -> Result<C
 }
 
 pub fn remove_keys(alloc: Global, lengths: &[u32], keys: &[u8]) -> Result<Call, Fault>
-    ensures { IsRead (with_keys Call.RemoveKeys lengths.now keys.now) result }
+    ensures { IsRead (call_with_keys Call.RemoveKeys lengths.now keys.now) result }
 {
     Ok(Call::RemoveKeys(read_keys(alloc, lengths, keys)?))
 }
@@ -148,7 +148,7 @@ pub fn invoke_all(
 
 /// A value was loaded.
 pub fn loaded(alloc: Global, value: &[u8]) -> Result<Answer, Fault>
-    ensures { IsRead (loaded value.now) result }
+    ensures { IsRead (loaded_answer value.now) result }
 {
     Ok(Answer::Loaded(Some(read_value(alloc, value)?)))
 }
@@ -167,7 +167,7 @@ fn action_of(alloc: Global, choice: u32, value: &[u8]) -> Result<Action, Fault>
 
 /// What a processor answers: nothing where the flag is 0.
 fn answer_of(alloc: Global, answers: u32, answer: &[u8]) -> Result<Option<Value>, Fault>
-    ensures { IsRead (answer_of answers answer.now) result }
+    ensures { IsRead (verdict_answer_said answers answer.now) result }
 {
     if answers == 0 {
         return Ok(None);
@@ -183,7 +183,7 @@ pub fn processed(
     answers: u32,
     answer: &[u8],
 ) -> Result<Answer, Fault>
-    ensures { IsRead (processed action value.now answers answer.now) result }
+    ensures { IsRead (processed_answer action value.now answers answer.now) result }
 {
     let action = action_of(alloc, action, value)?;
     let answer = answer_of(alloc, answers, answer)?;

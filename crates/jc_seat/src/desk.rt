@@ -4,9 +4,9 @@ ghost use Rattle.jc_model.specs.declared.call.Answer.{Answer as SomeAnswer};
 ghost use Rattle.jc_model.specs.declared.call.Call.{Call as SomeCall};
 ghost use Rattle.jc_model.specs.declared.config.CacheConfig.{CacheConfig as SomeConfig};
 ghost use Rattle.jc_seat.specs.declared.status.Fault.{Fault as SomeFault};
-ghost use Rattle.jc_seat.specs.Items.{filled, length_told};
-ghost use Rattle.jc_seat.specs.Parts.{part_shown, part_status, count_shown, count_status, or_before, number_shown, number_status, found, find_status};
-ghost use Rattle.jc_seat.specs.Reading.{IsRead, key_of};
+ghost use Rattle.jc_seat.specs.Items.{buffer_after, length_told};
+ghost use Rattle.jc_seat.specs.Parts.{part_shown, part_status, count_shown, count_status, or_before, number_shown, number_status, cache_found, find_status};
+ghost use Rattle.jc_seat.specs.Reading.{IsRead, key_said};
 ghost use Rattle.jc_seat.specs.Seated.{BeginsCall, BeginsCallOr, Creates, CreatesOr, ResumesCall, ResumesCallOr, shown_of};
 
 use crate::items::{self, Part};
@@ -62,8 +62,8 @@ impl Seat {
 
     /// Tells the id of the live cache with this name.
     pub fn find_cache(&self, name: &[u8], id: &mut u32) -> Status
-        ensures status { result ≡ find_status (key_of name.now) self.now.caches }
-        ensures id { id.new ≡ or_before id.old (found (key_of name.now) self.now.caches) }
+        ensures status { result ≡ find_status (key_said name.now) self.now.caches }
+        ensures id { id.new ≡ or_before id.old (cache_found (key_said name.now) self.now.caches) }
     {
         match read_key(name) {
             Ok(name) => match self.find(&name) {
@@ -101,7 +101,7 @@ impl Seat {
         len: &mut usize,
     ) -> Status
         ensures status { result ≡ part_status part place (length out.old) (shown_of id self.now) }
-        ensures out { out.new ≡ filled (part_shown part place (shown_of id self.now)) out.old }
+        ensures out { out.new ≡ buffer_after (part_shown part place (shown_of id self.now)) out.old }
         ensures len { len.new ≡ length_told (part_shown part place (shown_of id self.now)) len.old }
     {
         match self.shown(CacheId::new(id)) {

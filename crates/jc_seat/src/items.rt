@@ -1,6 +1,6 @@
 //! What an outcome shows: items with a key, a value, the value before and a processor's argument, and numbers.
 ghost use Rattle.std.specs.Prelude.{◌≡◌, length, option_map, slice_get};
-ghost use Rattle.jc_seat.specs.Items.{items_of, in_reply, in_request, of_key, of_pair, of_result, of_notice, numbers_of, of_kind, of_counts, filled, length_told, copied};
+ghost use Rattle.jc_seat.specs.Items.{items_shown, in_reply, in_request, item_of_key, item_of_pair, item_of_result, item_of_notice, numbers_of, kind_number, count_numbers, buffer_after, length_told, copy_status};
 ghost use Rattle.jc_seat.specs.Lent.{item_lent};
 ghost use Rattle.jc_seat.specs.Parts.{part_at};
 
@@ -32,7 +32,7 @@ pub enum Part {
 }
 
 fn of_key(key: &Key) -> Item<'_>
-    ensures { item_lent result ≡ of_key key.now }
+    ensures { item_lent result ≡ item_of_key key.now }
 {
     Item {
         key: Some(key.text().as_bytes()),
@@ -52,7 +52,7 @@ fn bytes_of(value: &Option<Value>) -> Option<&[u8]>
 }
 
 fn of_pair(pair: &(Key, Value)) -> Item<'_>
-    ensures { item_lent result ≡ of_pair pair.now }
+    ensures { item_lent result ≡ item_of_pair pair.now }
 {
     Item {
         key: Some(pair.0.text().as_bytes()),
@@ -63,7 +63,7 @@ fn of_pair(pair: &(Key, Value)) -> Item<'_>
 }
 
 fn of_result(pair: &(Key, Result<Value, ProcessorFault>)) -> Item<'_>
-    ensures { item_lent result ≡ of_result pair.now }
+    ensures { item_lent result ≡ item_of_result pair.now }
 {
     let value = match &pair.1 {
         Ok(value) => Some(value.bytes()),
@@ -78,7 +78,7 @@ fn of_result(pair: &(Key, Result<Value, ProcessorFault>)) -> Item<'_>
 }
 
 fn of_notice(notice: &Notice) -> Item<'_>
-    ensures { item_lent result ≡ of_notice notice.now }
+    ensures { item_lent result ≡ item_of_notice notice.now }
 {
     Item {
         key: Some(notice.key.text().as_bytes()),
@@ -89,7 +89,7 @@ fn of_notice(notice: &Notice) -> Item<'_>
 }
 
 fn in_notices(notices: &[Notice], place: usize) -> Option<Item<'_>>
-    ensures { option_map item_lent result ≡ option_map of_notice (slice_get notices.now place) }
+    ensures { option_map item_lent result ≡ option_map item_of_notice (slice_get notices.now place) }
 {
     match notices.get(place) {
         Some(notice) => Some(of_notice(notice)),
@@ -148,7 +148,7 @@ fn in_request(request: &Request, place: usize) -> Option<Item<'_>>
 
 /// The item at a place, from 0.
 pub fn item_at(outcome: &Outcome, place: usize) -> Option<Item<'_>>
-    ensures { option_map item_lent result ≡ slice_get (items_of outcome.now) place }
+    ensures { option_map item_lent result ≡ slice_get (items_shown outcome.now) place }
 {
     match outcome {
         Outcome::Step(Step::Done(reply)) => in_reply(reply, place),
@@ -184,7 +184,7 @@ fn count_in_reply(reply: &Reply) -> usize
 
 /// How many items are shown.
 pub fn count(outcome: &Outcome) -> usize
-    ensures { result ≡ length (items_of outcome.now) }
+    ensures { result ≡ length (items_shown outcome.now) }
 {
     match outcome {
         Outcome::Step(Step::Done(reply)) => count_in_reply(reply),
@@ -196,7 +196,7 @@ pub fn count(outcome: &Outcome) -> usize
 }
 
 fn of_kind(kind: Kind) -> u64
-    ensures { result ≡ of_kind kind }
+    ensures { result ≡ kind_number kind }
 {
     match kind {
         Kind::Created => 0,
@@ -207,7 +207,7 @@ fn of_kind(kind: Kind) -> u64
 }
 
 fn of_counts(counts: &Counts, place: usize) -> Option<u64>
-    ensures { result ≡ slice_get (of_counts counts.now) place }
+    ensures { result ≡ slice_get (count_numbers counts.now) place }
 {
     match place {
         0 => Some(counts.hits),
@@ -220,7 +220,7 @@ fn of_counts(counts: &Counts, place: usize) -> Option<u64>
 }
 
 fn kind_at(notices: &[Notice], place: usize) -> Option<u64>
-    ensures { result ≡ option_map (λ n. of_kind n.kind) (slice_get notices.now place) }
+    ensures { result ≡ option_map (λ n. kind_number n.kind) (slice_get notices.now place) }
 {
     match notices.get(place) {
         Some(notice) => Some(of_kind(notice.kind)),
@@ -255,8 +255,8 @@ pub fn number(outcome: &Outcome, place: usize) -> Option<u64>
 
 /// Copies the first bytes into a buffer, as many as it takes, and tells how many there are.
 pub fn copy(bytes: Option<&[u8]>, out: &mut [u8], len: &mut usize) -> Status
-    ensures status { result ≡ copied (option_map (λ b. b.now) bytes.entry) (length out.old) }
-    ensures out { out.new ≡ filled (option_map (λ b. b.now) bytes.entry) out.old }
+    ensures status { result ≡ copy_status (option_map (λ b. b.now) bytes.entry) (length out.old) }
+    ensures out { out.new ≡ buffer_after (option_map (λ b. b.now) bytes.entry) out.old }
     ensures len { len.new ≡ length_told (option_map (λ b. b.now) bytes.entry) len.old }
 {
     let Some(bytes) = bytes else {

@@ -1,6 +1,6 @@
 //! Keys, values and lists of them, out of bytes.
 ghost use Rattle.std.specs.Prelude.{◌≡◌};
-ghost use Rattle.jc_seat.specs.Reading.{IsRead, IsListRead, key_of, value_of, keys_in, keys_of, pairs_in, pairs_of, list_fault};
+ghost use Rattle.jc_seat.specs.Reading.{IsRead, IsListRead, key_said, value_said, key_list_said, keys_said, pair_list_said, pairs_said, list_fault};
 
 use crate::status::Fault;
 use jc_model::key::Key;
@@ -19,7 +19,7 @@ pub struct PairLengths {
 
 /// The key with these bytes.
 pub fn read_key(bytes: &[u8]) -> Result<Key, Fault>
-    ensures { result ≡ key_of bytes.now }
+    ensures { result ≡ key_said bytes.now }
 {
     match std::str::from_utf8(bytes) {
         Ok(text) => match Key::from_text(text) {
@@ -32,7 +32,7 @@ pub fn read_key(bytes: &[u8]) -> Result<Key, Fault>
 
 /// The value with these bytes.
 pub fn read_value(alloc: Global, bytes: &[u8]) -> Result<Value, Fault>
-    ensures { IsRead (value_of bytes.now) result }
+    ensures { IsRead (value_said bytes.now) result }
 {
     if bytes.len() > VALUE_BYTES {
         return Err(Fault::BadValue);
@@ -48,7 +48,7 @@ pub fn read_value(alloc: Global, bytes: &[u8]) -> Result<Value, Fault>
 
 /// The keys that stand in these bytes, one after the other.
 fn keys_in(alloc: Global, lengths: &[u32], bytes: &[u8]) -> Result<Vec<Key>, Fault>
-    ensures { IsListRead (keys_in lengths.now bytes.now) result }
+    ensures { IsListRead (key_list_said lengths.now bytes.now) result }
 {
     let mut keys = Vec::new(alloc);
     let mut left = bytes;
@@ -76,7 +76,7 @@ fn pairs_in(
     lengths: &[PairLengths],
     bytes: &[u8],
 ) -> Result<Vec<(Key, Value)>, Fault>
-    ensures { IsListRead (pairs_in lengths.now bytes.now) result }
+    ensures { IsListRead (pair_list_said lengths.now bytes.now) result }
 {
     let mut pairs = Vec::new(alloc);
     let mut left = bytes;
@@ -111,7 +111,7 @@ fn list_fault(fault: ListFault) -> Fault
 
 /// The list of the keys that stand in these bytes.
 pub fn read_keys(alloc: Global, lengths: &[u32], bytes: &[u8]) -> Result<Keys, Fault>
-    ensures { IsRead (keys_of lengths.now bytes.now) result }
+    ensures { IsRead (keys_said lengths.now bytes.now) result }
 {
     match Keys::new(keys_in(alloc, lengths, bytes)?) {
         Ok(keys) => Ok(keys),
@@ -121,7 +121,7 @@ pub fn read_keys(alloc: Global, lengths: &[u32], bytes: &[u8]) -> Result<Keys, F
 
 /// The list of the pairs that stand in these bytes.
 pub fn read_pairs(alloc: Global, lengths: &[PairLengths], bytes: &[u8]) -> Result<Pairs, Fault>
-    ensures { IsRead (pairs_of lengths.now bytes.now) result }
+    ensures { IsRead (pairs_said lengths.now bytes.now) result }
 {
     match Pairs::new(pairs_in(alloc, lengths, bytes)?) {
         Ok(pairs) => Ok(pairs),

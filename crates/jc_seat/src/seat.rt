@@ -3,7 +3,7 @@ ghost use Rattle.std.specs.Prelude.{◌≡◌, ℕ, [], IfSome, MatchResult, opt
 ghost use Rattle.jc_model.specs.declared.event.Event.TheVariants.{Begin, Answer as Answers, GiveUp, Create, Destroy};
 ghost use Rattle.jc_model.specs.declared.event.Outcome.TheVariants.{Created};
 ghost use Rattle.jc_engine.specs.Caches.{id_of};
-ghost use Rattle.jc_seat.specs.Seated.{Does, Answered, Creates, shown_of};
+ghost use Rattle.jc_seat.specs.Seated.{Does, DoesWithStatus, Creates, shown_of};
 
 use crate::shown::{hide, show, show_first};
 use crate::status::Status;
@@ -34,11 +34,11 @@ pub struct Seat {
 impl Model for Seat {
     ghost use Rattle.std.specs.Prelude.{nat_eq};
     ghost use Rattle.std.specs.HashMap.{get};
-    ghost use Rattle.jc_seat.specs.Seated.{Seated, HaveSlots, seen};
+    ghost use Rattle.jc_seat.specs.Seated.{Seated, HaveSlots, seated_of};
 
     ghost Value = { Seated };
 
-    ghost view = { λ s. seen s.engine (get nat_eq s.shown) };
+    ghost view = { λ s. seated_of s.engine (get nat_eq s.shown) };
 
     ghost invariant = { λ s. HaveSlots s.engine (get nat_eq s.shown) };
 }
@@ -94,7 +94,7 @@ impl Seat {
 
     /// Destroys a cache.
     pub fn destroy(&mut self, id: CacheId) -> Status
-        ensures { Answered self.old (Destroy id) result self.new }
+        ensures { DoesWithStatus self.old (Destroy id) result self.new }
     {
         match self.engine.destroy(id) {
             Ok(()) => {
@@ -107,7 +107,7 @@ impl Seat {
 
     /// Begins a call.
     pub fn begin(&mut self, id: CacheId, now: u64, call: Call) -> Status
-        ensures { Answered self.old (Begin id now call) result self.new }
+        ensures { DoesWithStatus self.old (Begin id now call) result self.new }
     {
         match self.engine.begin(id, now, call) {
             Ok(step) => show(&mut self.shown, id, Outcome::Step(step)),
@@ -120,7 +120,7 @@ impl Seat {
 
     /// Answers the open call's request.
     pub fn resume(&mut self, id: CacheId, answer: Answer) -> Status
-        ensures { Answered self.old (Answers id answer) result self.new }
+        ensures { DoesWithStatus self.old (Answers id answer) result self.new }
     {
         match self.engine.resume(id, answer) {
             Ok(step) => show(&mut self.shown, id, Outcome::Step(step)),
@@ -133,7 +133,7 @@ impl Seat {
 
     /// Ends the open call without a reply; the notices that no one was told are shown.
     pub fn give_up(&mut self, id: CacheId) -> Status
-        ensures { Answered self.old (GiveUp id) result self.new }
+        ensures { DoesWithStatus self.old (GiveUp id) result self.new }
     {
         match self.engine.give_up(id) {
             Ok(notices) => show(&mut self.shown, id, Outcome::GivenUp(notices)),

@@ -1,6 +1,6 @@
 //! What a cache is created with.
 ghost use Rattle.std.specs.Prelude.{◌≡◌, IfOk, map, IfErr};
-ghost use Rattle.jc_seat.specs.Reading.{IsRead, is_set, policy_of, config_of};
+ghost use Rattle.jc_seat.specs.Reading.{IsRead, is_set, policy_said, config_said};
 
 use crate::reading::read_key;
 use crate::status::Fault;
@@ -28,7 +28,7 @@ pub struct Settings {
 
 /// The policy of this number.
 fn policy_of(choice: u32, duration: u64) -> Result<Policy, Fault>
-    ensures { result ≡ policy_of choice duration }
+    ensures { result ≡ policy_said choice duration }
 {
     match choice {
         0 => Ok(Policy::Eternal),
@@ -61,7 +61,7 @@ pub fn read_config(
     settings: &Settings,
     wants: &[u8],
 ) -> Result<CacheConfig, Fault>
-    ensures { IsRead (config_of name.now settings.now wants.now) result }
+    ensures { IsRead (config_said name.now settings.now wants.now) result }
 {
     let name = read_key(name)?;
     let policy = policy_of(settings.policy, settings.duration)?;

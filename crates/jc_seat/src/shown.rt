@@ -2,7 +2,7 @@
 ghost use Rattle.std.specs.Prelude.{◌≡◌, ◌≤◌, Some, None, IsSome, nat_eq};
 ghost use Rattle.std.specs.HashMap.{get, spare};
 ghost use Rattle.jc_engine.specs.Journals.{Puts};
-ghost use Rattle.jc_seat.specs.Status.{status_of};
+ghost use Rattle.jc_seat.specs.Status.{outcome_status};
 
 use crate::status::Status;
 use jc_model::event::{CacheId, Outcome};
@@ -12,7 +12,7 @@ use std::mem::replace;
 /// Shows an outcome in the place of the last one, and gives its status.
 pub(crate) fn show(shown: &mut HashMap<u32, Outcome>, id: CacheId, outcome: Outcome) -> Status
     requires { IsSome (get nat_eq shown.old id) }
-    ensures status { result ≡ status_of outcome }
+    ensures status { result ≡ outcome_status outcome }
     ensures shown { Puts (get nat_eq shown.old) id (Some outcome) (get nat_eq shown.new) }
 {
     let status = Status::of_outcome(&outcome);

@@ -1,6 +1,6 @@
 //! What a call comes to, as one number. No two have the same, and none is ever given another.
 ghost use Rattle.std.specs.Prelude.{◌≡◌};
-ghost use Rattle.jc_seat.specs.Status.{number_of, of_cause, of_refusal, of_reply, of_request, of_fault, status_of};
+ghost use Rattle.jc_seat.specs.Status.{status_number, cause_status, refusal_status, reply_status, request_status, fault_status, outcome_status};
 
 use jc_model::call::{By, Reply, Request};
 use jc_model::event::{Cause, CreateRefusal, Outcome, Step};
@@ -85,7 +85,7 @@ pub enum Status {
 impl Status {
     /// Its number.
     pub fn number(self) -> u32
-        ensures { result ≡ number_of self }
+        ensures { result ≡ status_number self }
     {
         match self {
             Status::Done => 0,
@@ -132,7 +132,7 @@ impl Status {
 
     /// Why an event is refused.
     pub fn of_cause(cause: Cause) -> Status
-        ensures { result ≡ of_cause cause }
+        ensures { result ≡ cause_status cause }
     {
         match cause {
             Cause::NoSuchCache => Status::NoSuchCache,
@@ -146,7 +146,7 @@ impl Status {
 
     /// Why no cache is created.
     pub fn of_refusal(refusal: CreateRefusal) -> Status
-        ensures { result ≡ of_refusal refusal }
+        ensures { result ≡ refusal_status refusal }
     {
         match refusal {
             CreateRefusal::TooManyCaches => Status::TooManyCaches,
@@ -162,7 +162,7 @@ impl Status {
 
     /// Why bytes say nothing.
     pub fn of_fault(fault: Fault) -> Status
-        ensures { result ≡ of_fault fault }
+        ensures { result ≡ fault_status fault }
     {
         match fault {
             Fault::BadKey => Status::BadKey,
@@ -177,7 +177,7 @@ impl Status {
 
     /// What a reply is.
     fn of_reply(reply: &Reply) -> Status
-        ensures { result ≡ of_reply reply.now }
+        ensures { result ≡ reply_status reply.now }
     {
         match reply {
             Reply::Done => Status::Done,
@@ -198,7 +198,7 @@ impl Status {
 
     /// What a request asks for.
     fn of_request(request: &Request) -> Status
-        ensures { result ≡ of_request request.now }
+        ensures { result ≡ request_status request.now }
     {
         match request {
             Request::Load(_) => Status::NeedLoad,
@@ -211,7 +211,7 @@ impl Status {
 
     /// What an event has come to.
     pub fn of_outcome(outcome: &Outcome) -> Status
-        ensures { result ≡ status_of outcome.now }
+        ensures { result ≡ outcome_status outcome.now }
     {
         match outcome {
             Outcome::Step(Step::Done(reply)) => Status::of_reply(reply),

@@ -12,9 +12,9 @@ InHalf at_left at_right old new (Left id) = at_left old.left new.left id × (new
 InHalf at_left at_right old new (Right id) = at_right old.right new.right id × (new.left ≡ old.left)
 
 -- of two results the first that is an error
-abbrev pub both : Result (Unit {0}) AllocError → Result (Unit {0}) AllocError → Result (Unit {0}) AllocError
-both (Ok done) other = other
-both (Err why) other = Err why
+abbrev pub first_error : Result (Unit {0}) AllocError → Result (Unit {0}) AllocError → Result (Unit {0}) AllocError
+first_error (Ok done) other = other
+first_error (Err why) other = Err why
 
 -- it happens in both halves
 pub record InBoth {A B : Type 0} (at_left : A → A → Result (Unit {0}) AllocError → Type 0) (at_right : B → B → Result (Unit {0}) AllocError → Type 0) (old new : Pair A B) (result : Result (Unit {0}) AllocError) : Type 0 where
@@ -22,20 +22,20 @@ pub record InBoth {A B : Type 0} (at_left : A → A → Result (Unit {0}) AllocE
   pub right : Result (Unit {0}) AllocError
   pub is_left : at_left old.left new.left left
   pub is_right : at_right old.right new.right right
-  pub is_both : result ≡ both left right
+  pub is_both : result ≡ first_error left right
 
 abbrev pub of_half : Bool → Type 0 → Type 0 → Type 0
 of_half false left right = left
 of_half true left right = right
 
 -- a cache is found in the half of its name, or is not there
-abbrev pub FoundIn : {I J : Type 0} → (ℕ → Option I → Type 0) → (ℕ → Option J → Type 0) → ℕ → Option (Side I J) → Type 0
-FoundIn left right spread None = of_half (goes_right spread) (left (spread / 2) None) (right (spread / 2) None)
-FoundIn left right spread (Some (Left id)) = (goes_right spread ≡ false) × left (spread / 2) (Some id)
-FoundIn left right spread (Some (Right id)) = (goes_right spread ≡ true) × right (spread / 2) (Some id)
+abbrev pub IsFoundInHalf : {I J : Type 0} → (ℕ → Option I → Type 0) → (ℕ → Option J → Type 0) → ℕ → Option (Side I J) → Type 0
+IsFoundInHalf left right spread None = of_half (goes_right spread) (left (spread / 2) None) (right (spread / 2) None)
+IsFoundInHalf left right spread (Some (Left id)) = (goes_right spread ≡ false) × left (spread / 2) (Some id)
+IsFoundInHalf left right spread (Some (Right id)) = (goes_right spread ≡ true) × right (spread / 2) (Some id)
 
 -- and is created there, or refused
-abbrev pub MadeIn : {I J E : Type 0} → (ℕ → Result I E → Type 0) → (ℕ → Result J E → Type 0) → ℕ → Result (Side I J) E → Type 0
-MadeIn left right spread (Err why) = of_half (goes_right spread) (left (spread / 2) (Err why)) (right (spread / 2) (Err why))
-MadeIn left right spread (Ok (Left id)) = (goes_right spread ≡ false) × left (spread / 2) (Ok id)
-MadeIn left right spread (Ok (Right id)) = (goes_right spread ≡ true) × right (spread / 2) (Ok id)
+abbrev pub IsMadeInHalf : {I J E : Type 0} → (ℕ → Result I E → Type 0) → (ℕ → Result J E → Type 0) → ℕ → Result (Side I J) E → Type 0
+IsMadeInHalf left right spread (Err why) = of_half (goes_right spread) (left (spread / 2) (Err why)) (right (spread / 2) (Err why))
+IsMadeInHalf left right spread (Ok (Left id)) = (goes_right spread ≡ false) × left (spread / 2) (Ok id)
+IsMadeInHalf left right spread (Ok (Right id)) = (goes_right spread ≡ true) × right (spread / 2) (Ok id)

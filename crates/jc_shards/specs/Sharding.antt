@@ -11,17 +11,17 @@ use Rattle.jc_hooks.specs.declared.unasked.Unasked.{Unasked}
 use Rattle.jc_hooks.specs.Suits.{Suits}
 use Rattle.jc_place.specs.Seeded.{seeded_place}
 use Rattle.jc_rows.specs.Images.{last_image}
-use Rattle.jc_stripes.specs.Stripes.{SomeOdd, Stayed, stripes_in}
+use Rattle.jc_stripes.specs.Stripes.{SomeOdd, AreReadAtRest, stripes_in}
 use Rattle.jc_index.specs.declared.lookup.Lookup.{Lookup}
 use Rattle.jc_index.specs.declared.lookup.Lookup.TheVariants.{Sure, Unsure}
-use Rattle.jc_index.specs.Found.{found}
+use Rattle.jc_index.specs.Found.{found_in_image}
 use Rattle.jc_index.specs.Spelling.{buckets_of}
 use Rattle.jc_index.specs.Versions.{read_for}
 use Rattle.jc_shared.specs.declared.fault.CallFault.{CallFault}
 use Rattle.jc_shared.specs.declared.fault.CreateFault.{CreateFault}
 use Rattle.jc_shared.specs.declared.fault.DestroyFault.{DestroyFault}
-use Rattle.jc_shared.specs.Calls.{Adds, Fails, Lacks, TellsLack}
-use Rattle.jc_shared.specs.Living.{HasGone, IsCreated, IsCreateFault, IsDestroyRefusal, IsHeld, IsNamed, IsSeen}
+use Rattle.jc_shared.specs.Calls.{Adds, CallFails, LacksProcessor, TellsLack}
+use Rattle.jc_shared.specs.Living.{HasGone, IsCreated, IsCreateFault, IsSessionDestroyRefusal, TellsLiveRow, IsIdOfName, IsSeen}
 use Rattle.jc_shared.specs.Sessions.{Sitting, SeesSome, log_of}
 use Rattle.jc_shared.specs.Stated.{Stated}
 use Rattle.jc_engine.specs.Recording.{blank}
@@ -30,8 +30,8 @@ use Rattle.jc_shared.specs.Progress.{AddsCall, FailsBy}
 pub record IsCall (configs : List CacheConfig) (stated : List Stated) (old new : Sitting) (id now : ℕ) (call : Call) (result : Result Reply CallFault) : Type 0 where
   pub number : new.number ≡ old.number
   pub ok : IfOk result (λ reply. Adds configs stated old new id now call (Replied reply))
-  pub refused : Lacks configs id call → TellsLack result × (new ≡ old)
-  pub err : IfErr result (λ fault. Fails configs stated old new id now call fault)
+  pub refused : LacksProcessor configs id call → TellsLack result × (new ≡ old)
+  pub err : IfErr result (λ fault. CallFails configs stated old new id now call fault)
   pub front : IsPrefix old.pass.images new.pass.images
 
 -- of a call whose requests are answered by what is lent to it
@@ -42,10 +42,10 @@ pub record IsCallBy (configs : List CacheConfig) (old new : Sitting) (id now : �
   pub front : IsPrefix old.pass.images new.pass.images
 
 pub record IsLookup (old new : Sitting) (id : ℕ) (key : List ℕ) (now : ℕ) (result : Lookup) : Type 0 where
-  pub sure : (b : Bool) → result ≡ Sure b → found (last_image new.pass.images) id key now ≡ Some b
-  pub stays : (b : Bool) → result ≡ Sure b → Stayed new.pass.begun new.pass.checked
+  pub sure : (b : Bool) → result ≡ Sure b → found_in_image (last_image new.pass.images) id key now ≡ Some b
+  pub stays : (b : Bool) → result ≡ Sure b → AreReadAtRest new.pass.begun new.pass.checked
   pub unmet : old.pass.met ≡ false → (result ≡ Unsure) × (new.pass ≡ old.pass)
-  pub unsure : result ≡ Unsure → (old.pass.met ≡ false) ⊎ ((SomeOdd new.pass.begun ⊎ (new.pass.begun ≢ new.pass.checked)) ⊎ (found (last_image new.pass.images) id key now ≡ None))
+  pub unsure : result ≡ Unsure → (old.pass.met ≡ false) ⊎ ((SomeOdd new.pass.begun ⊎ (new.pass.begun ≢ new.pass.checked)) ⊎ (found_in_image (last_image new.pass.images) id key now ≡ None))
   pub stripes : old.pass.met ≡ true → (stripes_in new.pass.begun ≡ read_for (buckets_of (seeded_place old.pass.placer) old.pass.buckets (id, key))) × (stripes_in new.pass.checked ≡ stripes_in new.pass.begun)
   pub counted : old.pass.met ≡ true → new.pass.lookups ≡ suc old.pass.lookups
   pub front : IsPrefix old.pass.images new.pass.images
@@ -53,9 +53,9 @@ pub record IsLookup (old new : Sitting) (id : ℕ) (key : List ℕ) (now : ℕ) 
   pub same : log_of new ≡ log_of old
 
 pub record IsLook (configs : List CacheConfig) (old new : Sitting) (id : ℕ) (key : List ℕ) (now : ℕ) (result : Bool) : Type 0 where
-  pub told : IsSeen id key now new.pass result ⊎ IsHeld configs id key now new.pass result
-  pub unmet : old.pass.met ≡ false → IsHeld configs id key now new.pass result
-  pub agrees : new.pass.met ≡ true → (b : Bool) → found (last_image new.pass.images) id key now ≡ Some b → result ≡ b
+  pub told : IsSeen id key now new.pass result ⊎ TellsLiveRow configs id key now new.pass result
+  pub unmet : old.pass.met ≡ false → TellsLiveRow configs id key now new.pass result
+  pub agrees : new.pass.met ≡ true → (b : Bool) → found_in_image (last_image new.pass.images) id key now ≡ Some b → result ≡ b
   pub front : IsPrefix old.pass.images new.pass.images
   pub same : log_of new ≡ log_of old
 
@@ -73,8 +73,8 @@ Hooks = CacheHooks Unasked Unasked Unasked Unasked
 abbrev pub wants : Unasked → Bool
 wants u = u.wants
 
-abbrev pub IsFound : List CacheConfig → List ℕ → Option ℕ → Type 0
-IsFound configs name id = IsNamed configs name id
+abbrev pub IsFoundByName : List CacheConfig → List ℕ → Option ℕ → Type 0
+IsFoundByName configs name id = IsIdOfName configs name id
 
 pub record IsCreation (configs : List CacheConfig) (config : CacheConfig) (hooks : Hooks) (result : Result ℕ (CreateFault × CacheConfig × Hooks)) : Type 0 where
   pub created : IfOk result (λ id. IsCreated configs id config)
@@ -84,7 +84,7 @@ pub record IsCreation (configs : List CacheConfig) (config : CacheConfig) (hooks
 
 pub record IsDestruction (configs : List CacheConfig) (old new : Sitting) (id : ℕ) (result : Result (Unit {0}) DestroyFault) : Type 0 where
   pub gone : OnOk result (HasGone configs id new.pass)
-  pub fault : IfErr result (λ fault. IsDestroyRefusal configs id fault)
+  pub fault : IfErr result (λ fault. IsSessionDestroyRefusal configs id fault)
   pub refused : OnErr result (new ≡ old)
   pub front : IsPrefix old.pass.images new.pass.images
   pub same : log_of new ≡ log_of old

@@ -1,6 +1,6 @@
 //! Two halves, each with caches of its own.
 ghost use Rattle.std.specs.Prelude.{◌≡◌};
-ghost use Rattle.jc_shards.specs.Halves.{both, MadeIn};
+ghost use Rattle.jc_shards.specs.Halves.{first_error, IsMadeInHalf};
 ghost use Rattle.jc_shards.specs.Spread.{goes_right};
 
 use crate::caches::{Caches, LentCalls};
@@ -30,14 +30,14 @@ fn goes_right(spread: u32) -> bool
 
 /// Done where both are.
 fn both(left: Result<(), OutOfMemory>, right: Result<(), OutOfMemory>) -> Result<(), OutOfMemory>
-    ensures { result ≡ both left right }
+    ensures { result ≡ first_error left right }
 {
     left?;
     right
 }
 
 impl<A: Caches, B: Caches> Caches for Pair<A, B> {
-    ghost use Rattle.jc_shards.specs.Halves.{InHalf, InBoth, FoundIn, MadeIn};
+    ghost use Rattle.jc_shards.specs.Halves.{InHalf, InBoth, IsFoundInHalf, IsMadeInHalf};
 
     type Id = Side<A::Id, B::Id>;
 
@@ -49,9 +49,9 @@ impl<A: Caches, B: Caches> Caches for Pair<A, B> {
 
     ghost Refreshes = { λ old new result. InBoth A.Refreshes B.Refreshes old new result };
 
-    ghost Finds = { λ spread name result. FoundIn (λ rest it. A.Finds rest name it) (λ rest it. B.Finds rest name it) spread result };
+    ghost Finds = { λ spread name result. IsFoundInHalf (λ rest it. A.Finds rest name it) (λ rest it. B.Finds rest name it) spread result };
 
-    ghost Creates = { λ spread config hooks result. MadeIn (λ rest it. A.Creates rest config hooks it) (λ rest it. B.Creates rest config hooks it) spread result };
+    ghost Creates = { λ spread config hooks result. IsMadeInHalf (λ rest it. A.Creates rest config hooks it) (λ rest it. B.Creates rest config hooks it) spread result };
 
     ghost Destroys = { λ old new id result. InHalf (λ a b it. A.Destroys a b it result) (λ a b it. B.Destroys a b it result) old new id };
 
@@ -104,7 +104,7 @@ impl<A: Caches, B: Caches> Caches for Pair<A, B> {
         config: CacheConfig,
         hooks: UnaskedHooks,
     ) -> Result<Side<A::Id, B::Id>, (CreateFault, CacheConfig, UnaskedHooks)>
-        ensures { MadeIn (λ rest it. A.Creates rest config hooks it)
+        ensures { IsMadeInHalf (λ rest it. A.Creates rest config hooks it)
             (λ rest it. B.Creates rest config hooks it) spread result }
     {
         if goes_right(spread) {

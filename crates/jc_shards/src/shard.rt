@@ -46,7 +46,7 @@ impl<'a, N: Name, J: Keeping> Shard<'a, N, J> {
 }
 
 impl<'a, N: Name, J: Keeping> Caches for Shard<'a, N, J> {
-    ghost use Rattle.jc_shards.specs.Sharding.{IsCall, IsCreation, IsDestruction, IsFound, IsLook, IsLookup, IsRefresh};
+    ghost use Rattle.jc_shards.specs.Sharding.{IsCall, IsCreation, IsDestruction, IsFoundByName, IsLook, IsLookup, IsRefresh};
 
     type Id = CacheId;
 
@@ -58,7 +58,7 @@ impl<'a, N: Name, J: Keeping> Caches for Shard<'a, N, J> {
 
     ghost Refreshes = { λ old new result. IsRefresh N.configs old.session new.session result };
 
-    ghost Finds = { λ spread name result. IsFound N.configs name result };
+    ghost Finds = { λ spread name result. IsFoundByName N.configs name result };
 
     ghost Creates = { λ spread config hooks result. IsCreation N.configs config hooks result };
 

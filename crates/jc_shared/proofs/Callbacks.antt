@@ -12,7 +12,7 @@ use Rattle.jc_model.specs.declared.call.Notice.{Notice}
 use Rattle.jc_model.specs.declared.call.Request.{Request}
 use Rattle.jc_model.specs.declared.call.Request.TheVariants.{Load, Write, Delete, Process, Tell}
 use Rattle.jc_shared.specs.declared.hooks.LockedHooks.{LockedHooks}
-use Rattle.jc_shared.specs.Serving.{TellsBy, Serves}
+use Rattle.jc_shared.specs.Serving.{TellsListenersBy, ServesRequest}
 
 -- it is what it was where its items are
 pub left_alone : {K : Type 0} (v : Vec K) (ws : List K) → ws ≡ v.items → with_items v ws ≡ v
@@ -25,7 +25,7 @@ left_alone {K} v ws same = whole (with_items v ws).items (with_items v ws).ok.0 
     whole xs is e = subst (λ (zs : List K). (p : v.len ≡ length zs) → with zs p ≡ v) (sym e) (λ p. ap (with v.items) (Coded-set coded_ℕ v.len (length v.items) p v.ok.0)) is
 
 module _ {W K : Type 0} (may : W → List (Request × Answer) → Type 0) (state_after : K → List Notice → List ℕ) where
-  told_lent : (old : LockedHooks W K) (writer : Option W) (ws : List K) (q : Request) → length ws ≡ old.listeners.len → TellsNoticesOf state_after old.listeners.items ws q → TellsBy state_after old (record { writer = writer; listeners = with_items old.listeners ws }) q
+  told_lent : (old : LockedHooks W K) (writer : Option W) (ws : List K) (q : Request) → length ws ≡ old.listeners.len → TellsNoticesOf state_after old.listeners.items ws q → TellsListenersBy state_after old (record { writer = writer; listeners = with_items old.listeners ws }) q
   told_lent old writer ws (Tell notices) many told = subst (λ (ks : List K). TellsAll state_after old.listeners.items ks notices) (sym (with_items_is old.listeners ws many)) told
   told_lent old writer ws (Write key value) many same = left_alone old.listeners ws same
   told_lent old writer ws (Delete key) many same = left_alone old.listeners ws same
@@ -33,6 +33,6 @@ module _ {W K : Type 0} (may : W → List (Request × Answer) → Type 0) (state
   told_lent old writer ws (Process key n value argument) many same = left_alone old.listeners ws same
 
   pub served_lent : {E : Type 0} (old : LockedHooks W K) (writer : Option W) (lent ws : List K) (q : Request) (r : Result Answer E) → lent ≡ old.listeners.items → length ws ≡ old.listeners.len → IfOk r (AsksWriter may old.writer writer q)
-      → OnOk r (TellsNoticesOf state_after lent ws q) → IfOk r (Serves may state_after old (record { writer = writer; listeners = with_items old.listeners ws }) q)
+      → OnOk r (TellsNoticesOf state_after lent ws q) → IfOk r (ServesRequest may state_after old (record { writer = writer; listeners = with_items old.listeners ws }) q)
   served_lent old writer lent ws q (Ok a) is many asked told = (asked, told_lent old writer ws q many (subst (λ (ks : List K). TellsNoticesOf state_after ks ws q) is told))
   served_lent old writer lent ws q (Err e) is many asked told = tt

@@ -26,12 +26,12 @@ use Rattle.jc_model.specs.Asking.{AsksOf}
 use Rattle.jc_hooks.specs.Asking.{states_after}
 use Rattle.jc_hooks.proofs.Behind.{tells_more}
 use Rattle.jc_shared.specs.declared.hooks.LockedHooks.{LockedHooks}
-use Rattle.jc_shared.specs.Serving.{told_behind, TellsOnce, Tells, TellsOn, Serves}
+use Rattle.jc_shared.specs.Serving.{told_behind, TellsOnce, TellsListeners, TellsListenersOn, ServesRequest}
 use Rattle.jc_shared.specs.Stated.{Stated, AreStated, IsStatedBy}
-use Rattle.jc_shared.specs.Finding.{accepted, ended_by}
+use Rattle.jc_shared.specs.Finding.{ok_or_no_processor, entry_ended_by}
 use Rattle.jc_shared.specs.Sessions.{Sitting, Sight}
 use Rattle.jc_shared.specs.Living.{Refuses}
-use Rattle.jc_shared.specs.Calls.{Stands, called, IsSameCall, HasEnded, Stays, EndsFaulty, GoesOn, Adds, AddsWaiting, Fails, MayLack, IsBeginFault}
+use Rattle.jc_shared.specs.Calls.{EntryIsLast, call_entry, IsSameCall, HasEnded, CallStands, CallEndsFaulty, CallGoesOn, Adds, AddsWaiting, CallFails, MayLackProcessor, IsBeginFault}
 
 -- no answers are stated ones
 no_answers : (h : Option Stated) (call : Call) (answers : List Answer) → answers ≡ [] → AreStated h call answers
@@ -52,17 +52,17 @@ second_on_err P Q R (Err d) e is h = h.1
 -- What the listeners were told, from one moment to the next.
 module _ {W K : Type 0} (state_after : K → List Notice → List ℕ) where
   -- they were not told anything
-  pub tells_nothing : (old new : LockedHooks W K) (told told' : List Notice) → new.listeners ≡ old.listeners → told' ≡ told → TellsOn state_after old new told told'
+  pub tells_nothing : (old new : LockedHooks W K) (told told' : List Notice) → new.listeners ≡ old.listeners → told' ≡ told → TellsListenersOn state_after old new told told'
   tells_nothing old new told told' same same' = λ first h rest.
       ap (λ ks. states_after state_after ks.items rest) same ∙ h rest ∙ ap (λ (ns : List Notice). states_after state_after first.listeners.items (ns ++ rest)) (sym same')
 
   -- they were told the first notices of the call
-  pub tells_first : (old new : LockedHooks W K) (told told' : List Notice) → told ≡ [] → Tells state_after old new told' → TellsOn state_after old new told told'
+  pub tells_first : (old new : LockedHooks W K) (told told' : List Notice) → told ≡ [] → TellsListeners state_after old new told' → TellsListenersOn state_after old new told told'
   tells_first old new told told' none now = λ first h.
-      tells_more state_after first.listeners.items old.listeners.items new.listeners.items [] told' (subst (Tells state_after first old) none h) now
+      tells_more state_after first.listeners.items old.listeners.items new.listeners.items [] told' (subst (TellsListeners state_after first old) none h) now
 
   -- by a request
-  pub served_on : (may : W → List (Request × Answer) → Type 0) (old new : LockedHooks W K) (q : Request) (a : Answer) (told : List Notice) → TellsOnce q told → Serves may state_after old new q a → TellsOn state_after old new told (told_behind q told)
+  pub served_on : (may : W → List (Request × Answer) → Type 0) (old new : LockedHooks W K) (q : Request) (a : Answer) (told : List Notice) → TellsOnce q told → ServesRequest may state_after old new q a → TellsListenersOn state_after old new told (told_behind q told)
   served_on may old new (Tell notices) a told once s = tells_first old new told notices once s.1
   served_on may old new (Write key value) a told once s = tells_nothing old new told told s.1 refl
   served_on may old new (Delete key) a told once s = tells_nothing old new told told s.1 refl
@@ -70,12 +70,12 @@ module _ {W K : Type 0} (state_after : K → List Notice → List ℕ) where
   served_on may old new (Process key n value argument) a told once s = tells_nothing old new told told s.1 refl
 
 -- a tenure tells nothing
-pub goes_untold : (configs : List CacheConfig) (d e : Entry) (pass : Sight) (step : Step) → GoesOn configs d step e pass → e.told ≡ d.told
+pub goes_untold : (configs : List CacheConfig) (d e : Entry) (pass : Sight) (step : Step) → CallGoesOn configs d step e pass → e.told ≡ d.told
 goes_untold configs d e pass (Need q) goes = ap (λ (x : Entry). x.told) goes.0
 goes_untold configs d e pass (Done r) goes = ap (λ (x : Entry). x.told) goes.0
 
 -- nor does it answer
-pub goes_unanswered : (configs : List CacheConfig) (d e : Entry) (pass : Sight) (step : Step) → GoesOn configs d step e pass → e.answers ≡ d.answers
+pub goes_unanswered : (configs : List CacheConfig) (d e : Entry) (pass : Sight) (step : Step) → CallGoesOn configs d step e pass → e.answers ≡ d.answers
 goes_unanswered configs d e pass (Need q) goes = ap (λ (x : Entry). x.answers) goes.0
 goes_unanswered configs d e pass (Done r) goes = ap (λ (x : Entry). x.answers) goes.0
 
@@ -89,7 +89,7 @@ noted_waits stated d told d' notices a kept noted waits answered is =
     )
 
 -- a tenure has brought it on
-pub goes_stays : (configs : List CacheConfig) (stated : List Stated) (d e : Entry) (pass : Sight) (step : Step) → GoesOn configs d step e pass → (d.end ≡ ends.Waiting) × AreStated (slice_get stated d.id) d.call d.answers → Stays configs stated step e pass
+pub goes_stays : (configs : List CacheConfig) (stated : List Stated) (d e : Entry) (pass : Sight) (step : Step) → CallGoesOn configs d step e pass → (d.end ≡ ends.Waiting) × AreStated (slice_get stated d.id) d.call d.answers → CallStands configs stated step e pass
 goes_stays configs stated d e pass (Need q) goes h = record {
   waits = ap (λ (x : Entry). x.end) goes.0 ∙ h.0;
   asks = subst (λ (x : Entry). AsksOf x.call q) (sym goes.0) goes.1;
@@ -102,40 +102,40 @@ goes_stays configs stated d e pass (Done r) goes h = record {
 }
 
 -- the call has begun
-pub begun_stays : (configs : List CacheConfig) (stated : List Stated) (session id at : ℕ) (call : Call) (draft draft' : Entry) (pass : Sight) (step : Step) → draft ≡ blank session id at call → GoesOn configs draft step draft' pass → Stays configs stated step draft' pass
+pub begun_stays : (configs : List CacheConfig) (stated : List Stated) (session id at : ℕ) (call : Call) (draft draft' : Entry) (pass : Sight) (step : Step) → draft ≡ blank session id at call → CallGoesOn configs draft step draft' pass → CallStands configs stated step draft' pass
 begun_stays configs stated session id at call draft draft' pass step is goes =
     goes_stays configs stated draft draft' pass step goes (ap (λ (e : Entry). e.end) is, no_answers (slice_get stated draft.id) draft.call draft.answers (ap (λ (e : Entry). e.answers) is))
 
 -- it is the call of its draft
-pub begun_same : (configs : List CacheConfig) (draft draft' : Entry) (pass : Sight) (step : Step) → GoesOn configs draft step draft' pass → IsSameCall draft draft'
+pub begun_same : (configs : List CacheConfig) (draft draft' : Entry) (pass : Sight) (step : Step) → CallGoesOn configs draft step draft' pass → IsSameCall draft draft'
 begun_same configs draft draft' pass (Need q) goes = subst (IsSameCall draft) (sym goes.0) refl
 begun_same configs draft draft' pass (Done r) goes = subst (IsSameCall draft) (sym goes.0) refl
 
 pub same_call : (d e f : Entry) → IsSameCall d e → IsSameCall e f → IsSameCall d f
-same_call d e f first second = second ∙ ap (λ (x : Entry). called x.session x.id x.at x.call f.answers f.told f.end) first
+same_call d e f first second = second ∙ ap (λ (x : Entry). call_entry x.session x.id x.at x.call f.answers f.told f.end) first
 
 module _ (configs : List CacheConfig) (stated : List Stated) (old new : Sitting) (id at : ℕ) (call : Call) (draft e : Entry) (is : draft ≡ blank old.number id at call) (same : IsSameCall draft e) (added : new.calls ≡ old.calls ++ e ∷ []) where
-  entry_is : e ≡ called old.number id at call e.answers e.told e.end
-  entry_is = same ∙ ap (λ (x : Entry). called x.session x.id x.at x.call e.answers e.told e.end) is
+  entry_is : e ≡ call_entry old.number id at call e.answers e.told e.end
+  entry_is = same ∙ ap (λ (x : Entry). call_entry x.session x.id x.at x.call e.answers e.told e.end) is
 
-  ended_as : (n : End) → e.end ≡ n → e ≡ called old.number id at call e.answers e.told n
-  ended_as n ended = entry_is ∙ ap (called old.number id at call e.answers e.told) ended
+  ended_as : (n : End) → e.end ≡ n → e ≡ call_entry old.number id at call e.answers e.told n
+  ended_as n ended = entry_is ∙ ap (call_entry old.number id at call e.answers e.told) ended
 
   pub adds : (n : End) → HasEnded configs stated e new.pass n → Adds configs stated old new id at call n
   adds n h =
-      let whole : e ≡ called old.number id at call e.answers e.told n = ended_as n h.ended in
+      let whole : e ≡ call_entry old.number id at call e.answers e.told n = ended_as n h.ended in
       record {
         answers = e.answers;
         told = e.told;
         added = added ∙ ap (λ (x : Entry). old.calls ++ x ∷ []) whole;
-        stands = subst (λ (d : Entry). Stands configs d new.pass) whole h.stands;
+        stands = subst (λ (d : Entry). EntryIsLast configs d new.pass) whole h.stands;
         answered = subst (λ (x : Entry). AreStated (slice_get stated x.id) x.call e.answers) entry_is h.answered;
       }
 
   adds_waiting : e.end ≡ ends.Waiting → AddsWaiting old new id at call
   adds_waiting ended = record { answers = e.answers; told = e.told; added = added ∙ ap (λ (x : Entry). old.calls ++ x ∷ []) (ended_as ends.Waiting ended) }
 
-  pub fails : (fault : CallFault) → EndsFaulty configs stated fault e new.pass → Fails configs stated old new id at call fault
+  pub fails : (fault : CallFault) → CallEndsFaulty configs stated fault e new.pass → CallFails configs stated old new id at call fault
   fails faults.NoSuchCache h = absurd h
   fails faults.NoSuchProcessor h = absurd h
   fails faults.Busy h = absurd h
@@ -143,11 +143,11 @@ module _ (configs : List CacheConfig) (stated : List Stated) (old new : Sitting)
   fails faults.OutOfMemory h = inr (adds ends.GivenUp h)
 
   -- at a reply, and else
-  pub added_ok : (r : Result Reply CallFault) → MatchResult r (λ reply. Stays configs stated (Done reply) e new.pass) (λ fault. EndsFaulty configs stated fault e new.pass) → IfOk r (λ reply. Adds configs stated old new id at call (ends.Replied reply))
+  pub added_ok : (r : Result Reply CallFault) → MatchResult r (λ reply. CallStands configs stated (Done reply) e new.pass) (λ fault. CallEndsFaulty configs stated fault e new.pass) → IfOk r (λ reply. Adds configs stated old new id at call (ends.Replied reply))
   added_ok (Ok reply) h = adds (ends.Replied reply) h
   added_ok (Err fault) h = tt
 
-  pub added_err : (r : Result Reply CallFault) → MatchResult r (λ reply. Stays configs stated (Done reply) e new.pass) (λ fault. EndsFaulty configs stated fault e new.pass) → IfErr r (λ fault. Fails configs stated old new id at call fault)
+  pub added_err : (r : Result Reply CallFault) → MatchResult r (λ reply. CallStands configs stated (Done reply) e new.pass) (λ fault. CallEndsFaulty configs stated fault e new.pass) → IfErr r (λ fault. CallFails configs stated old new id at call fault)
   added_err (Ok reply) h = tt
   added_err (Err fault) h = fails fault h
 
@@ -155,14 +155,14 @@ module _ (configs : List CacheConfig) (stated : List Stated) (old new : Sitting)
 
 -- it had its reply at once
 pub replied_adds : (configs : List CacheConfig) (stated : List Stated) (old new : Sitting) (id at : ℕ) (call : Call) (begun : Begun) (step : Step) (second : Option Reply) (reply copy : Reply) → step ≡ Done reply → second ≡ Some copy → second ≡ reply_in step
-    → GoesOn configs (blank old.number id at call) step (ended_by second (blank old.number id at call)) new.pass → begun_entry begun ≡ blank old.number id at call → new.calls ≡ old.calls ++ replied_at_once begun copy ∷ [] → Adds configs stated old new id at call (ends.Replied reply)
+    → CallGoesOn configs (blank old.number id at call) step (entry_ended_by second (blank old.number id at call)) new.pass → begun_entry begun ≡ blank old.number id at call → new.calls ≡ old.calls ++ replied_at_once begun copy ∷ [] → Adds configs stated old new id at call (ends.Replied reply)
 replied_adds configs stated old new id at call begun step second reply copy turns is copied goes begins added =
     let both : Some copy ≡ Some reply = sym is ∙ copied ∙ ap reply_in turns in
     let same : copy ≡ reply = cc in
     let draft : Entry = blank old.number id at call in
     let e : Entry = record draft { end = ends.Replied copy } in
-    let ends_so : GoesOn configs draft step e new.pass = subst (λ (r : Option Reply). GoesOn configs draft step (ended_by r draft) new.pass) is goes in
-    let here : GoesOn configs draft (Done reply) e new.pass = subst (λ (t : Step). GoesOn configs draft t e new.pass) turns ends_so in
+    let ends_so : CallGoesOn configs draft step e new.pass = subst (λ (r : Option Reply). CallGoesOn configs draft step (entry_ended_by r draft) new.pass) is goes in
+    let here : CallGoesOn configs draft (Done reply) e new.pass = subst (λ (t : Step). CallGoesOn configs draft t e new.pass) turns ends_so in
     let one_more : new.calls ≡ old.calls ++ e ∷ [] = added ∙ ap (λ (x : Entry). old.calls ++ record x { end = ends.Replied copy } ∷ []) begins in
     adds configs stated old new id at call draft e refl refl one_more (ends.Replied reply)
     (record { ended = ap ends.Replied same; stands = here.1; answered = no_answers (slice_get stated e.id) e.call e.answers refl })
@@ -172,25 +172,25 @@ pub waiting_adds : (old new : Sitting) (id at : ℕ) (call : Call) (begun : Begu
 waiting_adds old new id at call begun begins added = record { answers = []; told = []; added = added ∙ ap (λ (x : Entry). old.calls ++ x ∷ []) begins }
 
 -- it did not begin
-pub begin_fails : (configs : List CacheConfig) (stated : List Stated) (old new : Sitting) (id at : ℕ) (call : Call) (draft : Entry) (fault : CallFault) → draft ≡ blank old.number id at call → new ≡ old → IsBeginFault configs draft.id draft.at call fault → Fails configs stated old new id at call fault
+pub begin_fails : (configs : List CacheConfig) (stated : List Stated) (old new : Sitting) (id at : ℕ) (call : Call) (draft : Entry) (fault : CallFault) → draft ≡ blank old.number id at call → new ≡ old → IsBeginFault configs draft.id draft.at call fault → CallFails configs stated old new id at call fault
 begin_fails configs stated old new id at call draft faults.NoSuchCache is same h = (same, λ c there. subst (λ (e : Entry). Refuses configs (event.Begin e.id e.at call) causes.NoSuchCache) is h)
-begin_fails configs stated old new id at call draft faults.NoSuchProcessor is same h = (same, subst (λ (e : Entry). MayLack configs e.id call) is h.1)
+begin_fails configs stated old new id at call draft faults.NoSuchProcessor is same h = (same, subst (λ (e : Entry). MayLackProcessor configs e.id call) is h.1)
 begin_fails configs stated old new id at call draft faults.Busy is same h = (same, subst (λ (e : Entry). Refuses configs (event.Begin e.id e.at call) causes.Busy) is h)
 begin_fails configs stated old new id at call draft faults.Overtaken is same h = absurd h
 begin_fails configs stated old new id at call draft faults.OutOfMemory is same h = inl same
 
 -- it was not accepted
-pub not_accepted : (b : Bool) (fault : CallFault) → Err fault ≡ accepted b → b ≡ false
+pub not_accepted : (b : Bool) (fault : CallFault) → Err fault ≡ ok_or_no_processor b → b ≡ false
 not_accepted true fault is = absurd cc
 not_accepted false fault is = refl
 
-pub unaccepted_fails : (configs : List CacheConfig) (stated : List Stated) (old new : Sitting) (id at : ℕ) (call : Call) (fault : CallFault) → fault ≡ faults.NoSuchProcessor → new ≡ old → MayLack configs id call → Fails configs stated old new id at call fault
-unaccepted_fails configs stated old new id at call fault is same lacks = subst (λ (f : CallFault). Fails configs stated old new id at call f) (sym is) (same, lacks)
+pub unaccepted_fails : (configs : List CacheConfig) (stated : List Stated) (old new : Sitting) (id at : ℕ) (call : Call) (fault : CallFault) → fault ≡ faults.NoSuchProcessor → new ≡ old → MayLackProcessor configs id call → CallFails configs stated old new id at call fault
+unaccepted_fails configs stated old new id at call fault is same lacks = subst (λ (f : CallFault). CallFails configs stated old new id at call f) (sym is) (same, lacks)
 
 -- and so of one whose cache is not there
 pub told_or_gone : (configs : List CacheConfig) (stated : List Stated) (old new : Sitting) (id at : ℕ) (call : Call) (fault told : CallFault) → new ≡ old
-    → (told ≡ fault) ⊎ ((told ≡ faults.NoSuchCache) × ((at : ℕ) (call : Call) → Refuses configs (event.Begin id at call) causes.NoSuchCache)) → Fails configs stated old new id at call fault → Fails configs stated old new id at call told
+    → (told ≡ fault) ⊎ ((told ≡ faults.NoSuchCache) × ((at : ℕ) (call : Call) → Refuses configs (event.Begin id at call) causes.NoSuchCache)) → CallFails configs stated old new id at call fault → CallFails configs stated old new id at call told
 told_or_gone configs stated old new id at call fault told same which fails = elim which [
-  | inl is ↦ subst (λ (f : CallFault). Fails configs stated old new id at call f) (sym is) fails
-  | inr is ↦ subst (λ (f : CallFault). Fails configs stated old new id at call f) (sym is.0) (same, λ c there. is.1 at call)
+  | inl is ↦ subst (λ (f : CallFault). CallFails configs stated old new id at call f) (sym is) fails
+  | inr is ↦ subst (λ (f : CallFault). CallFails configs stated old new id at call f) (sym is.0) (same, λ c there. is.1 at call)
 ]

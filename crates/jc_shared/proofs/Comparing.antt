@@ -11,7 +11,7 @@ use Rattle.jc_model.specs.Legal.{History, IsLegal}
 use Rattle.jc_shared.specs.declared.fault.CloseFault.{CloseFault}
 use Rattle.jc_shared.specs.declared.fault.CloseFault.TheVariants.{Missing, StillOpen, Differs, OutOfMemory}
 use Rattle.jc_shared.specs.Sessions.{Own, BeginsWith}
-use Rattle.jc_shared.specs.Accounts.{calls_of, own_of, IsLeastFrom, PartAt, IsFault, IsCloseRefusal}
+use Rattle.jc_shared.specs.Accounts.{calls_of, own_of, IsLeastFrom, PartAt, IsAuditFault, IsCloseRefusal}
 
 take_none : (xs : List Entry) → take 0 xs ≡ []
 take_none [] = refl
@@ -129,7 +129,7 @@ agree_from given limit transcript logs below le before n beyond = go (ltb n limi
         beyond from ∙ sym (own_beyond given logs below n from)
 
 -- why a manager does not close, by the fault of the audit
-pub cannot_close : (configs : List CacheConfig) (given : ℕ) (logs : List Own) (t : History) (fault : CloseFault) → IsLegal t → BeginsWith configs t → IsFault given logs t.entries fault → IsCloseRefusal configs logs fault
+pub cannot_close : (configs : List CacheConfig) (given : ℕ) (logs : List Own) (t : History) (fault : CloseFault) → IsLegal t → BeginsWith configs t → IsAuditFault given logs t.entries fault → IsCloseRefusal configs logs fault
 cannot_close configs given logs t Missing legal begins h = inl refl
 cannot_close configs given logs t StillOpen legal begins h = inr (record { given = given; transcript = t; legal = legal; begins = begins; fails = h })
 cannot_close configs given logs t (Differs session place) legal begins h = inr (record { given = given; transcript = t; legal = legal; begins = begins; fails = h })

@@ -9,14 +9,16 @@ use Rattle.jc_model.specs.declared.event.End.TheVariants.{Waiting}
 use Rattle.jc_model.specs.declared.event.Entry.{Entry}
 use Rattle.jc_model.specs.State.{State}
 use Rattle.jc_model.specs.Run.{answered}
-use Rattle.jc_model.specs.Runs.{Standing, idle, busy, standing_of, fresh, Status, Lives, live_at}
-use Rattle.jc_model.specs.Solo.{run_of, after_call, standing_from}
+use Rattle.jc_model.specs.Runs.{Standing, idle, busy, standing_of, fresh, Status, Lives}
+use Rattle.jc_model.specs.Whole.{whole}
+use Rattle.jc_model.specs.Solo.{after_call, standing_from}
 use Rattle.jc_model.specs.Legal.{is_waiting, played, IsLegalEntry, IsLegalFrom, entries_of, History, Tells, on_open}
 use Rattle.jc_model.proofs.Lives.{at_same}
 use Rattle.jc_model.proofs.OneCache.{IsBusy, by_end, none_after}
 use Rattle.std.proofs.lemmas.List.{same_from_push}
 use Rattle.jc_engine.specs.Recording.{HasOpen, IsEntryOf}
 use Rattle.jc_engine.proofs.Entries.{written_open}
+use Rattle.jc_model.specs.Places.{at_place}
 
 pub id_is_id : (id : ℕ) → (id == id) ≡ true
 id_is_id id = grind (arith, nat_tests)
@@ -43,19 +45,19 @@ pub record IsLastOpen (c : CacheConfig) (standing : Standing) (before : List Ent
   pub none : after ≡ []
   pub state : State
   pub legal : IsLegalEntry c state e
-  pub stands : standing_from c standing (map played (before ++ e ∷ after)) ≡ standing_of (answered (run_of c state (played e)) e.answers)
+  pub stands : standing_from c standing (map played (before ++ e ∷ after)) ≡ standing_of (answered (whole c e.at e.call state) e.answers)
 
 pub last_open : (c : CacheConfig) (standing : Standing) (before : List Entry) (e : Entry) (after : List Entry) → IsLegalFrom c standing (before ++ e ∷ after) → e.end ≡ Waiting → IsLastOpen c standing before e after
 last_open c (busy w p resumed) [] e after h waits = absurd h
 last_open c (idle s) [] e after h waits =
-    by_end (answered (run_of c s (played e)) e.answers) e.end h.0.1
+    by_end (answered (whole c e.at e.call s) e.answers) e.end h.0.1
     (λ is left stays. go after left stays (subst (λ (t : Standing). IsLegalFrom c t after) left h.1))
     (λ t over left. absurd (waiting_over e.end waits over))
   where
-    go : (after : List Entry) → after_call c s (played e) ≡ standing_of (answered (run_of c s (played e)) e.answers) → IsBusy (standing_of (answered (run_of c s (played e)) e.answers))
-        → IsLegalFrom c (standing_of (answered (run_of c s (played e)) e.answers)) after → IsLastOpen c (idle s) [] e after
+    go : (after : List Entry) → after_call c s (played e) ≡ standing_of (answered (whole c e.at e.call s) e.answers) → IsBusy (standing_of (answered (whole c e.at e.call s) e.answers))
+        → IsLegalFrom c (standing_of (answered (whole c e.at e.call s) e.answers)) after → IsLastOpen c (idle s) [] e after
     go [] left stays l = record { none = refl; state = s; legal = h.0; stands = left }
-    go (d ∷ ds) left stays l = absurd (none_after c (standing_of (answered (run_of c s (played e)) e.answers)) d ds stays l)
+    go (d ∷ ds) left stays l = absurd (none_after c (standing_of (answered (whole c e.at e.call s) e.answers)) d ds stays l)
 last_open c (busy w p resumed) (d ∷ ds) e after h waits = absurd h
 last_open c (idle s) (d ∷ ds) e after h waits =
     let l = last_open c (after_call c s (played d)) ds e after h.1 waits in
@@ -76,20 +78,20 @@ module _ (lives : Lives) (transcript : History) (tells : Tells transcript lives)
   split = entries_split id transcript.entries place open_there.entry open_there.there own
 
   -- its cache
-  pub open_last : (k : Status) → live_at lives id ≡ Some k → IsLastOpen k.config fresh before open_there.entry after
+  pub open_last : (k : Status) → at_place lives id ≡ Some k → IsLastOpen k.config fresh before open_there.entry after
   open_last k at = last_open k.config fresh before open_there.entry after (subst (λ (es : List Entry). IsLegalFrom k.config fresh es) split (tells.legal.each id k.config (tells.each id k at).0)) open_there.waits
 
-  pub open_stands : (k : Status) (at : live_at lives id ≡ Some k) → k.standing ≡ standing_of (answered (run_of k.config (open_last k at).state (played open_there.entry)) open_there.entry.answers)
+  pub open_stands : (k : Status) (at : at_place lives id ≡ Some k) → k.standing ≡ standing_of (answered (whole k.config open_there.entry.at open_there.entry.call (open_last k at).state) open_there.entry.answers)
   open_stands k at = (tells.each id k at).1 ∙ ap (λ (es : List Entry). standing_from k.config fresh (map played es)) split ∙ (open_last k at).stands
 
   -- its entry, changed where it stands
-  pub changed_there : (k : Status) → live_at lives id ≡ Some k → (f : Entry → Entry) → slice_get (on_open id f transcript.entries) place ≡ Some (f open_there.entry)
+  pub changed_there : (k : Status) → at_place lives id ≡ Some k → (f : Entry → Entry) → slice_get (on_open id f transcript.entries) place ≡ Some (f open_there.entry)
   changed_there k at f =
       ap (λ (es : List Entry). slice_get es place) (sym (written_open lives transcript id place k open_there.entry f tells at open_there.there open_there.own open_there.waits))
       ∙ at_same transcript.entries place open_there.entry (f open_there.entry) open_there.there
 
   -- no other is open there
-  pub open_same : (k : Status) → live_at lives id ≡ Some k → (other : ℕ) (e : Entry) → IsEntryOf transcript.entries id other e → e ≡ open_there.entry
+  pub open_same : (k : Status) → at_place lives id ≡ Some k → (other : ℕ) (e : Entry) → IsEntryOf transcript.entries id other e → e ≡ open_there.entry
   open_same k at other e is =
       let theirs : (e.id == id) ≡ true = ap (λ (n : ℕ). n == id) is.own ∙ id_is_id id in
       let apart : entries_of id transcript.entries ≡ entries_of id (take other transcript.entries) ++ e ∷ entries_of id (drop (suc other) transcript.entries) = entries_split id transcript.entries other e is.there theirs in
@@ -100,7 +102,7 @@ module _ (lives : Lives) (transcript : History) (tells : Tells transcript lives)
       sym (same_from_push before (entries_of id (take other transcript.entries)) open_there.entry e (here ∙ there)).1
 
   -- its entry, changed where it stands, is the last of its cache
-  pub changed_last : (k : Status) → live_at lives id ≡ Some k → (f : Entry → Entry) → ((e : Entry) → (f e).id ≡ e.id) → (draft : Entry) → slice_get (on_open id f transcript.entries) place ≡ Some draft
+  pub changed_last : (k : Status) → at_place lives id ≡ Some k → (f : Entry → Entry) → ((e : Entry) → (f e).id ≡ e.id) → (draft : Entry) → slice_get (on_open id f transcript.entries) place ≡ Some draft
       → (before : List Entry) × (entries_of id (on_open id f transcript.entries) ≡ before ++ draft ∷ [])
   changed_last k at f keeps draft there =
       let new : List Entry = on_open id f transcript.entries in

@@ -8,9 +8,9 @@ use Rattle.jc_model.specs.declared.event.Event.TheVariants as event
 use Rattle.jc_model.specs.declared.event.Life.{Life}
 use Rattle.jc_model.specs.declared.event.Outcome.{Outcome}
 use Rattle.jc_model.specs.declared.event.Outcome.TheVariants as outcome
-use Rattle.jc_model.specs.Places.{named_from}
-use Rattle.jc_model.specs.Runs.{Status, Lives, live_at, opened, create_refusal, answer_to_create, answer_to_destroy}
-use Rattle.jc_model.specs.Legal.{History, IsLegal, Tells, config_of, numbered, recorded}
+use Rattle.jc_model.specs.Places.{named_from, at_place}
+use Rattle.jc_model.specs.Runs.{Status, Lives, opened, create_refusal, answer_to_create, answer_to_destroy}
+use Rattle.jc_model.specs.Legal.{History, IsLegal, Tells, config_of, numbered_lives, recorded}
 use Rattle.jc_model.proofs.Lives.{live_same, live_last}
 use Rattle.jc_engine.specs.Caches.{Cache, lives_of}
 use Rattle.jc_shared.specs.Sessions.{Sight, BeginsWith, Sees}
@@ -25,12 +25,12 @@ named_lives name i (None ∷ caches) = named_lives name (i + 1) caches
 named_lives name i (Some k ∷ caches) = ap (λ (o : Option ℕ). if bytes_eq k.config.name name then Some i else o) (named_lives name (i + 1) caches)
 
 -- further lives come behind the first
-take_more : (first : ℕ) (configs : List CacheConfig) (lives more : List Life) → take (length configs) lives ≡ numbered first configs → take (length configs) (lives ++ more) ≡ numbered first configs
+take_more : (first : ℕ) (configs : List CacheConfig) (lives more : List Life) → take (length configs) lives ≡ numbered_lives first configs → take (length configs) (lives ++ more) ≡ numbered_lives first configs
 take_more first [] lives more begins = refl
 take_more first (c ∷ configs) [] more begins = absurd cc
 take_more first (c ∷ configs) (l ∷ lives) more begins =
     let here : l ≡ record { id = first; config = c } = cc in
-    let rest : take (length configs) lives ≡ numbered (first + 1) configs = cc in
+    let rest : take (length configs) lives ≡ numbered_lives (first + 1) configs = cc in
     (λ i. here i ∷ take_more (first + 1) configs lives more rest i)
 
 pub created_begins : (configs : List CacheConfig) (t new : History) (session : ℕ) (config : CacheConfig) (o : Outcome) → BeginsWith configs t → new ≡ recorded session (event.Create config) o t → BeginsWith configs new
@@ -64,7 +64,7 @@ module _ (configs : List CacheConfig) (old new : Recording) (was : IsToldOf conf
     new = new;
     told = record { legal = legal; begins = created_begins configs old.transcript new.transcript 0 config (outcome.Created id) was.begins (tenure 0).transcript; tells = tells };
     tenure = tenure;
-    there = subst (λ (ls : Lives). IsSome (live_at ls id)) (sym (tenure 0).lives) (subst (λ (i : ℕ). IsSome (live_at (lives ++ Some (opened config) ∷ []) i)) (sym next) (subst IsSome (sym (live_last lives (Some (opened config)))) refl));
+    there = subst (λ (ls : Lives). IsSome (at_place ls id)) (sym (tenure 0).lives) (subst (λ (i : ℕ). IsSome (at_place (lives ++ Some (opened config) ∷ []) i)) (sym next) (subst IsSome (sym (live_last lives (Some (opened config)))) refl));
   }
     where
       lives : Lives
@@ -79,12 +79,12 @@ module _ (configs : List CacheConfig) (old new : Recording) (was : IsToldOf conf
 
   -- a cache that was destroyed
   pub has_gone : (id : ℕ) (pass : Sight) → ((session : ℕ) → IsTenure old new session (event.Destroy id) outcome.Destroyed) → Sees new.transcript (lives_of new.caches) pass → HasGone configs id pass
-  has_gone id pass tenure sees = at (live_at lives id) refl (tenure 0).answered
+  has_gone id pass tenure sees = at (at_place lives id) refl (tenure 0).answered
     where
       lives : Lives
       lives = lives_of old.caches
 
-      at : (found : Option Status) → live_at lives id ≡ found → outcome.Destroyed ≡ answer_to_destroy found → HasGone configs id pass
+      at : (found : Option Status) → at_place lives id ≡ found → outcome.Destroyed ≡ answer_to_destroy found → HasGone configs id pass
       at None live is = absurd cc
       at (Some k) live is =
           let lived : IsSome (config_of id old.transcript.lives) = subst IsSome (sym (was.tells.each id k live).0) refl in
@@ -96,5 +96,5 @@ module _ (configs : List CacheConfig) (old new : Recording) (was : IsToldOf conf
             tenure = tenure;
             sees = sees;
             lived = subst (λ (h : History). IsSome (config_of id h.lives)) (sym (tenure 0).transcript) lived;
-            gone = ap (λ (ls : Lives). live_at ls id) (tenure 0).lives ∙ live_same lives id k None live;
+            gone = ap (λ (ls : Lives). at_place ls id) (tenure 0).lives ∙ live_same lives id k None live;
           }

@@ -5,7 +5,6 @@ use Rattle.jc_model.specs.declared.config.CacheConfig.{CacheConfig}
 use Rattle.jc_model.specs.declared.event.Cause.TheVariants.{NoSuchCache}
 use Rattle.jc_model.specs.declared.event.Event.TheVariants as event
 use Rattle.jc_model.specs.Places.{at_place}
-use Rattle.jc_model.specs.Runs.{live_at}
 use Rattle.jc_model.specs.Legal.{History, Tells}
 use Rattle.jc_engine.specs.Caches.{Cache, lives_of, status_of}
 use Rattle.jc_engine.proofs.Names.{at_place_map}
@@ -19,5 +18,5 @@ none_of None is = refl
 -- a call there is refused for that
 pub refuses_missing : (configs : List CacheConfig) (h : History) (caches : List (Option Cache)) → BeginsWith configs h → Tells h (lives_of caches) → (id : ℕ) → false ≡ is_some (at_place caches id) → (at : ℕ) (call : Call) → Refuses configs (event.Begin id at call) NoSuchCache
 refuses_missing configs h caches begins tells id none at call =
-    let gone : live_at (lives_of caches) id ≡ None = at_place_map status_of caches id ∙ ap (option_map status_of) (none_of (at_place caches id) none) in
+    let gone : at_place (lives_of caches) id ≡ None = at_place_map status_of caches id ∙ ap (option_map status_of) (none_of (at_place caches id) none) in
     record { transcript = h; lives = lives_of caches; told = record { legal = tells.legal; begins = begins; tells = tells }; refusal = rw gone refl }

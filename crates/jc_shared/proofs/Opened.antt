@@ -1,15 +1,17 @@
 -- Opening a manager.
 use Rattle.std.proofs.Common.{◌≡◌, ◌≤◌, ℕ, ◌+◌, suc, Bool, true, false, if◌then◌else◌, List, [], ◌∷◌, map, length, take, Option, Some, None, refl, sym, ◌∙◌, ap, subst, arith}
-use Rattle.std.specs.Prelude.{ltb}
+use Rattle.std.specs.Prelude.{ltb, sum}
+use Rattle.std.specs.Option.{option_or}
 use Rattle.std.proofs.lemmas.Bool.Decides.{nat_tests}
 use Rattle.jc_model.specs.declared.config.CacheConfig.{CacheConfig}
-use Rattle.jc_model.specs.Limits.{most_caches}
+use Rattle.jc_model.specs.Limits.{most_caches, most_rows_together}
+use Rattle.jc_model.specs.Refusals.{refused_if}
 use Rattle.jc_model.specs.declared.event.Life.{Life}
-use Rattle.jc_model.specs.Legal.{History, numbered, at_first}
+use Rattle.jc_model.specs.Legal.{History, numbered_lives, at_first}
 use Rattle.jc_hooks.specs.declared.cache_hooks.CacheHooks.{CacheHooks}
 use Rattle.jc_engine.specs.declared.open.OpenRefusal.{OpenRefusal}
-use Rattle.jc_engine.specs.declared.open.OpenRefusal.TheVariants.{TooManyCaches}
-use Rattle.jc_engine.specs.Opening.{open_refusal}
+use Rattle.jc_engine.specs.declared.open.OpenRefusal.TheVariants.{TooManyCaches, TotalCapacity}
+use Rattle.jc_engine.specs.Opening.{capacities, open_refusal, refusal_from}
 use Rattle.jc_place.specs.Place.{IsTableSize}
 use Rattle.jc_hooks.specs.Suits.{AllSuit}
 use Rattle.jc_shared.specs.Stated.{shared_of, processor_counts, wanted_counts}
@@ -24,18 +26,19 @@ sixteen = record { exponent = 4; power = refl; least = omega arith; most = omega
 pub begins_opened : (configs : List CacheConfig) (h : History) → h ≡ at_first 0 configs → BeginsWith configs h
 begins_opened configs h opens = ap (λ (t : History). take (length configs) t.lives) opens ∙ all 0 configs
   where
-    all : (first : ℕ) (cs : List CacheConfig) → take (length cs) (numbered first cs) ≡ numbered first cs
+    all : (first : ℕ) (cs : List CacheConfig) → take (length cs) (numbered_lives first cs) ≡ numbered_lives first cs
     all first [] = refl
     all first (c ∷ cs) = ap (λ (ls : List Life). record { id = first; config = c } ∷ ls) (all (first + 1) cs)
 
-not_taken : (b : Bool) (r : OpenRefusal) (next : Option OpenRefusal) → (if b then Some r else next) ≡ None → b ≡ false
-not_taken true r next h = absurd cc
-not_taken false r next h = refl
+not_refused : (b : Bool) (r : OpenRefusal) (next : Option OpenRefusal) → option_or (refused_if b r) next ≡ None → b ≡ false
+not_refused true r next h = absurd cc
+not_refused false r next h = refl
 
 -- caches that open are not too many
 pub few_opened : (configs : List CacheConfig) → open_refusal configs ≡ None → length configs ≤ most_caches
 few_opened configs h =
-    let test : ltb most_caches (length configs) ≡ false = not_taken (ltb most_caches (length configs)) TooManyCaches _ h in
+    let next = option_or (refusal_from [] 0 configs) (refused_if (ltb most_rows_together (sum (capacities configs))) TotalCapacity) in
+    let test : ltb most_caches (length configs) ≡ false = not_refused (ltb most_caches (length configs)) TooManyCaches next h in
     grind (arith, nat_tests)
 
 module _ {L W P K : Type 0} (wants : P → Bool) where

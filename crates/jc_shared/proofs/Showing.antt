@@ -4,7 +4,6 @@ use Rattle.std.specs.Prelude.{OnOk, OnErr, option_map}
 use Rattle.jc_model.specs.declared.config.Expiry.{Expiry}
 use Rattle.jc_model.specs.State.{Item, State, live, is_live, row_of}
 use Rattle.jc_model.specs.Places.{at_place}
-use Rattle.jc_model.specs.Runs.{live_at}
 use Rattle.jc_model.specs.Whole.{holds as holds_now}
 use Rattle.jc_rows.specs.Images.{Image, Shown}
 use Rattle.jc_engine.proofs.Names.{at_place_map}
@@ -13,7 +12,7 @@ use Rattle.jc_engine.specs.Watching.{ShowsStates, expiry_at, states_of}
 use Rattle.jc_engine.proofs.Watching.{state_is, state_at}
 use Rattle.jc_index.specs.declared.lookup.Lookup.{Lookup}
 use Rattle.jc_index.specs.declared.lookup.Lookup.TheVariants.{Sure, Unsure}
-use Rattle.jc_index.specs.Found.{found, first_seen, answer}
+use Rattle.jc_index.specs.Found.{found_in_image, first_seen, answer_with_stash}
 use Rattle.jc_index.proofs.Found.{seen_some, seen_none, got}
 use Rattle.jc_shared.specs.Living.{has_live_row}
 
@@ -23,7 +22,7 @@ met_shows R (Ok x) m met refused is = met.0
 met_shows R (Err e) m met refused is = absurd cc
 
 -- a cache has a live row as its status tells
-pub row_told : (now : ℕ) (key : List ℕ) (caches : List (Option Cache)) (id : ℕ) → holds_in now key (at_place caches id) ≡ has_live_row now key (live_at (lives_of caches) id)
+pub row_told : (now : ℕ) (key : List ℕ) (caches : List (Option Cache)) (id : ℕ) → holds_in now key (at_place caches id) ≡ has_live_row now key (at_place (lives_of caches) id)
 row_told now key caches id = by (at_place caches id) ∙ ap (has_live_row now key) (sym (at_place_map status_of caches id))
   where
     by : (o : Option Cache) → holds_in now key o ≡ has_live_row now key (option_map status_of o)
@@ -66,7 +65,7 @@ module _ (caches : List (Option Cache)) (image : Image) (id : ℕ) (key : List �
   by_stash true e none is = let no : false ≡ b = cc in holds ∙ (unseen expires refl none (eqb-true image.stash 0 e) ∙ no)
   by_stash false e none is = absurd cc
 
-  by_seen : (x : Option Bool) → first_seen id key now image.slots ≡ x → answer x image.stash ≡ Some b → holds_in now key (at_place caches id) ≡ b
+  by_seen : (x : Option Bool) → first_seen id key now image.slots ≡ x → answer_with_stash x image.stash ≡ Some b → holds_in now key (at_place caches id) ≡ b
   by_seen None none is = by_stash (image.stash == 0) refl none is
   by_seen (Some x) some is =
       let same : x ≡ b = cc in
@@ -75,7 +74,7 @@ module _ (caches : List (Option Cache)) (image : Image) (id : ℕ) (key : List �
       let here : expires ≡ Some s.row.1 = (λ i. expiry_at (sym s.text i) (at_place (states_of (lives_of caches)) (sym s.number i))) ∙ placed in
       holds ∙ (ap (lives_by now) here ∙ (s.lives ∙ same))
 
-  pub has_agrees : found image id key now ≡ Some b → holds_in now key (at_place caches id) ≡ b
+  pub has_agrees : found_in_image image id key now ≡ Some b → holds_in now key (at_place caches id) ≡ b
   has_agrees is = by_seen (first_seen id key now image.slots) refl is
 
 -- a lookup that is sure has met the table

@@ -13,7 +13,7 @@ use Rattle.jc_model.specs.declared.call.Request.{Request}
 use Rattle.jc_model.specs.declared.call.Request.TheVariants.{Load, Write, Delete, Process, Tell}
 use Rattle.jc_model.specs.Run.{is_answer_to, for_load, for_write, for_process, for_tell, fits}
 use Rattle.jc_shared.specs.declared.hooks.LockedHooks.{LockedHooks}
-use Rattle.jc_shared.specs.Serving.{is_write, is_of_writer, AreWritten, Serves, TakesIn, HasStated, HasWritten, WritesOn}
+use Rattle.jc_shared.specs.Serving.{is_write, is_of_writer, AreWritten, ServesRequest, TakesIn, HasStated, HasWritten, WritesOn}
 
 one_more : (answers : List Answer) (a : Answer) → filter is_of_writer (answers ++ a ∷ []) ≡ filter is_of_writer answers ++ filter is_of_writer (a ∷ [])
 one_more answers a = filter-append is_of_writer answers (a ∷ [])
@@ -101,7 +101,7 @@ module _ {W K : Type 0} (may : W → List (Request × Answer) → Type 0) where
       stated = λ rest m. h.stated rest (subst (λ (o : Option W). MayGiveBy may o rest) same m);
     }
 
-    by_request : (q : Request) (a : Answer) → IsTrue (is_answer_to q a) → Serves may state_after old new q a → WritesOn may old new answers (answers ++ a ∷ [])
+    by_request : (q : Request) (a : Answer) → IsTrue (is_answer_to q a) → ServesRequest may state_after old new q a → WritesOn may old new answers (answers ++ a ∷ [])
     by_request (Write key value) a fit s = writes_more (Write key value) a refl fit s.0
     by_request (Delete key) a fit s = writes_more (Delete key) a refl fit s.0
     by_request (Load key) a fit s = writes_none a (not_loaded a fit) s.0

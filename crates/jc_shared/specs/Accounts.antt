@@ -63,17 +63,17 @@ pub record Accounts (given : ℕ) (logs : List Own) (transcript : List Entry) : 
   pub agree : AllAgree transcript logs
 
 -- why they do not
-abbrev pub IsFault : ℕ → List Own → List Entry → CloseFault → Type 0
-IsFault given logs transcript Missing = AreGiven given logs → ⊥
-IsFault given logs transcript StillOpen = AreGiven given logs × (NoneWaits transcript → ⊥)
-IsFault given logs transcript (Differs session place) =
+abbrev pub IsAuditFault : ℕ → List Own → List Entry → CloseFault → Type 0
+IsAuditFault given logs transcript Missing = AreGiven given logs → ⊥
+IsAuditFault given logs transcript StillOpen = AreGiven given logs × (NoneWaits transcript → ⊥)
+IsAuditFault given logs transcript (Differs session place) =
     AreGiven given logs × NoneWaits transcript × DiffersFirst transcript logs session place
-IsFault given logs transcript OutOfMemory = ⊥
+IsAuditFault given logs transcript OutOfMemory = ⊥
 
 -- why a manager that is not closed yet does not close
 abbrev pub IsCloseFault : ℕ → List Own → List Entry → CloseFault → Type 0
 IsCloseFault given logs transcript OutOfMemory = Accounts given logs transcript
-IsCloseFault given logs transcript fault = IsFault given logs transcript fault
+IsCloseFault given logs transcript fault = IsAuditFault given logs transcript fault
 
 -- a manager that is not closed does not close so, with a legal transcript that begins with these caches
 pub record CannotClose (configs : List CacheConfig) (logs : List Own) (fault : CloseFault) : Type 0 where

@@ -50,9 +50,9 @@ destroy_fault_of unfound.NoSuchCache = destroying.NoSuchCache
 destroy_fault_of unfound.OutOfMemory = destroying.OutOfMemory
 
 -- a call is accepted where its processor is there
-abbrev pub accepted : Bool → Result ⊤ CallFault
-accepted true = Ok tt
-accepted false = Err NoSuchProcessor
+abbrev pub ok_or_no_processor : Bool → Result ⊤ CallFault
+ok_or_no_processor true = Ok tt
+ok_or_no_processor false = Err NoSuchProcessor
 
 -- the entry is of the draft's call, which has been given these answers
 pub record IsOfCall (e draft : Entry) (answers : List Answer) : Type 0 where
@@ -78,9 +78,9 @@ abbrev pub IsOpenIn : Recording → Entry → List Answer → Type 0
 IsOpenIn r draft answers = IsOpen (lives_of r.caches) r.transcript draft answers
 
 -- an entry with its call's reply, if it has one
-abbrev pub ended_by : Option Reply → Entry → Entry
-ended_by None e = e
-ended_by (Some reply) e = record e { end = end.Replied reply }
+abbrev pub entry_ended_by : Option Reply → Entry → Entry
+entry_ended_by None e = e
+entry_ended_by (Some reply) e = record e { end = end.Replied reply }
 
 -- the step is a reply
 abbrev pub IsReplied : Step → Type 0

@@ -10,5 +10,5 @@ abbrev pub Agrees : Sight → ℕ → List ℕ → ℕ → Bool → Type 0
 Agrees pass id key now holds = pass.met ≡ true → (b : Bool) → found_by pass id key now ≡ Some b → holds ≡ b
 
 -- a lookup has read the versions of the stripes of the key's buckets, and has checked the same ones
-abbrev pub ReadsStripes : Sight → Sight → ℕ → List ℕ → Type 0
-ReadsStripes old new id key = lookups.ReadsStripes seeded_place old new id key
+abbrev pub SessionReadsStripes : Sight → Sight → ℕ → List ℕ → Type 0
+SessionReadsStripes old new id key = lookups.ReadsStripes seeded_place old new id key

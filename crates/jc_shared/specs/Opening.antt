@@ -30,7 +30,7 @@ pub record IsBlank (placer buckets : ℕ) (cells : List (Option Held)) (words : 
   pub images_are : words.images ≡ image_of buckets cells ∷ []
 
 -- what was handed in, as a manager keeps it
-pub record Handed (L P : Type 0) : Type 0 where
+pub record HandedIn (L P : Type 0) : Type 0 where
   pub configs : List CacheConfig
   pub shared : List (SharedHooks L P)
   pub index : TableId
@@ -40,7 +40,7 @@ module _ {L W P K : Type 0} (wants : P → Bool) where
   CanOpen configs hooks = (open_refusal configs ≡ None) × AllSuit wants configs hooks
 
   -- why nothing opens
-  abbrev pub IsRefusal : List CacheConfig → List (CacheHooks L W P K) → SharedRefusal → Type 0
-  IsRefusal configs hooks (Caches refusal) = open_refusal configs ≡ Some refusal
-  IsRefusal configs hooks (HooksDiffer cache) = (open_refusal configs ≡ None) × DifferFirst wants configs hooks cache
-  IsRefusal configs hooks OutOfMemory = CanOpen configs hooks
+  abbrev pub IsOpeningRefusal : List CacheConfig → List (CacheHooks L W P K) → SharedRefusal → Type 0
+  IsOpeningRefusal configs hooks (Caches refusal) = open_refusal configs ≡ Some refusal
+  IsOpeningRefusal configs hooks (HooksDiffer cache) = (open_refusal configs ≡ None) × DifferFirst wants configs hooks cache
+  IsOpeningRefusal configs hooks OutOfMemory = CanOpen configs hooks

@@ -14,7 +14,7 @@ use Rattle.jc_shared.specs.declared.fault.AnswerFault.{AnswerFault}
 use Rattle.jc_shared.specs.declared.fault.AnswerFault.TheVariants as answering
 use Rattle.jc_shared.specs.declared.fault.CallFault.{CallFault}
 use Rattle.jc_shared.specs.declared.fault.CallFault.TheVariants as faults
-use Rattle.jc_shared.specs.Calls.{Stands, IsBeginFault}
+use Rattle.jc_shared.specs.Calls.{EntryIsLast, IsBeginFault}
 use Rattle.jc_shared.specs.Living.{Refuses}
 use Rattle.jc_shared.specs.Serving.{told_behind}
 use Rattle.jc_shared.specs.Sessions.{Sitting}
@@ -24,8 +24,8 @@ pub record Pending : Type 0 where
   pub draft : Entry
   pub request : Request
 
-abbrev pub Waits : Entry → Type 0
-Waits e = e.end ≡ ends.Waiting
+abbrev pub EndsWaiting : Entry → Type 0
+EndsWaiting e = e.end ≡ ends.Waiting
 
 -- a request that tells nothing
 abbrev pub unless_telling : Request → Option Request
@@ -43,7 +43,7 @@ given_up_entry p left = record p.draft { told = told_behind p.request p.draft.to
 -- a session's list has grown by this entry, of which its pass has seen all
 pub record AddsEntry (configs : List CacheConfig) (old new : Sitting) (e : Entry) : Type 0 where
   pub added : new.calls ≡ old.calls ++ e ∷ []
-  pub stands : Stands configs e new.pass
+  pub stands : EntryIsLast configs e new.pass
 
 -- why a call does not begin; memory may be refused to its entry alone
 abbrev pub IsRefusedBegin : List CacheConfig → ℕ → ℕ → Call → CallFault → Type 0

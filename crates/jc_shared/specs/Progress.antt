@@ -12,7 +12,7 @@ use Rattle.jc_model.specs.declared.event.Step.{Step}
 use Rattle.jc_model.specs.declared.event.Step.TheVariants.{Done, Need}
 use Rattle.jc_model.specs.Asking.{AsksOf}
 use Rattle.jc_engine.specs.Recording.{blank}
-use Rattle.jc_shared.specs.Calls.{IsBeginFault, called}
+use Rattle.jc_shared.specs.Calls.{IsBeginFault, call_entry}
 use Rattle.jc_shared.specs.Living.{IsMissing}
 use Rattle.jc_shared.specs.declared.fault.CallFault.{CallFault}
 use Rattle.jc_shared.specs.declared.fault.CallFault.TheVariants as faults
@@ -37,7 +37,7 @@ ShowsAs old e _ new _ = ⊥
 pub record AddsCall (configs : List CacheConfig) (old new : Sitting) (e : Entry) (n : End) : Type 0 where
   pub answers : List Answer
   pub told : List Notice
-  pub adds : AddsEntry configs old new (called e.session e.id e.at e.call answers told n)
+  pub adds : AddsEntry configs old new (call_entry e.session e.id e.at e.call answers told n)
 
 -- why a call that has begun has no reply: it was given up, or the manager has no such call
 abbrev pub EndsBy : List CacheConfig → Sitting → Sitting → Entry → CallFault → Type 0

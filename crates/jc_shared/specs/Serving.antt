@@ -39,28 +39,28 @@ pub record AreWritten (answers : List Answer) (given : List (Request × Answer))
 
 module _ {W K : Type 0} (state_after : K → List Notice → List ℕ) where
   -- the listeners were told these notices, and no others
-  abbrev pub Tells : LockedHooks W K → LockedHooks W K → List Notice → Type 0
-  Tells old new notices = TellsAll state_after old.listeners.items new.listeners.items notices
+  abbrev pub TellsListeners : LockedHooks W K → LockedHooks W K → List Notice → Type 0
+  TellsListeners old new notices = TellsAll state_after old.listeners.items new.listeners.items notices
 
   -- they were told what a request tells, and are left alone by one that tells nothing
-  abbrev pub TellsBy : LockedHooks W K → LockedHooks W K → Request → Type 0
-  TellsBy old new (Tell notices) = Tells old new notices
-  TellsBy old new _ = new.listeners ≡ old.listeners
+  abbrev pub TellsListenersBy : LockedHooks W K → LockedHooks W K → Request → Type 0
+  TellsListenersBy old new (Tell notices) = TellsListeners old new notices
+  TellsListenersBy old new _ = new.listeners ≡ old.listeners
 
   -- where they had been told what a call had told, they have been told what it has told now
-  abbrev pub TellsOn : LockedHooks W K → LockedHooks W K → List Notice → List Notice → Type 0
-  TellsOn old new told told' = (first : LockedHooks W K) → Tells first old told → Tells first new told'
+  abbrev pub TellsListenersOn : LockedHooks W K → LockedHooks W K → List Notice → List Notice → Type 0
+  TellsListenersOn old new told told' = (first : LockedHooks W K) → TellsListeners first old told → TellsListeners first new told'
 
 module _ {W K : Type 0} (may : W → List (Request × Answer) → Type 0) (state_after : K → List Notice → List ℕ) where
   -- the writer writes and deletes, the listeners are told, and each is left alone by what is not for it
-  abbrev pub Serves : LockedHooks W K → LockedHooks W K → Request → Answer → Type 0
-  Serves old new request a = AsksWriter may old.writer new.writer request a × TellsBy state_after old new request
+  abbrev pub ServesRequest : LockedHooks W K → LockedHooks W K → Request → Answer → Type 0
+  ServesRequest old new request a = AsksWriter may old.writer new.writer request a × TellsListenersBy state_after old new request
 
   -- the callbacks answered this request, and their answer is the next one
   pub record TakesIn (old new : LockedHooks W K) (request : Request) (answers answers' : List Answer) : Type 0 where
     pub answer : Answer
     pub fits : IsTrue (is_answer_to request answer)
-    pub serves : Serves old new request answer
+    pub serves : ServesRequest old new request answer
     pub added : answers' ≡ answers ++ answer ∷ []
 
 module _ {W K : Type 0} (may : W → List (Request × Answer) → Type 0) where

@@ -3,7 +3,7 @@ use Rattle.std.specs.Prelude.{◌≡◌, ℕ, List, length, take, true}
 use Rattle.jc_model.specs.declared.config.CacheConfig.{CacheConfig}
 use Rattle.jc_model.specs.declared.event.Entry.{Entry}
 use Rattle.jc_model.specs.Runs.{Lives}
-use Rattle.jc_model.specs.Legal.{History, IsLegal, Tells, numbered}
+use Rattle.jc_model.specs.Legal.{History, IsLegal, Tells, numbered_lives}
 use Rattle.jc_rows.specs.Images.{last_image}
 use Rattle.jc_engine.specs.Caches.{lives_of}
 use Rattle.jc_engine.specs.Recording.{Recording}
@@ -30,7 +30,7 @@ log_of s = record { number = s.number; calls = s.calls }
 
 -- the first lives are these caches, each under its place
 abbrev pub BeginsWith : List CacheConfig → History → Type 0
-BeginsWith configs transcript = take (length configs) transcript.lives ≡ numbered 0 configs
+BeginsWith configs transcript = take (length configs) transcript.lives ≡ numbered_lives 0 configs
 
 -- where the pass's last meeting succeeded, the last image that it has seen shows these live caches, as the transcript
 -- leaves them

@@ -12,7 +12,7 @@ use Rattle.jc_hooks.specs.declared.cache_hooks.CacheHooks.{CacheHooks}
 use Rattle.jc_hooks.specs.declared.loader.Loaded.{Loaded}
 use Rattle.jc_shared.specs.declared.hooks.LockedHooks.{LockedHooks}
 use Rattle.jc_shared.specs.declared.hooks.SharedHooks.{SharedHooks}
-use Rattle.jc_model.specs.Asking.{IsKeyOf, invoked_by}
+use Rattle.jc_model.specs.Asking.{IsKeyOf, processor_invoked}
 
 -- the loader's answer by the key, and each processor's by value and argument
 pub record Stated : Type 0 where
@@ -67,7 +67,7 @@ ProcessesBy verdicts (Some named) v = DecidesBy (slice_get verdicts named.0) nam
 abbrev pub IsStated : Stated → Call → Answer → Type 0
 IsStated h call (LoadedValue v) = LoadsBy h.load call (LoadedValue v)
 IsStated h call LoadFailed = LoadsBy h.load call LoadFailed
-IsStated h call (Processed v) = ProcessesBy h.verdicts (invoked_by call) v
+IsStated h call (Processed v) = ProcessesBy h.verdicts (processor_invoked call) v
 IsStated h call _ = ⊤
 
 abbrev pub IsStatedBy : Option Stated → Call → Answer → Type 0

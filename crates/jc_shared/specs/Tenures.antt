@@ -25,25 +25,25 @@ pub record IsTenure (old new : Recording) (session : ℕ) (event : Event) (o : O
   pub lives : lives_of new.caches ≡ lives_after (lives_of old.caches) event o
 
 -- the engine refuses an event so where these caches are live
-abbrev pub IsRefusedFor : Lives → Event → Cause → Type 0
-IsRefusedFor lives event cause = outcome.Refused cause ≡ answer_to lives event (for_memory (outcome.Refused cause))
+abbrev pub IsRefusedEvent : Lives → Event → Cause → Type 0
+IsRefusedEvent lives event cause = outcome.Refused cause ≡ answer_to lives event (for_memory (outcome.Refused cause))
 
 -- a call that was to begin is told so why it is refused
 pub record IsRefusedCall (lives : Lives) (event : Event) (fault : CallFault) : Type 0 where
   pub cause : Cause
   pub told : fault ≡ fault_of cause
-  pub refusal : IsRefusedFor lives event cause
+  pub refusal : IsRefusedEvent lives event cause
 
 -- why an answer brings the draft's call no further, which has been given these before
-abbrev pub Stops : Recording → Entry → List Answer → Answer → AnswerFault → Type 0
-Stops old draft answers a answering.WrongAnswer =
-    IsOpenIn old draft answers × IsRefusedFor (lives_of old.caches) (event.Answer draft.id a) causes.WrongAnswer
-Stops old draft answers a answering.OutOfMemory =
-    IsOpenIn old draft answers × IsRefusedFor (lives_of old.caches) (event.Answer draft.id a) causes.OutOfMemory
-Stops old draft answers a answering.Overtaken = ⊤
+abbrev pub StopsDraft : Recording → Entry → List Answer → Answer → AnswerFault → Type 0
+StopsDraft old draft answers a answering.WrongAnswer =
+    IsOpenIn old draft answers × IsRefusedEvent (lives_of old.caches) (event.Answer draft.id a) causes.WrongAnswer
+StopsDraft old draft answers a answering.OutOfMemory =
+    IsOpenIn old draft answers × IsRefusedEvent (lives_of old.caches) (event.Answer draft.id a) causes.OutOfMemory
+StopsDraft old draft answers a answering.Overtaken = ⊤
 
 -- the draft's call was given up, and has these notices then: those that were told, and those that are left
-pub record GivesUp (old new : Recording) (draft : Entry) (told : List Notice) : Type 0 where
+pub record GivesUpDraft (old new : Recording) (draft : Entry) (told : List Notice) : Type 0 where
   pub left : List Notice
   pub tenure : IsTenure old new draft.session (event.GiveUp draft.id) (outcome.GivenUp left)
   pub notices : told ≡ draft.told ++ left

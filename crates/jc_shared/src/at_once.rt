@@ -3,7 +3,7 @@ ghost use Rattle.std.specs.Prelude.{◌≡◌, None, IfSome, IfOk, IfErr};
 ghost use mathlib.Core.List.{IsPrefix};
 ghost use Rattle.jc_model.specs.declared.call.Reply.TheVariants.{Found};
 ghost use Rattle.jc_model.specs.declared.event.End.TheVariants.{Replied};
-ghost use Rattle.jc_shared.specs.Calls.{Adds, Fails, Lacks, TellsLack};
+ghost use Rattle.jc_shared.specs.Calls.{Adds, CallFails, LacksProcessor, TellsLack};
 ghost use Rattle.jc_shared.specs.Stated.{AreCounted};
 
 use crate::fault::CallFault;
@@ -40,15 +40,15 @@ impl<'a, N: Name, L: Loader, W: Writer, P: Processor, K: Hearer, J: Keeping> Ses
         ensures number { self.new.number ≡ self.old.number }
         ensures ok { IfOk result (λ reply.
             Adds N.configs N.stated self.old self.new id now call (Replied reply)) }
-        ensures refused { Lacks N.configs id call → TellsLack result × (self.new ≡ self.old) }
-        ensures err { IfErr result (Fails N.configs N.stated self.old self.new id now call) }
+        ensures refused { LacksProcessor N.configs id call → TellsLack result × (self.new ≡ self.old) }
+        ensures err { IfErr result (CallFails N.configs N.stated self.old self.new id now call) }
         ensures front { IsPrefix self.old.pass.images self.new.pass.images }
     {
         let manager = self.manager;
         let accepted = asked.accept(&call);
         if let Err(fault) = accepted {
             drop(call);
-            return Err(manager.lacking(rt, id, fault));
+            return Err(manager.lack_fault(rt, id, fault));
         }
         if let Some(value) = self.get_at_once(rt, id, now, &call) {
             return Ok(Reply::Found(value));
@@ -102,7 +102,7 @@ impl<'a, N: Name, L: Loader, W: Writer, P: Processor, K: Hearer, J: Keeping> Ses
         ensures number { self.new.number ≡ self.old.number }
         ensures ok { IfOk result (λ reply.
             Adds N.configs N.stated self.old self.new id now call (Replied reply)) }
-        ensures err { IfErr result (Fails N.configs N.stated self.old self.new id now call) }
+        ensures err { IfErr result (CallFails N.configs N.stated self.old self.new id now call) }
         ensures front { IsPrefix self.old.pass.images self.new.pass.images }
     {
         let manager = self.manager;

@@ -3,7 +3,7 @@ ghost use Rattle.std.specs.Prelude.{◌≡◌, ◌≢◌, ◌≤◌, ◌<◌, �
 ghost use Rattle.jc_model.specs.declared.event.End.TheVariants.{Waiting};
 ghost use Rattle.jc_model.specs.declared.event.Entry.{Entry as Entries};
 ghost use Rattle.std.specs.List.{All};
-ghost use Rattle.jc_shared.specs.Accounts.{calls_of, times, own_of, IsLeastFrom, AreGiven, NoneWaits, AllAgree, PartAt, DiffersFirst, Accounts, IsFault};
+ghost use Rattle.jc_shared.specs.Accounts.{calls_of, times, own_of, IsLeastFrom, AreGiven, NoneWaits, AllAgree, PartAt, DiffersFirst, Accounts, IsAuditFault};
 
 use crate::fault::CloseFault;
 use crate::keeping::MOST_SESSIONS;
@@ -123,7 +123,7 @@ fn none_waits(entries: &[Entry]) -> bool
 }
 
 /// What is left of a list where it begins with this entry.
-fn past<'a>(own: &'a [Entry], entry: &Entry) -> Option<&'a [Entry]>
+fn rest_behind<'a>(own: &'a [Entry], entry: &Entry) -> Option<&'a [Entry]>
     ensures { MatchOption result (slice_get own.now 0 ≢ Some entry.now)
         (λ rest. own.now ≡ entry.now ∷ rest.now) }
 {
@@ -132,7 +132,7 @@ fn past<'a>(own: &'a [Entry], entry: &Entry) -> Option<&'a [Entry]>
 }
 
 /// The first place at which a session's entries and this list part.
-fn parting(entries: &[Entry], session: u32, own: &[Entry]) -> Option<usize>
+fn parting_place(entries: &[Entry], session: u32, own: &[Entry]) -> Option<usize>
     ensures { MatchOption result (calls_of session entries.now ≡ own.now)
         (λ place. PartAt (calls_of session entries.now) own.now place) }
 {
@@ -140,7 +140,7 @@ fn parting(entries: &[Entry], session: u32, own: &[Entry]) -> Option<usize>
     let mut rest = own;
     while let Some((entry, later)) = left.split_first() {
         if entry.session == session {
-            match past(rest, entry) {
+            match rest_behind(rest, entry) {
                 Some(tail) => rest = tail,
                 None => return Some(own.len() - rest.len()),
             }
@@ -155,7 +155,7 @@ fn parting(entries: &[Entry], session: u32, own: &[Entry]) -> Option<usize>
 }
 
 /// The lesser of the least session so far and an entry's, where that is one from this number on.
-fn lesser(least: Option<u32>, session: u32, given: u32) -> Option<u32>
+fn lesser_session(least: Option<u32>, session: u32, given: u32) -> Option<u32>
     ensures { (done : List Entries) (e : Entries) → e.session ≡ session →
         IsLeastFrom given done least → IsLeastFrom given (done ++ e ∷ []) result }
 {
@@ -174,7 +174,7 @@ fn least_from(entries: &[Entry], given: u32) -> Option<u32>
 {
     let mut least = None;
     for entry in entries {
-        least = lesser(least, entry.session, given);
+        least = lesser_session(least, entry.session, given);
     }
     least
 }
@@ -197,7 +197,7 @@ fn agree<S: Logged>(entries: &[Entry], logs: &[S], given: u32) -> bool
         if entry.session >= MOST_SESSIONS {
             return false;
         }
-        match past(rests[entry.session as usize], entry) {
+        match rest_behind(rests[entry.session as usize], entry) {
             Some(rest) => rests[entry.session as usize] = rest,
             None => return false,
         }
@@ -221,7 +221,7 @@ fn first_difference<S: Logged>(entries: &[Entry], logs: &[S], given: u32) -> Opt
         return None;
     }
     for session in 0..given {
-        if let Some(place) = parting(entries, session, own_of(logs, session)) {
+        if let Some(place) = parting_place(entries, session, own_of(logs, session)) {
             return Some((session, place));
         }
     }
@@ -236,7 +236,7 @@ fn first_difference<S: Logged>(entries: &[Entry], logs: &[S], given: u32) -> Opt
 /// `Missing`, `StillOpen`, `Differs`, in this order. It takes no memory.
 pub fn audit<S: Logged>(transcript: &Transcript, logs: &[S], given: u32) -> Result<(), CloseFault>
     ensures ok { OnOk result (Accounts given (map S.log logs.now) transcript.now.entries) }
-    ensures fault { IfErr result (IsFault given (map S.log logs.now) transcript.now.entries) }
+    ensures fault { IfErr result (IsAuditFault given (map S.log logs.now) transcript.now.entries) }
 {
     let entries = transcript.entries();
     if !are_below(logs, given) || !are_once(logs, given) {

@@ -7,8 +7,8 @@ ghost use Rattle.jc_model.specs.declared.event.Step.TheVariants.{Done, Need};
 ghost use Rattle.jc_model.specs.Run.{is_answer_to};
 ghost use Rattle.jc_model.specs.Legal.{with_answer};
 ghost use Rattle.jc_model.specs.Asking.{AsksOf};
-ghost use Rattle.jc_shared.specs.Calls.{IsSameCall, Stays, EndsFaulty};
-ghost use Rattle.jc_shared.specs.Serving.{Serves, TellsOn, TellsOnce, told_behind, TakesIn, WritesOn, StatesOn};
+ghost use Rattle.jc_shared.specs.Calls.{IsSameCall, CallStands, CallEndsFaulty};
+ghost use Rattle.jc_shared.specs.Serving.{ServesRequest, TellsListenersOn, TellsOnce, told_behind, TakesIn, WritesOn, StatesOn};
 ghost use Rattle.jc_shared.specs.Stated.{AreOf, IsStatedBy, AreStated};
 
 use crate::fault::{AnswerFault, CallFault};
@@ -76,7 +76,7 @@ impl<N: Name, L: Loader, W: Writer, P: Processor, K: Hearer, J: Keeping> Manager
         requires asks { AsksOf draft.now.call request.now }
         ensures fits { IfOk result (λ a. IsTrue (is_answer_to request.now a)) }
         ensures stated { IfOk result (IsStatedBy (slice_get N.stated draft.now.id) draft.now.call) }
-        ensures served { IfOk result (Serves W.may K.state_after hooks.old hooks.new request.now) }
+        ensures served { IfOk result (ServesRequest W.may K.state_after hooks.old hooks.new request.now) }
         ensures untold { OnErr result (hooks.new.listeners ≡ hooks.old.listeners) }
     {
         answer_request(
@@ -101,16 +101,16 @@ impl<N: Name, L: Loader, W: Writer, P: Processor, K: Hearer, J: Keeping> Manager
         pass: &mut TablePass<N>,
     ) -> Result<Step, CallFault>
         requires shared { AreOf L.load_of P.verdict_of N.stated draft.old.id asked.now }
-        requires asked { Stays N.configs N.stated (Need request) draft.old pass.old }
+        requires asked { CallStands N.configs N.stated (Need request) draft.old pass.old }
         ensures same { IsSameCall draft.old draft.new }
         ensures served { OnOk result (TakesIn W.may K.state_after hooks.old hooks.new
             request draft.old.answers draft.new.answers) }
         ensures kept { OnErr result (draft.new.answers ≡ draft.old.answers) }
         ensures brought { MatchResult result
-            (λ step. Stays N.configs N.stated step draft.new pass.new)
-            (λ fault. EndsFaulty N.configs N.stated fault draft.new pass.new) }
+            (λ step. CallStands N.configs N.stated step draft.new pass.new)
+            (λ fault. CallEndsFaulty N.configs N.stated fault draft.new pass.new) }
         ensures front { IsPrefix pass.old.images pass.new.images }
-        ensures told { TellsOn K.state_after hooks.old hooks.new draft.old.told draft.new.told }
+        ensures told { TellsListenersOn K.state_after hooks.old hooks.new draft.old.told draft.new.told }
     {
         if tells_again(draft, &request) {
             drop(request);
@@ -150,13 +150,13 @@ impl<N: Name, L: Loader, W: Writer, P: Processor, K: Hearer, J: Keeping> Manager
         pass: &mut TablePass<N>,
     ) -> Result<Reply, CallFault>
         requires shared { AreOf L.load_of P.verdict_of N.stated draft.old.id asked.now }
-        requires asked { Stays N.configs N.stated (Need request) draft.old pass.old }
+        requires asked { CallStands N.configs N.stated (Need request) draft.old pass.old }
         ensures same { IsSameCall draft.old draft.new }
         ensures ends { MatchResult result
-            (λ reply. Stays N.configs N.stated (Done reply) draft.new pass.new)
-            (λ fault. EndsFaulty N.configs N.stated fault draft.new pass.new) }
+            (λ reply. CallStands N.configs N.stated (Done reply) draft.new pass.new)
+            (λ fault. CallEndsFaulty N.configs N.stated fault draft.new pass.new) }
         ensures front { IsPrefix pass.old.images pass.new.images }
-        ensures told { TellsOn K.state_after hooks.old hooks.new draft.old.told draft.new.told }
+        ensures told { TellsListenersOn K.state_after hooks.old hooks.new draft.old.told draft.new.told }
         ensures wrote { MatchResult result
             (λ _. WritesOn W.may hooks.old hooks.new draft.old.answers draft.new.answers)
             (λ _. StatesOn W.may hooks.old draft.old.answers draft.new.answers) }
@@ -184,9 +184,9 @@ impl<N: Name, L: Loader, W: Writer, P: Processor, K: Hearer, J: Keeping> Manager
             draft.old.call draft.old.answers }
         ensures same { IsSameCall draft.old draft.new }
         ensures kept { draft.new.answers ≡ draft.old.answers }
-        ensures ends { EndsFaulty N.configs N.stated result draft.new pass.new }
+        ensures ends { CallEndsFaulty N.configs N.stated result draft.new pass.new }
         ensures front { IsPrefix pass.old.images pass.new.images }
-        ensures told { TellsOn K.state_after hooks.old hooks.new draft.old.told draft.new.told }
+        ensures told { TellsListenersOn K.state_after hooks.old hooks.new draft.old.told draft.new.told }
     {
         let untold = draft.told.items().is_empty();
         let given_up = self.locked.lock(rt).give_up(draft, pass);

@@ -2,9 +2,9 @@
 //! and listeners by the one call that holds the cache's hooks lock.
 ghost use Rattle.std.specs.Prelude.{◌≡◌, [], None, false, length, map, is_some, IsSome, IfOk, IfErr, OnErr};
 ghost use Rattle.jc_model.specs.declared.config.CacheConfig.{CacheConfig as Configured};
-ghost use Rattle.jc_model.specs.Asking.{invoked_by};
+ghost use Rattle.jc_model.specs.Asking.{processor_invoked};
 ghost use Rattle.jc_model.specs.Runs.{has_processor};
-ghost use Rattle.jc_shared.specs.Finding.{accepted};
+ghost use Rattle.jc_shared.specs.Finding.{ok_or_no_processor};
 ghost use Rattle.jc_shared.specs.Stated.{shared_of, locked_of, wants_lock};
 
 use crate::fault::CallFault;
@@ -59,7 +59,7 @@ impl<L, P> SharedHooks<L, P> {
 
     /// Whether the processor that a call names, if any, is there.
     fn has_processor(&self, call: &Call) -> bool
-        ensures names { result ≡ false → IsSome (invoked_by call.now) }
+        ensures names { result ≡ false → IsSome (processor_invoked call.now) }
         ensures agrees { (c : Configured) → length c.processors ≡ length self.now.processors.items →
             result ≡ has_processor c call.now }
     {
@@ -74,9 +74,9 @@ impl<L, P> SharedHooks<L, P> {
     /// Refuses a call that names a processor which is not there.
     pub(crate) fn accept(&self, call: &Call) -> Result<(), CallFault>
         ensures agrees { (c : Configured) → length c.processors ≡ length self.now.processors.items →
-            result ≡ accepted (has_processor c call.now) }
+            result ≡ ok_or_no_processor (has_processor c call.now) }
         ensures err { IfErr result (λ fault. fault ≡ CallFault.NoSuchProcessor) }
-        ensures names { OnErr result (IsSome (invoked_by call.now)) }
+        ensures names { OnErr result (IsSome (processor_invoked call.now)) }
     {
         if self.has_processor(call) {
             Ok(())
@@ -109,13 +109,13 @@ impl<L, W, P, K> OwnHooks<L, W, P, K> {
     pub(crate) fn of(hooks: CacheHooks<L, W, P, K>) -> OwnHooks<L, W, P, K>
         ensures { result ≡ record { asked = shared_of hooks; locked = locked_of hooks } }
     {
-        let (asked, locked) = parted(hooks);
+        let (asked, locked) = split_hooks(hooks);
         OwnHooks { asked, locked }
     }
 }
 
 /// A cache's callbacks apart: those that all sessions ask, and those under its hooks lock.
-fn parted<L, W, P, K>(hooks: CacheHooks<L, W, P, K>) -> (SharedHooks<L, P>, LockedHooks<W, K>)
+fn split_hooks<L, W, P, K>(hooks: CacheHooks<L, W, P, K>) -> (SharedHooks<L, P>, LockedHooks<W, K>)
     ensures asked { result.0 ≡ shared_of hooks }
     ensures locked { result.1 ≡ locked_of hooks }
 {
@@ -163,7 +163,7 @@ pub(crate) fn apart<L: Loader, W: Writer, P: Processor, K: Hearer>(
     let mut locks = Vec::with_capacity(alloc, hooks.len())?;
     for own in hooks {
         let wanted = wants_lock(&own);
-        let (asked, locked) = parted(own);
+        let (asked, locked) = split_hooks(own);
         shared.push(asked)?;
         locks.push(lock_over(wanted, locked))?;
     }

@@ -44,7 +44,7 @@ impl<'a, N: Name, L: Loader, W: Writer, P: Processor, K: Hearer> Session<
         ensures front { IsPrefix self.old.pass.images self.new.pass.images }
     {
         let manager = self.manager;
-        if manager.opened(id).is_some() {
+        if manager.opening_hooks(id).is_some() {
             return self.call_opened_by(rt, id, now, call, responder);
         }
         let lock = match manager.hooks_lock(rt, id) {

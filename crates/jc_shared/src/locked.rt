@@ -9,18 +9,17 @@ ghost use Rattle.jc_model.specs.declared.event.End.TheVariants.{Waiting, GivenUp
 ghost use Rattle.jc_model.specs.declared.event.Event.TheVariants.{Begin, Answer as Answered};
 ghost use Rattle.jc_model.specs.declared.event.Outcome.TheVariants.{Step as Stepped};
 ghost use Rattle.jc_model.specs.Places.{at_place};
-ghost use Rattle.jc_model.specs.Runs.{live_at};
 ghost use Rattle.jc_engine.specs.Recording.{blank};
 ghost use Rattle.jc_engine.specs.Caches.{lives_of};
 ghost use Rattle.jc_engine.specs.Results.{reply_in};
 ghost use Rattle.jc_shared.specs.Admitting.{Admits};
-ghost use Rattle.jc_shared.specs.Calls.{Stands, GoesOn, GoesOnTo, IsBeginFault};
-ghost use Rattle.jc_shared.specs.Living.{IsHeld, IsIdle, HasOpenCall, Refuses, has_live_row};
+ghost use Rattle.jc_shared.specs.Calls.{EntryIsLast, CallGoesOn, CallGoesOnTo, IsBeginFault};
+ghost use Rattle.jc_shared.specs.Living.{TellsLiveRow, HasNoOpenCall, HasOpenCall, Refuses, has_live_row};
 ghost use Rattle.jc_shared.specs.Lookups.{Agrees};
 ghost use Rattle.jc_shared.specs.Pending.{IsRefusedAnswer};
 ghost use Rattle.jc_shared.specs.Sessions.{BeginsWith, SeesEngine, SeesSome};
-ghost use Rattle.jc_shared.specs.Finding.{fault_of, answer_fault_of, ended_by, IsOfCall, IsOpenIn, IsReplied};
-ghost use Rattle.jc_shared.specs.Tenures.{IsTenure, IsRefusedCall, Stops, GivesUp};
+ghost use Rattle.jc_shared.specs.Finding.{fault_of, answer_fault_of, entry_ended_by, IsOfCall, IsOpenIn, IsReplied};
+ghost use Rattle.jc_shared.specs.Tenures.{IsTenure, IsRefusedCall, StopsDraft, GivesUpDraft};
 
 mod at_once;
 mod closing;
@@ -121,7 +120,7 @@ fn keep_left(draft: &mut Entry, left: Sequence<Notice>)
 
 /// An entry ends with its call's reply, if it has one.
 fn end_by(draft: &mut Entry, reply: Option<Reply>)
-    ensures { draft.new ≡ ended_by reply draft.old }
+    ensures { draft.new ≡ entry_ended_by reply draft.old }
 {
     if let Some(reply) = reply {
         end_with(draft, End::Replied(reply));
@@ -197,7 +196,7 @@ impl<N: Name, J: Keeping> Locked<N, J> {
         call: Call,
         pass: &mut TablePass<N>,
     ) -> Result<(Step, Option<Reply>), CallFault>
-        ensures ok { IfOk result (λ it. GoesOnTo N.configs
+        ensures ok { IfOk result (λ it. CallGoesOnTo N.configs
             (blank session id now call) it.0 it.1 pass.new) }
         ensures copy { IfOk result (λ it. it.1 ≡ reply_in it.0) }
         ensures unseen { IfOk result (λ it. IsReplied it.0 ⊎ (pass.new ≡ pass.old)) }
@@ -228,7 +227,7 @@ impl<N: Name, J: Keeping> Locked<N, J> {
         pass: &mut TablePass<N>,
     ) -> Result<Step, CallFault>
         requires { draft.old ≡ blank draft.old.session draft.old.id draft.old.at call }
-        ensures ok { IfOk result (λ step. GoesOn N.configs draft.old step draft.new pass.new) }
+        ensures ok { IfOk result (λ step. CallGoesOn N.configs draft.old step draft.new pass.new) }
         ensures unseen { IfOk result (λ step. IsReplied step ⊎ (pass.new ≡ pass.old)) }
         ensures tenure { IfOk result (λ step. IsTenure self.old.recorded self.new.recorded
             draft.old.session (Begin draft.old.id draft.old.at call) (Stepped step)) }
@@ -260,14 +259,14 @@ impl<N: Name, J: Keeping> Locked<N, J> {
     ) -> Result<Step, AnswerFault>
         requires waits { draft.old.end ≡ Waiting }
         requires answered { (before : List Given) × (draft.old.answers ≡ before ++ answer ∷ []) }
-        ensures ok { IfOk result (λ step. GoesOn N.configs draft.old step draft.new pass.new) }
+        ensures ok { IfOk result (λ step. CallGoesOn N.configs draft.old step draft.new pass.new) }
         ensures unseen { IfOk result (λ step. IsReplied step ⊎ (pass.new ≡ pass.old)) }
         ensures tenure { IfOk result (λ step. IsTenure self.old.recorded self.new.recorded
             draft.old.session (Answered draft.old.id answer) (Stepped step)) }
         ensures front { IsPrefix pass.old.images pass.new.images }
         ensures err { IfErr result (λ fault. (before : List Given) →
             draft.old.answers ≡ before ++ answer ∷ [] →
-            Stops self.old.recorded draft.old before answer fault) }
+            StopsDraft self.old.recorded draft.old before answer fault) }
         ensures same { OnErr result ((self.new.recorded ≡ self.old.recorded)
             × (draft.new ≡ draft.old) × (pass.new ≡ pass.old)) }
         ensures refused { IfErr result (IsRefusedAnswer N.configs draft.old.id answer) }
@@ -300,9 +299,9 @@ impl<N: Name, J: Keeping> Locked<N, J> {
         requires { draft.old.end ≡ Waiting }
         ensures ok { OnOk result
             ((draft.new ≡ record draft.old { told = draft.new.told; end = GivenUp })
-            × Stands N.configs draft.new pass.new) }
+            × EntryIsLast N.configs draft.new pass.new) }
         ensures given_up { OnOk result
-            (GivesUp self.old.recorded self.new.recorded draft.old draft.new.told) }
+            (GivesUpDraft self.old.recorded self.new.recorded draft.old draft.new.told) }
         ensures front { IsPrefix pass.old.images pass.new.images }
         ensures err { IfErr result (λ fault. fault ≡ CallFault.Overtaken) }
         ensures same { OnErr result ((self.new.recorded ≡ self.old.recorded)
@@ -324,7 +323,7 @@ impl<N: Name, J: Keeping> Locked<N, J> {
 
     /// The first cache whose call is open, if any is.
     pub(crate) fn open_call(&self) -> Option<CacheId>
-        ensures none { result ≡ None → IsIdle N.configs }
+        ensures none { result ≡ None → HasNoOpenCall N.configs }
         ensures some { IfSome result (λ id. HasOpenCall N.configs id) }
     {
         self.recorded.open_call()
@@ -345,8 +344,8 @@ impl<N: Name, J: Keeping> Locked<N, J> {
         ensures kept { (self.new.given ≡ self.old.given) × (self.new.closed ≡ self.old.closed) }
         ensures front { IsPrefix pass.old.images pass.new.images }
         ensures exact { result ≡
-            has_live_row now key.now (live_at (lives_of self.old.recorded.caches) id) }
-        ensures held { IsHeld N.configs id key.now now pass.new result }
+            has_live_row now key.now (at_place (lives_of self.old.recorded.caches) id) }
+        ensures held { TellsLiveRow N.configs id key.now now pass.new result }
         ensures agrees { Agrees pass.new id key.now now result }
     {
         self.show(pass);

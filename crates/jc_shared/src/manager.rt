@@ -6,7 +6,7 @@ ghost use Rattle.jc_model.specs.declared.event.Event.TheVariants.{Begin};
 ghost use Rattle.jc_model.specs.Legal.{IsLegal};
 ghost use Rattle.jc_shared.specs.Accounts.{Accounts, IsCloseRefusal, own_log};
 ghost use Rattle.jc_shared.specs.Admitting.{IsAdmission};
-ghost use Rattle.jc_shared.specs.Living.{HasOpenCall, IsIdle, IsNamed, Refuses};
+ghost use Rattle.jc_shared.specs.Living.{HasOpenCall, HasNoOpenCall, IsIdOfName, Refuses};
 ghost use Rattle.jc_shared.specs.Sessions.{BeginsWith, SeesSome, log_of};
 ghost use Rattle.jc_shared.specs.Stated.{stated_by, AreOf, AreCounted, processor_counts, wanted_counts};
 
@@ -50,7 +50,7 @@ pub struct Manager<N: Name, L: Loader, W: Writer, P: Processor, K: Hearer, J: Ke
 impl<N: Name, L: Loader, W: Writer, P: Processor, K: Hearer, J: Keeping> Manager<N, L, W, P, K, J> {
     /// The id of the live cache with this name.
     pub fn cache<R: Wait>(&self, rt: &R, name: &Key) -> Option<CacheId>
-        ensures { IsNamed N.configs name.now result }
+        ensures { IsIdOfName N.configs name.now result }
     {
         self.locked.lock(rt).cache(name)
     }
@@ -80,7 +80,7 @@ impl<N: Name, L: Loader, W: Writer, P: Processor, K: Hearer, J: Keeping> Manager
     }
 
     /// The loader and the processors of a cache of the opening, which stand beside all locks.
-    pub(crate) fn opened(&self, id: CacheId) -> Option<&SharedHooks<L, P>>
+    pub(crate) fn opening_hooks(&self, id: CacheId) -> Option<&SharedHooks<L, P>>
         ensures stated { IfSome result (λ h. AreOf L.load_of P.verdict_of N.stated id h.now) }
         ensures counted { IfSome result (λ h. AreCounted N.configs id h.now) }
         ensures created { result ≡ None → slice_get N.configs id ≡ None }
@@ -98,7 +98,7 @@ impl<N: Name, L: Loader, W: Writer, P: Processor, K: Hearer, J: Keeping> Manager
     }
 
     /// What a call is told whose processor is lacking: that its cache is not there, where it is not.
-    pub(crate) fn lacking<R: Wait>(&self, rt: &R, id: CacheId, fault: CallFault) -> CallFault
+    pub(crate) fn lack_fault<R: Wait>(&self, rt: &R, id: CacheId, fault: CallFault) -> CallFault
         ensures { (result ≡ fault) ⊎ ((result ≡ CallFault.NoSuchCache)
             × ((at : ℕ) (call : Called) → Refuses N.configs (Begin id at call) NoSuchCache)) }
     {
@@ -119,7 +119,7 @@ impl<N: Name, L: Loader, W: Writer, P: Processor, K: Hearer, J: Keeping> Manager
     }
 
     /// The loader and the processors of a cache: those beside all locks, where it is one of the opening, else its own.
-    pub(crate) fn asked<'s>(
+    pub(crate) fn hooks_to_ask<'s>(
         &'s self,
         id: CacheId,
         own: &'s SharedHooks<L, P>,
@@ -205,7 +205,7 @@ impl<N: Name, L: Loader, W: Writer, P: Processor, K: Hearer> Manager<N, L, W, P,
     ///
     /// Else the first cache whose call is open is told, and the manager is handed back.
     pub fn end(self) -> Result<(), (CacheId, Manager<N, L, W, P, K, OpenCalls>)>
-        ensures ended { OnOk result (IsIdle N.configs) }
+        ensures ended { OnOk result (HasNoOpenCall N.configs) }
         ensures open { IfErr result (λ e. HasOpenCall N.configs e.0) }
     {
         let Manager {

@@ -18,13 +18,13 @@ pub struct PendingCall<N: Name> {
 }
 
 impl<N: Name> Model for PendingCall<N> {
-    ghost use Rattle.jc_shared.specs.Pending.{Pending, Waits};
+    ghost use Rattle.jc_shared.specs.Pending.{Pending, EndsWaiting};
 
     ghost Value = { Pending };
 
     ghost view = { λ p. record { draft = p.draft; request = p.request } };
 
-    ghost invariant = { λ p. Waits p.draft };
+    ghost invariant = { λ p. EndsWaiting p.draft };
 }
 
 impl<N: Name> PendingCall<N> {

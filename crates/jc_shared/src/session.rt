@@ -4,12 +4,12 @@ ghost use mathlib.Core.List.{IsPrefix};
 ghost use Rattle.jc_model.specs.declared.event.End.TheVariants.{Replied};
 ghost use Rattle.jc_engine.specs.Recording.{blank};
 ghost use Rattle.jc_hooks.specs.Suits.{Suits};
-ghost use Rattle.jc_stripes.specs.Stripes.{Stayed};
+ghost use Rattle.jc_stripes.specs.Stripes.{AreReadAtRest};
 ghost use Rattle.jc_index.specs.declared.lookup.Lookup.TheVariants.{Sure, Unsure};
 ghost use Rattle.jc_shared.specs.Accounts.{own_log};
-ghost use Rattle.jc_shared.specs.Calls.{Adds, Fails, Lacks, TellsLack};
-ghost use Rattle.jc_shared.specs.Living.{IsCreated, IsCreateFault, IsDestroyRefusal, HasGone, IsHeld, IsSeen};
-ghost use Rattle.jc_shared.specs.Lookups.{found_by, Agrees, MayBeUnsure, ReadsStripes};
+ghost use Rattle.jc_shared.specs.Calls.{Adds, CallFails, LacksProcessor, TellsLack};
+ghost use Rattle.jc_shared.specs.Living.{IsCreated, IsCreateFault, IsSessionDestroyRefusal, HasGone, TellsLiveRow, IsSeen};
+ghost use Rattle.jc_shared.specs.Lookups.{found_by, Agrees, MayBeUnsure, SessionReadsStripes};
 ghost use Rattle.jc_shared.specs.Sessions.{SeesSome, log_of};
 ghost use Rattle.jc_shared.specs.Stated.{AreOf, AreCounted};
 
@@ -164,12 +164,12 @@ impl<'a, N: Name, L: Loader, W: Writer, P: Processor, K: Hearer, J: Keeping> Ses
         ensures number { self.new.number ≡ self.old.number }
         ensures ok { IfOk result (λ reply.
             Adds N.configs N.stated self.old self.new id now call (Replied reply)) }
-        ensures refused { Lacks N.configs id call → TellsLack result × (self.new ≡ self.old) }
-        ensures err { IfErr result (Fails N.configs N.stated self.old self.new id now call) }
+        ensures refused { LacksProcessor N.configs id call → TellsLack result × (self.new ≡ self.old) }
+        ensures err { IfErr result (CallFails N.configs N.stated self.old self.new id now call) }
         ensures front { IsPrefix self.old.pass.images self.new.pass.images }
     {
         let manager = self.manager;
-        let Some(asked) = manager.opened(id) else {
+        let Some(asked) = manager.opening_hooks(id) else {
             return self.call_created(rt, id, now, call);
         };
         // One without callbacks takes no lock but the manager's.
@@ -195,8 +195,8 @@ impl<'a, N: Name, L: Loader, W: Writer, P: Processor, K: Hearer, J: Keeping> Ses
         ensures number { self.new.number ≡ self.old.number }
         ensures ok { IfOk result (λ reply.
             Adds N.configs N.stated self.old self.new id now call (Replied reply)) }
-        ensures refused { Lacks N.configs id call → TellsLack result × (self.new ≡ self.old) }
-        ensures err { IfErr result (Fails N.configs N.stated self.old self.new id now call) }
+        ensures refused { LacksProcessor N.configs id call → TellsLack result × (self.new ≡ self.old) }
+        ensures err { IfErr result (CallFails N.configs N.stated self.old self.new id now call) }
         ensures front { IsPrefix self.old.pass.images self.new.pass.images }
     {
         let manager = self.manager;
@@ -209,7 +209,7 @@ impl<'a, N: Name, L: Loader, W: Writer, P: Processor, K: Hearer, J: Keeping> Ses
         };
         let mut hooks = lock.lock(rt);
         let OwnHooks { asked, locked } = &mut *hooks;
-        let asked = manager.asked(id, asked);
+        let asked = manager.hooks_to_ask(id, asked);
         self.make(rt, asked, locked, id, now, call)
     }
 
@@ -229,15 +229,15 @@ impl<'a, N: Name, L: Loader, W: Writer, P: Processor, K: Hearer, J: Keeping> Ses
         ensures number { self.new.number ≡ self.old.number }
         ensures ok { IfOk result (λ reply.
             Adds N.configs N.stated self.old self.new id now call (Replied reply)) }
-        ensures refused { Lacks N.configs id call → TellsLack result × (self.new ≡ self.old) }
-        ensures err { IfErr result (Fails N.configs N.stated self.old self.new id now call) }
+        ensures refused { LacksProcessor N.configs id call → TellsLack result × (self.new ≡ self.old) }
+        ensures err { IfErr result (CallFails N.configs N.stated self.old self.new id now call) }
         ensures front { IsPrefix self.old.pass.images self.new.pass.images }
     {
         let manager = self.manager;
         let accepted = asked.accept(&call);
         if let Err(fault) = accepted {
             drop(call);
-            return Err(manager.lacking(rt, id, fault));
+            return Err(manager.lack_fault(rt, id, fault));
         }
         let copied = copy_for(&mut self.own, &call);
         let Ok(copy) = copied else {
@@ -304,13 +304,13 @@ impl<'a, N: Name, L: Loader, W: Writer, P: Processor, K: Hearer, J: Keeping> Ses
     /// shared. The session is then as it was. `Busy` is as for a call.
     pub fn destroy<R: Wait>(&mut self, rt: &R, id: CacheId) -> Result<(), DestroyFault>
         ensures gone { OnOk result (HasGone N.configs id self.new.pass) }
-        ensures fault { IfErr result (λ fault. IsDestroyRefusal N.configs id fault) }
+        ensures fault { IfErr result (λ fault. IsSessionDestroyRefusal N.configs id fault) }
         ensures refused { OnErr result (self.new ≡ self.old) }
         ensures front { IsPrefix self.old.pass.images self.new.pass.images }
         ensures same { log_of self.new ≡ log_of self.old }
     {
         let manager = self.manager;
-        if manager.opened(id).is_some() {
+        if manager.opening_hooks(id).is_some() {
             return self.destroy_opened(rt, id);
         }
         let lock = manager.hooks_lock(rt, id)?;
@@ -323,7 +323,7 @@ impl<'a, N: Name, L: Loader, W: Writer, P: Processor, K: Hearer, J: Keeping> Ses
     /// The same for a cache of the opening. Its writer and listeners are let go.
     fn destroy_opened<R: Wait>(&mut self, rt: &R, id: CacheId) -> Result<(), DestroyFault>
         ensures gone { OnOk result (HasGone N.configs id self.new.pass) }
-        ensures fault { IfErr result (λ fault. IsDestroyRefusal N.configs id fault) }
+        ensures fault { IfErr result (λ fault. IsSessionDestroyRefusal N.configs id fault) }
         ensures refused { OnErr result (self.new ≡ self.old) }
         ensures front { IsPrefix self.old.pass.images self.new.pass.images }
         ensures same { log_of self.new ≡ log_of self.old }
@@ -357,12 +357,12 @@ impl<'a, N: Name, L: Loader, W: Writer, P: Processor, K: Hearer, J: Keeping> Ses
         ensures sure { (b : Bool) → result ≡ Sure b →
             found_by self.new.pass id key.now now ≡ Some b }
         ensures stays { (b : Bool) → result ≡ Sure b →
-            Stayed self.new.pass.begun self.new.pass.checked }
+            AreReadAtRest self.new.pass.begun self.new.pass.checked }
         ensures unmet { self.old.pass.met ≡ false →
             (result ≡ Unsure) × (self.new.pass ≡ self.old.pass) }
         ensures unsure { result ≡ Unsure → MayBeUnsure self.old.pass self.new.pass id key.now now }
         ensures stripes { self.old.pass.met ≡ true →
-            ReadsStripes self.old.pass self.new.pass id key.now }
+            SessionReadsStripes self.old.pass self.new.pass id key.now }
         ensures counted { self.old.pass.met ≡ true →
             self.new.pass.lookups ≡ suc self.old.pass.lookups }
         ensures front { IsPrefix self.old.pass.images self.new.pass.images }
@@ -376,9 +376,9 @@ impl<'a, N: Name, L: Loader, W: Writer, P: Processor, K: Hearer, J: Keeping> Ses
     /// the row, and the session keeps no entry of it.
     pub fn contains<R: Wait>(&mut self, rt: &R, id: CacheId, key: &Key, now: u64) -> bool
         ensures told { IsSeen id key.now now self.new.pass result
-            ⊎ IsHeld N.configs id key.now now self.new.pass result }
+            ⊎ TellsLiveRow N.configs id key.now now self.new.pass result }
         ensures unmet { self.old.pass.met ≡ false →
-            IsHeld N.configs id key.now now self.new.pass result }
+            TellsLiveRow N.configs id key.now now self.new.pass result }
         ensures agrees { Agrees self.new.pass id key.now now result }
         ensures front { IsPrefix self.old.pass.images self.new.pass.images }
         ensures same { log_of self.new ≡ log_of self.old }

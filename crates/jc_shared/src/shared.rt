@@ -5,7 +5,7 @@ ghost use Rattle.jc_model.specs.Runs.{opened_from};
 ghost use Rattle.jc_engine.specs.Caches.{lives_of};
 ghost use Rattle.jc_engine.specs.Opening.{open_refusal};
 ghost use Rattle.jc_hooks.specs.Suits.{AllSuit};
-ghost use Rattle.jc_shared.specs.Opening.{CanOpen, IsRefusal};
+ghost use Rattle.jc_shared.specs.Opening.{CanOpen, IsOpeningRefusal};
 ghost use Rattle.jc_shared.specs.Stated.{stated_by, shared_of};
 
 use crate::brief_lock::BriefLock;
@@ -43,9 +43,9 @@ pub struct Shared<L, W, P, K, J: Keeping = AllCalls> {
 }
 
 impl<L, W, P, K, J: Keeping> Model for Shared<L, W, P, K, J> {
-    ghost use Rattle.jc_shared.specs.Opening.{Handed, IsOpened};
+    ghost use Rattle.jc_shared.specs.Opening.{HandedIn, IsOpened};
 
-    ghost Value = { Handed L P };
+    ghost Value = { HandedIn L P };
 
     ghost view = { λ s. record {
       configs = s.configs.items;
@@ -67,7 +67,7 @@ fn copies(alloc: Global, configs: &[CacheConfig]) -> Result<Vec<CacheConfig>, Ou
 }
 
 /// The recorded engine over an empty list of rows.
-fn recorded<J: Keeping>(
+fn open_recorded<J: Keeping>(
     alloc: Global,
     configs: Vec<CacheConfig>,
 ) -> Result<Recorded<ListRows, LinkRing, J>, OutOfMemory>
@@ -82,7 +82,7 @@ fn recorded<J: Keeping>(
 }
 
 /// All that a manager has, where memory suffices.
-fn opened<L: Loader, W: Writer, P: Processor, K: Hearer, J: Keeping>(
+fn open_parts<L: Loader, W: Writer, P: Processor, K: Hearer, J: Keeping>(
     alloc: Global,
     configs: Vec<CacheConfig>,
     hooks: Vec<CacheHooks<L, W, P, K>>,
@@ -94,7 +94,7 @@ fn opened<L: Loader, W: Writer, P: Processor, K: Hearer, J: Keeping>(
     ensures shared { IfOk result (λ s. s.shared ≡ map shared_of hooks.items) }
 {
     let second = copies(alloc, configs.as_slice())?;
-    let recorded = recorded(alloc, second)?;
+    let recorded = open_recorded(alloc, second)?;
     let table = BlankTable::new(alloc, seed)?;
     let hooks = apart(alloc, hooks)?;
     Ok(Shared {
@@ -119,7 +119,7 @@ impl<L: Loader, W: Writer, P: Processor, K: Hearer, J: Keeping> Shared<L, W, P, 
         ensures configs { IfOk result (λ s. s.configs ≡ configs.items) }
         ensures shared { IfOk result (λ s. s.shared ≡ map shared_of hooks.items) }
         ensures opens { OnOk result (CanOpen P.wants configs.items hooks.items) }
-        ensures refused { IfErr result (IsRefusal P.wants configs.items hooks.items) }
+        ensures refused { IfErr result (IsOpeningRefusal P.wants configs.items hooks.items) }
     {
         if let Some(refusal) = open_refusal(alloc, configs.as_slice()) {
             return Err(SharedRefusal::Caches(refusal));
@@ -129,7 +129,7 @@ impl<L: Loader, W: Writer, P: Processor, K: Hearer, J: Keeping> Shared<L, W, P, 
                 cache: cache as u32,
             });
         }
-        match opened(alloc, configs, hooks, seed) {
+        match open_parts(alloc, configs, hooks, seed) {
             Ok(shared) => Ok(shared),
             Err(_) => Err(SharedRefusal::OutOfMemory),
         }

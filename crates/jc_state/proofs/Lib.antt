@@ -8,7 +8,8 @@ pub mod Found
 pub mod Progress
 pub mod Room
 mod ClockLaw
-pub mod KeptLaws
+pub mod VisitLaws
 pub mod Changes
 mod Purges
+pub mod TiedKeys
 pub mod Walk

@@ -3,27 +3,27 @@ use Rattle.std.proofs.Common.{◌≡◌, ◌<◌, ◌+◌, ℕ, Bool, true, fals
 use Rattle.std.proofs.lemmas.Grind.{common_steps}
 use Rattle.std.proofs.lemmas.List.{get_or-set_same, get_or-set_other, length-map}
 use Rattle.std.proofs.lemmas.Bool.Decides.{nat_tests}
-use Rattle.jc_ring.specs.Ring.{without, turned, bit_set}
-use Rattle.jc_state.proofs.Names.{Expiry, on_ring, touched, Record, slot, cells_of, held_of, has_row, seek, without_row, IsShelf, stored, renewed, with_expiry_of}
+use Rattle.jc_ring.specs.Ring.{ring_without, ring_turned, bit_set}
+use Rattle.jc_state.proofs.Names.{Expiry, on_ring, ring_touched, Record, slot, cells_of, held_of, has_row, seek, without_row, IsShelf, stored, renewed, with_expiry_of}
 use Rattle.jc_state.proofs.Vacancies.{within_filled}
 
 on_ring-append : (r : ℕ) (xs ys : List (ℕ × Bool)) → on_ring r (xs ++ ys) ≡ (on_ring r xs || on_ring r ys)
 on_ring-append r [] ys = refl
 on_ring-append r (x ∷ xs) ys = grind (arith, common_steps, on_ring-append r xs ys)
 
-pub on_ring-turned : (r : ℕ) (ps : List (ℕ × Bool)) → on_ring r (turned ps) ≡ on_ring r ps
+pub on_ring-turned : (r : ℕ) (ps : List (ℕ × Bool)) → on_ring r (ring_turned ps) ≡ on_ring r ps
 on_ring-turned r [] = refl
 on_ring-turned r (p ∷ ps) = grind (arith, common_steps, on_ring-append r ps ((p.0, false) ∷ []))
 
-pub length-turned : (ps : List (ℕ × Bool)) → length (turned ps) ≡ length ps
+pub length-turned : (ps : List (ℕ × Bool)) → length (ring_turned ps) ≡ length ps
 length-turned [] = refl
 length-turned (p ∷ ps) = grind (arith, common_steps)
 
-on_ring-without : (r s : ℕ) (ps : List (ℕ × Bool)) → on_ring r (without s ps) ≡ (not (eqb r s) && on_ring r ps)
+on_ring-without : (r s : ℕ) (ps : List (ℕ × Bool)) → on_ring r (ring_without s ps) ≡ (not (eqb r s) && on_ring r ps)
 on_ring-without r s [] = grind (arith, common_steps)
 on_ring-without r s (p ∷ ps) = grind (arith, common_steps, on_ring-without r s ps)
 
-on_ring-touched : (r s : ℕ) (ps : List (ℕ × Bool)) → on_ring r (touched s ps) ≡ on_ring r ps
+on_ring-touched : (r s : ℕ) (ps : List (ℕ × Bool)) → on_ring r (ring_touched s ps) ≡ on_ring r ps
 on_ring-touched r s [] = refl
 on_ring-touched r s (p ∷ ps) = rw (on_ring-touched r s ps)
 
@@ -40,11 +40,11 @@ cells-off_ring : (r : ℕ) (x : Option Record) (slots : List (Option Record)) (r
 cells-off_ring r x slots [] h e = refl
 cells-off_ring r x slots (p ∷ ps) h e = grind (arith, common_steps, cells-off_ring r x slots ps h)
 
-cells-without : (r : ℕ) (slots : List (Option Record)) (ring : List (ℕ × Bool)) → cells_of slots (without r ring) ≡ without_row r (cells_of slots ring)
+cells-without : (r : ℕ) (slots : List (Option Record)) (ring : List (ℕ × Bool)) → cells_of slots (ring_without r ring) ≡ without_row r (cells_of slots ring)
 cells-without r slots [] = refl
 cells-without r slots (p ∷ ps) = grind (arith, common_steps, cells-without r slots ps)
 
-cells-touched : (r : ℕ) (x : Option Record) (slots : List (Option Record)) (ring : List (ℕ × Bool)) → r < length slots → cells_of (set slots r x) (touched r ring) ≡ stored r (held_of x) (cells_of slots ring)
+cells-touched : (r : ℕ) (x : Option Record) (slots : List (Option Record)) (ring : List (ℕ × Bool)) → r < length slots → cells_of (set slots r x) (ring_touched r ring) ≡ stored r (held_of x) (cells_of slots ring)
 cells-touched r x slots [] h = refl
 cells-touched r x slots (p ∷ ps) h = grind (arith, common_steps, nat_tests, get_or-set_same slots r x None h, get_or-set_other slots r p.0 x None, cells-touched r x slots ps h)
 
@@ -74,21 +74,21 @@ module _ (slots : List (Option Record)) (ring : List (ℕ × Bool)) (limit r : �
     within = within_filled slots r there
 
     -- a row is taken out
-    pub take-shelf : (rest : List (ℕ × Bool)) → rest ≡ without r ring → length rest + 1 ≡ length ring → IsShelf (set slots r None) rest limit
+    pub take-shelf : (rest : List (ℕ × Bool)) → rest ≡ ring_without r ring → length rest + 1 ≡ length ring → IsShelf (set slots r None) rest limit
     take-shelf rest e one = shelf-set rest None within (λ s. grind (arith, common_steps, on_ring-without s r ring)) (rw there (omega arith))
 
-    pub take-cells : (rest : List (ℕ × Bool)) → rest ≡ without r ring → cells_of (set slots r None) rest ≡ without_row r (cells_of slots ring)
-    take-cells rest e = grind (arith, common_steps, nat_tests, on_ring-without r r ring, cells-off_ring r None slots (without r ring) within, cells-without r slots ring)
+    pub take-cells : (rest : List (ℕ × Bool)) → rest ≡ ring_without r ring → cells_of (set slots r None) rest ≡ without_row r (cells_of slots ring)
+    take-cells rest e = grind (arith, common_steps, nat_tests, on_ring-without r r ring, cells-off_ring r None slots (ring_without r ring) within, cells-without r slots ring)
 
     -- a row is stored anew
-    pub store-shelf : (x : Option Record) → is_some x ≡ true → IsShelf (set slots r x) (touched r ring) limit
+    pub store-shelf : (x : Option Record) → is_some x ≡ true → IsShelf (set slots r x) (ring_touched r ring) limit
     store-shelf x some = shelf-set _ x within (λ s. grind (arith, common_steps, nat_tests, is.filled s, there, on_ring-touched s r ring)) (rw (there, some, length-map ring (bit_set r)))
 
-    pub store-cells : (x : Option Record) → cells_of (set slots r x) (touched r ring) ≡ stored r (held_of x) (cells_of slots ring)
+    pub store-cells : (x : Option Record) → cells_of (set slots r x) (ring_touched r ring) ≡ stored r (held_of x) (cells_of slots ring)
     store-cells x = cells-touched r x slots ring within
 
-    pub renew-shelf : (e : Expiry) → IsShelf (set slots r (renewed e (slot slots r))) (touched r ring) limit
+    pub renew-shelf : (e : Expiry) → IsShelf (set slots r (renewed e (slot slots r))) (ring_touched r ring) limit
     renew-shelf e = store-shelf _ (grind (arith, common_steps, there))
 
-    pub renew-cells : (e : Expiry) (it : Record) → seek r (cells_of slots ring) ≡ Some it → cells_of (set slots r (renewed e (slot slots r))) (touched r ring) ≡ stored r (with_expiry_of e it) (cells_of slots ring)
+    pub renew-cells : (e : Expiry) (it : Record) → seek r (cells_of slots ring) ≡ Some it → cells_of (set slots r (renewed e (slot slots r))) (ring_touched r ring) ≡ stored r (with_expiry_of e it) (cells_of slots ring)
     renew-cells e it s = grind (arith, common_steps, store-cells (renewed e (slot slots r)), seek-cells r slots ring, has_row-cells r slots ring, there)

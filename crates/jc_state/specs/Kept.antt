@@ -1,5 +1,5 @@
 -- What a cache keeps, and what it means.
-use Rattle.std.specs.Prelude.{◌≡◌, ◌+◌, ◌≤◌, ℕ, Bool, List, length, map, Option, Some, None, true}
+use Rattle.std.specs.Prelude.{◌≡◌, ℕ, Bool, List, map, Option, Some, None, true}
 use Rattle.jc_model.specs.declared.call.Counts.{Counts}
 use Rattle.jc_model.specs.declared.call.Notice.{Notice}
 use Rattle.jc_model.specs.declared.config.CacheConfig.{CacheConfig}
@@ -8,9 +8,8 @@ use Rattle.jc_model.specs.Changes.{Progress}
 use Rattle.jc_model.specs.Whole.{holds}
 use Rattle.jc_rows.specs.Rows.{RowMap}
 use Rattle.jc_state.specs.declared.slots.Record.{Record}
-use Rattle.jc_state.specs.Noted.{Noted}
 use Rattle.jc_state.specs.Shelf.{Cell, seek, has_row}
-use Rattle.jc_state.specs.Tied.{Tied, SameElsewhere}
+use Rattle.jc_state.specs.Tied.{Tied}
 
 -- its configuration, its id, the rows in the order of the ring, and the statistics
 pub record Kept : Type 0 where
@@ -30,10 +29,6 @@ state_of k = record { ring = items_of k.cells; counts = k.counts }
 
 abbrev pub progress_of : Kept → List Notice → Progress
 progress_of k told = record { state = state_of k; notices = told }
-
--- with the notices of its call so far
-abbrev pub progress_at : Kept → Noted → Progress
-progress_at k s = progress_of k s.told
 
 -- the key's row, if it has one
 abbrev pub key_row : Kept → List ℕ → Option Item
@@ -60,21 +55,6 @@ with_eviction k = record k { counts = record k.counts { evictions = one_more k.c
 abbrev pub IsTied : RowMap → Kept → Type 0
 IsTied m k = Tied m k.id k.cells
 
--- What stays while a cache and the table change: it is the same cache, tied to the table and within its capacity, the
--- table says the same of other caches, and no more than so many rows of its room are used.
-pub record Keeps (rows : ℕ) (m : RowMap) (spare : ℕ) (k : Kept) (n : RowMap) (left : ℕ) (k' : Kept) : Type 0 where
-  pub config : k'.config ≡ k.config
-  pub id : k'.id ≡ k.id
-  pub tied : IsTied n k'
-  pub elsewhere : SameElsewhere k.id m n
-  pub room : spare ≤ left + rows
-  pub within : length k.cells ≤ k.config.capacity → length k'.cells ≤ k'.config.capacity
-
--- and no more than so many places for notices
-pub record Stays (rows most : ℕ) (m : RowMap) (spare : ℕ) (k : Kept) (s : Noted) (n : RowMap) (left : ℕ) (k' : Kept) (t : Noted) : Type 0 where
-  pub keeps : Keeps rows m spare k n left k'
-  pub places : s.spare ≤ t.spare + most
-
 -- what the row of an item holds
 abbrev pub record_of : Item → Record
 record_of x = record { key = x.key; value = x.value; expiry = x.expiry }
@@ -94,16 +74,3 @@ FoundRow key k (Some row) = (x : Item) × IsRow key k row x
 -- the key has a live row
 abbrev pub has_live : ℕ → List ℕ → Kept → Bool
 has_live now key k = holds k.config now key (state_of k)
-
--- What stays while a call moves its cache, however much room it uses.
-pub record Remains (m : RowMap) (k : Kept) (n : RowMap) (k' : Kept) : Type 0 where
-  pub config : k'.config ≡ k.config
-  pub id : k'.id ≡ k.id
-  pub tied : IsTied n k'
-  pub elsewhere : SameElsewhere k.id m n
-  pub within : length k.cells ≤ k.config.capacity → length k'.cells ≤ k'.config.capacity
-
--- nothing has moved
-pub record IsUnmoved (m : RowMap) (k : Kept) (n : RowMap) (k' : Kept) : Type 0 where
-  pub state : k' ≡ k
-  pub table : n ≡ m

@@ -3,4 +3,5 @@ pub mod Shelf
 pub mod Slots
 pub mod Tied
 pub mod Kept
+pub mod Visited
 pub mod Clock

@@ -7,3 +7,4 @@ pub mod shelf;
 pub mod slots;
 pub mod state;
 pub mod stored;
+pub mod visit;

@@ -5,9 +5,9 @@ ghost use Rattle.jc_state.specs.Noted.{HasPlaces, notice_of, told_after};
 use jc_model::OutOfMemory;
 use jc_model::call::{Kind, Notice};
 use jc_model::config::CacheConfig;
+use jc_model::copies::Copies;
 use jc_model::key::Key;
 use jc_model::list::Sequence;
-use jc_model::thrice::Thrice;
 use jc_model::value::Value;
 use std::alloc::Global;
 use std::marker::Model;
@@ -80,8 +80,8 @@ impl Notices {
         &mut self,
         kind: Kind,
         key: Key,
-        value: Option<Thrice<Value>>,
-        before: Option<Thrice<Value>>,
+        value: Option<Copies<Value>>,
+        before: Option<Copies<Value>>,
     )
         requires { 0 < self.old.spare }
         ensures told { self.new.told ≡ self.old.told ++ notice_of kind key value before ∷ [] }
@@ -110,8 +110,8 @@ impl Notices {
         config: &CacheConfig,
         kind: Kind,
         key: Key,
-        value: Option<Thrice<Value>>,
-        before: Option<Thrice<Value>>,
+        value: Option<Copies<Value>>,
+        before: Option<Copies<Value>>,
     )
         requires { HasPlaces config.now 1 self.old }
         ensures told { self.new.told
@@ -134,7 +134,7 @@ impl Notices {
 }
 
 /// Two of a value's copies, where there is one.
-fn two(value: Option<Thrice<Value>>) -> (Option<Value>, Option<Value>)
+fn two(value: Option<Copies<Value>>) -> (Option<Value>, Option<Value>)
     ensures first { result.0 ≡ value }
     ensures second { result.1 ≡ value }
 {

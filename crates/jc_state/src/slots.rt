@@ -6,8 +6,8 @@ ghost use Rattle.std.specs.Prelude.{count_by, slice_index_or, slice_set};
 
 use jc_model::OutOfMemory;
 use jc_model::config::Expiry;
+use jc_model::copies::Copies;
 use jc_model::key::Key;
-use jc_model::thrice::Thrice;
 use jc_model::value::Value;
 use std::alloc::Global;
 use std::marker::Model;
@@ -16,7 +16,7 @@ use std::marker::Model;
 #[derive(Drop)]
 pub struct Record {
     pub key: Key,
-    pub value: Thrice<Value>,
+    pub value: Copies<Value>,
     pub expiry: Expiry,
 }
 

@@ -1,31 +1,25 @@
-//! The state of one cache against the shared table: its rows, its ring and its statistics.
+//! The state of one cache: its configuration, its rows in the order of its ring, and its statistics.
 //!
-//! A row stands twice: with its value in the cache's own shelf, and with its number and expiry in the shared
-//! table. Each change here is made on both, and changes nothing that the table says of another cache.
-
-mod creation;
-mod removal;
-mod renewal;
-mod room;
-mod rows;
-mod walk;
-
-ghost use Rattle.std.specs.Prelude.{◌≡◌, ℕ, ◌≤◌, List, [], length, true, Some, IfOk, IfErr};
-ghost use Rattle.jc_model.specs.State.{zeros, live};
+//! That the table which all caches share says the same of its rows is a visit's care (`visit`).
+ghost use Rattle.std.specs.Prelude.{◌≡◌, ℕ, ◌+◌, ◌<◌, ◌≤◌, List, [], ◌∷◌, ◌++◌, length, true, false};
+ghost use Rattle.std.specs.Prelude.{Some, IfOk, IfErr, option_map};
+ghost use Rattle.jc_model.specs.State.{zeros, live, turned};
 ghost use Rattle.jc_model.specs.Whole.{holds};
+ghost use Rattle.jc_ring.specs.Ring.{first};
+ghost use Rattle.jc_rows.specs.Rows.{RowMap};
 ghost use Rattle.jc_state.specs.declared.slots.Record.{Record};
-ghost use Rattle.jc_state.specs.Shelf.{seek, has_row};
-ghost use Rattle.jc_state.specs.Kept.{state_of, has_live, IsTied, FoundRow};
-ghost use Rattle.jc_state.specs.Kept.{with_hit, with_miss, with_put, with_removal};
+ghost use Rattle.jc_state.specs.Shelf.{seek, has_row, row_after, new_cell, without_row, stored, with_expiry_of};
+ghost use Rattle.jc_state.specs.Tied.{Tied};
+ghost use Rattle.jc_state.specs.Kept.{state_of, items_of, has_live, IsTied, FoundRow};
 
 use crate::shelf::Shelf;
-use jc_expiry::counters::{with_hit, with_miss, with_put, with_removal};
+use crate::slots::Record;
 use jc_expiry::expiry::live;
 use jc_model::call::Counts;
-use jc_model::config::CacheConfig;
+use jc_model::config::{CacheConfig, Expiry};
+use jc_model::copies::Copies;
 use jc_model::event::CacheId;
 use jc_model::key::Key;
-use jc_model::thrice::Thrice;
 use jc_model::value::Value;
 use jc_ring::ring::Ring;
 use jc_rows::rows::Rows;
@@ -58,7 +52,7 @@ impl<G: Ring> Model for CacheState<G> {
 }
 
 /// All counters at zero.
-fn no_counts() -> Counts
+pub(crate) fn no_counts() -> Counts
     ensures { result ≡ zeros }
 {
     Counts {
@@ -111,6 +105,13 @@ impl<G: Ring> CacheState<G> {
         &self.config
     }
 
+    /// Its id.
+    pub(crate) fn id(&self) -> CacheId
+        ensures { result ≡ self.now.id }
+    {
+        self.id
+    }
+
     /// The number of the key's row, whether or not it has expired.
     pub fn find<R: Rows>(&self, rows: &R, key: &Key) -> Option<u32>
         requires tied { IsTied (R.contents rows.now) self.now }
@@ -128,7 +129,7 @@ impl<G: Ring> CacheState<G> {
     }
 
     /// Whether a key that has this row, if any, has a live row.
-    pub fn has_live(&self, row: Option<u32>, now: u64) -> bool
+    pub(crate) fn has_live(&self, row: Option<u32>, now: u64) -> bool
         requires there { (r : ℕ) → row ≡ Some r → has_row r self.now.cells ≡ true }
         ensures { (key : List ℕ) → FoundRow key self.now row → result ≡ has_live now key self.now }
     {
@@ -139,7 +140,7 @@ impl<G: Ring> CacheState<G> {
     }
 
     /// Whether a row is live.
-    pub fn is_live(&self, row: u32, now: u64) -> bool
+    pub(crate) fn is_live(&self, row: u32, now: u64) -> bool
         requires { has_row row self.now.cells ≡ true }
         ensures { (held : Record) → seek row self.now.cells ≡ Some held →
             result ≡ live now held.expiry }
@@ -148,7 +149,7 @@ impl<G: Ring> CacheState<G> {
     }
 
     /// The value of a row.
-    pub fn value(&self, row: u32) -> &Thrice<Value>
+    pub(crate) fn value(&self, row: u32) -> &Copies<Value>
         requires there { has_row row self.now.cells ≡ true }
         ensures { (held : Record) → seek row self.now.cells ≡ Some held → result.now ≡ held.value }
     {
@@ -156,44 +157,98 @@ impl<G: Ring> CacheState<G> {
     }
 
     /// The statistics.
-    pub fn counts(&self) -> Counts
+    pub(crate) fn counts(&self) -> Counts
         ensures { result ≡ self.now.counts }
     {
         self.counts
     }
 
-    /// Sets all counters to zero.
-    pub fn clear_counts(&mut self)
-        ensures { self.new ≡ record self.old { counts = zeros } }
+    /// Gives it other statistics.
+    pub(crate) fn set_counts(&mut self, counts: Counts)
+        ensures { self.new ≡ record self.old { counts = counts } }
     {
-        self.counts = no_counts();
+        self.counts = counts;
     }
 
-    /// Counts a hit.
-    pub fn hit(&mut self)
-        ensures { self.new ≡ with_hit self.old }
+    /// Whether no more rows fit.
+    pub(crate) fn is_full(&self) -> bool
+        ensures full { result ≡ true → length self.now.cells ≡ self.now.config.capacity }
+        ensures some { result ≡ true → 0 < length self.now.cells }
+        ensures below { result ≡ false → length self.now.cells < self.now.config.capacity }
     {
-        self.counts = with_hit(self.counts);
+        self.shelf.is_full()
     }
 
-    /// Counts a miss.
-    pub fn miss(&mut self)
-        ensures { self.new ≡ with_miss self.old }
+    /// What a row holds.
+    pub(crate) fn record(&self, row: u32) -> &Record
+        requires { has_row row self.now.cells ≡ true }
+        ensures { seek row self.now.cells ≡ Some result.now }
     {
-        self.counts = with_miss(self.counts);
+        self.shelf.record(row)
     }
 
-    /// Counts a put.
-    pub fn put(&mut self)
-        ensures { self.new ≡ with_put self.old }
+    /// The number of the first row.
+    pub(crate) fn first(&self) -> Option<u32>
+        ensures { result ≡ option_map (λ c. c.row) (first self.now.cells) }
     {
-        self.counts = with_put(self.counts);
+        self.shelf.first()
     }
 
-    /// Counts a removal.
-    pub fn removal(&mut self)
-        ensures { self.new ≡ with_removal self.old }
+    /// The number of the row after a row.
+    pub(crate) fn after(&self, row: u32) -> Option<u32>
+        requires { has_row row self.now.cells ≡ true }
+        ensures { result ≡ row_after row self.now.cells }
     {
-        self.counts = with_removal(self.counts);
+        self.shelf.after(row)
+    }
+
+    /// Takes a row out, and returns what it held.
+    pub(crate) fn take(&mut self, row: u32) -> Record
+        requires { has_row row self.old.cells ≡ true }
+        ensures was { seek row self.old.cells ≡ Some result }
+        ensures kept { self.new ≡ record self.old { cells = without_row row self.old.cells } }
+        ensures one { length self.new.cells + 1 ≡ length self.old.cells }
+    {
+        self.shelf.take(row)
+    }
+
+    /// Adds a row, last in the ring and with a clear bit, and returns its number.
+    pub(crate) fn push(&mut self, new: Record) -> u32
+        requires { length self.old.cells < self.old.config.capacity }
+        ensures fresh { has_row result self.old.cells ≡ false }
+        ensures kept { self.new
+            ≡ record self.old { cells = self.old.cells ++ new_cell result new ∷ [] } }
+    {
+        self.shelf.push(new)
+    }
+
+    /// Replaces what a row holds, sets its bit, and returns what it held.
+    pub(crate) fn store(&mut self, row: u32, new: Record) -> Record
+        requires { has_row row self.old.cells ≡ true }
+        ensures was { seek row self.old.cells ≡ Some result }
+        ensures kept { self.new ≡ record self.old { cells = stored row new self.old.cells } }
+    {
+        self.shelf.store(row, new)
+    }
+
+    /// Changes a row's expiry and sets its bit.
+    pub(crate) fn renew(&mut self, row: u32, expiry: Expiry)
+        requires { has_row row self.old.cells ≡ true }
+        ensures { (held : Record) → seek row self.old.cells ≡ Some held → self.new
+            ≡ record self.old { cells = stored row (with_expiry_of expiry held) self.old.cells } }
+    {
+        self.shelf.renew(row, expiry);
+    }
+
+    /// The hand turns until it stops. Returns the number of the row where it stops, which is then the first.
+    pub(crate) fn turn_hand(&mut self, now: u64) -> u32
+        requires { 0 < length self.old.cells }
+        ensures turned { items_of self.new.cells ≡ turned now (items_of self.old.cells) }
+        ensures first { option_map (λ c. c.row) (first self.new.cells) ≡ Some result }
+        ensures tied { (m : RowMap) (id : ℕ) → Tied m id self.old.cells → Tied m id self.new.cells }
+        ensures length { length self.new.cells ≡ length self.old.cells }
+        ensures kept { self.new ≡ record self.old { cells = self.new.cells } }
+    {
+        self.shelf.turn_to_victim(now)
     }
 }

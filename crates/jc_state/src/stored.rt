@@ -4,14 +4,14 @@ ghost use Rattle.jc_state.specs.Noted.{IsTold, StoredIsTold, stored_value};
 
 use jc_model::OutOfMemory;
 use jc_model::config::CacheConfig;
-use jc_model::thrice::Thrice;
+use jc_model::copies::Copies;
 use jc_model::value::Value;
 
 /// A value to be stored, with its copies for the notice where the cache has listeners.
 #[derive(Drop)]
 pub struct Stored {
-    pub value: Thrice<Value>,
-    pub told: Option<Thrice<Value>>,
+    pub value: Copies<Value>,
+    pub told: Option<Copies<Value>>,
 }
 
 impl Stored {
@@ -21,9 +21,9 @@ impl Stored {
         ensures told { IfOk result (λ s. IsTold config.now s) }
         ensures spared { IfOk result (λ s. config.now.listeners ≡ 0 → s.told ≡ None) }
     {
-        let stored = Thrice::of(value)?;
+        let stored = Copies::of(value)?;
         if config.listeners > 0 {
-            let told = Thrice::of(value)?;
+            let told = Copies::of(value)?;
             return Ok(Stored {
                 value: stored,
                 told: Some(told),

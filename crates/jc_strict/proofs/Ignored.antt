@@ -11,17 +11,17 @@ use Rattle.jc_model.specs.Runs.{Lives}
 use Rattle.jc_model.specs.declared.call.Call.{Call}
 use Rattle.jc_model.specs.declared.call.Call.TheVariants as calls
 use Rattle.jc_config.specs.declared.members.ExpiryKind.TheVariants.{Eternal}
-use Rattle.jc_config.specs.FirstFault.{◌>>=◌, found_or}
+use Rattle.jc_config.specs.FirstFault.{◌>>=◌, member_or}
 use Rattle.jc_config.specs.Kinds.{policy_in}
 use Rattle.jc_script.specs.declared.fault.Member.{Member}
 use Rattle.jc_script.specs.declared.fault.Member.TheVariants as members
 use Rattle.jc_script.specs.declared.fault.ScriptFault.{ScriptFault}
 use Rattle.jc_script.specs.declared.fault.ScriptFault.TheVariants.{Bad}
 use Rattle.jc_script.specs.declared.line.Line.TheVariants.{Destroy}
-use Rattle.jc_script.specs.Creating.{is_create, asks_to_create, cache_name, capacity, expiry, policy_of, creating}
+use Rattle.jc_script.specs.Creating.{is_create, asks_to_create, cache_name, capacity, expiry, line_policy, creating}
 use Rattle.jc_script.specs.Line.{calling, on_cache, line_of}
 use Rattle.jc_script.specs.Live.{processors_at}
-use Rattle.jc_script.specs.Member.{member_name, needed, whole, whole_below, cache, key, keys, pairs, value}
+use Rattle.jc_script.specs.Member.{member_name, needed_line_member, whole_u64, whole_u64_below, cache, key, keys, pairs, value}
 use Rattle.jc_script.specs.Operation.{Reading, of_key, of_key_value, of_key_expected, of_key_expected_value, of_key_processor, of_keys, of_keys_replace, of_keys_processor, of_pairs, on_one, on_many, chosen, call_of}
 use Rattle.jc_strict.specs.Members.{has_member}
 use Rattle.jc_strict.specs.Stray.{op_of, AgreeOn}
@@ -37,7 +37,7 @@ module _ (n : ℕ) (d d' : Data) where
   abbrev Same : Member → Type 0
   Same m = get (member_name m) d ≡ get (member_name m) d'
 
-  same : {A : Type 0} (f : Data → Option A) (m : Member) → Same m → needed f n m d ≡ needed f n m d'
+  same : {A : Type 0} (f : Data → Option A) (m : Member) → Same m → needed_line_member f n m d ≡ needed_line_member f n m d'
   same f m e = ap (λ (o : Option Data). ok_or (option_and_then f o) (Bad n m)) e
 
   -- Calls.
@@ -60,7 +60,7 @@ module _ (n : ℕ) (d d' : Data) where
 
   by_key_processor : (call : List ℕ → ℕ → List ℕ → Call) → Same members.Key → Same members.Processor → Same members.Argument → SameCall (of_key_processor call)
   by_key_processor call k w v p =
-      then_same _ _ _ _ (same key members.Key k) (λ x. then_same _ _ _ _ (same (whole_below p) members.Processor w) (λ y. then_same _ _ _ _ (same value members.Argument v) (λ z. refl)))
+      then_same _ _ _ _ (same key members.Key k) (λ x. then_same _ _ _ _ (same (whole_u64_below p) members.Processor w) (λ y. then_same _ _ _ _ (same value members.Argument v) (λ z. refl)))
 
   by_keys : (call : List (List ℕ) → Call) → Same members.Keys → SameCall (of_keys call)
   by_keys call k p = then_same _ _ _ _ (same keys members.Keys k) (λ x. refl)
@@ -70,7 +70,7 @@ module _ (n : ℕ) (d d' : Data) where
 
   by_keys_processor : (call : List (List ℕ) → ℕ → List ℕ → Call) → Same members.Keys → Same members.Processor → Same members.Argument → SameCall (of_keys_processor call)
   by_keys_processor call k w v p =
-      then_same _ _ _ _ (same keys members.Keys k) (λ x. then_same _ _ _ _ (same (whole_below p) members.Processor w) (λ y. then_same _ _ _ _ (same value members.Argument v) (λ z. refl)))
+      then_same _ _ _ _ (same keys members.Keys k) (λ x. then_same _ _ _ _ (same (whole_u64_below p) members.Processor w) (λ y. then_same _ _ _ _ (same value members.Argument v) (λ z. refl)))
 
   by_pairs : (call : List (List ℕ × List ℕ) → Call) → Same members.Pairs → SameCall (of_pairs call)
   by_pairs call k p = then_same _ _ _ _ (same pairs members.Pairs k) (λ x. refl)
@@ -188,25 +188,25 @@ module _ (n : ℕ) (d d' : Data) where
 
     -- Creating.
 
-    policy_same : Same members.Expiry → Same members.Duration → policy_of n d ≡ policy_of n d'
-    unfolding policy_of
+    policy_same : Same members.Expiry → Same members.Duration → line_policy n d ≡ line_policy n d'
+    unfolding line_policy
     policy_same kind duration =
-        then_same _ _ _ _ (ap (λ (o : Option Data). found_or Eternal expiry (Bad n members.Expiry) o) kind) (λ k.
-        ap (λ (o : Option Data). ok_or (policy_in k (option_map whole o)) (Bad n members.Duration)) duration)
+        then_same _ _ _ _ (ap (λ (o : Option Data). member_or Eternal expiry (Bad n members.Expiry) o) kind) (λ k.
+        ap (λ (o : Option Data). ok_or (policy_in k (option_map whole_u64 o)) (Bad n members.Duration)) duration)
 
     creating_same : (s : ℕ) → bytes_eq op (codes "create") ≡ true → creating s n d ≡ creating s n d'
     unfolding creating has_member
     creating_same s e =
         then_same _ _ _ _ (same cache_name members.Cache cache_named) (λ name.
-        then_same _ _ _ _ (same whole members.At at) (λ moment.
+        then_same _ _ _ _ (same whole_u64 members.At at) (λ moment.
         then_same _ _ _ _ (same capacity members.Capacity (own (codes "create") members.Capacity e refl)) (λ rows.
         then_same _ _ _ _ (policy_same (own (codes "create") members.Expiry e refl) (own (codes "create") members.Duration e refl)) (λ policy. refl))))
 
     module _ (named : op_of d ≡ Some op) where
-      op_same : needed as_str n members.Op d ≡ Ok op
+      op_same : needed_line_member as_str n members.Op d ≡ Ok op
       op_same = ap (λ (o : Option (List ℕ)). ok_or o (Bad n members.Op)) named
 
-      op_same' : needed as_str n members.Op d' ≡ Ok op
+      op_same' : needed_line_member as_str n members.Op d' ≡ Ok op
       op_same' = sym (same as_str members.Op op_named) ∙ op_same
 
       named' : op_of d' ≡ Some op
@@ -224,7 +224,7 @@ module _ (n : ℕ) (d d' : Data) where
       unfolding on_cache
       on_cache_same lives s =
           then_same _ _ _ _ (same (cache lives) members.Cache cache_named) (λ id.
-          then_same _ _ _ _ (same whole members.At at) (λ moment. rw (op_same, op_same') (by_name lives s id moment (bytes_eq op (codes "destroy")))))
+          then_same _ _ _ _ (same whole_u64 members.At at) (λ moment. rw (op_same, op_same') (by_name lives s id moment (bytes_eq op (codes "destroy")))))
 
       by_kind_of_line : (lives : Lives) (s : ℕ) (b : Bool) → bytes_eq op (codes "create") ≡ b → (if b then creating s n d else on_cache lives s n d) ≡ (if b then creating s n d' else on_cache lives s n d')
       by_kind_of_line lives s true e = creating_same s e
@@ -232,7 +232,7 @@ module _ (n : ℕ) (d d' : Data) where
 
       pub line_same : (lives : Lives) → line_of lives n d ≡ line_of lives n d'
       unfolding line_of
-      line_same lives = then_same _ _ _ _ (same (whole_below sessions) members.Session session) (λ s.
+      line_same lives = then_same _ _ _ _ (same (whole_u64_below sessions) members.Session session) (λ s.
           let asks : asks_to_create d ≡ bytes_eq op (codes "create") = ap is_create named in
           let asks' : asks_to_create d' ≡ bytes_eq op (codes "create") = ap is_create named' in
           rw (asks, asks') (by_kind_of_line lives s (bytes_eq op (codes "create")) refl))

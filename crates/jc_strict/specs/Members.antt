@@ -8,16 +8,16 @@ is_on_key op =
     || bytes_eq op (codes "put_if_absent") || bytes_eq op (codes "replace") || bytes_eq op (codes "replace_if") || bytes_eq op (codes "get_and_replace")
     || bytes_eq op (codes "remove") || bytes_eq op (codes "remove_if") || bytes_eq op (codes "get_and_remove") || bytes_eq op (codes "invoke")
 
-abbrev pub stores : List ℕ → Bool
-stores op =
+abbrev pub stores_value : List ℕ → Bool
+stores_value op =
     bytes_eq op (codes "put") || bytes_eq op (codes "get_and_put") || bytes_eq op (codes "put_if_absent") || bytes_eq op (codes "replace")
     || bytes_eq op (codes "replace_if") || bytes_eq op (codes "get_and_replace")
 
 abbrev pub expects : List ℕ → Bool
 expects op = bytes_eq op (codes "replace_if") || bytes_eq op (codes "remove_if")
 
-abbrev pub has_processor : List ℕ → Bool
-has_processor op = bytes_eq op (codes "invoke") || bytes_eq op (codes "invoke_all")
+abbrev pub names_processor : List ℕ → Bool
+names_processor op = bytes_eq op (codes "invoke") || bytes_eq op (codes "invoke_all")
 
 abbrev pub is_on_keys : List ℕ → Bool
 is_on_keys op = bytes_eq op (codes "get_all") || bytes_eq op (codes "remove_keys") || bytes_eq op (codes "invoke_all") || bytes_eq op (codes "load_all")
@@ -35,10 +35,10 @@ has_own op member =
     (if bytes_eq member (codes "ks") then is_on_keys op else
     (if bytes_eq member (codes "kvs") then bytes_eq op (codes "put_all") else
     (if bytes_eq member (codes "expect") then expects op else
-    (if bytes_eq member (codes "v") then stores op else
+    (if bytes_eq member (codes "v") then stores_value op else
     (if bytes_eq member (codes "replace") then bytes_eq op (codes "load_all") else
-    (if bytes_eq member (codes "p") then has_processor op else
-    (if bytes_eq member (codes "arg") then has_processor op else false)))))))
+    (if bytes_eq member (codes "p") then names_processor op else
+    (if bytes_eq member (codes "arg") then names_processor op else false)))))))
 
 unfoldable pub has_member : List ℕ → List ℕ → Bool
 has_member op member =

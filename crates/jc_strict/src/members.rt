@@ -1,7 +1,7 @@
 //! Which members an op has.
 
 ghost use Rattle.std.specs.Prelude.{◌≡◌};
-ghost use Rattle.jc_strict.specs.Members.{is_on_key, stores, expects, has_processor, is_on_keys, is_common, is_of_creating, has_member};
+ghost use Rattle.jc_strict.specs.Members.{is_on_key, stores_value, expects, names_processor, is_on_keys, is_common, is_of_creating, has_member};
 
 /// Whether the op is on one key.
 fn is_on_key(op: &str) -> bool
@@ -23,7 +23,7 @@ fn is_on_key(op: &str) -> bool
 
 /// Whether the op stores a value.
 fn stores(op: &str) -> bool
-    ensures { result ≡ stores op.now }
+    ensures { result ≡ stores_value op.now }
 {
     op == "put"
         || op == "get_and_put"
@@ -42,7 +42,7 @@ fn expects(op: &str) -> bool
 
 /// Whether the op hands entries to a processor.
 fn has_processor(op: &str) -> bool
-    ensures { result ≡ has_processor op.now }
+    ensures { result ≡ names_processor op.now }
 {
     op == "invoke" || op == "invoke_all"
 }

@@ -6,7 +6,7 @@ ghost use Rattle.std.specs.BTreeMap.{keys};
 ghost use Rattle.serde_json.specs.View.{view, members_view};
 ghost use Rattle.jc_script.specs.Member.{json_of};
 ghost use Rattle.jc_strict.specs.Members.{has_member};
-ghost use Rattle.jc_strict.specs.Stray.{all_known, op_of, knows_members, is_known, stray_line};
+ghost use Rattle.jc_strict.specs.Stray.{line_members_are, op_of, knows_line, is_known_piece, stray_line};
 
 use crate::members::has_member;
 use jc_script::{pieces, read_json};
@@ -20,7 +20,7 @@ fn has_known_keys(op: &str, members: &Map<String, Value>) -> bool
 }
 
 fn knows_all(op: &str, members: &Map<String, Value>) -> bool
-    ensures { result ≡ all_known (has_member op.now) (members_view members.now.entries) }
+    ensures { result ≡ line_members_are (has_member op.now) (members_view members.now.entries) }
 {
     has_known_keys(op, members)
 }
@@ -32,7 +32,7 @@ fn op_of(line: &Value) -> Option<&str>
 }
 
 fn knows_members(line: &Value) -> bool
-    ensures { result ≡ knows_members (view line.now) }
+    ensures { result ≡ knows_line (view line.now) }
 {
     let Some(members) = line.as_object() else {
         return true;
@@ -44,9 +44,9 @@ fn knows_members(line: &Value) -> bool
 }
 
 /// Whether the op of a line, if it has one, needs all its members or may have them.
-#[tactic(auto, unfolding(crate::specs::Stray::is_known))]
+#[tactic(auto, unfolding(crate::specs::Stray::is_known_piece))]
 fn is_known(alloc: Global, piece: &[u8]) -> Result<bool, AllocError>
-    ensures { IfOk result (λ known. known ≡ is_known piece.now) }
+    ensures { IfOk result (λ known. known ≡ is_known_piece piece.now) }
 {
     match read_json(alloc, piece)? {
         Some(line) => Ok(knows_members(&line)),

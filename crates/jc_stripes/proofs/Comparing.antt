@@ -2,11 +2,11 @@
 use Rattle.std.proofs.Common.{◌≡◌, ◌≢◌, ◌⊎◌, ℕ, zero, suc, ◌+◌, ◌%◌, ◌<◌, Bool, if◌then◌else◌, true, false, length, take, get_or, set, List, [], ◌∷◌, ◌++◌, refl, ap, sym, subst, ◌∙◌, inl, inr, ⊎_elim, arith}
 use Rattle.jc_stripes.specs.declared.board.View.{View}
 use Rattle.jc_stripes.specs.declared.board.Role.{Role}
-use Rattle.jc_stripes.specs.Stripes.{begun_view, glance, glance_in, glance_of, Among, Reads, ReadsIn, Shows, SomeOdd, Stayed, stacked, stripes_in}
+use Rattle.jc_stripes.specs.Stripes.{begun_view, glance, glance_in, glance_of, IsOneOf, ReadsUnder, ReadsIn, CheckTells, SomeOdd, AreReadAtRest, stack_of, stripes_in}
 use Rattle.jc_stripes.proofs.Opening.{taken_more, among_less}
 
 -- one more stripe and its version
-pub stacked_snoc : (js vs : List ℕ) (j v : ℕ) (done : List (ℕ × ℕ)) → length vs ≡ length js → stacked (js ++ j ∷ []) (vs ++ v ∷ []) done ≡ (j, v) ∷ stacked js vs done
+pub stacked_snoc : (js vs : List ℕ) (j v : ℕ) (done : List (ℕ × ℕ)) → length vs ≡ length js → stack_of (js ++ j ∷ []) (vs ++ v ∷ []) done ≡ (j, v) ∷ stack_of js vs done
 stacked_snoc [] [] j v done e = refl
 stacked_snoc [] (w ∷ vs) j v done e = absurd (omega (arith, e))
 stacked_snoc (k ∷ js) [] j v done e = absurd (omega (arith, e))
@@ -19,9 +19,9 @@ length_taken (suc i) [] (y ∷ ys) e = absurd (omega (arith, e))
 length_taken (suc i) (x ∷ xs) [] e = absurd (omega (arith, e))
 length_taken (suc i) (x ∷ xs) (y ∷ ys) e = ap suc (length_taken i xs ys (omega (arith, e)))
 
-pub stacked_more : (js vs : List ℕ) (i : ℕ) → length vs ≡ length js → i < length js → stacked (take (i + 1) js) (take (i + 1) vs) [] ≡ (get_or js i 0, get_or vs i 0) ∷ stacked (take i js) (take i vs) []
+pub stacked_more : (js vs : List ℕ) (i : ℕ) → length vs ≡ length js → i < length js → stack_of (take (i + 1) js) (take (i + 1) vs) [] ≡ (get_or js i 0, get_or vs i 0) ∷ stack_of (take i js) (take i vs) []
 stacked_more js vs i same inside =
-    (λ k. stacked (taken_more js i 0 inside k) (taken_more vs i 0 (omega (arith, same)) k) []) ∙ stacked_snoc (take i js) (take i vs) (get_or js i 0) (get_or vs i 0) [] (length_taken i vs js same)
+    (λ k. stack_of (taken_more js i 0 inside k) (taken_more vs i 0 (omega (arith, same)) k) []) ∙ stacked_snoc (take i js) (take i vs) (get_or js i 0) (get_or vs i 0) [] (length_taken i vs js same)
 
 taken_set : (vs : List ℕ) (i v : ℕ) → take i (set vs i v) ≡ take i vs
 taken_set vs zero v = refl
@@ -39,9 +39,9 @@ long_set (x ∷ vs) zero v = refl
 long_set (x ∷ vs) (suc i) v = ap suc (long_set vs i v)
 
 -- the version just read goes to its place
-pub stacked_next : (js vs : List ℕ) (i v : ℕ) → length vs ≡ length js → i < length js → stacked (take (i + 1) js) (take (i + 1) (set vs i v)) [] ≡ (get_or js i 0, v) ∷ stacked (take i js) (take i vs) []
+pub stacked_next : (js vs : List ℕ) (i v : ℕ) → length vs ≡ length js → i < length js → stack_of (take (i + 1) js) (take (i + 1) (set vs i v)) [] ≡ (get_or js i 0, v) ∷ stack_of (take i js) (take i vs) []
 stacked_next js vs i v same inside = stacked_more js (set vs i v) i (long_set vs i v ∙ same) inside
-    ∙ (λ k. (get_or js i 0, get_set vs i v (omega (arith, same)) k) ∷ stacked (take i js) (taken_set vs i v k) [])
+    ∙ (λ k. (get_or js i 0, get_set vs i v (omega (arith, same)) k) ∷ stack_of (take i js) (taken_set vs i v k) [])
 
 pub take_whole : {A : Type 0} (n : ℕ) (xs : List A) → n ≡ length xs → take n xs ≡ xs
 take_whole zero [] e = refl
@@ -50,25 +50,25 @@ take_whole (suc n) [] e = refl
 take_whole (suc n) (x ∷ xs) e = ap (λ l. x ∷ l) (take_whole n xs (omega (arith, e)))
 
 -- one odd version is one of all
-odd_done : (js vs : List ℕ) (done : List (ℕ × ℕ)) → SomeOdd done → SomeOdd (stacked js vs done)
+odd_done : (js vs : List ℕ) (done : List (ℕ × ℕ)) → SomeOdd done → SomeOdd (stack_of js vs done)
 odd_done [] vs done o = o
 odd_done (j ∷ js) [] done o = o
 odd_done (j ∷ js) (v ∷ vs) done o = odd_done js vs ((j, v) ∷ done) (inr o)
 
-pub odd_at : (js vs : List ℕ) (i : ℕ) (done : List (ℕ × ℕ)) → length vs ≡ length js → i < length js → get_or vs i 0 % 2 ≡ 1 → SomeOdd (stacked js vs done)
+pub odd_at : (js vs : List ℕ) (i : ℕ) (done : List (ℕ × ℕ)) → length vs ≡ length js → i < length js → get_or vs i 0 % 2 ≡ 1 → SomeOdd (stack_of js vs done)
 odd_at [] vs i done same inside o = absurd (omega arith)
 odd_at (j ∷ js) [] i done same inside o = absurd (omega (arith, same))
 odd_at (j ∷ js) (v ∷ vs) zero done same inside o = odd_done js vs ((j, v) ∷ done) (inl o)
 odd_at (j ∷ js) (v ∷ vs) (suc i) done same inside o = odd_at js vs i ((j, v) ∷ done) (omega (arith, same)) (omega arith) o
 
 module _ (group : ℕ → ℕ) where
-  shows_done : (j n : ℕ) (base : List ℕ) (notes : List (ℕ × ℕ)) (js vs : List ℕ) (done : List (ℕ × ℕ)) → Shows group j n base notes (stacked js vs done) → Shows group j n base notes done
+  shows_done : (j n : ℕ) (base : List ℕ) (notes : List (ℕ × ℕ)) (js vs : List ℕ) (done : List (ℕ × ℕ)) → CheckTells group j n base notes (stack_of js vs done) → CheckTells group j n base notes done
   shows_done j n base notes [] vs done s = s
   shows_done j n base notes (k ∷ js) [] done s = s
   shows_done j n base notes (k ∷ js) (v ∷ vs) done s = (shows_done j n base notes js vs ((k, v) ∷ done) s).1
 
-  pub shows_at : (js vs : List ℕ) (i n : ℕ) (base : List ℕ) (notes done : List (ℕ × ℕ)) → length vs ≡ length js → i < length js → Shows group (get_or js i 0) n base notes (stacked js vs done)
-      → get_or vs i 0 % 2 ≡ 0 → get_or vs i 0 ≡ n → Reads group (get_or js i 0) base notes
+  pub shows_at : (js vs : List ℕ) (i n : ℕ) (base : List ℕ) (notes done : List (ℕ × ℕ)) → length vs ≡ length js → i < length js → CheckTells group (get_or js i 0) n base notes (stack_of js vs done)
+      → get_or vs i 0 % 2 ≡ 0 → get_or vs i 0 ≡ n → ReadsUnder group (get_or js i 0) base notes
   shows_at [] vs i n base notes done same inside s = absurd (omega arith)
   shows_at (j ∷ js) [] i n base notes done same inside s = absurd (omega (arith, same))
   shows_at (j ∷ js) (v ∷ vs) zero n base notes done same inside s = (shows_done j n base notes js vs ((j, v) ∷ done) s).0 refl
@@ -78,22 +78,22 @@ module _ (group : ℕ → ℕ) where
   reads_none words [] = tt
   reads_none words (n ∷ ns) = (λ a. absurd a, reads_none words ns)
 
-  reads_snoc : (js : List ℕ) (j : ℕ) (words : List ℕ) (notes : List (ℕ × ℕ)) → ReadsIn group js words notes → Reads group j words notes → ReadsIn group (js ++ j ∷ []) words notes
+  reads_snoc : (js : List ℕ) (j : ℕ) (words : List ℕ) (notes : List (ℕ × ℕ)) → ReadsIn group js words notes → ReadsUnder group j words notes → ReadsIn group (js ++ j ∷ []) words notes
   reads_snoc js j words [] a b = tt
-  reads_snoc js j words (n ∷ ns) a b = (λ k. ⊎_elim (λ (t : Among (group n.0) js). a.0 t) (λ (e : group n.0 ≡ j). b.0 e) (among_less (group n.0) js j k), reads_snoc js j words ns a.1 b.1)
+  reads_snoc js j words (n ∷ ns) a b = (λ k. ⊎_elim (λ (t : IsOneOf (group n.0) js). a.0 t) (λ (e : group n.0 ≡ j). b.0 e) (among_less (group n.0) js j k), reads_snoc js j words ns a.1 b.1)
 
   -- the first i versions were read again, and were compared
   pub record Compared (js vs : List ℕ) (i : ℕ) (words : List ℕ) (notes checked : List (ℕ × ℕ)) (same : Bool) : Type 0 where
-    pub again : stripes_in checked ≡ stripes_in (stacked (take i js) (take i vs) [])
+    pub again : stripes_in checked ≡ stripes_in (stack_of (take i js) (take i vs) [])
     pub reads : same ≡ true → ReadsIn group (take i js) words notes
-    pub stays : same ≡ true → Stayed (stacked (take i js) (take i vs) []) checked
-    pub differs : same ≡ false → SomeOdd (stacked js vs []) ⊎ (stacked (take i js) (take i vs) [] ≢ checked)
+    pub stays : same ≡ true → AreReadAtRest (stack_of (take i js) (take i vs) []) checked
+    pub differs : same ≡ false → SomeOdd (stack_of js vs []) ⊎ (stack_of (take i js) (take i vs) [] ≢ checked)
 
   pub compared_none : (js vs words : List ℕ) (notes : List (ℕ × ℕ)) → Compared js vs 0 words notes [] true
   compared_none js vs words notes = record { again = refl; reads = λ _. reads_none words notes; stays = λ _. (λ o. o, refl); differs = λ e. absurd cc }
 
   pub compared_next : (js vs : List ℕ) (i : ℕ) (words : List ℕ) (notes checked : List (ℕ × ℕ)) (n : ℕ) (same now more : Bool) → length vs ≡ length js → i < length js → Compared js vs i words notes checked same
-      → Shows group (get_or js i 0) n words notes (stacked js vs []) → (now ≡ true → (get_or vs i 0 ≡ n) × (get_or vs i 0 % 2 ≡ 0)) → (now ≡ false → (get_or vs i 0 ≢ n) ⊎ (get_or vs i 0 % 2 ≡ 1))
+      → CheckTells group (get_or js i 0) n words notes (stack_of js vs []) → (now ≡ true → (get_or vs i 0 ≡ n) × (get_or vs i 0 % 2 ≡ 0)) → (now ≡ false → (get_or vs i 0 ≢ n) ⊎ (get_or vs i 0 % 2 ≡ 1))
       → (more ≡ true → (same ≡ true) × (now ≡ true)) → (more ≡ false → (same ≡ false) ⊎ (now ≡ false)) → Compared js vs (i + 1) words notes ((get_or js i 0, n) ∷ checked) more
   compared_next js vs i words notes checked n same now more alike inside k shows held broke all some =
       let next = stacked_more js vs i alike inside in record {
@@ -101,12 +101,12 @@ module _ (group : ℕ → ℕ) where
         reads = λ e. let t = all e in let y = held t.1 in
             subst (λ (l : List ℕ). ReadsIn group l words notes) (sym (taken_more js i 0 inside)) (reads_snoc (take i js) (get_or js i 0) words notes (k.reads t.0) (shows_at js vs i n words notes [] alike inside shows y.1 y.0));
         stays = λ e. let t = all e in let y = held t.1 in let before = k.stays t.0 in
-            subst (λ (l : List (ℕ × ℕ)). Stayed l ((get_or js i 0, n) ∷ checked)) (sym next)
+            subst (λ (l : List (ℕ × ℕ)). AreReadAtRest l ((get_or js i 0, n) ∷ checked)) (sym next)
             (λ o. ⊎_elim (λ (odd : get_or vs i 0 % 2 ≡ 1). absurd (omega (arith, odd, y.1))) before.0 o, λ z. (get_or js i 0, y.0 z) ∷ before.1 z);
         differs = λ e. ⊎_elim
-            (λ (was : same ≡ false). ⊎_elim (λ (o : SomeOdd (stacked js vs [])). inl o)
-            (λ (d : stacked (take i js) (take i vs) [] ≢ checked). inr (λ (is : stacked (take (i + 1) js) (take (i + 1) vs) [] ≡ (get_or js i 0, n) ∷ checked). let both = sym next ∙ is in d (cc both))) (k.differs was))
-            (λ (not : now ≡ false). ⊎_elim (λ (d : get_or vs i 0 ≢ n). inr (λ (is : stacked (take (i + 1) js) (take (i + 1) vs) [] ≡ (get_or js i 0, n) ∷ checked). let both = sym next ∙ is in let pair : (get_or js i 0, get_or vs i 0) ≡ (get_or js i 0, n) = cc both in d (ap (λ (p : ℕ × ℕ). p.1) pair)))
+            (λ (was : same ≡ false). ⊎_elim (λ (o : SomeOdd (stack_of js vs [])). inl o)
+            (λ (d : stack_of (take i js) (take i vs) [] ≢ checked). inr (λ (is : stack_of (take (i + 1) js) (take (i + 1) vs) [] ≡ (get_or js i 0, n) ∷ checked). let both = sym next ∙ is in d (cc both))) (k.differs was))
+            (λ (not : now ≡ false). ⊎_elim (λ (d : get_or vs i 0 ≢ n). inr (λ (is : stack_of (take (i + 1) js) (take (i + 1) vs) [] ≡ (get_or js i 0, n) ∷ checked). let both = sym next ∙ is in let pair : (get_or js i 0, get_or vs i 0) ≡ (get_or js i 0, n) = cc both in d (ap (λ (p : ℕ × ℕ). p.1) pair)))
             (λ (o : get_or vs i 0 % 2 ≡ 1). inl (odd_at js vs i [] alike inside o)) (broke not)) (some e);
       }
 

@@ -8,32 +8,32 @@ use Rattle.atomic_table.specs.declared.shared.Seat.{Seat}
 use Rattle.jc_stripes.specs.declared.roll.Known.{Known}
 
 module _ {T : Type 0} where
-  abbrev pub Knows : List T → ℕ → ℕ → Known T → Type 0
-  Knows items keeper j v = IsPrefix v.items items × IsPrefix v.told items × (v.keeps ≡ true → (j ≡ keeper) × (v.items ≡ items))
+  abbrev pub KnowsItems : List T → ℕ → ℕ → Known T → Type 0
+  KnowsItems items keeper j v = IsPrefix v.items items × IsPrefix v.told items × (v.keeps ≡ true → (j ≡ keeper) × (v.items ≡ items))
 
   abbrev pub first_known : Known T
   first_known = record { keeps = true; items = []; told = [] }
 
-  abbrev pub shared : Known T → Known T
-  shared v = record { keeps = false; items = v.items; told = [] }
+  abbrev pub follower_known : Known T → Known T
+  follower_known v = record { keeps = false; items = v.items; told = [] }
 
-  abbrev pub heard : Known T → Known T → Known T
-  heard v w = record v { told = w.items }
+  abbrev pub joined_known : Known T → Known T → Known T
+  joined_known v w = record v { told = w.items }
 
-  abbrev pub nobody : Known T
-  nobody = record { keeps = false; items = []; told = [] }
+  abbrev pub nobody_known : Known T
+  nobody_known = record { keeps = false; items = []; told = [] }
 
-  abbrev pub added : Step T → Me T (Known T) → ℕ → Me T (Known T) → Type 0
-  added st m n m' = m.0.keeps ≡ true → (x : T) → st.said ≡ some x → m' ≡ (record m.0 { items = m.0.items ++ x ∷ [] }, m.1)
+  abbrev pub AddStep : Step T → Me T (Known T) → ℕ → Me T (Known T) → Type 0
+  AddStep st m n m' = m.0.keeps ≡ true → (x : T) → st.said ≡ some x → m' ≡ (record m.0 { items = m.0.items ++ x ∷ [] }, m.1)
 
-  abbrev pub recalled : Step T → Me T (Known T) → ℕ → Me T (Known T) → Type 0
-  recalled st m n m' = m.0.keeps ≡ true → (m' ≡ m) × IsPrefix m.0.told m.0.items
+  abbrev pub RecallItemsStep : Step T → Me T (Known T) → ℕ → Me T (Known T) → Type 0
+  RecallItemsStep st m n m' = m.0.keeps ≡ true → (m' ≡ m) × IsPrefix m.0.told m.0.items
 
 -- there is one list, of which the keeper knows all and each other seat a beginning
-pub record Kept {T : Type 0} (s : State T (Known T)) : Type 0 where
+pub record RollRule {T : Type 0} (s : State T (Known T)) : Type 0 where
   pub items : List T
   pub keeper : ℕ
-  pub each_seat : (j : ℕ) (v : Known T) → get_elem? s.views j ≡ some v → Knows items keeper j v
+  pub each_seat : (j : ℕ) (v : Known T) → get_elem? s.views j ≡ some v → KnowsItems items keeper j v
 
 -- two seats know the same items of one list
 abbrev pub KnowsSameItems : {T : Type 0} → Seat T (Known T) → Seat T (Known T) → Type 0

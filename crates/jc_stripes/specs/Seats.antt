@@ -4,7 +4,7 @@ use mathlib.Core.List.{IsPrefix}
 use Rattle.atomic_table.specs.Seated.{TableId}
 use Rattle.atomic_table.specs.declared.shared.Seat.{Seat}
 use Rattle.jc_stripes.specs.Layout.{content_of, version_count}
-use Rattle.jc_stripes.specs.Stripes.{Changes, IsCommitted, desk_of, glance_of, last_of, set_all, shared}
+use Rattle.jc_stripes.specs.Stripes.{Changes, IsVersionCommitted, desk_of, glance_of, last_of, set_all, reader_view}
 use Rattle.jc_stripes.specs.declared.board.Glance.{Glance}
 use Rattle.jc_stripes.specs.declared.board.View.{View}
 
@@ -41,12 +41,12 @@ module _ {L : Type 0} where
   HasVersions table seat = IsSeated table seat × (version_count ≤ seat.table_id.words)
 
   -- it is at this table, which has this place
-  abbrev pub HasPlace : ℕ → TableId → StripesSeat L → Type 0
-  HasPlace place table seat = IsSeated table seat × (version_count + place < seat.table_id.words) × (seat.table_id.words < 2 ^ 63)
+  abbrev pub HasWordPlace : ℕ → TableId → StripesSeat L → Type 0
+  HasWordPlace place table seat = IsSeated table seat × (version_count + place < seat.table_id.words) × (seat.table_id.words < 2 ^ 63)
 
   -- its table has the places of these writes
-  abbrev pub HasPlaces : List (ℕ × ℕ) → StripesSeat L → Type 0
-  HasPlaces writes seat = All (λ w. version_count + w.0 < seat.table_id.words) writes
+  abbrev pub HasWordPlaces : List (ℕ × ℕ) → StripesSeat L → Type 0
+  HasWordPlaces writes seat = All (λ w. version_count + w.0 < seat.table_id.words) writes
 
   -- The front.
 
@@ -66,7 +66,7 @@ module _ {L : Type 0} where
 
   -- a reader's seat has just been cut off the writer's
   abbrev pub IsShared : StripesSeat L → StripesSeat L → Type 0
-  IsShared writer reader = reader.me.0 ≡ shared writer.me.0
+  IsShared writer reader = reader.me.0 ≡ reader_view writer.me.0
 
   -- and is at its table
   abbrev pub HasMet : StripesSeat L → StripesSeat L → Type 0
@@ -106,18 +106,18 @@ module _ {L : Type 0} where
 
   -- What a writer and a reader hold.
 
-  abbrev pub versions_of : StripesSeat L → List ℕ
-  versions_of seat = (desk_of seat.me.0).versions
+  abbrev pub versions_of_seat : StripesSeat L → List ℕ
+  versions_of_seat seat = (desk_of seat.me.0).versions
 
-  abbrev pub words_of : StripesSeat L → List ℕ
-  words_of seat = (desk_of seat.me.0).words
+  abbrev pub words_of_seat : StripesSeat L → List ℕ
+  words_of_seat seat = (desk_of seat.me.0).words
 
   abbrev pub glance_at : StripesSeat L → Glance
   glance_at seat = glance_of seat.me.0
 
   -- the version of this stripe is odd
   abbrev pub StripeIsOpen : ℕ → StripesSeat L → Type 0
-  StripeIsOpen stripe seat = slice_index (versions_of seat) stripe % 2 ≡ 1
+  StripeIsOpen stripe seat = slice_index (versions_of_seat seat) stripe % 2 ≡ 1
 
   -- A commit.
 
@@ -127,4 +127,4 @@ module _ {L : Type 0} where
 
   -- the versions of these stripes were opened and shut
   abbrev pub CommitsVersions : List ℕ → StripesSeat L → StripesSeat L → Type 0
-  CommitsVersions stripes old new = Changes IsCommitted stripes (versions_of old) (versions_of new)
+  CommitsVersions stripes old new = Changes IsVersionCommitted stripes (versions_of_seat old) (versions_of_seat new)

@@ -1,7 +1,7 @@
 -- What each step leaves of the seat that takes it.
 use Rattle.std.specs.Prelude.{◌≡◌, ◌≢◌, ◌⊎◌, ℕ, suc, true, false, List, [], ◌∷◌, ◌++◌, slice_index}
-use Rattle.jc_stripes.specs.Stripes.{ReadsIn, Shows, SomeOdd, Stayed, begun_view, desk, glance, stripes_in}
-use Rattle.jc_stripes.specs.Seats.{StripesSeat, glance_at, last_words, versions_of, words_of}
+use Rattle.jc_stripes.specs.Stripes.{ReadsIn, CheckTells, SomeOdd, AreReadAtRest, begun_view, desk, glance, stripes_in}
+use Rattle.jc_stripes.specs.Seats.{StripesSeat, glance_at, last_words, versions_of_seat, words_of_seat}
 
 -- the versions of the other stripes are what they were
 abbrev pub HasSameOthers : ℕ → List ℕ → List ℕ → Type 0
@@ -16,16 +16,16 @@ module _ {L : Type 0} where
 
   -- only the versions are
   abbrev pub SetsVersions : List ℕ → StripesSeat L → StripesSeat L → Type 0
-  SetsVersions versions old new = SetsDesk versions (words_of old) old new
+  SetsVersions versions old new = SetsDesk versions (words_of_seat old) old new
 
   -- only the words are
   abbrev pub SetsWords : List ℕ → StripesSeat L → StripesSeat L → Type 0
-  SetsWords words old new = SetsDesk (versions_of old) words old new
+  SetsWords words old new = SetsDesk (versions_of_seat old) words old new
 
   -- the words are, and are the next of the front
   abbrev pub SealsWords : List ℕ → StripesSeat L → StripesSeat L → Type 0
   SealsWords words old new =
-      new.me ≡ (record old.me.0 { role = desk (versions_of old) words; front = old.me.0.front ++ words ∷ [] }, old.me.1)
+      new.me ≡ (record old.me.0 { role = desk (versions_of_seat old) words; front = old.me.0.front ++ words ∷ [] }, old.me.1)
 
   -- The reader's steps.
 
@@ -53,7 +53,7 @@ module _ {L : Type 0} where
 
   -- what the check of a stripe tells that found this version
   abbrev pub CheckShows : (ℕ → ℕ) → ℕ → ℕ → StripesSeat L → StripesSeat L → Type 0
-  CheckShows group stripe version old new = Shows group stripe version (last_words new) (glance_at old).notes (glance_at old).begun
+  CheckShows group stripe version old new = CheckTells group stripe version (last_words new) (glance_at old).notes (glance_at old).begun
 
   -- What a lookup has come to, from before its check to after it.
 
@@ -67,7 +67,7 @@ module _ {L : Type 0} where
 
   -- every version was even, and the same when it was read again
   abbrev pub VersionsStayed : StripesSeat L → StripesSeat L → Type 0
-  VersionsStayed old new = Stayed (glance_at old).begun (glance_at new).checked
+  VersionsStayed old new = AreReadAtRest (glance_at old).begun (glance_at new).checked
 
   -- one was odd, or another when it was read again
   abbrev pub VersionsDiffer : StripesSeat L → StripesSeat L → Type 0

@@ -75,9 +75,9 @@ pub struct Versions;
 
 impl<L: Law> TableRule<(), View<L>, Origin<L>> for Versions {
     ghost use Rattle.jc_stripes.specs.Layout.{version_count};
-    ghost use Rattle.jc_stripes.specs.Stripes.{Kept, opening_view};
+    ghost use Rattle.jc_stripes.specs.Stripes.{BoardRule, opening_view};
 
-    ghost holds = { λ o. Kept L.group version_count L.admits o.law.value };
+    ghost holds = { λ o. BoardRule L.group version_count L.admits o.law.value };
 
     ghost first = { opening_view };
 }
@@ -89,9 +89,9 @@ pub type Board<L> = Table<(), View<L>, Origin<L>, Versions, Global>;
 pub(crate) struct Turn;
 
 impl<L> Play<(), View<L>> for Turn {
-    ghost use Rattle.jc_stripes.specs.Stripes.{turned};
+    ghost use Rattle.jc_stripes.specs.Stripes.{TurnStep};
 
-    ghost then = { turned };
+    ghost then = { TurnStep };
 }
 
 /// The writer sets a word.
@@ -99,9 +99,9 @@ pub(crate) struct Set;
 
 impl<L> Play<(), View<L>> for Set {
     ghost use Rattle.jc_stripes.specs.Layout.{version_count};
-    ghost use Rattle.jc_stripes.specs.Stripes.{put};
+    ghost use Rattle.jc_stripes.specs.Stripes.{SetStep};
 
-    ghost then = { put version_count };
+    ghost then = { SetStep version_count };
 }
 
 /// The writer sets the last word of a commit, which appends to the front.
@@ -109,27 +109,27 @@ pub(crate) struct Seal;
 
 impl<L> Play<(), View<L>> for Seal {
     ghost use Rattle.jc_stripes.specs.Layout.{version_count};
-    ghost use Rattle.jc_stripes.specs.Stripes.{sealed};
+    ghost use Rattle.jc_stripes.specs.Stripes.{SealStep};
 
-    ghost then = { sealed version_count };
+    ghost then = { SealStep version_count };
 }
 
 /// The writer reads a version, and compares what it was told with its front.
 pub(crate) struct Recall;
 
 impl<L> Play<(), View<L>> for Recall {
-    ghost use Rattle.jc_stripes.specs.Stripes.{recalled};
+    ghost use Rattle.jc_stripes.specs.Stripes.{RecallStep};
 
-    ghost then = { recalled };
+    ghost then = { RecallStep };
 }
 
 /// A reader reads a version for the first time.
 pub(crate) struct Begin;
 
 impl<L> Play<(), View<L>> for Begin {
-    ghost use Rattle.jc_stripes.specs.Stripes.{begun};
+    ghost use Rattle.jc_stripes.specs.Stripes.{BeginStep};
 
-    ghost then = { begun };
+    ghost then = { BeginStep };
 }
 
 /// A reader reads a word.
@@ -137,9 +137,9 @@ pub(crate) struct Note;
 
 impl<L> Play<(), View<L>> for Note {
     ghost use Rattle.jc_stripes.specs.Layout.{version_count};
-    ghost use Rattle.jc_stripes.specs.Stripes.{noted};
+    ghost use Rattle.jc_stripes.specs.Stripes.{NoteStep};
 
-    ghost then = { noted version_count };
+    ghost then = { NoteStep version_count };
 }
 
 /// A reader reads a version again.
@@ -148,29 +148,29 @@ pub(crate) struct Check<L> {
 }
 
 impl<L: Law> Play<(), View<L>> for Check<L> {
-    ghost use Rattle.jc_stripes.specs.Stripes.{checked};
+    ghost use Rattle.jc_stripes.specs.Stripes.{CheckStep};
 
-    ghost then = { checked L.group L.admits };
+    ghost then = { CheckStep L.group L.admits };
 }
 
 /// A reader's seat is cut off the writer's.
 pub(crate) struct Share;
 
 impl<L> Split<View<L>> for Share {
-    ghost use Rattle.jc_stripes.specs.Stripes.{shared};
+    ghost use Rattle.jc_stripes.specs.Stripes.{reader_view};
 
     ghost left = { λ v. v };
 
-    ghost right = { shared };
+    ghost right = { reader_view };
 }
 
 /// The writer takes in a reader's seat.
 pub(crate) struct Hear;
 
 impl<L> Join<View<L>> for Hear {
-    ghost use Rattle.jc_stripes.specs.Stripes.{heard, nobody};
+    ghost use Rattle.jc_stripes.specs.Stripes.{joined_view, nobody_view};
 
-    ghost both = { heard };
+    ghost both = { joined_view };
 
-    ghost spent = { nobody };
+    ghost spent = { nobody_view };
 }

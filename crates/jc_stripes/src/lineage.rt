@@ -2,9 +2,9 @@
 ghost use Rattle.std.specs.Prelude.{◌≡◌, ◌%◌, ◌^◌, ◌<◌, [], ◌∷◌, ◌++◌, length, Some, IfOk, IfErr, All, slice_get};
 ghost use mathlib.Core.List.{IsPrefix};
 ghost use Rattle.jc_stripes.specs.Layout.{content_of, version_count, versions_at, HasVersionsAt};
-ghost use Rattle.jc_stripes.specs.Stripes.{Covered, Front};
+ghost use Rattle.jc_stripes.specs.Stripes.{AreUnderVersions, Front};
 ghost use Rattle.jc_stripes.specs.Lineages.{tables, outgrown, outgrown_tables, AreEarlier};
-ghost use Rattle.jc_stripes.specs.Seats.{AdmitsWrites, CommitsVersions, CommitsWrites, ExtendsFront, FrontIsPrefix, HasMet, HasPlaces, HasSameTable, HasSameTableAndLaw, IsSameButTold, IsShared, KnowsSame, StartsFront, versions_of};
+ghost use Rattle.jc_stripes.specs.Seats.{AdmitsWrites, CommitsVersions, CommitsWrites, ExtendsFront, FrontIsPrefix, HasMet, HasWordPlaces, HasSameTable, HasSameTableAndLaw, IsSameButTold, IsShared, KnowsSame, StartsFront, versions_of_seat};
 ghost use Rattle.jc_stripes.specs.Members.{IsMemberOf};
 
 use crate::board::{Law, StripesSeat};
@@ -50,7 +50,7 @@ impl<L: Law + Drop> Lineage<L> {
         requires sized { length words.now.items < 2 ^ 63 }
         requires lawful { L.admits law.now (content_of words.now.items) }
         ensures lineage { IfOk result (λ l. StartsFront law.now words.now.items l.writer.seat) }
-        ensures versions { IfOk result (λ l. versions_of l.writer.seat ≡ versions_at start) }
+        ensures versions { IfOk result (λ l. versions_of_seat l.writer.seat ≡ versions_at start) }
     {
         let mut keeper = Keeper::new(alloc.clone()?)?;
         let writer = Writer::starting_at(alloc.clone()?, law, words, start)?;
@@ -70,7 +70,7 @@ impl<L: Law + Drop> Lineage<L> {
         ensures name { self.new.keeper.seat.table_id ≡ self.old.keeper.seat.table_id }
         ensures ok { IfOk result (λ _. ExtendsFront law.now words.now.items
             self.old.writer.seat self.new.writer.seat) }
-        ensures versions { IfOk result (λ _. versions_of self.new.writer.seat ≡ versions_at 0) }
+        ensures versions { IfOk result (λ _. versions_of_seat self.new.writer.seat ≡ versions_at 0) }
         ensures refused { IfErr result (λ _. KnowsSame self.old.writer.seat self.new.writer.seat) }
     {
         self.retired.reserve(1)?;
@@ -84,9 +84,9 @@ impl<L: Law + Drop> Lineage<L> {
     /// Sets words of the newest table as one commit, under the versions of these stripes.
     pub fn commit(&mut self, stripes: &[usize], writes: &[(usize, u64)])
         requires some { 0 < length writes.now }
-        requires inside { HasPlaces writes.now self.old.writer.seat }
+        requires inside { HasWordPlaces writes.now self.old.writer.seat }
         requires few { All (λ j. j < version_count) stripes.now }
-        requires covered { Covered L.group stripes.now writes.now }
+        requires covered { AreUnderVersions L.group stripes.now writes.now }
         requires lawful { AdmitsWrites L.admits self.old.writer.seat writes.now }
         ensures name { self.new.keeper.seat.table_id ≡ self.old.keeper.seat.table_id }
         ensures same { HasSameTableAndLaw self.old.writer.seat self.new.writer.seat }

@@ -2,7 +2,7 @@
 ghost use Rattle.std.specs.Prelude.{◌≡◌, ◌≢◌, ◌⊎◌, ◌+◌, ◌%◌, ◌<◌, ◌≤◌, ◌^◌, true, false, [], length, All};
 ghost use Rattle.std.specs.Arc.{arc_value};
 ghost use Rattle.jc_stripes.specs.Layout.{version_count};
-ghost use Rattle.jc_stripes.specs.Stripes.{IsReader, stacked};
+ghost use Rattle.jc_stripes.specs.Stripes.{IsReader, stack_of};
 ghost use Rattle.jc_stripes.specs.Seats.{AdmitsLast, FrontIsPrefix, HasLaw, HasSameFront, glance_at, last_words};
 ghost use Rattle.jc_stripes.specs.Steps.{AddsCheck, AddsNote, BeginsLookup, CheckShows, ChecksSameStripes, HasChecks, NotesStand, VersionsDiffer, VersionsStayed, BeginsStripe};
 
@@ -22,7 +22,7 @@ pub struct Reader<L: Law> {
 }
 
 /// Whether a version that was read twice was at rest and stayed.
-fn rested(first: u64, again: u64) -> bool
+fn was_at_rest(first: u64, again: u64) -> bool
     ensures yes { result ≡ true → (first ≡ again) × (first % 2 ≡ 0) }
     ensures no { result ≡ false → (first ≢ again) ⊎ (first % 2 ≡ 1) }
 {
@@ -66,7 +66,7 @@ impl<L: Law> Reader<L> {
         requires rests { (glance_at self.old.seat).settled ≡ true }
         ensures same { self.new.seat.table_id ≡ self.old.seat.table_id }
         ensures alike { length versions.new ≡ length versions.old }
-        ensures view { BeginsLookup (stacked stripes.now versions.new []) self.old.seat self.new.seat }
+        ensures view { BeginsLookup (stack_of stripes.now versions.new []) self.old.seat self.new.seat }
     {
         versions[0] = self.begin_one(stripes[0]);
         for i in 1..stripes.len() {
@@ -92,7 +92,7 @@ impl<L: Law> Reader<L> {
         requires some { 0 < length stripes.now }
         requires alike { length versions.now ≡ length stripes.now }
         requires few { All (λ j. j < version_count) stripes.now }
-        requires begun { (glance_at self.old.seat).begun ≡ stacked stripes.now versions.now [] }
+        requires begun { (glance_at self.old.seat).begun ≡ stack_of stripes.now versions.now [] }
         requires fresh { (glance_at self.old.seat).checked ≡ [] }
         requires young { (glance_at self.old.seat).settled ≡ false }
         ensures same { self.new.seat.table_id ≡ self.old.seat.table_id }
@@ -105,10 +105,10 @@ impl<L: Law> Reader<L> {
         ensures differ { result ≡ false → VersionsDiffer self.old.seat self.new.seat }
     {
         let again = self.check_one(stripes[0]);
-        let mut same = rested(versions[0], again);
+        let mut same = was_at_rest(versions[0], again);
         for i in 1..stripes.len() {
             let again = self.check_one(stripes[i]);
-            same &= rested(versions[i], again);
+            same &= was_at_rest(versions[i], again);
         }
         same
     }

@@ -19,9 +19,9 @@ pub type RollSeat<T> = Seat<T, Known<T>>;
 pub struct Growing;
 
 impl<T> TableRule<T, Known<T>, ()> for Growing {
-    ghost use Rattle.jc_stripes.specs.Rolls.{Kept, first_known};
+    ghost use Rattle.jc_stripes.specs.Rolls.{RollRule, first_known};
 
-    ghost holds = { λ _. Kept };
+    ghost holds = { λ _. RollRule };
 
     ghost first = { λ _. first_known };
 }
@@ -32,35 +32,35 @@ pub type Roll<T> = Table<T, Known<T>, (), Growing, Global>;
 pub(crate) struct Add;
 
 impl<T> Play<T, Known<T>> for Add {
-    ghost use Rattle.jc_stripes.specs.Rolls.{added};
+    ghost use Rattle.jc_stripes.specs.Rolls.{AddStep};
 
-    ghost then = { added };
+    ghost then = { AddStep };
 }
 
 pub(crate) struct Recall;
 
 impl<T> Play<T, Known<T>> for Recall {
-    ghost use Rattle.jc_stripes.specs.Rolls.{recalled};
+    ghost use Rattle.jc_stripes.specs.Rolls.{RecallItemsStep};
 
-    ghost then = { recalled };
+    ghost then = { RecallItemsStep };
 }
 
 pub(crate) struct Share;
 
 impl<T> Split<Known<T>> for Share {
-    ghost use Rattle.jc_stripes.specs.Rolls.{shared};
+    ghost use Rattle.jc_stripes.specs.Rolls.{follower_known};
 
     ghost left = { λ v. v };
 
-    ghost right = { shared };
+    ghost right = { follower_known };
 }
 
 pub(crate) struct Hear;
 
 impl<T> Join<Known<T>> for Hear {
-    ghost use Rattle.jc_stripes.specs.Rolls.{heard, nobody};
+    ghost use Rattle.jc_stripes.specs.Rolls.{joined_known, nobody_known};
 
-    ghost both = { heard };
+    ghost both = { joined_known };
 
-    ghost spent = { nobody };
+    ghost spent = { nobody_known };
 }

@@ -1,8 +1,8 @@
 //! What the writer does to the shared words: it opens versions, sets words under them, and shuts them.
 ghost use Rattle.std.specs.Prelude.{◌≡◌, ◌^◌, ◌<◌, slice_index, slice_set, All};
 ghost use Rattle.jc_stripes.specs.Layout.{version_count, versions_at};
-ghost use Rattle.jc_stripes.specs.Stripes.{IsWriter, IsOpened, IsShut, Changes, desk, set_all};
-ghost use Rattle.jc_stripes.specs.Seats.{AdmitsWords, HasPlace, HasPlaces, HasVersions, IsSameSeat, IsSeated, StripeIsOpen, last_words, words_of};
+ghost use Rattle.jc_stripes.specs.Stripes.{IsWriter, IsVersionOpened, IsVersionShut, Changes, desk, set_all};
+ghost use Rattle.jc_stripes.specs.Seats.{AdmitsWords, HasWordPlace, HasWordPlaces, HasVersions, IsSameSeat, IsSeated, StripeIsOpen, last_words, words_of_seat};
 ghost use Rattle.jc_stripes.specs.Steps.{HasSameOthers, SealsWords, SetsDesk, SetsVersions, SetsWords};
 
 use crate::board::{Board, Law, Seal, Set, StripesSeat, Turn, VERSION_COUNT};
@@ -16,10 +16,10 @@ pub(crate) fn versions_at(start: u64) -> [u64; VERSION_COUNT]
 
 /// Sets a word.
 fn set<L: Law>(board: &Board<L>, seat: &mut StripesSeat<L>, place: usize, value: u64)
-    requires own { HasPlace place board.now.shared.table_id seat.old }
+    requires own { HasWordPlace place board.now.shared.table_id seat.old }
     requires is_open { IsWriter seat.old.me.0 × StripeIsOpen (L.group place) seat.old }
     ensures same { IsSameSeat seat.old seat.new }
-    ensures view { SetsWords (slice_set (words_of seat.old) place value) seat.old seat.new }
+    ensures view { SetsWords (slice_set (words_of_seat seat.old) place value) seat.old seat.new }
 {
     board
         .shared
@@ -28,11 +28,11 @@ fn set<L: Law>(board: &Board<L>, seat: &mut StripesSeat<L>, place: usize, value:
 
 /// Sets the last word of a commit: the words are then the next of the front.
 pub(crate) fn seal<L: Law>(board: &Board<L>, seat: &mut StripesSeat<L>, place: usize, value: u64)
-    requires own { HasPlace place board.now.shared.table_id seat.old }
+    requires own { HasWordPlace place board.now.shared.table_id seat.old }
     requires is_open { IsWriter seat.old.me.0 × StripeIsOpen (L.group place) seat.old }
-    requires lawful { AdmitsWords L.admits seat.old (slice_set (words_of seat.old) place value) }
+    requires lawful { AdmitsWords L.admits seat.old (slice_set (words_of_seat seat.old) place value) }
     ensures same { IsSameSeat seat.old seat.new }
-    ensures view { SealsWords (slice_set (words_of seat.old) place value) seat.old seat.new }
+    ensures view { SealsWords (slice_set (words_of_seat seat.old) place value) seat.old seat.new }
 {
     board
         .shared
@@ -47,11 +47,11 @@ pub(crate) fn open_one<L: Law>(
     stripe: usize,
 )
     requires own { HasVersions board.now.shared.table_id seat.old }
-    requires known { seat.old.me.0.role ≡ desk versions.old (words_of seat.old) }
+    requires known { seat.old.me.0.role ≡ desk versions.old (words_of_seat seat.old) }
     requires few { stripe < version_count }
     ensures same { IsSameSeat seat.old seat.new }
     ensures view { SetsVersions versions.new seat.old seat.new }
-    ensures one { IsOpened (slice_index versions.old stripe) (slice_index versions.new stripe) }
+    ensures one { IsVersionOpened (slice_index versions.old stripe) (slice_index versions.new stripe) }
     ensures others { HasSameOthers stripe versions.old versions.new }
 {
     let version = versions[stripe];
@@ -74,7 +74,7 @@ fn shut_one<L: Law>(
     requires few { stripe < version_count }
     ensures same { IsSameSeat seat.old seat.new }
     ensures view { SetsDesk versions.new (last_words seat.old) seat.old seat.new }
-    ensures one { IsShut (slice_index versions.old stripe) (slice_index versions.new stripe) }
+    ensures one { IsVersionShut (slice_index versions.old stripe) (slice_index versions.new stripe) }
     ensures others { HasSameOthers stripe versions.old versions.new }
 {
     let version = versions[stripe];
@@ -94,11 +94,11 @@ pub(crate) fn open_all<L: Law>(
     stripes: &[usize],
 )
     requires own { HasVersions board.now.shared.table_id seat.old }
-    requires known { seat.old.me.0.role ≡ desk versions.old (words_of seat.old) }
+    requires known { seat.old.me.0.role ≡ desk versions.old (words_of_seat seat.old) }
     requires few { All (λ j. j < version_count) stripes.now }
     ensures same { IsSameSeat seat.old seat.new }
     ensures view { SetsVersions versions.new seat.old seat.new }
-    ensures changes { Changes IsOpened stripes.now versions.old versions.new }
+    ensures changes { Changes IsVersionOpened stripes.now versions.old versions.new }
 {
     for i in 0..stripes.len() {
         open_one(board, seat, versions, stripes[i]);
@@ -117,7 +117,7 @@ pub(crate) fn shut_all<L: Law>(
     requires few { All (λ j. j < version_count) stripes.now }
     ensures same { IsSameSeat seat.old seat.new }
     ensures view { SetsDesk versions.new (last_words seat.old) seat.old seat.new }
-    ensures changes { Changes IsShut stripes.now versions.old versions.new }
+    ensures changes { Changes IsVersionShut stripes.now versions.old versions.new }
 {
     for i in 0..stripes.len() {
         shut_one(board, seat, versions, stripes[i]);
@@ -127,11 +127,11 @@ pub(crate) fn shut_all<L: Law>(
 /// Sets these words one by one.
 pub(crate) fn fill<L: Law>(board: &Board<L>, seat: &mut StripesSeat<L>, writes: &[(usize, u64)])
     requires own { IsSeated board.now.shared.table_id seat.old × (seat.old.table_id.words < 2 ^ 63) }
-    requires inside { HasPlaces writes.now seat.old }
+    requires inside { HasWordPlaces writes.now seat.old }
     requires known { IsWriter seat.old.me.0 }
     requires is_open { All (λ w. StripeIsOpen (L.group w.0) seat.old) writes.now }
     ensures same { IsSameSeat seat.old seat.new }
-    ensures view { SetsWords (set_all (words_of seat.old) writes.now) seat.old seat.new }
+    ensures view { SetsWords (set_all (words_of_seat seat.old) writes.now) seat.old seat.new }
 {
     for i in 0..writes.len() {
         let (place, value) = writes[i];

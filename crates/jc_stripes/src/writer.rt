@@ -2,8 +2,8 @@
 ghost use Rattle.std.specs.Prelude.{◌≡◌, ◌+◌, ◌%◌, ◌^◌, ◌<◌, [], length, slice_index, All, IfOk, ℕ};
 ghost use Rattle.std.specs.Arc.{arc_value};
 ghost use Rattle.jc_stripes.specs.Layout.{common, content_of, version_count, versions_at, HasVersionsAt};
-ghost use Rattle.jc_stripes.specs.Stripes.{IsWriter, Covered, desk, heard, last_of, opening_view};
-ghost use Rattle.jc_stripes.specs.Seats.{AdmitsWrites, CommitsVersions, CommitsWrites, ExtendsFront, FrontIsPrefix, HasPlaces, HasSameTable, HasSameTableAndFront, HasSameTableAndLaw, HasSameView, IsSeated, IsShared, StartsFront, StripeIsOpen, versions_of};
+ghost use Rattle.jc_stripes.specs.Stripes.{IsWriter, AreUnderVersions, desk, joined_view, last_of, opening_view};
+ghost use Rattle.jc_stripes.specs.Seats.{AdmitsWrites, CommitsVersions, CommitsWrites, ExtendsFront, FrontIsPrefix, HasWordPlaces, HasSameTable, HasSameTableAndFront, HasSameTableAndLaw, HasSameView, IsSeated, IsShared, StartsFront, StripeIsOpen, versions_of_seat};
 
 use crate::board::{Board, COMMON, Hear, Law, Origin, Recall, Share, StripesSeat, VERSION_COUNT};
 use crate::reader::Reader;
@@ -58,7 +58,7 @@ impl<L: Law> Writer<L> {
         requires sized { length words.now.items < 2 ^ 63 }
         requires lawful { L.admits law.now (content_of words.now.items) }
         ensures writer { IfOk result (λ w. StartsFront law.now words.now.items w.seat) }
-        ensures versions { IfOk result (λ w. versions_of w.seat ≡ versions_at start) }
+        ensures versions { IfOk result (λ w. versions_of_seat w.seat ≡ versions_at start) }
     {
         let origin = Origin {
             law: Snapshot::of(law),
@@ -75,7 +75,7 @@ impl<L: Law> Writer<L> {
         requires sized { length words.now.items < 2 ^ 63 }
         requires lawful { L.admits law.now (content_of words.now.items) }
         ensures writer { IfOk result (λ w. ExtendsFront law.now words.now.items self.now.seat w.seat) }
-        ensures versions { IfOk result (λ w. versions_of w.seat ≡ versions_at 0) }
+        ensures versions { IfOk result (λ w. versions_of_seat w.seat ≡ versions_at 0) }
     {
         let origin = Origin {
             law: Snapshot::of(law),
@@ -90,9 +90,9 @@ impl<L: Law> Writer<L> {
     /// greatest even number is opened and never shut.
     pub fn commit(&mut self, stripes: &[usize], writes: &[(usize, u64)])
         requires some { 0 < length writes.now }
-        requires inside { HasPlaces writes.now self.old.seat }
+        requires inside { HasWordPlaces writes.now self.old.seat }
         requires few { All (λ j. j < version_count) stripes.now }
-        requires covered { Covered L.group stripes.now writes.now }
+        requires covered { AreUnderVersions L.group stripes.now writes.now }
         requires lawful { AdmitsWrites L.admits self.old.seat writes.now }
         ensures same { HasSameTableAndLaw self.old.seat self.new.seat }
         ensures versions { CommitsVersions stripes.now self.old.seat self.new.seat }
@@ -122,7 +122,7 @@ impl<L: Law> Writer<L> {
     pub fn renew(&mut self, reader: &mut Reader<L>)
         requires { reader.old.seat.table_id ≡ self.old.seat.table_id }
         ensures same { self.new.seat.table_id ≡ self.old.seat.table_id }
-        ensures view { self.new.seat.me.0 ≡ heard self.old.seat.me.0 reader.old.seat.me.0 }
+        ensures view { self.new.seat.me.0 ≡ joined_view self.old.seat.me.0 reader.old.seat.me.0 }
         ensures table { reader.new.seat.table_id ≡ reader.old.seat.table_id }
         ensures reader { IsShared self.old.seat reader.new.seat }
         ensures seen { FrontIsPrefix reader.old.seat self.old.seat }
@@ -153,7 +153,7 @@ fn take_in<L: Law>(board: &Board<L>, seat: &mut StripesSeat<L>, theirs: StripesS
     requires writes { IsWriter seat.old.me.0 }
     requires theirs { theirs.table_id ≡ seat.old.table_id }
     ensures same { seat.new.table_id ≡ seat.old.table_id }
-    ensures view { seat.new.me ≡ (heard seat.old.me.0 theirs.me.0, []) }
+    ensures view { seat.new.me ≡ (joined_view seat.old.me.0 theirs.me.0, []) }
     ensures seen { FrontIsPrefix theirs seat.old }
 {
     board.shared.join_seat::<Hear>(seat, theirs);

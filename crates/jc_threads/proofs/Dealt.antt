@@ -7,7 +7,7 @@ use Rattle.jc_model.proofs.Lives.{at_same, at_other}
 use Rattle.jc_script.specs.declared.line.LineCall.{LineCall}
 use Rattle.jc_shared.specs.Sessions.{Sitting, log_of}
 use Rattle.jc_shared.specs.Stated.{Stated}
-use Rattle.jc_threads.specs.Dealing.{Share, idle, AreSeated, HasSeat, IsIdle, AreIdle, IsUnderWay, AreUnderWay, HasRested, HaveRested, dealt_to}
+use Rattle.jc_threads.specs.Dealing.{Share, idle_share, AreSeated, HasSeat, IsWorkerIdle, AreWorkersIdle, IsUnderWay, AreUnderWay, HasRested, HaveRested, dealt_to}
 use Rattle.jc_threads.proofs.Lists.{kept_more, left_out, at_end, get_last, get_still}
 use Rattle.jc_threads.proofs.Making.{at_work_first, at_work_same}
 
@@ -38,9 +38,9 @@ module _ (P Q : ℕ → ℕ → Share → Type 0) (crew : List Share) (worker : 
 
 -- a session more
 pub seat_idle : (crew : List Share) (share : Share) (o : Sitting) (n : ℕ) → n ≡ o.number → o.calls ≡ [] → slice_get crew (n % length crew) ≡ Some share → length share.sessions ≡ n / length crew
-    → AreIdle crew → AreIdle (slice_set crew (n % length crew) (record share { sessions = share.sessions ++ o ∷ [] }))
+    → AreWorkersIdle crew → AreWorkersIdle (slice_set crew (n % length crew) (record share { sessions = share.sessions ++ o ∷ [] }))
 seat_idle crew share o n is none at next =
-    changed IsIdle IsIdle crew (n % length crew) share (record share { sessions = share.sessions ++ o ∷ [] }) at
+    changed IsWorkerIdle IsWorkerIdle crew (n % length crew) share (record share { sessions = share.sessions ++ o ∷ [] }) at
     (λ had. record {
       seated = seated_more (length crew) (n % length crew) (n / length crew) share.sessions o had.seated next (ap (λ (m : ℕ). m % length crew) (sym is)) (ap (λ (m : ℕ). m / length crew) (sym is));
       fresh = All-push (λ (p : Sitting). p.calls ≡ []) share.sessions o had.fresh none;
@@ -120,20 +120,20 @@ rested_still stated crew worker share share' at lines logs all =
 
 -- Workers that have nothing.
 
-all_idle : (n k : ℕ) (share : Share) → slice_get (replicate n idle) k ≡ Some share → idle ≡ share
+all_idle : (n k : ℕ) (share : Share) → slice_get (replicate n idle_share) k ≡ Some share → idle_share ≡ share
 all_idle zero k share at = absurd cc
 all_idle (suc n) zero share at = cc
 all_idle (suc n) (suc k) share at = all_idle n k share at
 
-pub idle_first : (n : ℕ) → AreIdle (replicate n idle)
+pub idle_first : (n : ℕ) → AreWorkersIdle (replicate n idle_share)
 idle_first n k share at =
-    subst (IsIdle (length (replicate n idle)) k) (all_idle n k share at)
+    subst (IsWorkerIdle (length (replicate n idle_share)) k) (all_idle n k share at)
     (record { seated = λ place o there. absurd cc; fresh = All-nil (λ (o : Sitting). o.calls ≡ []); lines = refl })
 
 -- they are ready for a first round
-pub under_way_first : (stated : List Stated) (crew : List Share) → AreIdle crew → AreUnderWay stated [] crew
+pub under_way_first : (stated : List Stated) (crew : List Share) → AreWorkersIdle crew → AreUnderWay stated [] crew
 under_way_first stated crew are worker share at =
-    let had : IsIdle (length crew) worker share = are worker share at in
+    let had : IsWorkerIdle (length crew) worker share = are worker share at in
     record { done = []; work = at_work_first stated (length crew) worker share.sessions had.seated had.fresh; held = had.lines }
 
 -- and those that have rested for the next

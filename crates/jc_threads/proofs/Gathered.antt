@@ -9,42 +9,42 @@ use Rattle.std.proofs.lemmas.Nat.{mod_below}
 use Rattle.std.proofs.lemmas.Option.{slice_get_within}
 use Rattle.jc_model.specs.declared.event.Entry.{Entry}
 use Rattle.jc_script.specs.declared.line.LineCall.{LineCall}
-use Rattle.jc_script.specs.Calls.{line_of}
+use Rattle.jc_script.specs.Calls.{line_of_entry}
 use Rattle.jc_shared.specs.Accounts.{own_of, Accounts}
 use Rattle.jc_shared.specs.Sessions.{Sitting, log_of}
 use Rattle.jc_shared.specs.Stated.{Stated}
 use Rattle.jc_threads.specs.declared.fault.WorkFault.{WorkFault}
 use Rattle.jc_threads.specs.Dealing.{Share, IsAtWork, AreAtRest, AreUnderWay, HasRested, HaveRested, HasWorked, HaveWorked, dealt_to}
-use Rattle.jc_threads.specs.Lines.{lines_by, IsAnswered, HasMade, AreMade, Among}
+use Rattle.jc_threads.specs.Lines.{lines_by, IsAnswered, HasMade, AreCallsMade, HasSessionNumbered}
 use Rattle.jc_threads.proofs.Lists.{all_at, all_from, all_by_class, all_flat, some_at, twice_kept, map_at}
 
 -- Sessions that have made all lines.
 
-among_or_none : (number : ℕ) (logs : List Sitting) (lines : List LineCall) → All (λ l. Among l.session logs) lines → Among number logs ⊎ (lines_by number lines ≡ [])
+among_or_none : (number : ℕ) (logs : List Sitting) (lines : List LineCall) → All (λ l. HasSessionNumbered l.session logs) lines → HasSessionNumbered number logs ⊎ (lines_by number lines ≡ [])
 among_or_none number logs [] there = inr refl
-among_or_none number logs (l ∷ lines) there = go (l.session == number) refl (among_or_none number logs lines (All-tail (λ (x : LineCall). Among x.session logs) l lines there))
+among_or_none number logs (l ∷ lines) there = go (l.session == number) refl (among_or_none number logs lines (All-tail (λ (x : LineCall). HasSessionNumbered x.session logs) l lines there))
   where
-    go : (b : Bool) → (l.session == number) ≡ b → Among number logs ⊎ (lines_by number lines ≡ []) → Among number logs ⊎ (cond b (l ∷ lines_by number lines) (lines_by number lines) ≡ [])
+    go : (b : Bool) → (l.session == number) ≡ b → HasSessionNumbered number logs ⊎ (lines_by number lines ≡ []) → HasSessionNumbered number logs ⊎ (cond b (l ∷ lines_by number lines) (lines_by number lines) ≡ [])
     go true is rest =
         let own : l.session ≡ number = grind (arith, nat_tests, is) in
-        inl (subst (λ (n : ℕ). Among n logs) own (All-head (λ (x : LineCall). Among x.session logs) l lines there))
+        inl (subst (λ (n : ℕ). HasSessionNumbered n logs) own (All-head (λ (x : LineCall). HasSessionNumbered x.session logs) l lines there))
     go false is (inl found) = inl found
     go false is (inr none) = inr none
 
-among_later : (number : ℕ) (o : Sitting) (logs : List Sitting) (N : Type 0) → (o.number == number) ≡ false → Among number (o ∷ logs) ⊎ N → Among number logs ⊎ N
+among_later : (number : ℕ) (o : Sitting) (logs : List Sitting) (N : Type 0) → (o.number == number) ≡ false → HasSessionNumbered number (o ∷ logs) ⊎ N → HasSessionNumbered number logs ⊎ N
 among_later number o logs N is (inl (inl own)) = absurd (grind (arith, nat_tests, own, is))
 among_later number o logs N is (inl (inr found)) = inl found
 among_later number o logs N is (inr none) = inr none
 
-own_made : (stated : List Stated) (all : List LineCall) (number : ℕ) (logs : List Sitting) → All (HasMade stated all) logs → Among number logs ⊎ (lines_by number all ≡ []) → map line_of (own_of number (map log_of logs)) ≡ lines_by number all
+own_made : (stated : List Stated) (all : List LineCall) (number : ℕ) (logs : List Sitting) → All (HasMade stated all) logs → HasSessionNumbered number logs ⊎ (lines_by number all ≡ []) → map line_of_entry (own_of number (map log_of logs)) ≡ lines_by number all
 own_made stated all number [] made (inl found) = absurd found
 own_made stated all number [] made (inr none) = sym none
 own_made stated all number (o ∷ logs) made among = go (o.number == number) refl (own_made stated all number logs (All-tail (HasMade stated all) o logs made))
   where
-    go : (b : Bool) → (o.number == number) ≡ b → (Among number logs ⊎ (lines_by number all ≡ []) → map line_of (own_of number (map log_of logs)) ≡ lines_by number all) → map line_of (if b then o.calls else own_of number (map log_of logs)) ≡ lines_by number all
+    go : (b : Bool) → (o.number == number) ≡ b → (HasSessionNumbered number logs ⊎ (lines_by number all ≡ []) → map line_of_entry (own_of number (map log_of logs)) ≡ lines_by number all) → map line_of_entry (if b then o.calls else own_of number (map log_of logs)) ≡ lines_by number all
     go true is rest =
         let own : o.number ≡ number = grind (arith, nat_tests, is) in
-        subst (λ (n : ℕ). map line_of o.calls ≡ lines_by n all) own (All-head (HasMade stated all) o logs made).calls
+        subst (λ (n : ℕ). map line_of_entry o.calls ≡ lines_by n all) own (All-head (HasMade stated all) o logs made).calls
     go false is rest = rest (among_later number o logs (lines_by number all ≡ []) is among)
 
 own_answered : (P : Entry → Type 0) (number : ℕ) (logs : List Sitting) → All (λ (o : Sitting). All P o.calls) logs → All P (own_of number (map log_of logs))
@@ -56,27 +56,27 @@ own_answered P number (o ∷ logs) h = go (o.number == number) (own_answered P n
     go false rest = rest
 
 -- A transcript that they account for.
-pub are_made : (stated : List Stated) (given : ℕ) (all : List LineCall) (logs : List Sitting) (transcript : List Entry) → Accounts given (map log_of logs) transcript → All (HasMade stated all) logs → All (λ l. Among l.session logs) all → AreMade stated all transcript
+pub are_made : (stated : List Stated) (given : ℕ) (all : List LineCall) (logs : List Sitting) (transcript : List Entry) → Accounts given (map log_of logs) transcript → All (HasMade stated all) logs → All (λ l. HasSessionNumbered l.session logs) all → AreCallsMade stated all transcript
 are_made stated given all logs transcript accounts made there = record {
-  each = λ session. ap (map line_of) (accounts.agree session) ∙ own_made stated all session logs made (among_or_none session logs all there);
+  each = λ session. ap (map line_of_entry) (accounts.agree session) ∙ own_made stated all session logs made (among_or_none session logs all there);
   answered = all_by_class (λ (e : Entry). e.session) (IsAnswered stated) transcript (λ e.
       subst (All (IsAnswered stated)) (sym (accounts.agree e.session)) (own_answered (IsAnswered stated) e.session logs (All-weaker (HasMade stated all) (λ (o : Sitting). All (IsAnswered stated) o.calls) (λ o its. its.answered) logs made)));
 }
 
 -- Workers that have done their shares.
 
-among_left : (number : ℕ) (xs ys : List Sitting) → Among number xs → Among number (xs ++ ys)
+among_left : (number : ℕ) (xs ys : List Sitting) → HasSessionNumbered number xs → HasSessionNumbered number (xs ++ ys)
 among_left number [] ys found = absurd found
 among_left number (x ∷ xs) ys (inl own) = inl own
 among_left number (x ∷ xs) ys (inr found) = inr (among_left number xs ys found)
 
-among_right : (number : ℕ) (xs ys : List Sitting) → Among number ys → Among number (xs ++ ys)
+among_right : (number : ℕ) (xs ys : List Sitting) → HasSessionNumbered number ys → HasSessionNumbered number (xs ++ ys)
 among_right number [] ys found = found
 among_right number (x ∷ xs) ys found = inr (among_right number xs ys found)
 
-among_flat : {X : Type 0} (number : ℕ) (f : X → List Sitting) (xs : List X) (k : ℕ) (x : X) → slice_get xs k ≡ Some x → Among number (f x) → Among number (flat_map f xs)
+among_flat : {X : Type 0} (number : ℕ) (f : X → List Sitting) (xs : List X) (k : ℕ) (x : X) → slice_get xs k ≡ Some x → HasSessionNumbered number (f x) → HasSessionNumbered number (flat_map f xs)
 among_flat number f [] k x at found = absurd cc
-among_flat number f (y ∷ xs) zero x at found = let same : y ≡ x = cc in among_left number (f y) (flat_map f xs) (subst (λ z. Among number (f z)) (sym same) found)
+among_flat number f (y ∷ xs) zero x at found = let same : y ≡ x = cc in among_left number (f y) (flat_map f xs) (subst (λ z. HasSessionNumbered number (f z)) (sym same) found)
 among_flat number f (y ∷ xs) (suc k) x at found = among_right number (f y) (flat_map f xs) (among_flat number f xs k x at found)
 
 -- the same share, result and number of workers
@@ -140,12 +140,12 @@ module _ (stated : List Stated) (all : List LineCall) (crew : List Share) (rest 
   pub all_made : All (HasMade stated all) (flat_map (λ (s : Share). s.sessions) crew)
   all_made = all_flat (HasMade stated all) (λ (s : Share). s.sessions) crew made_by
 
-  there_by : 0 < length crew → (l : LineCall) → All (λ (x : LineCall). Among x.session (flat_map (λ (s : Share). s.sessions) crew)) (dealt_to (length crew) (l.session % length crew) all)
+  there_by : 0 < length crew → (l : LineCall) → All (λ (x : LineCall). HasSessionNumbered x.session (flat_map (λ (s : Share). s.sessions) crew)) (dealt_to (length crew) (l.session % length crew) all)
   there_by some l =
       let found : (share : Share) × (slice_get crew (l.session % length crew) ≡ Some share) = some_at crew (l.session % length crew) (mod_below l.session (length crew) some) in
-      All-weaker (λ (x : LineCall). Among x.session found.0.sessions) (λ (x : LineCall). Among x.session (flat_map (λ (s : Share). s.sessions) crew))
+      All-weaker (λ (x : LineCall). HasSessionNumbered x.session found.0.sessions) (λ (x : LineCall). HasSessionNumbered x.session (flat_map (λ (s : Share). s.sessions) crew))
       (λ x there. among_flat x.session (λ (s : Share). s.sessions) crew (l.session % length crew) found.0 found.1 there)
       (dealt_to (length crew) (l.session % length crew) all) (rest (l.session % length crew) found.0 found.1).work.there
 
-  pub all_there : 0 < length crew → All (λ l. Among l.session (flat_map (λ (s : Share). s.sessions) crew)) all
-  all_there some = all_by_class (λ (l : LineCall). l.session % length crew) (λ (x : LineCall). Among x.session (flat_map (λ (s : Share). s.sessions) crew)) all (there_by some)
+  pub all_there : 0 < length crew → All (λ l. HasSessionNumbered l.session (flat_map (λ (s : Share). s.sessions) crew)) all
+  all_there some = all_by_class (λ (l : LineCall). l.session % length crew) (λ (x : LineCall). HasSessionNumbered x.session (flat_map (λ (s : Share). s.sessions) crew)) all (there_by some)

@@ -12,25 +12,25 @@ use Rattle.jc_model.specs.declared.event.End.TheVariants.{Replied}
 use Rattle.jc_model.specs.declared.event.Entry.{Entry}
 use Rattle.jc_model.proofs.Lives.{at_same, at_other}
 use Rattle.jc_script.specs.declared.line.LineCall.{LineCall}
-use Rattle.jc_shared.specs.Calls.{Adds, called}
+use Rattle.jc_shared.specs.Calls.{Adds, call_entry}
 use Rattle.jc_shared.specs.Sessions.{Own, Sitting, log_of}
 use Rattle.jc_shared.specs.declared.fault.CallFault.{CallFault}
 use Rattle.jc_shared.specs.Stated.{Stated}
 use Rattle.jc_threads.specs.Dealing.{AreSeated, AreFresh, IsAtWork}
-use Rattle.jc_script.specs.Calls.{line_of}
-use Rattle.jc_threads.specs.Lines.{lines_by, IsAnswered, HasMade, Among}
+use Rattle.jc_script.specs.Calls.{line_of_entry}
+use Rattle.jc_threads.specs.Lines.{lines_by, IsAnswered, HasMade, HasSessionNumbered}
 use Rattle.jc_threads.proofs.Lists.{all_at, all_from, kept_more, left_out}
 
 -- of the session whose line it is
 has_made_more : (configs : List CacheConfig) (stated : List Stated) (done : List LineCall) (l : LineCall) (old new : Sitting) (reply : Reply) → old.number ≡ l.session → new.number ≡ old.number
     → Adds configs stated old new l.id l.at l.call (Replied reply) → HasMade stated done old → HasMade stated (done ++ l ∷ []) new
 has_made_more configs stated done l old new reply own same adds made =
-    let e : Entry = called old.number l.id l.at l.call adds.answers adds.told (Replied reply) in
-    let line : line_of e ≡ l = ap (λ (n : ℕ). record { session = n; id = l.id; at = l.at; call = l.call }) own in
+    let e : Entry = call_entry old.number l.id l.at l.call adds.answers adds.told (Replied reply) in
+    let line : line_of_entry e ≡ l = ap (λ (n : ℕ). record { session = n; id = l.id; at = l.at; call = l.call }) own in
     let kept : lines_by old.number (done ++ l ∷ []) ≡ lines_by old.number done ++ l ∷ [] = kept_more (λ (x : LineCall). x.session == old.number) done l (grind (arith, nat_tests, own)) in
     record {
       calls =
-          ap (map line_of) adds.added ∙ (map_push line_of old.calls e ∙ (ap (λ (ls : List LineCall). ls ++ line_of e ∷ []) made.calls ∙ (ap (λ (x : LineCall). lines_by old.number done ++ x ∷ []) line
+          ap (map line_of_entry) adds.added ∙ (map_push line_of_entry old.calls e ∙ (ap (λ (ls : List LineCall). ls ++ line_of_entry e ∷ []) made.calls ∙ (ap (λ (x : LineCall). lines_by old.number done ++ x ∷ []) line
           ∙ (sym kept ∙ ap (λ (n : ℕ). lines_by n (done ++ l ∷ [])) (sym same)))));
       answered = subst (All (IsAnswered stated)) (sym adds.added) (All-push (IsAnswered stated) old.calls e made.answered (record { replied = tt; answered = adds.answered }));
     }
@@ -49,12 +49,12 @@ has_made_other stated done l o other made = record {
 
 -- Sessions with a number.
 
-pub among_at : (logs : List Sitting) (k : ℕ) (o : Sitting) (number : ℕ) → slice_get logs k ≡ Some o → o.number ≡ number → Among number logs
+pub among_at : (logs : List Sitting) (k : ℕ) (o : Sitting) (number : ℕ) → slice_get logs k ≡ Some o → o.number ≡ number → HasSessionNumbered number logs
 among_at [] k o number at is = absurd cc
 among_at (p ∷ logs) zero o number at is = let same : p ≡ o = cc in inl (ap (λ (q : Sitting). q.number) same ∙ is)
 among_at (p ∷ logs) (suc k) o number at is = inr (among_at logs k o number at is)
 
-among_set : (logs : List Sitting) (k : ℕ) (o o' : Sitting) (number : ℕ) → slice_get logs k ≡ Some o → o'.number ≡ o.number → Among number logs → Among number (slice_set logs k o')
+among_set : (logs : List Sitting) (k : ℕ) (o o' : Sitting) (number : ℕ) → slice_get logs k ≡ Some o → o'.number ≡ o.number → HasSessionNumbered number logs → HasSessionNumbered number (slice_set logs k o')
 among_set [] k o o' number at same there = there
 among_set (p ∷ logs) zero o o' number at same (inl is) = let here : p ≡ o = cc in inl (same ∙ (ap (λ (q : Sitting). q.number) (sym here) ∙ is))
 among_set (p ∷ logs) zero o o' number at same (inr there) = inr there
@@ -92,10 +92,10 @@ module _ (stated : List Stated) (workers worker : ℕ) (done : List LineCall) (l
           let other : l.session ≢ x.number = λ (e : l.session ≡ x.number). elsewhere (sym looked ∙ (ap (λ (n : ℕ). n / workers) e ∙ (work.seated k x before).1)) in
           has_made_other stated done l x other (all_at (HasMade stated done) sessions k x work.made before)
 
-  all_there : All (λ (x : LineCall). Among x.session (slice_set sessions place o')) (done ++ l ∷ [])
+  all_there : All (λ (x : LineCall). HasSessionNumbered x.session (slice_set sessions place o')) (done ++ l ∷ [])
   all_there =
-      All-push (λ (x : LineCall). Among x.session (slice_set sessions place o')) done l
-      (All-weaker (λ (x : LineCall). Among x.session sessions) (λ (x : LineCall). Among x.session (slice_set sessions place o')) (λ x there. among_set sessions place o o' x.session at same there) done work.there)
+      All-push (λ (x : LineCall). HasSessionNumbered x.session (slice_set sessions place o')) done l
+      (All-weaker (λ (x : LineCall). HasSessionNumbered x.session sessions) (λ (x : LineCall). HasSessionNumbered x.session (slice_set sessions place o')) (λ x there. among_set sessions place o o' x.session at same there) done work.there)
       (among_at (slice_set sessions place o') place o' l.session (at_same sessions place o o' at) (same ∙ own))
 
   pub at_work_more : HasMade stated (done ++ l ∷ []) o' → IsAtWork stated workers worker (done ++ l ∷ []) (slice_set sessions place o')
@@ -105,8 +105,8 @@ module _ (stated : List Stated) (workers worker : ℕ) (done : List LineCall) (l
 pub at_work_first : (stated : List Stated) (workers worker : ℕ) (sessions : List Sitting) → AreSeated workers worker sessions → AreFresh sessions → IsAtWork stated workers worker [] sessions
 at_work_first stated workers worker sessions seated fresh = record {
   seated = seated;
-  made = All-weaker (λ (o : Sitting). o.calls ≡ []) (HasMade stated []) (λ o none. record { calls = ap (map line_of) none; answered = subst (All (IsAnswered stated)) (sym none) (All-nil (IsAnswered stated)) }) sessions fresh;
-  there = All-nil (λ (x : LineCall). Among x.session sessions);
+  made = All-weaker (λ (o : Sitting). o.calls ≡ []) (HasMade stated []) (λ o none. record { calls = ap (map line_of_entry) none; answered = subst (All (IsAnswered stated)) (sym none) (All-nil (IsAnswered stated)) }) sessions fresh;
+  there = All-nil (λ (x : LineCall). HasSessionNumbered x.session sessions);
 }
 
 -- Sessions with the same logs.
@@ -128,7 +128,7 @@ twin [] (z ∷ ys) k y same at = absurd cc
 twin (x ∷ xs) (z ∷ ys) zero y same at = let here : z ≡ y = cc in record { own = x; there = refl; same = first_log xs ys x z same ∙ ap log_of here }
 twin (x ∷ xs) (z ∷ ys) (suc k) y same at = let t = twin xs ys k y (other_logs xs ys x z same) at in record { own = t.own; there = t.there; same = t.same }
 
-among_same : (number : ℕ) (xs ys : List Sitting) → map log_of ys ≡ map log_of xs → Among number xs → Among number ys
+among_same : (number : ℕ) (xs ys : List Sitting) → map log_of ys ≡ map log_of xs → HasSessionNumbered number xs → HasSessionNumbered number ys
 among_same number [] ys same found = absurd found
 among_same number (x ∷ xs) [] same found = absurd cc
 among_same number (x ∷ xs) (y ∷ ys) same (inl is) = inl (ap (λ (o : Own). o.number) (sym (first_log xs ys x y same)) ∙ is)
@@ -139,7 +139,7 @@ has_made_same stated done x y same made =
     let calls : x.calls ≡ y.calls = ap (λ (o : Own). o.calls) same in
     let number : x.number ≡ y.number = ap (λ (o : Own). o.number) same in
     record {
-      calls = ap (map line_of) (sym calls) ∙ (made.calls ∙ ap (λ (n : ℕ). lines_by n done) number);
+      calls = ap (map line_of_entry) (sym calls) ∙ (made.calls ∙ ap (λ (n : ℕ). lines_by n done) number);
       answered = subst (All (IsAnswered stated)) calls made.answered;
     }
 
@@ -151,5 +151,5 @@ at_work_same stated workers worker done xs ys same work = record {
   made = all_from (HasMade stated done) ys (λ k y at.
       let t = twin xs ys k y same at in
       has_made_same stated done t.own y t.same (all_at (HasMade stated done) xs k t.own work.made t.there));
-  there = All-weaker (λ (l : LineCall). Among l.session xs) (λ (l : LineCall). Among l.session ys) (λ l found. among_same l.session xs ys same found) done work.there;
+  there = All-weaker (λ (l : LineCall). HasSessionNumbered l.session xs) (λ (l : LineCall). HasSessionNumbered l.session ys) (λ l found. among_same l.session xs ys same found) done work.there;
 }

@@ -4,5 +4,5 @@ use Rattle.std.specs.List.{flat_map}
 use Rattle.jc_script.specs.declared.line.LineCall.{LineCall}
 
 -- the calls of the full batches, and the last ones behind them
-abbrev pub calls_in : List (List LineCall) → List LineCall → List LineCall
-calls_in full last = flat_map (λ calls. calls) full ++ last
+abbrev pub calls_in_batches : List (List LineCall) → List LineCall → List LineCall
+calls_in_batches full last = flat_map (λ calls. calls) full ++ last

@@ -7,15 +7,15 @@ use Rattle.jc_script.specs.declared.line.LineCall.{LineCall}
 use Rattle.jc_shared.specs.Sessions.{Sitting}
 use Rattle.jc_shared.specs.Stated.{Stated}
 use Rattle.jc_threads.specs.declared.fault.WorkFault.{WorkFault}
-use Rattle.jc_threads.specs.Lines.{HasMade, Among}
+use Rattle.jc_threads.specs.Lines.{HasMade, HasSessionNumbered}
 
 -- what a worker has: its sessions, and calls that are still to be made
 pub record Share : Type 0 where
   pub sessions : List Sitting
   pub lines : List LineCall
 
-abbrev pub idle : Share
-idle = record { sessions = []; lines = [] }
+abbrev pub idle_share : Share
+idle_share = record { sessions = []; lines = [] }
 
 -- with a session more, and with a call more
 abbrev pub with_session : Sitting → Share → Share
@@ -66,19 +66,19 @@ abbrev pub AreFresh : List Sitting → Type 0
 AreFresh sessions = All (λ o. o.calls ≡ []) sessions
 
 -- a worker has its sessions, which have made no call, and no calls to make
-pub record IsIdle (workers worker : ℕ) (share : Share) : Type 0 where
+pub record IsWorkerIdle (workers worker : ℕ) (share : Share) : Type 0 where
   pub seated : AreSeated workers worker share.sessions
   pub fresh : AreFresh share.sessions
   pub lines : share.lines ≡ []
 
-abbrev pub AreIdle : List Share → Type 0
-AreIdle crew = (worker : ℕ) (share : Share) → slice_get crew worker ≡ Some share → IsIdle (length crew) worker share
+abbrev pub AreWorkersIdle : List Share → Type 0
+AreWorkersIdle crew = (worker : ℕ) (share : Share) → slice_get crew worker ≡ Some share → IsWorkerIdle (length crew) worker share
 
 -- a worker's sessions, which have made these calls
 pub record IsAtWork (stated : List Stated) (workers worker : ℕ) (done : List LineCall) (sessions : List Sitting) : Type 0 where
   pub seated : AreSeated workers worker sessions
   pub made : All (HasMade stated done) sessions
-  pub there : All (λ l. Among l.session sessions) done
+  pub there : All (λ l. HasSessionNumbered l.session sessions) done
 
 -- they make these calls behind those that they have made
 abbrev pub WorkerMakes : List Stated → ℕ → List LineCall → List Sitting → List Sitting → Type 0

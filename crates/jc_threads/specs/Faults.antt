@@ -10,18 +10,18 @@ use Rattle.jc_shared.specs.declared.fault.SessionRefusal.TheVariants as session
 use Rattle.jc_threads.specs.declared.fault.WorkFault.{WorkFault}
 use Rattle.jc_threads.specs.declared.fault.WorkFault.TheVariants.{Close, OutOfMemory}
 
-abbrev pub of_session : SessionRefusal → WorkFault
-of_session session.OutOfMemory = OutOfMemory
-of_session _ = Close
+abbrev pub session_work_fault : SessionRefusal → WorkFault
+session_work_fault session.OutOfMemory = OutOfMemory
+session_work_fault _ = Close
 
-abbrev pub of_call : CallFault → WorkFault
-of_call call.OutOfMemory = OutOfMemory
-of_call _ = Close
+abbrev pub call_work_fault : CallFault → WorkFault
+call_work_fault call.OutOfMemory = OutOfMemory
+call_work_fault _ = Close
 
-abbrev pub of_destroy : DestroyFault → WorkFault
-of_destroy destroying.OutOfMemory = OutOfMemory
-of_destroy _ = Close
+abbrev pub destroy_work_fault : DestroyFault → WorkFault
+destroy_work_fault destroying.OutOfMemory = OutOfMemory
+destroy_work_fault _ = Close
 
-abbrev pub of_close : CloseFault → WorkFault
-of_close closing.OutOfMemory = OutOfMemory
-of_close _ = Close
+abbrev pub close_work_fault : CloseFault → WorkFault
+close_work_fault closing.OutOfMemory = OutOfMemory
+close_work_fault _ = Close

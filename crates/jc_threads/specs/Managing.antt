@@ -4,13 +4,13 @@ use Rattle.jc_model.specs.declared.config.CacheConfig.{CacheConfig}
 use Rattle.jc_model.specs.declared.event.CreateRefusal.{CreateRefusal}
 use Rattle.jc_script.specs.declared.line.Line.{Line}
 use Rattle.jc_script.specs.declared.line.Line.TheVariants.{Call, Create, Destroy}
-use Rattle.jc_shared.specs.Living.{IsCreated, Answers, HasGone}
+use Rattle.jc_shared.specs.Living.{IsCreated, AnswersConfig, HasGone}
 use Rattle.jc_shared.specs.Sessions.{Sight}
 
 -- a cache of this configuration was created, or the manager's rules refused it so
 abbrev pub IsCreating : List CacheConfig → CacheConfig → Option CreateRefusal → Type 0
 IsCreating configs config None = (id : ℕ) × IsCreated configs id config
-IsCreating configs config (Some refusal) = Answers configs config (Some refusal)
+IsCreating configs config (Some refusal) = AnswersConfig configs config (Some refusal)
 
 -- a cache that has lived is live no more
 abbrev pub IsDestroying : List CacheConfig → ℕ → Type 0

@@ -21,11 +21,11 @@ pub(crate) struct Batches {
 impl Model for Batches {
     ghost use Rattle.std.specs.Prelude.{◌≡◌, List, []};
     ghost use Rattle.jc_script.specs.declared.line.LineCall.{LineCall as Called};
-    ghost use Rattle.jc_threads.specs.Batches.{calls_in};
+    ghost use Rattle.jc_threads.specs.Batches.{calls_in_batches};
 
     ghost Value = { List Called };
 
-    ghost view = { λ b. calls_in b.full.items b.last.items };
+    ghost view = { λ b. calls_in_batches b.full.items b.last.items };
 
     ghost invariant = { λ b. b.last.items ≡ [] → b.full.items ≡ [] };
 }

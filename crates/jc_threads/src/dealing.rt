@@ -1,6 +1,6 @@
 //! Dealing sessions and calls to workers.
 ghost use Rattle.std.specs.Prelude.{◌≡◌, ◌<◌, ◌∷◌, [], Err, IfOk, OnOk, length, replicate};
-ghost use Rattle.jc_threads.specs.Dealing.{idle, session_in, sessions_in, IsNext, HasSeat, HasSeats, KeepsSeats, AreIdle, AreUnderWay, TakeCalls};
+ghost use Rattle.jc_threads.specs.Dealing.{idle_share, session_in, sessions_in, IsNext, HasSeat, HasSeats, KeepsSeats, AreWorkersIdle, AreUnderWay, TakeCalls};
 
 use crate::batches::Batches;
 use crate::fault::WorkFault;
@@ -33,11 +33,11 @@ fn sessions_of(lines: &[Line]) -> usize
 }
 
 /// Workers that have nothing.
-fn idle<'a, N: Name, L: Loader, W: Writer, P: Processor, K: Hearer>(
+fn idle_workers<'a, N: Name, L: Loader, W: Writer, P: Processor, K: Hearer>(
     alloc: Global,
     workers: usize,
 ) -> Result<Vec<Worker<'a, N, L, W, P, K>>, OutOfMemory>
-    ensures { IfOk result (λ crew. crew.items ≡ replicate workers idle) }
+    ensures { IfOk result (λ crew. crew.items ≡ replicate workers idle_share) }
 {
     let mut crew = Vec::with_capacity(alloc, workers)?;
     for _ in 0..workers {
@@ -50,7 +50,7 @@ fn idle<'a, N: Name, L: Loader, W: Writer, P: Processor, K: Hearer>(
 }
 
 /// Gives a session that has made no call to its worker, if it has this number.
-fn seat<'a, N: Name, L: Loader, W: Writer, P: Processor, K: Hearer>(
+fn seat_session<'a, N: Name, L: Loader, W: Writer, P: Processor, K: Hearer>(
     crew: &mut [Worker<'a, N, L, W, P, K>],
     session: Session<'a, N, L, W, P, K>,
     number: usize,
@@ -64,7 +64,7 @@ fn seat<'a, N: Name, L: Loader, W: Writer, P: Processor, K: Hearer>(
         → (session.entry.number ≡ number) × IsNext number crew.old }
     ensures own { OnOk result (HasSeat (length crew.old) number crew.new) }
     ensures kept { OnOk result (KeepsSeats (length crew.old) crew.old crew.new) }
-    ensures seated { OnOk result (AreIdle crew.old → AreIdle crew.new) }
+    ensures seated { OnOk result (AreWorkersIdle crew.old → AreWorkersIdle crew.new) }
 {
     if session.number() as usize != number {
         return Err(WorkFault::Close);
@@ -83,17 +83,17 @@ fn seat_all<'a, N: Name, L: Loader, W: Writer, P: Processor, K: Hearer, R: Wait>
     requires some { 0 < length crew.old }
     ensures counted { length crew.new ≡ length crew.old }
     ensures opened { OnOk result (HasSeats (length crew.old) sessions crew.new) }
-    ensures seated { OnOk result (AreIdle crew.old → AreIdle crew.new) }
+    ensures seated { OnOk result (AreWorkersIdle crew.old → AreWorkersIdle crew.new) }
 {
     for number in 0..sessions {
         let session = manager.session(rt)?;
-        seat(crew, session, number)?;
+        seat_session(crew, session, number)?;
     }
     Ok(())
 }
 
 /// Gives a call to the worker that has its session.
-pub(crate) fn hand<'a, N: Name, L: Loader, W: Writer, P: Processor, K: Hearer>(
+pub(crate) fn hand_call<'a, N: Name, L: Loader, W: Writer, P: Processor, K: Hearer>(
     crew: &mut [Worker<'a, N, L, W, P, K>],
     line: LineCall,
 ) -> Result<(), OutOfMemory>
@@ -106,7 +106,7 @@ pub(crate) fn hand<'a, N: Name, L: Loader, W: Writer, P: Processor, K: Hearer>(
 }
 
 /// Opens the sessions that the lines need, and gives each to its worker.
-pub(crate) fn dealt<'a, N: Name, L: Loader, W: Writer, P: Processor, K: Hearer, R: Wait>(
+pub(crate) fn deal_sessions<'a, N: Name, L: Loader, W: Writer, P: Processor, K: Hearer, R: Wait>(
     rt: &R,
     alloc: Global,
     manager: &'a Manager<N, L, W, P, K>,
@@ -119,7 +119,7 @@ pub(crate) fn dealt<'a, N: Name, L: Loader, W: Writer, P: Processor, K: Hearer, 
     ensures opened { IfOk result (λ crew. HasSeats workers (sessions_in lines.now) crew.items) }
 {
     let sessions = sessions_of(lines);
-    let mut crew = idle(alloc, workers)?;
+    let mut crew = idle_workers(alloc, workers)?;
     seat_all(rt, manager, crew.as_mut_slice(), sessions)?;
     Ok(crew)
 }

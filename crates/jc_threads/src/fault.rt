@@ -1,7 +1,7 @@
 //! Why a run on threads comes to no transcript.
 ghost use Rattle.std.specs.Prelude.{◌≡◌, Ok, Err, IfOk};
 ghost use Rattle.jc_model.specs.declared.event.CreateRefusal.{CreateRefusal as Refused};
-ghost use Rattle.jc_threads.specs.Faults.{of_session, of_call, of_destroy, of_close};
+ghost use Rattle.jc_threads.specs.Faults.{session_work_fault, call_work_fault, destroy_work_fault, close_work_fault};
 ghost use Rattle.jc_threads.specs.declared.fault.WorkFault.TheVariants.{OutOfMemory};
 
 use jc_model::event::CreateRefusal;
@@ -35,7 +35,7 @@ impl<T: Drop> From<AllocFailed<T>> for WorkFault {
 }
 
 impl From<SessionRefusal> for WorkFault {
-    ghost from_gives = { λ refusal e. e ≡ of_session refusal };
+    ghost from_gives = { λ refusal e. e ≡ session_work_fault refusal };
 
     fn from(refusal: SessionRefusal) -> WorkFault {
         match refusal {
@@ -46,7 +46,7 @@ impl From<SessionRefusal> for WorkFault {
 }
 
 impl From<CallFault> for WorkFault {
-    ghost from_gives = { λ fault e. e ≡ of_call fault };
+    ghost from_gives = { λ fault e. e ≡ call_work_fault fault };
 
     fn from(fault: CallFault) -> WorkFault {
         match fault {
@@ -57,7 +57,7 @@ impl From<CallFault> for WorkFault {
 }
 
 impl From<DestroyFault> for WorkFault {
-    ghost from_gives = { λ fault e. e ≡ of_destroy fault };
+    ghost from_gives = { λ fault e. e ≡ destroy_work_fault fault };
 
     fn from(fault: DestroyFault) -> WorkFault {
         match fault {
@@ -68,7 +68,7 @@ impl From<DestroyFault> for WorkFault {
 }
 
 impl From<CloseFault> for WorkFault {
-    ghost from_gives = { λ fault e. e ≡ of_close fault };
+    ghost from_gives = { λ fault e. e ≡ close_work_fault fault };
 
     fn from(fault: CloseFault) -> WorkFault {
         match fault {

@@ -1,6 +1,6 @@
 //! Caches created and destroyed by a worker's session.
 ghost use Rattle.std.specs.Prelude.{◌≡◌, ◌≢◌, ◌<◌, ◌≤◌, None, Some, Err, IsOk, IfOk, IfErr, OnOk, length, map, slice_get};
-ghost use Rattle.jc_shared.specs.Living.{Answers};
+ghost use Rattle.jc_shared.specs.Living.{AnswersConfig};
 ghost use Rattle.jc_shared.specs.Sessions.{Sitting, log_of};
 ghost use Rattle.jc_threads.specs.Dealing.{HasSeat, AreAtRest, KeepRest};
 ghost use Rattle.jc_threads.specs.Managing.{IsCreating, IsDestroying};
@@ -22,7 +22,7 @@ fn create_by<'a, N: Name, L: Loader, W: Writer, P: Processor, K: Hearer, R: Wait
     config: CacheConfig,
 ) -> Result<Option<CreateRefusal>, WorkFault>
     ensures told { IfOk result (λ refusal. IsCreating N.configs config refusal) }
-    ensures ended { IfErr result (λ _. Answers N.configs config None) }
+    ensures ended { IfErr result (λ _. AnswersConfig N.configs config None) }
 {
     let hooks: CacheHooks<L, W, P, K> = CacheHooks {
         loader: None,
@@ -73,7 +73,7 @@ pub(crate) fn create<'a, N: Name, L: Loader, W: Writer, P: Processor, K: Hearer,
     requires rest { AreAtRest crew.now }
     ensures told { IfOk result (λ refusal. IsCreating N.configs config refusal) }
     ensures ended { HasSeat (length crew.now) session crew.now
-        → IfErr result (λ _. Answers N.configs config None) }
+        → IfErr result (λ _. AnswersConfig N.configs config None) }
 {
     create_by(rt, alloc, own_session(crew, session)?, config)
 }

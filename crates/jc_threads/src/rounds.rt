@@ -1,12 +1,12 @@
 //! A script in rounds: the workers make calls side by side, and are all done before a cache is created or destroyed.
 ghost use Rattle.std.specs.Prelude.{◌≡◌, ◌↔◌, ◌⊎◌, ◌<◌, ◌∷◌, [], Ok, Err, None, IsTrue, IfOk, IfErr, OnOk, length, map};
 ghost use Rattle.std.specs.List.{Contains};
-ghost use Rattle.jc_script.specs.Calls.{call_in, calls_in};
+ghost use Rattle.jc_script.specs.Calls.{call_in, calls_in_lines};
 ghost use Rattle.jc_script.specs.declared.line.Line.TheVariants as lines;
 ghost use Rattle.jc_threads.specs.Dealing.{AreAtRest, HasWorked, HaveWorked, AreUnderWay, EndCalls, KeepCalls, TakeCalls};
 ghost use Rattle.jc_threads.specs.Managing.{AreManaged, ManagesLine};
 
-use crate::dealing::hand;
+use crate::dealing::hand_call;
 use crate::fault::WorkFault;
 use crate::gate::Gate;
 use crate::managing::{create, destroy};
@@ -52,7 +52,7 @@ fn work_all<
 }
 
 /// The workers, if each has done its work; else the fault of one that has not.
-fn gathered<'a, N: Name, L: Loader, W: Writer, P: Processor, K: Hearer>(
+fn gather_workers<'a, N: Name, L: Loader, W: Writer, P: Processor, K: Hearer>(
     alloc: Global,
     results: Vec<Result<Worker<'a, N, L, W, P, K>, WorkFault>>,
 ) -> Result<Vec<Worker<'a, N, L, W, P, K>>, WorkFault>
@@ -107,7 +107,7 @@ pub(crate) fn end_round<
         return Ok(crew);
     }
     let results = work_all(rt, alloc, gate, crew)?;
-    gathered(alloc, results)
+    gather_workers(alloc, results)
 }
 
 /// Takes a line that makes a call.
@@ -120,7 +120,7 @@ fn take_call<'a, N: Name, L: Loader, W: Writer, P: Processor, K: Hearer>(
     ensures made { IfOk result (λ v. TakeCalls N.stated (line ∷ []) crew.entry.items v.items) }
 {
     let mut crew = crew;
-    hand(crew.as_mut_slice(), line)?;
+    hand_call(crew.as_mut_slice(), line)?;
     Ok(crew)
 }
 
@@ -187,7 +187,7 @@ fn take_destroy<
 }
 
 /// Takes a line.
-fn take<
+fn take_line<
     'a,
     N: Name + Send + Sync,
     L: Loader,
@@ -242,13 +242,13 @@ pub(crate) fn take_all<
     requires some { 0 < length crew.items }
     ensures counted { IfOk result (λ v. length v.items ≡ length crew.entry.items) }
     ensures made { IfOk result (λ v. AreUnderWay N.stated [] crew.entry.items
-        → AreUnderWay N.stated (calls_in lines.items) v.items) }
+        → AreUnderWay N.stated (calls_in_lines lines.items) v.items) }
     ensures managed { OnOk result (AreManaged N.configs [] refusals.old.items
         → AreManaged N.configs lines.items refusals.new.items) }
 {
     let mut crew = crew;
     for line in lines {
-        crew = take(rt, alloc, gate, crew, refusals, line)?;
+        crew = take_line(rt, alloc, gate, crew, refusals, line)?;
     }
     Ok(crew)
 }

@@ -2,13 +2,13 @@
 ghost use Rattle.std.specs.Prelude.{◌≡◌, ◌<◌, List, [], IfOk, OnOk, map};
 ghost use Rattle.std.specs.List.{flat_map};
 ghost use Rattle.jc_model.specs.Legal.{IsLegal};
-ghost use Rattle.jc_script.specs.Calls.{calls_in};
+ghost use Rattle.jc_script.specs.Calls.{calls_in_lines};
 ghost use Rattle.jc_shared.specs.Accounts.{own_log};
 ghost use Rattle.jc_shared.specs.Sessions.{BeginsWith, log_of};
-ghost use Rattle.jc_threads.specs.Lines.{AccountFor, AreMade};
+ghost use Rattle.jc_threads.specs.Lines.{AccountFor, AreCallsMade};
 ghost use Rattle.jc_threads.specs.Managing.{AreManaged};
 
-use crate::dealing::dealt;
+use crate::dealing::deal_sessions;
 use crate::fault::WorkFault;
 use crate::gate::Gate;
 use crate::rounds::{end_round, take_all};
@@ -82,11 +82,11 @@ fn made_by_sessions<
 ) -> Result<Vec<SessionLog>, WorkFault>
     requires { 0 < workers }
     ensures made { IfOk result (λ logs.
-        AccountFor N.stated (calls_in lines.items) (map own_log logs.items)) }
+        AccountFor N.stated (calls_in_lines lines.items) (map own_log logs.items)) }
     ensures managed { OnOk result (AreManaged N.configs [] refusals.old.items
         → AreManaged N.configs lines.items refusals.new.items) }
 {
-    let crew = dealt(rt, alloc, manager, workers, lines.as_slice())?;
+    let crew = deal_sessions(rt, alloc, manager, workers, lines.as_slice())?;
     let crew = take_all(rt, alloc, gate, crew, refusals, lines)?;
     let crew = end_round(rt, alloc, gate, crew)?;
     let logs = all_logs(alloc, crew)?;
@@ -120,7 +120,8 @@ pub fn transcribed<
     requires { 0 < workers }
     ensures legal { IfOk result (λ t. IsLegal t.transcript) }
     ensures begins { IfOk result (λ t. BeginsWith N.configs t.transcript) }
-    ensures made { IfOk result (λ t. AreMade N.stated (calls_in lines.items) t.transcript.entries) }
+    ensures made { IfOk result (λ t.
+        AreCallsMade N.stated (calls_in_lines lines.items) t.transcript.entries) }
     ensures managed { IfOk result (λ t. AreManaged N.configs lines.items t.refusals.items) }
 {
     let mut refusals = Vec::new(alloc);

@@ -2,7 +2,7 @@
 ghost use Rattle.std.specs.Prelude.{◌≡◌, ◌≢◌, ◌↔◌, ◌<◌, ◌≤◌, ◌/◌, ◌∷◌, [], length, map, Err, IsTrue, IsOk, IfOk, IfErr, OnOk};
 ghost use Rattle.jc_shared.specs.Sessions.{log_of};
 ghost use Rattle.jc_threads.specs.Dealing.{HasWorked, WorkerMakes, with_line, with_session};
-ghost use Rattle.jc_threads.specs.Faults.{of_call};
+ghost use Rattle.jc_threads.specs.Faults.{call_work_fault};
 ghost use Rattle.jc_threads.specs.Lines.{SessionMakes};
 ghost use Rattle.jc_threads.specs.Managing.{IsDestroying};
 
@@ -105,7 +105,7 @@ impl<'a, N: Name, L: Loader, W: Writer, P: Processor, K: Hearer> Worker<'a, N, L
 fn outcome(replied: Result<Reply, CallFault>) -> Result<(), WorkFault>
     ensures replied { OnOk result (IsOk replied) }
     ensures ok { OnOk replied (IsOk result) }
-    ensures fault { IfErr replied (λ fault. result ≡ Err (of_call fault)) }
+    ensures fault { IfErr replied (λ fault. result ≡ Err (call_work_fault fault)) }
 {
     match replied {
         Ok(_) => Ok(()),

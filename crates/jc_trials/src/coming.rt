@@ -1,8 +1,8 @@
 //! Sessions that create and destroy caches: which ids they get, what is refused and handed back, whose callbacks are
 //! asked, and what lookups know of it.
 ghost use Rattle.std.specs.Prelude.{◌≡◌, map};
-ghost use Rattle.jc_hooks.specs.Program.{echoed};
-ghost use Rattle.jc_hooks.specs.Processors.{verdict_by};
+ghost use Rattle.jc_hooks.specs.Program.{echo_answer};
+ghost use Rattle.jc_hooks.specs.Processors.{program_verdict};
 ghost use Rattle.jc_shared.specs.Stated.{stated_by};
 
 use crate::fakes::{
@@ -237,7 +237,8 @@ fn named<N: Name, R: Wait>(
     log: &Log,
 ) -> Result<Lived, Trouble>
     requires configs { shared.configs ≡ N.configs }
-    requires stated { map (stated_by (λ l. echoed) (λ p. verdict_by p.processor)) shared.shared ≡ N.stated }
+    requires stated { map (stated_by (λ l. echo_answer) (λ p. program_verdict p.processor))
+        shared.shared ≡ N.stated }
     requires index { shared.index ≡ N.index }
 {
     let manager = shared.named::<N>();

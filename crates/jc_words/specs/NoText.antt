@@ -30,12 +30,12 @@ abbrev pub no_text_from : ℕ → List (List ℕ) → Option (ℕ × List ℕ)
 no_text_from n [] = None
 no_text_from n (word ∷ words) = if is_utf8 word then no_text_from (n + 1) words else Some (n, word)
 
-abbrev pub told_of : ℕ × List ℕ → Text
-told_of p = codes "a word is not UTF-8\n  word " ++ (decimal p.0 ++ (codes " is '" ++ (word_shown p.1 ++ codes "'\n")))
+abbrev pub told_of_word : ℕ × List ℕ → Text
+told_of_word p = codes "a word is not UTF-8\n  word " ++ (decimal p.0 ++ (codes " is '" ++ (word_shown p.1 ++ codes "'\n")))
 
 -- of words that ask for explanations; places are counted from 1
 abbrev pub no_text_mistake : List (List ℕ) → Option Text
-no_text_mistake words = if asks_to_explain words then option_map told_of (no_text_from 1 words) else None
+no_text_mistake words = if asks_to_explain words then option_map told_of_word (no_text_from 1 words) else None
 
 -- the text is told of some words
 pub record IsToldOfWords (text : Text) : Type 0 where

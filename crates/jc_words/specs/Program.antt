@@ -74,8 +74,8 @@ abbrev pub texts_lent : List (Bor (List ℕ)) → List Text
 texts_lent texts = map (λ text. text.now) texts
 
 -- the rows of matches
-abbrev pub rows_in : ArgMatches → List Row
-rows_in matches = rows_of (found_of matches)
+abbrev pub rows_in_matches : ArgMatches → List Row
+rows_in_matches matches = rows_of (found_of matches)
 
 -- a text as `str::parse` reads it
 abbrev pub IsNumber : Option Text → ℕ → Type 0
@@ -140,7 +140,7 @@ clash_of rows =
     (if may_be_input (first_of (codes "CONFIG") rows) && may_be_input (first_of (codes "SCRIPT") rows) then Some clash.Inputs else None)
 
 -- the run that rows of matches ask for
-pub record Asks (rows : List Row) (run : Run) : Type 0 where
+pub record AsksRun (rows : List Row) (run : Run) : Type 0 where
   pub config : first_of (codes "CONFIG") rows ≡ Some (string_bytes run.config)
   pub script : first_of (codes "SCRIPT") rows ≡ Some (string_bytes run.script)
   pub options : AsksOptions rows (options_of run)
@@ -153,15 +153,15 @@ pub record AsksCheck (rows : List Row) (check : Check) : Type 0 where
   pub explain : one_of (codes "explain") rows ≡ Some (truth check.explain)
 
 -- how many rows a cache may have
-abbrev pub IsCapacity : ℕ → Type 0
-IsCapacity n = (1 ≤ n) × (n ≤ 65536)
+abbrev pub IsRowCount : ℕ → Type 0
+IsRowCount n = (1 ≤ n) × (n ≤ 65536)
 
 -- a text is this capacity, or none
 abbrev pub SaysCapacity : Text → ℕ → Type 0
-SaysCapacity text n = IsNumber (Some text) n × IsCapacity n
+SaysCapacity text n = IsNumber (Some text) n × IsRowCount n
 
 abbrev pub SaysNoCapacity : Text → Type 0
-SaysNoCapacity text = (n : ℕ) → IsNumber (Some text) n → IsCapacity n → ⊥
+SaysNoCapacity text = (n : ℕ) → IsNumber (Some text) n → IsRowCount n → ⊥
 
 -- each text is a capacity
 abbrev pub AreCapacities : List Text → List ℕ → Type 0
@@ -193,7 +193,7 @@ pub record AsksReplay (rows : List Row) (replay : Replay) : Type 0 where
 
 -- what a subcommand and its matches ask for
 abbrev pub AsksBy : Text × List Row → Asked → Type 0
-AsksBy p (asked.Run run) = (p.0 ≡ codes "run") × Asks p.1 run
+AsksBy p (asked.Run run) = (p.0 ≡ codes "run") × AsksRun p.1 run
 AsksBy p (asked.Check check) = (p.0 ≡ codes "check") × AsksCheck p.1 check
 AsksBy p (asked.Replay replay) = (p.0 ≡ codes "replay") × AsksReplay p.1 replay
 
@@ -212,14 +212,14 @@ IsWithinLimits options = (1 ≤ options.workers) × (options.workers ≤ 8) × (
 abbrev pub KeepsLimits : Asked → Type 0
 KeepsLimits (asked.Run run) = IsWithinLimits (options_of run)
 KeepsLimits (asked.Check check) = ⊤
-KeepsLimits (asked.Replay replay) = All IsCapacity replay.capacities.items
+KeepsLimits (asked.Replay replay) = All IsRowCount replay.capacities.items
 
 -- rows of matches that ask for no options, for no run, for no check, for no replay
 abbrev pub HaveNoOptions : List Row → Type 0
 HaveNoOptions rows = (options : Options) → AsksOptions rows options → IsWithinLimits options → ⊥
 
 abbrev pub HaveNoRun : List Row → Type 0
-HaveNoRun rows = (run : Run) → Asks rows run → IsWithinLimits (options_of run) → ⊥
+HaveNoRun rows = (run : Run) → AsksRun rows run → IsWithinLimits (options_of run) → ⊥
 
 abbrev pub HaveNoCheck : List Row → Type 0
 HaveNoCheck rows = (check : Check) → AsksCheck rows check → ⊥

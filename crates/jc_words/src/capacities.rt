@@ -1,7 +1,7 @@
 //! A list of capacities.
 ghost use Rattle.std.specs.Prelude.{◌≡◌, IfOk, IfSome, Some, MatchOption};
 ghost use Rattle.std.specs.List.{All};
-ghost use Rattle.jc_words.specs.Program.{AreCapacities, AreNoCapacities, IsCapacity, ListsCapacities, ListsNoCapacities};
+ghost use Rattle.jc_words.specs.Program.{AreCapacities, AreNoCapacities, IsRowCount, ListsCapacities, ListsNoCapacities};
 ghost use Rattle.jc_words.specs.Program.{SaysCapacity, SaysNoCapacity, between_commas, texts_lent};
 
 use std::alloc::{AllocError, Global};
@@ -35,7 +35,7 @@ fn read_capacity(text: &str) -> Option<u32>
 fn read_parts(alloc: Global, parts: &[&str]) -> Result<Option<Vec<u32>>, AllocError>
     ensures read { IfOk result (λ read. MatchOption read (AreNoCapacities (texts_lent parts.now))
         (λ v. AreCapacities (texts_lent parts.now) v.items)) }
-    ensures limits { IfOk result (λ read. IfSome read (λ v. All IsCapacity v.items)) }
+    ensures limits { IfOk result (λ read. IfSome read (λ v. All IsRowCount v.items)) }
 {
     let mut capacities = Vec::new(alloc);
     for part in parts {
@@ -51,7 +51,7 @@ fn read_parts(alloc: Global, parts: &[&str]) -> Result<Option<Vec<u32>>, AllocEr
 pub(crate) fn read_capacities(alloc: Global, list: &str) -> Result<Option<Vec<u32>>, AllocError>
     ensures read { IfOk result (λ read. MatchOption read (ListsNoCapacities (Some list.now))
         (λ v. ListsCapacities (Some list.now) v.items)) }
-    ensures limits { IfOk result (λ read. IfSome read (λ v. All IsCapacity v.items)) }
+    ensures limits { IfOk result (λ read. IfSome read (λ v. All IsRowCount v.items)) }
 {
     let parts = parts_of(alloc, list)?;
     read_parts(alloc, parts.as_slice())

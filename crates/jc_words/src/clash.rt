@@ -2,7 +2,7 @@
 
 ghost use Rattle.std.specs.Prelude.{◌≡◌};
 ghost use Rattle.clap.specs.Words.{first_of};
-ghost use Rattle.jc_words.specs.Program.{is_in_words, is_input, may_be_input, clash_of, rows_in};
+ghost use Rattle.jc_words.specs.Program.{is_in_words, is_input, may_be_input, clash_of, rows_in_matches};
 
 use clap::ArgMatches;
 use clap::parser::ValueSource;
@@ -28,7 +28,7 @@ impl Clash {
 
 /// Whether the words have a value for this id, which has none by default.
 fn is_in_words(matches: &ArgMatches<'_>, id: &str) -> bool
-    ensures { result ≡ is_in_words id.now (rows_in matches.now) }
+    ensures { result ≡ is_in_words id.now (rows_in_matches matches.now) }
 {
     match matches.value_source(id) {
         None => false,
@@ -46,7 +46,7 @@ pub fn is_input(path: &str) -> bool
 
 /// Whether the path of this id stands for standard input.
 fn may_be_input(matches: &ArgMatches<'_>, id: &str) -> bool
-    ensures { result ≡ may_be_input (first_of id.now (rows_in matches.now)) }
+    ensures { result ≡ may_be_input (first_of id.now (rows_in_matches matches.now)) }
 {
     match matches.get_str(id) {
         None => false,
@@ -56,7 +56,7 @@ fn may_be_input(matches: &ArgMatches<'_>, id: &str) -> bool
 
 /// What of the matches can't stand together.
 pub(crate) fn clash_of(matches: &ArgMatches<'_>) -> Option<Clash>
-    ensures { result ≡ clash_of (rows_in matches.now) }
+    ensures { result ≡ clash_of (rows_in_matches matches.now) }
 {
     if is_in_words(matches, "serial") && is_in_words(matches, "workers") {
         return Some(Clash::Threads);

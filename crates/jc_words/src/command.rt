@@ -74,7 +74,7 @@ fn flag<'a>(alloc: Global, id: &'a str, help: &'a str) -> Arg<'a>
 }
 
 /// A command with the help's texts.
-fn described<'a>(alloc: Global, name: &'a str, about: &'a str) -> Command<'a>
+fn command_with_help<'a>(alloc: Global, name: &'a str, about: &'a str) -> Command<'a>
     ensures app { app_of result ≡ new_app name.entry.now }
     ensures local { (out-Command result).has_globals ≡ false }
 {
@@ -88,7 +88,7 @@ fn run<'a>(alloc: Global) -> Result<Command<'a>, AllocError>
     ensures app { IfOk result (λ c. app_of c ≡ run_app) }
     ensures local { IfOk result (λ c. (out-Command c).has_globals ≡ false) }
 {
-    described(alloc, "run", help::RUN)
+    command_with_help(alloc, "run", help::RUN)
         .arg(path(alloc, "CONFIG", help::CONFIG))?
         .arg(path(alloc, "SCRIPT", help::SCRIPT))?
         .arg(workers(alloc))?
@@ -103,7 +103,7 @@ fn check<'a>(alloc: Global) -> Result<Command<'a>, AllocError>
     ensures app { IfOk result (λ c. app_of c ≡ check_app) }
     ensures local { IfOk result (λ c. (out-Command c).has_globals ≡ false) }
 {
-    described(alloc, "check", help::CHECK)
+    command_with_help(alloc, "check", help::CHECK)
         .arg(path(alloc, "CONFIG", help::CONFIG))?
         .arg(optional_path(alloc, "SCRIPT", help::SCRIPT))?
         .arg(flag(alloc, "strict", help::STRICT))?
@@ -126,7 +126,7 @@ fn replay<'a>(alloc: Global) -> Result<Command<'a>, AllocError>
     ensures app { IfOk result (λ c. app_of c ≡ replay_app) }
     ensures local { IfOk result (λ c. (out-Command c).has_globals ≡ false) }
 {
-    described(alloc, "replay", help::REPLAY)
+    command_with_help(alloc, "replay", help::REPLAY)
         .arg(path(alloc, "TRACE", help::TRACE))?
         .arg(capacity(alloc))
 }
@@ -135,7 +135,7 @@ fn replay<'a>(alloc: Global) -> Result<Command<'a>, AllocError>
 fn bare<'a>(alloc: Global) -> Result<Command<'a>, AllocError>
     ensures app { IfOk result (λ c. app_of c ≡ bare_app) }
 {
-    described(alloc, "jcache", help::ABOUT)
+    command_with_help(alloc, "jcache", help::ABOUT)
         .version(help::VERSION)
         .propagate_version(true)
         .override_usage(help::USAGE)

@@ -1,6 +1,6 @@
 //! The form of a report.
 ghost use Rattle.std.specs.Prelude.{◌≡◌, MatchOption};
-ghost use Rattle.jc_words.specs.Program.{NamesFormat, NamesNoFormat, SaysNoFormat, format_text, rows_in};
+ghost use Rattle.jc_words.specs.Program.{NamesFormat, NamesNoFormat, SaysNoFormat, format_text, rows_in_matches};
 
 use crate::run::Format;
 use clap::ArgMatches;
@@ -18,8 +18,8 @@ fn read_format(text: &str) -> Option<Format>
 
 /// The form that the matches name.
 pub(crate) fn format_in(matches: &ArgMatches<'_>) -> Option<Format>
-    ensures { MatchOption result (NamesNoFormat (rows_in matches.now))
-        (NamesFormat (rows_in matches.now)) }
+    ensures { MatchOption result (NamesNoFormat (rows_in_matches matches.now))
+        (NamesFormat (rows_in_matches matches.now)) }
 {
     match matches.get_str("format") {
         Some(text) => read_format(text),

@@ -1,6 +1,6 @@
 //! Words of which one is no text.
 ghost use Rattle.std.specs.Prelude.{◌≡◌, ◌++◌, IfOk, OnOk, option_map, string_bytes};
-ghost use Rattle.jc_words.specs.NoText.{bytes_shown, word_shown, no_text_from, told_of, no_text_mistake};
+ghost use Rattle.jc_words.specs.NoText.{bytes_shown, word_shown, no_text_from, told_of_word, no_text_mistake};
 ghost use Rattle.jc_words.specs.Program.{asks_to_explain, texts_lent};
 
 use std::alloc::{AllocError, Global};
@@ -51,7 +51,7 @@ fn first_no_text<'a>(words: &[&'a [u8]]) -> Option<(usize, &'a [u8])>
 }
 
 fn told_of(alloc: Global, place: usize, word: &[u8]) -> Result<String, AllocError>
-    ensures { IfOk result (λ s. string_bytes s ≡ told_of (place, word.now)) }
+    ensures { IfOk result (λ s. string_bytes s ≡ told_of_word (place, word.now)) }
 {
     let shown = show_word(alloc, word)?;
     format!(in alloc; "a word is not UTF-8\n  word {place} is '{shown}'\n")

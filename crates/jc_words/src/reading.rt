@@ -2,7 +2,7 @@
 
 ghost use Rattle.std.specs.Prelude.{◌≡◌, ◌≤◌, ◌<◌, ◌^◌, ◌↔◌, [], IfOk, IfErr, IfSome, None, Ok, option_map, string_bytes};
 ghost use Rattle.std.specs.List.{All};
-ghost use Rattle.jc_words.specs.Program.{Asks, AsksBy, AsksCheck, AsksFor, AsksForNone, AsksOptions, AsksReplay, HaveNoCheck, HaveNoOptions, HaveNoReplay, HaveNoRun, IsCapacity, KeepsLimits, MayRefuse, rows_in, texts_lent};
+ghost use Rattle.jc_words.specs.Program.{AsksRun, AsksBy, AsksCheck, AsksFor, AsksForNone, AsksOptions, AsksReplay, HaveNoCheck, HaveNoOptions, HaveNoReplay, HaveNoRun, IsRowCount, KeepsLimits, MayRefuse, rows_in_matches, texts_lent};
 
 use crate::asked::{Asked, Check, Replay};
 use crate::capacities::read_capacities;
@@ -19,10 +19,10 @@ use std::alloc::{AllocError, Global};
 const MAX_SEED: u64 = 9_223_372_036_854_775_807;
 
 fn options(matches: &ArgMatches<'_>) -> Option<Options>
-    ensures asks { IfSome result (AsksOptions (rows_in matches.now)) }
+    ensures asks { IfSome result (AsksOptions (rows_in_matches matches.now)) }
     ensures workers { IfSome result (λ o. (1 ≤ o.workers) × (o.workers ≤ 8)) }
     ensures seed { IfSome result (λ o. o.seed < 2 ^ 63) }
-    ensures none { result ≡ None → HaveNoOptions (rows_in matches.now) }
+    ensures none { result ≡ None → HaveNoOptions (rows_in_matches matches.now) }
 {
     let workers = matches.get_one::<u8>("workers")?;
     let seed = matches.get_one::<u64>("seed")?;
@@ -45,10 +45,10 @@ fn options(matches: &ArgMatches<'_>) -> Option<Options>
 
 /// What the matches of `run` ask for.
 fn run_asked(alloc: Global, matches: &ArgMatches<'_>) -> Result<Option<Run>, AllocError>
-    ensures asks { IfOk result (λ run. IfSome run (Asks (rows_in matches.now))) }
+    ensures asks { IfOk result (λ run. IfSome run (AsksRun (rows_in_matches matches.now))) }
     ensures workers { IfOk result (λ run. IfSome run (λ r. (1 ≤ r.workers) × (r.workers ≤ 8))) }
     ensures seed { IfOk result (λ run. IfSome run (λ r. r.seed < 2 ^ 63)) }
-    ensures none { IfOk result (λ run. run ≡ None → HaveNoRun (rows_in matches.now)) }
+    ensures none { IfOk result (λ run. run ≡ None → HaveNoRun (rows_in_matches matches.now)) }
 {
     let Some(config) = matches.get_str("CONFIG") else {
         return Ok(None);
@@ -72,7 +72,7 @@ fn run_asked(alloc: Global, matches: &ArgMatches<'_>) -> Result<Option<Run>, All
 }
 
 /// A text of its own, where there is a text.
-fn owned(alloc: Global, text: Option<&str>) -> Result<Option<String>, AllocError>
+fn own_text(alloc: Global, text: Option<&str>) -> Result<Option<String>, AllocError>
     ensures { IfOk result (λ o. option_map string_bytes o ≡ option_map (λ t. t.now) text.entry) }
 {
     match text {
@@ -83,8 +83,8 @@ fn owned(alloc: Global, text: Option<&str>) -> Result<Option<String>, AllocError
 
 /// What the matches of `check` ask for.
 fn check_asked(alloc: Global, matches: &ArgMatches<'_>) -> Result<Option<Check>, AllocError>
-    ensures asks { IfOk result (λ check. IfSome check (AsksCheck (rows_in matches.now))) }
-    ensures none { IfOk result (λ check. check ≡ None → HaveNoCheck (rows_in matches.now)) }
+    ensures asks { IfOk result (λ check. IfSome check (AsksCheck (rows_in_matches matches.now))) }
+    ensures none { IfOk result (λ check. check ≡ None → HaveNoCheck (rows_in_matches matches.now)) }
 {
     let Some(config) = matches.get_str("CONFIG") else {
         return Ok(None);
@@ -95,7 +95,7 @@ fn check_asked(alloc: Global, matches: &ArgMatches<'_>) -> Result<Option<Check>,
     let Some(explain) = matches.get_one::<bool>("explain") else {
         return Ok(None);
     };
-    let script = owned(alloc, matches.get_str("SCRIPT"))?;
+    let script = own_text(alloc, matches.get_str("SCRIPT"))?;
     let config = String::from_str(alloc, config)?;
     Ok(Some(Check {
         config,
@@ -107,10 +107,10 @@ fn check_asked(alloc: Global, matches: &ArgMatches<'_>) -> Result<Option<Check>,
 
 /// What the matches of `replay` ask for.
 fn replay_asked(alloc: Global, matches: &ArgMatches<'_>) -> Result<Option<Replay>, AllocError>
-    ensures asks { IfOk result (λ replay. IfSome replay (AsksReplay (rows_in matches.now))) }
+    ensures asks { IfOk result (λ replay. IfSome replay (AsksReplay (rows_in_matches matches.now))) }
     ensures limits { IfOk result (λ replay.
-        IfSome replay (λ r. All IsCapacity r.capacities.items)) }
-    ensures none { IfOk result (λ replay. replay ≡ None → HaveNoReplay (rows_in matches.now)) }
+        IfSome replay (λ r. All IsRowCount r.capacities.items)) }
+    ensures none { IfOk result (λ replay. replay ≡ None → HaveNoReplay (rows_in_matches matches.now)) }
 {
     let Some(trace) = matches.get_str("TRACE") else {
         return Ok(None);
@@ -126,11 +126,16 @@ fn replay_asked(alloc: Global, matches: &ArgMatches<'_>) -> Result<Option<Replay
 }
 
 /// What the matches of a subcommand ask for.
-fn asked(alloc: Global, name: &str, matches: &ArgMatches<'_>) -> Result<Option<Asked>, AllocError>
-    ensures asks { IfOk result (λ asked. IfSome asked (AsksBy (name.now, rows_in matches.now))) }
+fn read_asked(
+    alloc: Global,
+    name: &str,
+    matches: &ArgMatches<'_>,
+) -> Result<Option<Asked>, AllocError>
+    ensures asks { IfOk result (λ asked.
+        IfSome asked (AsksBy (name.now, rows_in_matches matches.now))) }
     ensures limits { IfOk result (λ asked. IfSome asked KeepsLimits) }
     ensures none { IfOk result (λ asked.
-        asked ≡ None → AsksForNone (name.now, rows_in matches.now)) }
+        asked ≡ None → AsksForNone (name.now, rows_in_matches matches.now)) }
 {
     if name == "run" {
         return match run_asked(alloc, matches)? {
@@ -154,7 +159,7 @@ fn asked(alloc: Global, name: &str, matches: &ArgMatches<'_>) -> Result<Option<A
 }
 
 /// What words are told that ask for nothing.
-fn unasked(matches: &ArgMatches<'_>) -> &'static str {
+fn unasked_text(matches: &ArgMatches<'_>) -> &'static str {
     match matches.subcommand() {
         Some(("run", _)) => help::NO_FORMAT,
         _ => help::NO_LIST,
@@ -188,9 +193,9 @@ pub fn read_words<'a>(alloc: Global, words: &'a [&'a str]) -> Result<Option<Aske
         if let Some(clash) = clash_of(inner) {
             return Err(command.error(ErrorKind::ArgumentConflict, clash.text())?);
         }
-        if let Some(asked) = asked(alloc, name, inner)? {
+        if let Some(asked) = read_asked(alloc, name, inner)? {
             return Ok(Some(asked));
         }
     }
-    Err(command.error(ErrorKind::InvalidSubcommand, unasked(&matches))?)
+    Err(command.error(ErrorKind::InvalidSubcommand, unasked_text(&matches))?)
 }

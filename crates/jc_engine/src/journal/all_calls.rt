@@ -6,7 +6,7 @@ ghost use Rattle.jc_engine.specs.Recording.{with_entry};
 use super::Journal;
 use super::change::Begun;
 use super::notes::{blank, enter_answer, enter_life, kept_place, note, note_given_up, put_of};
-use crate::cache::Advance;
+use crate::turn::Advance;
 use jc_model::OutOfMemory;
 use jc_model::call::{Answer, Call, Notice, Reply};
 use jc_model::config::CacheConfig;

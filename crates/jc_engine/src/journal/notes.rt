@@ -6,7 +6,7 @@ ghost use Rattle.jc_engine.specs.Managed.{step_of};
 ghost use Rattle.jc_engine.specs.Recording.{blank, left_in, with_life};
 ghost use Rattle.jc_engine.specs.Journals.{AnswersAt, AdvancesAt, GivesUpAt, Puts};
 
-use crate::cache::Advance;
+use crate::turn::Advance;
 use jc_model::OutOfMemory;
 use jc_model::call::{Answer, Call, Notice, Reply, Request};
 use jc_model::config::CacheConfig;

@@ -8,7 +8,7 @@ ghost use Rattle.jc_engine.specs.Results.{reply_in};
 ghost use Rattle.jc_engine.specs.Managed.{step_of};
 ghost use Rattle.jc_engine.specs.Recording.{CanTell, left_in, with_advance, with_give_up};
 
-use crate::cache::Advance;
+use crate::turn::Advance;
 use jc_model::OutOfMemory;
 use jc_model::call::{Answer, Notice, Reply, Request};
 use jc_model::event::{End, Entry, Step};

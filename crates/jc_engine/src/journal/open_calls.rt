@@ -13,7 +13,7 @@ use super::change::Begun;
 use super::notes::{blank, put_of};
 use super::open_call::{OpenCall, add_answer, take_answer, write_given_up, write_outcome};
 use super::past::Past;
-use crate::cache::Advance;
+use crate::turn::Advance;
 use jc_model::OutOfMemory;
 use jc_model::call::{Answer, Call, Notice, Reply};
 use jc_model::config::CacheConfig;

@@ -3,22 +3,22 @@ ghost use Rattle.std.specs.Prelude.{◌≡◌, None};
 ghost use Rattle.jc_model.specs.Step.{reply_by};
 
 use jc_model::call::{By, Reply};
+use jc_model::copies::Copies;
 use jc_model::table::Replied;
-use jc_model::thrice::Thrice;
 use jc_model::value::Value;
 
 /// The reply that all went well.
-pub fn done() -> Thrice<Reply>
+pub fn done() -> Copies<Reply>
     ensures { result ≡ Reply.Done }
 {
-    Thrice::new(Reply::Done, Reply::Done, Reply::Done)
+    Copies::new(Reply::Done, Reply::Done, Reply::Done)
 }
 
 /// A yes or a no.
-pub fn truth(answer: bool) -> Thrice<Reply>
+pub fn truth(answer: bool) -> Copies<Reply>
     ensures { result ≡ Reply.Truth answer }
 {
-    Thrice::new(
+    Copies::new(
         Reply::Truth(answer),
         Reply::Truth(answer),
         Reply::Truth(answer),
@@ -26,27 +26,20 @@ pub fn truth(answer: bool) -> Thrice<Reply>
 }
 
 /// The value that a key has, if any.
-pub fn found(value: Option<Thrice<Value>>) -> Thrice<Reply>
+pub fn found(value: Option<Copies<Value>>) -> Copies<Reply>
     ensures { result ≡ Reply.Found value }
 {
     match value {
-        None => Thrice::new(Reply::Found(None), Reply::Found(None), Reply::Found(None)),
-        Some(value) => {
-            let (first, second, third) = value.into_three();
-            Thrice::new(
-                Reply::Found(Some(first)),
-                Reply::Found(Some(second)),
-                Reply::Found(Some(third)),
-            )
-        }
+        None => Copies::new(Reply::Found(None), Reply::Found(None), Reply::Found(None)),
+        Some(value) => value.map(Some).map(Reply::Found),
     }
 }
 
 /// A hook's fault; of a call on many keys with the number of keys that were done before.
-pub fn fault(by: By, done: Option<u32>) -> Thrice<Reply>
+pub fn fault(by: By, done: Option<u32>) -> Copies<Reply>
     ensures { result ≡ Reply.Fault by done }
 {
-    Thrice::new(
+    Copies::new(
         Reply::Fault { by, done },
         Reply::Fault { by, done },
         Reply::Fault { by, done },
@@ -54,7 +47,7 @@ pub fn fault(by: By, done: Option<u32>) -> Thrice<Reply>
 }
 
 /// The reply of a line, where `shown` is the value to be shown.
-pub(crate) fn reply_of(replied: Replied, shown: Option<Thrice<Value>>) -> Thrice<Reply>
+pub(crate) fn reply_of(replied: Replied, shown: Option<Copies<Value>>) -> Copies<Reply>
     ensures { result ≡ reply_by replied shown }
 {
     match replied {

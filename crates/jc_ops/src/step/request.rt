@@ -6,7 +6,7 @@ ghost use Rattle.jc_ops.specs.Lines.{asks_processor, first_request};
 use jc_model::call::{Op, Request};
 use jc_model::config::CacheConfig;
 use jc_model::key::Key;
-use jc_model::table::{Ask, value_of};
+use jc_model::table::Ask;
 use jc_model::value::Value;
 
 /// A request to the writer, who is given this value.
@@ -119,8 +119,6 @@ pub(crate) fn first_request(
     requires copy { copy ≡ handed config.now.writer op.now }
     ensures { result ≡ first_request config.now key.now op.now asks live }
 {
-    // For its clause alone, which says what the operation stores.
-    let _stored = value_of(op);
     match op {
         Op::Invoke { processor, .. } => ask_processor(config, key, *processor, live, copy),
         _ => ask_hook(config, key, asks, copy),

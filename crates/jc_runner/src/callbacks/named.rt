@@ -1,6 +1,6 @@
 //! The callbacks that a configuration names, made for each cache.
 ghost use Rattle.std.specs.Prelude.{◌≡◌, ◌≤◌, IfOk, length, map, replicate};
-ghost use Rattle.jc_runner.specs.Naming.{loader_named, writer_named, processor_named, fresh_listener, IsNamed, AllNamed};
+ghost use Rattle.jc_runner.specs.Naming.{loader_named, writer_named, processor_named, fresh_listener, AreHooksNamed, AllHooksNamed};
 
 use jc_config::{HookKinds, LoaderKind, ProcessorKind, WriterKind};
 use jc_hooks::program::{CheckWriter, EchoLoader, ProgramHooks, ProgramListener, ProgramProcessor};
@@ -66,7 +66,7 @@ fn hooks_of(
     cache: &CacheConfig,
     kinds: &HookKinds,
 ) -> Result<ProgramHooks, OutOfMemory>
-    ensures { IfOk result (IsNamed cache.now kinds.now) }
+    ensures { IfOk result (AreHooksNamed cache.now kinds.now) }
 {
     Ok(CacheHooks {
         loader: loader_of(kinds.loader),
@@ -83,7 +83,7 @@ pub fn all_hooks(
     kinds: &[HookKinds],
 ) -> Result<Vec<ProgramHooks>, OutOfMemory>
     requires { length caches.now ≤ length kinds.now }
-    ensures { IfOk result (λ v. AllNamed caches.now kinds.now v.items) }
+    ensures { IfOk result (λ v. AllHooksNamed caches.now kinds.now v.items) }
 {
     let mut hooks = Vec::with_capacity(alloc, caches.len())?;
     for (i, cache) in caches.iter().enumerate() {

@@ -56,7 +56,7 @@ fn no_kinds(alloc: Global) -> HookKinds
 }
 
 /// The demonstration's two caches, which have no callbacks.
-fn demonstrated(alloc: Global) -> Result<Configuration, OutOfMemory>
+fn demonstration_configuration(alloc: Global) -> Result<Configuration, OutOfMemory>
     ensures { IfOk result (λ c. c ≡ demonstration_read) }
 {
     let settings = demonstration(alloc)?;
@@ -80,6 +80,6 @@ pub(crate) fn demonstrate<I: Read, O: Write>(
     ensures unfailed { result ≢ Err Read → input.new.failures ≡ input.old.failures }
     ensures reads { AddsAtMost most_reads input.old.reads input.new.reads }
 {
-    let configuration = demonstrated(alloc)?;
+    let configuration = demonstration_configuration(alloc)?;
     play(alloc, configuration, 0, false, Format::Text, input, output)
 }

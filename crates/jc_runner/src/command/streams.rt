@@ -1,7 +1,7 @@
 //! The files that the program opens, and its standard streams.
 
 ghost use Rattle.std.specs.Prelude.{◌≡◌, None};
-ghost use Rattle.jc_runner.specs.Watching.{unread, unused};
+ghost use Rattle.jc_runner.specs.Watching.{unread_reader, unused_writer};
 
 use crate::input::Watched;
 use crate::output::WatchedWriter;
@@ -38,9 +38,9 @@ impl<I: Read, O: Write, E: Write> Standard<I, O, E> {
     /// Streams that were not used yet.
     pub fn new(input: I, output: O, errors: E) -> Standard<I, O, E>
         ensures { result ≡ record {
-          input = unread input;
-          output = unused output;
-          errors = unused errors;
+          input = unread_reader input;
+          output = unused_writer output;
+          errors = unused_writer errors;
         } }
     {
         Standard {

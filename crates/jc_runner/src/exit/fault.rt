@@ -4,7 +4,7 @@ ghost use Rattle.std.specs.Bool.{OnTrue};
 ghost use Rattle.std.specs.Option.{option_copied};
 ghost use Rattle.jc_runner.specs.declared.exit.fault.RunFault.TheVariants.{Memory};
 ghost use Rattle.jc_runner.specs.Faults.{of_work, bad_line, bad_cache_line, script_line, config_line, trace_line, run_line, fault_line, explained_line, told_lines, is_of_report};
-ghost use Rattle.jc_runner.specs.Meters.{next_if};
+ghost use Rattle.jc_runner.specs.Meters.{next_count_if};
 ghost use Rattle.jc_runner.specs.Watching.{AddsText};
 
 use crate::output::WatchedWriter;
@@ -85,14 +85,14 @@ pub enum ProgramFault {
 fn write_bad<W: Write>(line: usize, member: &str, writer: &mut WatchedWriter<W>) -> io::Result<()>
     ensures bytes { OnOk result (AddsText W.contents writer.old writer.new
         (bad_line line member.now)) }
-    ensures failures { writer.new.failures ≡ next_if (is_err result) writer.old.failures }
+    ensures failures { writer.new.failures ≡ next_count_if (is_err result) writer.old.failures }
 {
     writeln!(writer, "script line {line}: bad {member}")
 }
 
 fn write_script_fault<W: Write>(fault: ScriptFault, writer: &mut WatchedWriter<W>) -> io::Result<()>
     ensures bytes { OnOk result (AddsText W.contents writer.old writer.new (script_line fault)) }
-    ensures failures { writer.new.failures ≡ next_if (is_err result) writer.old.failures }
+    ensures failures { writer.new.failures ≡ next_count_if (is_err result) writer.old.failures }
 {
     match fault {
         ScriptFault::TooLong => writeln!(writer, "script: too long"),
@@ -110,14 +110,14 @@ fn write_bad_cache<W: Write>(
 ) -> io::Result<()>
     ensures bytes { OnOk result (AddsText W.contents writer.old writer.new
         (bad_cache_line cache member.now)) }
-    ensures failures { writer.new.failures ≡ next_if (is_err result) writer.old.failures }
+    ensures failures { writer.new.failures ≡ next_count_if (is_err result) writer.old.failures }
 {
     writeln!(writer, "config cache {cache}: bad {member}")
 }
 
 fn write_config_fault<W: Write>(fault: ConfigFault, writer: &mut WatchedWriter<W>) -> io::Result<()>
     ensures bytes { OnOk result (AddsText W.contents writer.old writer.new (config_line fault)) }
-    ensures failures { writer.new.failures ≡ next_if (is_err result) writer.old.failures }
+    ensures failures { writer.new.failures ≡ next_count_if (is_err result) writer.old.failures }
 {
     match fault {
         ConfigFault::TooLong => writeln!(writer, "config: too long"),
@@ -135,7 +135,7 @@ fn write_config_fault<W: Write>(fault: ConfigFault, writer: &mut WatchedWriter<W
 
 fn write_run_fault<W: Write>(fault: &RunFault, writer: &mut WatchedWriter<W>) -> io::Result<()>
     ensures bytes { OnOk result (AddsText W.contents writer.old writer.new (run_line fault.now)) }
-    ensures failures { writer.new.failures ≡ next_if (is_err result) writer.old.failures }
+    ensures failures { writer.new.failures ≡ next_count_if (is_err result) writer.old.failures }
 {
     match fault {
         RunFault::Read => writeln!(writer, "script: cannot be read"),
@@ -151,7 +151,7 @@ fn write_run_fault<W: Write>(fault: &RunFault, writer: &mut WatchedWriter<W>) ->
 
 fn write_replay_fault<W: Write>(fault: ReplayFault, writer: &mut WatchedWriter<W>) -> io::Result<()>
     ensures bytes { OnOk result (AddsText W.contents writer.old writer.new (trace_line fault)) }
-    ensures failures { writer.new.failures ≡ next_if (is_err result) writer.old.failures }
+    ensures failures { writer.new.failures ≡ next_count_if (is_err result) writer.old.failures }
 {
     match fault {
         ReplayFault::TooLong => writeln!(writer, "trace: too long"),
@@ -184,7 +184,7 @@ pub fn is_of_report(fault: &ProgramFault) -> bool
 pub fn write_fault<W: Write>(fault: &ProgramFault, writer: &mut WatchedWriter<W>) -> bool
     ensures told { OnTrue result (AddsText W.contents writer.old writer.new
         (fault_line fault.now)) }
-    ensures failures { writer.new.failures ≡ next_if (not result) writer.old.failures }
+    ensures failures { writer.new.failures ≡ next_count_if (not result) writer.old.failures }
 {
     let result = match fault {
         ProgramFault::ConfigRead => writeln!(writer, "config: cannot be read"),
@@ -199,14 +199,14 @@ pub fn write_fault<W: Write>(fault: &ProgramFault, writer: &mut WatchedWriter<W>
 
 pub(crate) fn write_name<W: Write>(writer: &mut WatchedWriter<W>) -> bool
     ensures told { OnTrue result (AddsText W.contents writer.old writer.new (codes "jcache: ")) }
-    ensures failures { writer.new.failures ≡ next_if (not result) writer.old.failures }
+    ensures failures { writer.new.failures ≡ next_count_if (not result) writer.old.failures }
 {
     write!(writer, "jcache: ").is_ok()
 }
 
 pub(crate) fn write_lines<W: Write>(lines: &str, writer: &mut WatchedWriter<W>) -> bool
     ensures told { OnTrue result (AddsText W.contents writer.old writer.new lines.now) }
-    ensures failures { writer.new.failures ≡ next_if (not result) writer.old.failures }
+    ensures failures { writer.new.failures ≡ next_count_if (not result) writer.old.failures }
 {
     write!(writer, "{lines}").is_ok()
 }
@@ -219,7 +219,7 @@ fn write_explained<W: Write>(
 ) -> bool
     ensures told { OnTrue result (AddsText W.contents writer.old writer.new
         (explained_line fault.now lines.now)) }
-    ensures failures { writer.new.failures ≡ next_if (not result) writer.old.failures }
+    ensures failures { writer.new.failures ≡ next_count_if (not result) writer.old.failures }
 {
     if !write_name(writer) {
         return false;
@@ -238,7 +238,7 @@ pub fn write_told<W: Write>(
 ) -> bool
     ensures told { OnTrue result (AddsText W.contents writer.old writer.new
         (told_lines fault.now (option_copied lines.entry))) }
-    ensures failures { writer.new.failures ≡ next_if (not result) writer.old.failures }
+    ensures failures { writer.new.failures ≡ next_count_if (not result) writer.old.failures }
 {
     match lines {
         None => write_fault(fault, writer),

@@ -1,6 +1,6 @@
 //! A check of the two files of a run, which runs nothing.
 ghost use Rattle.std.specs.Prelude.{◌≡◌, ◌≢◌, ℕ, List, Err};
-ghost use Rattle.jc_runner.specs.Disks.{Asks};
+ghost use Rattle.jc_runner.specs.Disks.{AsksForPath};
 ghost use Rattle.jc_runner.specs.Meters.{most_reads, AddsAtMost};
 ghost use Rattle.jc_runner.specs.Program.{LinesEnd, ScriptRead, CheckEnds, LinesAt};
 ghost use Rattle.jc_runner.specs.declared.exit.fault.RunFault.TheVariants.{Read};
@@ -8,7 +8,7 @@ ghost use Rattle.jc_runner.specs.declared.exit.fault.RunFault.TheVariants.{Read}
 use crate::command::streams::Opened;
 use crate::exit::fault::{ProgramFault, RunFault};
 use crate::files::disk::Disk;
-use crate::files::{allowed, configured_from, open_script};
+use crate::files::{configured_from, open_script, require_caches};
 use crate::input::{Watched, read_bytes};
 use crate::serial_run::{lines_of, strictly};
 use jc_config::Settings;
@@ -45,7 +45,7 @@ fn check_script<D: Disk>(
 ) -> Result<(), RunFault>
     ensures ends { ScriptRead D.File.remaining (D.holds disk.old path.now) strict settings.now
         script.new result }
-    ensures asked { Asks (D.asked disk.old) (D.asked disk.new) path.now }
+    ensures asked { AsksForPath (D.asked disk.old) (D.asked disk.new) path.now }
     ensures same { (other : List ℕ) → D.holds disk.new other ≡ D.holds disk.old other }
 {
     *script = None;
@@ -95,7 +95,7 @@ pub fn check_files<D: Disk, I: Read>(
     opened.script = None;
     let path = check.config.as_str();
     let read = configured_from(alloc, disk, path, &mut opened.config, input)?;
-    let configuration = allowed(check.strict, read)?;
+    let configuration = require_caches(check.strict, read)?;
     let Some(path) = &check.script else {
         return Ok(());
     };

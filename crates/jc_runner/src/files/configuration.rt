@@ -1,9 +1,9 @@
 //! The configuration of a reader, read to its end.
 ghost use Rattle.std.specs.Prelude.{◌≡◌, ◌≢◌, IfOk, IfErr, OnOk, Ok, Err};
 ghost use Rattle.std.specs.Io.KnownBytes.{IsAtEnd};
-ghost use Rattle.jc_config.specs.Config.{configuration_of};
+ghost use Rattle.jc_config.specs.Config.{configuration_in};
 ghost use Rattle.jc_runner.specs.Meters.{most_reads, AddsAtMost};
-ghost use Rattle.jc_runner.specs.Opens.{Opens};
+ghost use Rattle.jc_runner.specs.Opens.{CanOpenConfiguration};
 ghost use Rattle.jc_runner.specs.Streams.{IsOfConfiguring};
 ghost use Rattle.jc_runner.specs.Texts.{IsConfiguration, ConfigHasFault, FaultIsOfLength, IfConfigFault};
 ghost use Rattle.jc_runner.specs.Watching.{ReadsAll, ReadFails};
@@ -32,9 +32,9 @@ fn text_of<R: Read>(alloc: Global, reader: &mut Watched<R>) -> Result<Vec<u8>, P
 }
 
 fn configuration_in(alloc: Global, bytes: &[u8]) -> Result<Configuration, ProgramFault>
-    ensures ok { IfOk result (λ c. configuration_of bytes.now ≡ Ok c) }
-    ensures opens { IfOk result Opens }
-    ensures config { IfConfigFault result (λ f. configuration_of bytes.now ≡ Err f) }
+    ensures ok { IfOk result (λ c. configuration_in bytes.now ≡ Ok c) }
+    ensures opens { IfOk result CanOpenConfiguration }
+    ensures config { IfConfigFault result (λ f. configuration_in bytes.now ≡ Err f) }
     ensures others { IfErr result (λ e. (e ≡ ConfigRead → ⊥) × IsOfConfiguring e) }
 {
     match read_config(alloc, bytes) {
@@ -52,7 +52,7 @@ pub fn read_configuration<R: Read>(
     reader: &mut Watched<R>,
 ) -> Result<Configuration, ProgramFault>
     ensures ok { IfOk result (IsConfiguration R.remaining reader.old) }
-    ensures opens { IfOk result Opens }
+    ensures opens { IfOk result CanOpenConfiguration }
     ensures end { OnOk result (IsAtEnd (R.remaining reader.new.inner)) }
     ensures config { IfConfigFault result (ConfigHasFault R.remaining reader.old) }
     ensures failed { result ≡ Err ConfigRead → ReadFails reader.old reader.new }

@@ -19,7 +19,7 @@ pub enum OpenFault {
 /// is known, which paths it was asked for, in order.
 pub trait Disk {
     ghost use Rattle.std.specs.Prelude.{◌≡◌, ℕ, List, Option, IfOk, Err};
-    ghost use Rattle.jc_runner.specs.Disks.{IsFound, MayBeMissing, Asks};
+    ghost use Rattle.jc_runner.specs.Disks.{IsFileFound, MayBeMissing, AsksForPath};
     ghost use Rattle.jc_runner.specs.declared.files.disk.OpenFault.TheVariants.{Unreadable};
 
     type File: Read + Drop;
@@ -30,10 +30,10 @@ pub trait Disk {
 
     fn open(&mut self, path: &str) -> Result<Self::File, OpenFault>
         ensures found { IfOk result (λ file.
-            IsFound (holds self.old path.now) (Self.File.remaining file)) }
+            IsFileFound (holds self.old path.now) (Self.File.remaining file)) }
         ensures missing { result ≡ Err Unreadable → MayBeMissing (holds self.old path.now) }
         ensures same { (other : List ℕ) → holds self.new other ≡ holds self.old other }
-        ensures asked { Asks (asked self.old) (asked self.new) path.now };
+        ensures asked { AsksForPath (asked self.old) (asked self.new) path.now };
 }
 
 /// Whether a fault is that memory was refused.

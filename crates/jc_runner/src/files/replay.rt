@@ -2,7 +2,7 @@
 ghost use Rattle.std.specs.Prelude.{◌≡◌, ◌≢◌, ℕ, List, IfOk, IfErr, Err};
 ghost use Rattle.std.specs.List.{All};
 ghost use Rattle.jc_replay.specs.Hits.{IsCapacity};
-ghost use Rattle.jc_runner.specs.Disks.{Asks, FailsToOpen};
+ghost use Rattle.jc_runner.specs.Disks.{AsksForPath, FailsToOpen};
 ghost use Rattle.jc_runner.specs.Faults.{of_trace, of_replay};
 ghost use Rattle.jc_runner.specs.Meters.{most_reads, AddsAtMost};
 ghost use Rattle.jc_runner.specs.Program.{TraceEnds, TraceFileEnds, ReplayEnds, IsUnreadFile};
@@ -72,7 +72,7 @@ fn open_trace<D: Disk>(disk: &mut D, path: &str) -> Result<Watched<D::File>, Pro
     ensures unread { IfOk result (IsUnreadFile D.File.remaining (D.holds disk.old path.now)) }
     ensures unopened { IfErr result (FailsToOpen TraceRead (ProgramFault.Run RunFault.Memory)
         (D.holds disk.old path.now)) }
-    ensures asked { Asks (D.asked disk.old) (D.asked disk.new) path.now }
+    ensures asked { AsksForPath (D.asked disk.old) (D.asked disk.new) path.now }
     ensures same { (other : List ℕ) → D.holds disk.new other ≡ D.holds disk.old other }
 {
     match open_script(disk, path) {
@@ -93,7 +93,7 @@ fn replay_opened<D: Disk, O: Write>(
     requires { All IsCapacity capacities.now }
     ensures ends { TraceFileEnds D.File.remaining O.contents (D.holds disk.old path.now)
         capacities.now writer.old writer.new trace.new result }
-    ensures asked { Asks (D.asked disk.old) (D.asked disk.new) path.now }
+    ensures asked { AsksForPath (D.asked disk.old) (D.asked disk.new) path.now }
     ensures same { (other : List ℕ) → D.holds disk.new other ≡ D.holds disk.old other }
 {
     *trace = None;

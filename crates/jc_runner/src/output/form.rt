@@ -1,6 +1,6 @@
 //! The form of a report: text or JSON.
 ghost use Rattle.std.specs.Prelude.{◌≡◌, IfOk, string_bytes};
-ghost use Rattle.jc_json.specs.Totals.{CanOpen};
+ghost use Rattle.jc_json.specs.Totals.{CanOpenEach};
 ghost use Rattle.jc_model.specs.Legal.{IsLegal};
 ghost use Rattle.jc_runner.specs.Forms.{form_of, report_in};
 
@@ -46,7 +46,7 @@ pub(crate) fn report_in(
     seed: u64,
 ) -> Result<String, AllocError>
     requires legal { IsLegal transcript.now }
-    requires opens { CanOpen transcript.now.lives }
+    requires opens { CanOpenEach transcript.now.lives }
     ensures { IfOk result (λ s.
         string_bytes s ≡ report_in form.now first transcript.now managed.now) }
 {

@@ -3,7 +3,7 @@ ghost use Rattle.std.specs.Prelude.{◌≡◌, ◌<◌, ℕ, Some, IfOk, IfErr, 
 ghost use Rattle.jc_model.specs.declared.event.Life.{Life as Lived};
 ghost use Rattle.jc_script.specs.declared.line.Line.TheVariants as lines;
 ghost use Rattle.jc_script.specs.Named.{IsLive};
-ghost use Rattle.jc_runner.specs.Halfway.{lives_now, as_read, IsAtRest, refusal_now, Creates, Destroys, NotesLine};
+ghost use Rattle.jc_runner.specs.Halfway.{lives_now, as_read, IsAtRest, refusal_now, CreatesCache, DestroysCache, NotesLine};
 ghost use Rattle.jc_runner.specs.declared.exit.fault.RunFault.TheVariants as faults;
 
 use crate::exit::fault::RunFault;
@@ -20,7 +20,8 @@ fn create<R: Rows, G: Ring>(
     recorded: &mut Recorded<R, G>,
     config: CacheConfig,
 ) -> Result<Option<CreateRefusal>, RunFault>
-    ensures moves { OnOk result ((session : ℕ) → Creates recorded.old recorded.new session config) }
+    ensures moves { OnOk result ((session : ℕ)
+        → CreatesCache recorded.old recorded.new session config) }
     ensures refusal { IfOk result (λ refusal. refusal ≡ refusal_now recorded.old config) }
     ensures faults { IfErr result (λ e.
         (e ≡ faults.Memory) × (refusal_now recorded.old config ≡ None)) }
@@ -39,7 +40,7 @@ pub(crate) fn run_create<R: Rows, G: Ring>(
     session: u32,
     config: CacheConfig,
 ) -> Result<(), RunFault>
-    ensures moves { OnOk result (Creates recorded.old recorded.new session config) }
+    ensures moves { OnOk result (CreatesCache recorded.old recorded.new session config) }
     ensures managed { OnOk result (NotesLine recorded.old (lines.Create session config)
         managed.old.items managed.new.items) }
     ensures faults { IfErr result (λ e. e ≡ faults.Memory) }
@@ -72,7 +73,7 @@ pub(crate) fn run_destroy<R: Rows, G: Ring>(
 ) -> Result<(), RunFault>
     requires rest { IsAtRest recorded.old }
     requires live { IsLive (as_read (lives_now recorded.old)) id }
-    ensures moves { OnOk result (Destroys recorded.old recorded.new session id) }
+    ensures moves { OnOk result (DestroysCache recorded.old recorded.new session id) }
     ensures managed { OnOk result (NotesLine recorded.old (lines.Destroy session id)
         managed.old.items managed.new.items) }
     ensures faults { IfErr result (λ e. e ≡ faults.Memory) }

@@ -1,7 +1,7 @@
 //! The call of a line, with the callbacks that answer its requests.
 ghost use Rattle.std.specs.Prelude.{◌≡◌, Some, IfOk, IfErr, OnOk};
 ghost use Rattle.jc_model.specs.declared.event.Event.TheVariants.{Answer as Answered};
-ghost use Rattle.jc_runner.specs.Halfway.{event_of, CanMove, IsReady, Replies, RepliesAt, BeginsCall, HandsAnswer};
+ghost use Rattle.jc_runner.specs.Halfway.{event_of, CanMove, IsLineReady, Replies, RepliesAt, BeginsLineCall, HandsAnswer};
 ghost use Rattle.jc_runner.specs.Hooks.{asked_of, AreKept};
 ghost use Rattle.jc_runner.specs.declared.exit.fault.RunFault.TheVariants as faults;
 
@@ -19,7 +19,7 @@ use std::alloc::Global;
 /// Begins the call of a line.
 fn begin<R: Rows, G: Ring>(recorded: &mut Recorded<R, G>, line: LineCall) -> Result<Step, RunFault>
     requires { CanMove recorded.old (event_of line) }
-    ensures moves { IfOk result (BeginsCall recorded.old recorded.new line) }
+    ensures moves { IfOk result (BeginsLineCall recorded.old recorded.new line) }
     ensures faults { IfErr result (λ e. e ≡ faults.Memory) }
 {
     let LineCall {
@@ -59,7 +59,7 @@ fn carry_out<R: Rows, G: Ring, L: Loader, W: Writer, P: Processor, K: Hearer>(
     hooks: &mut CacheHooks<L, W, P, K>,
     line: LineCall,
 ) -> Result<(), RunFault>
-    requires ready { IsReady recorded.old line }
+    requires ready { IsLineReady recorded.old line }
     ensures replies { OnOk result (Replies L.load_of W.may P.verdict_of K.state_after
         recorded.old recorded.new (Some hooks.old) (Some hooks.new) line) }
     ensures kept { asked_of hooks.new ≡ asked_of hooks.old }
@@ -81,7 +81,7 @@ pub(crate) fn run_call<R: Rows, G: Ring, L: Loader, W: Writer, P: Processor, K: 
     hooks: &mut [CacheHooks<L, W, P, K>],
     line: LineCall,
 ) -> Result<(), RunFault>
-    requires { IsReady recorded.old line }
+    requires { IsLineReady recorded.old line }
     ensures replies { OnOk result (RepliesAt L.load_of W.may P.verdict_of K.state_after
         recorded.old recorded.new hooks.old hooks.new line) }
     ensures kept { AreKept hooks.old hooks.new }

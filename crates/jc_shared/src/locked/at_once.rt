@@ -6,7 +6,7 @@ ghost use Rattle.jc_model.specs.declared.event.Event.TheVariants.{Begin};
 ghost use Rattle.jc_model.specs.declared.event.Outcome.TheVariants.{Step as Stepped};
 ghost use Rattle.jc_model.specs.declared.event.Step.TheVariants.{Done};
 ghost use Rattle.jc_engine.specs.Recording.{blank};
-ghost use Rattle.jc_shared.specs.Calls.{GoesOnTo};
+ghost use Rattle.jc_shared.specs.Calls.{CallGoesOnTo};
 ghost use Rattle.jc_shared.specs.Tenures.{IsTenure};
 
 use super::Locked;
@@ -28,7 +28,7 @@ impl<N: Name, J: Keeping> Locked<N, J> {
         call: &Call,
         pass: &mut TablePass<N>,
     ) -> Option<(Option<Value>, Option<Value>)>
-        ensures some { IfSome result (λ it. GoesOnTo N.configs
+        ensures some { IfSome result (λ it. CallGoesOnTo N.configs
             (blank session id now call.now) (Done (Found it.0)) (Some (Found it.1)) pass.new) }
         ensures copy { IfSome result (λ it. it.1 ≡ it.0) }
         ensures tenure { IfSome result (λ it. IsTenure self.old.recorded self.new.recorded

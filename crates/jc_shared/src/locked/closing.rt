@@ -1,7 +1,7 @@
 //! The tenures in which a manager with its whole transcript is closed, and its end by its sessions' lists.
 ghost use Rattle.std.specs.Prelude.{◌≡◌, ◌≢◌, false, true, Err, IfOk, IfErr, OnOk, OnErr, map};
 ghost use Rattle.jc_model.specs.Legal.{IsLegal};
-ghost use Rattle.jc_shared.specs.Accounts.{Accounts, IsFault, IsCloseFault, IsCloseRefusal};
+ghost use Rattle.jc_shared.specs.Accounts.{Accounts, IsAuditFault, IsCloseFault, IsCloseRefusal};
 ghost use Rattle.jc_shared.specs.Sessions.{BeginsWith};
 
 use super::Locked;
@@ -20,7 +20,7 @@ impl<N: Name> Locked<N, AllCalls> {
             self.now.given (map S.log logs.now) self.now.recorded.transcript.entries) }
         ensures open { OnOk result (self.now.closed ≡ false) }
         ensures refused { IfErr result (IsCloseRefusal N.configs (map S.log logs.now)) }
-        ensures fault { self.now.closed ≡ false → IfErr result (IsFault
+        ensures fault { self.now.closed ≡ false → IfErr result (IsAuditFault
             self.now.given (map S.log logs.now) self.now.recorded.transcript.entries) }
         ensures again { self.now.closed ≡ true → result ≡ Err CloseFault.Missing }
         ensures memory { IfErr result (λ f. f ≢ CloseFault.OutOfMemory) }
@@ -67,7 +67,7 @@ impl<N: Name> Locked<N, AllCalls> {
         ensures whole { IfOk result (λ t. t ≡ self.recorded.transcript) }
         ensures open { OnOk result (self.closed ≡ false) }
         ensures refused { IfErr result (λ e. IsCloseRefusal N.configs (map S.log logs.now) e.0) }
-        ensures fault { self.closed ≡ false → IfErr result (λ e. IsFault
+        ensures fault { self.closed ≡ false → IfErr result (λ e. IsAuditFault
             self.given (map S.log logs.now) self.recorded.transcript.entries e.0) }
         ensures again { self.closed ≡ true → IfErr result (λ e. e.0 ≡ CloseFault.Missing) }
         ensures memory { IfErr result (λ e. e.0 ≢ CloseFault.OutOfMemory) }

@@ -5,7 +5,7 @@ ghost use Rattle.jc_model.specs.declared.event.Event.TheVariants.{Create, Destro
 ghost use Rattle.jc_model.specs.declared.event.Outcome.TheVariants.{Created, Destroyed};
 ghost use Rattle.jc_model.specs.Places.{named_from};
 ghost use Rattle.jc_engine.specs.Caches.{lives_of};
-ghost use Rattle.jc_shared.specs.Living.{IsNamed, IsCreated, IsCreateFault, IsDestroyFault, HasGone, IsRefusedConfig, IsRefusedDestroy};
+ghost use Rattle.jc_shared.specs.Living.{IsIdOfName, IsCreated, IsCreateFault, IsDestroyFault, HasGone, IsRefusedConfig, IsRefusedDestroy};
 ghost use Rattle.jc_shared.specs.Tenures.{IsTenure};
 
 use super::Locked;
@@ -22,7 +22,7 @@ impl<N: Name, J: Keeping> Locked<N, J> {
     pub(crate) fn cache(&self, name: &Key) -> Option<CacheId>
         ensures exact { result ≡
             named_from (λ k. k.config.name) name.now 0 (lives_of self.now.recorded.caches) }
-        ensures named { IsNamed N.configs name.now result }
+        ensures named { IsIdOfName N.configs name.now result }
     {
         self.recorded.cache(name)
     }

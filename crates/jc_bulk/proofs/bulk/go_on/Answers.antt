@@ -1,14 +1,13 @@
 use Rattle.std.proofs.Common.{refl, ap, ◌∙◌}
-use Rattle.jc_state.proofs.KeptLaws.{remains, remains_on, remains_same}
-use Rattle.jc_bulk.proofs.Names.{Progress, items_of, progress_of, calls_in, sum_of}
+use Rattle.jc_state.proofs.VisitLaws.{same_on, same_visit}
+use Rattle.jc_bulk.proofs.Names.{Progress, items_of, progress_in, calls_in, sum_of}
 use Rattle.jc_bulk.proofs.EachStep.{step_ended, step_waits}
 use Rattle.jc_bulk.proofs.Left.{covered_at_start}
 use Rattle.jc_bulk.proofs.Ready.{first_ready, first_places, first_room, ready_next}
-use Rattle.jc_bulk.proofs.TiedKeys.{tied_keys}
 use Rattle.jc_bulk.proofs.bulk.go_on.Goals as goal
 
 pub steps-init : goal.steps-init
-steps-init g c = record { remains = remains_same _ _ c.requires.tied; ready = c.requires.ready; run = refl }
+steps-init g c = record { same = same_visit _; ready = c.requires.ready; run = refl }
 
 pub start-requires-clause-places : goal.start-requires-clause-places
 start-requires-clause-places g c = first_places (first_ready _ c.steps.invariant.ready c.pop_front.ensures.items c.in-Some.is) _
@@ -21,28 +20,29 @@ start-requires-clause-room g c = first_room (first_ready _ c.steps.invariant.rea
 
 pub returns-in-Waiting-clause-moved : goal.returns-in-Waiting-clause-moved
 returns-in-Waiting-clause-moved g c =
-    let s = c.steps.state in
+    let v = c.steps.visit in
     let p = c.in-Some.field-0 in
     let ready = first_ready c.pop_front.new.self.items c.steps.invariant.ready c.pop_front.ensures.items c.in-Some.is in
-    rw (c.suspend.ensures, ← c.steps.invariant.run, ← c.steps.invariant.remains.config, c.pop_front.ensures.items, c.in-Some.is)
-    (step_waits s.config c.args.now p.call.key _ _ _ _ _ _ _ c.in-Waiting.ensures.call_stays.0 (ap (λ k. k.key) c.in-Waiting.ensures.call_stays.1) c.in-Waiting.ensures.next
-    (covered_at_start s.config c.args.now p.call _ _ c.start.new.state _ _ c.start.ensures.next ready.ahead.apart.0 (tied_keys _ _ _ c.steps.invariant.remains.tied) ready.covered.1))
+    rw (c.suspend.ensures, ← c.steps.invariant.run, ← c.steps.invariant.same.config, c.pop_front.ensures.items, c.in-Some.is)
+    (step_waits v.cache.config v.moment p.call.key _ _ _ _ _ _ c.in-Waiting.ensures.call_stays.0 (ap (λ k. k.key) c.in-Waiting.ensures.call_stays.1) c.in-Waiting.ensures.next
+    (covered_at_start v.cache.config v.moment p.call _ _ (progress_in c.start.new.visit) _ c.start.ensures.next ready.ahead.apart.0 c.find-row.ensures.apart ready.covered.1))
 
 pub steps-preserved : goal.steps-preserved
 steps-preserved g c =
-    let s = c.steps.state in
+    let v = c.steps.visit in
     let p = c.in-Some.field-0 in
     let left = c.pop_front.new.self.items in
     let ready = first_ready left c.steps.invariant.ready c.pop_front.ensures.items c.in-Some.is in
-    let before : Progress = progress_of s c.steps.notices.told in
+    let before : Progress = progress_in v in
+    let spends = c.start.ensures.spends in
     record {
-      remains = remains_on _ _ _ _ _ _ c.steps.invariant.remains (remains _ _ _ _ _ _ _ c.start.ensures.stays.keeps);
-      ready = rw c.start.ensures.stays.keeps.config
-          (ready_next ready _ (items_of c.start.new.state.cells) c.start.new.notices (g.R.Rows.spare c.start.new.rows) c.add.new.self
-          (covered_at_start s.config c.args.now p.call before c.start.result c.start.new.state _ left c.start.ensures.next ready.ahead.apart.0 (tied_keys _ _ _ c.steps.invariant.remains.tied) ready.covered.1)
-          c.start.ensures.stays.places c.start.ensures.stays.keeps.room c.add.ensures.done c.add.ensures.room);
-      run = rw c.start.ensures.stays.keeps.config
-          (step_ended s.config c.args.now p.call (calls_in left) (sum_of c.steps.ahead.sum) (sum_of c.add.new.self) before _ c.in-Ended.reply c.in-Ended.ensures.next
+      same = same_on _ _ _ c.steps.invariant.same spends.same;
+      ready = rw spends.same.config
+          (ready_next ready _ (items_of c.start.new.visit.cache.cells) c.start.new.visit.noted c.start.new.visit.spare c.add.new.self
+          (covered_at_start v.cache.config v.moment p.call before c.start.result (progress_in c.start.new.visit) left c.start.ensures.next ready.ahead.apart.0 c.find-row.ensures.apart ready.covered.1)
+          spends.places spends.room c.add.ensures.done c.add.ensures.room);
+      run = rw (spends.same.config, spends.same.moment)
+          (step_ended v.cache.config v.moment p.call (calls_in left) (sum_of c.steps.ahead.sum) (sum_of c.add.new.self) before _ c.in-Ended.reply c.in-Ended.ensures.next
           (rw (← c.first.ensures, ← c.ends_call.ensures) c.in_default-ends_call.is) c.add.ensures.sum
           ∙ (rw (c.pop_front.ensures.items, c.in-Some.is) at c.steps.invariant.run));
     }

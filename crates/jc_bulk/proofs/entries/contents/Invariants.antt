@@ -4,6 +4,6 @@ use Rattle.jc_bulk.proofs.entries.contents.Given as goal
 
 abbrev pub invariant-loop-key : goal.invariant-loop-key
 invariant-loop-key g l = record {
-  listed : l.pairs.items ++ contents l.state.config l.now (drop l.key-index (items_of l.state.cells)) ≡ contents l.state.config l.now (items_of l.state.cells);
+  listed : l.pairs.items ++ contents l.visit.cache.config l.visit.moment (drop l.key-index (items_of l.visit.cache.cells)) ≡ contents l.visit.cache.config l.visit.moment (items_of l.visit.cache.cells);
   room : length l.keys ≤ l.pairs.spare + l.key-index;
 }

@@ -5,5 +5,5 @@ use Rattle.jc_bulk.proofs.provide.with_values.Given as goal
 abbrev pub invariant-loop-call : goal.invariant-loop-call
 invariant-loop-call g l = record {
   calls : calls_in l.rest.items ≡ l.yielded;
-  covered : AreCovered l.state.config (items_of l.state.cells) l.rest.items;
+  covered : AreCovered l.visit.cache.config (items_of l.visit.cache.cells) l.rest.items;
 }

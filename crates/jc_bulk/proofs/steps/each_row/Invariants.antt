@@ -3,4 +3,4 @@ use Rattle.jc_bulk.proofs.Names.{remove_each, items_of}
 use Rattle.jc_bulk.proofs.steps.each_row.Given as goal
 
 abbrev pub invariant-loop-key : goal.invariant-loop-key
-invariant-loop-key g l = l.calls.items ++ remove_each l.now (drop l.key-index (items_of l.state.cells)) ≡ remove_each l.now (items_of l.state.cells)
+invariant-loop-key g l = l.calls.items ++ remove_each l.visit.moment (drop l.key-index (items_of l.visit.cache.cells)) ≡ remove_each l.visit.moment (items_of l.visit.cache.cells)

@@ -1,14 +1,14 @@
 use Rattle.std.proofs.Common.{◌≡◌, ◌+◌, ◌/◌, ◌<◌, ◌%◌, ◌^◌, ℕ, suc, List, take, get_or, inl, inr, refl, arith, ap, sym, subst, ◌∙◌}
 use Rattle.jc_model.specs.Limits.{key_words}
-use Rattle.jc_stripes.specs.Stripes.{Among, glance_of}
+use Rattle.jc_stripes.specs.Stripes.{IsOneOf, glance_of}
 use Rattle.jc_index.specs.Layout.{bucket_slots, slot_place, slot_words, stripe_of}
 use Rattle.jc_index.specs.Spelling.{group_of, key_words_at, words_at}
 use Rattle.jc_index.proofs.Judging.{whole}
 use Rattle.jc_index.proofs.Noting.{first_of_words, group_at, note_is, noted_and, noted_as, nth_word, word_more}
 use Rattle.jc_index.proofs.look.head_at.Goals as goal
 
-under : (js : List ℕ) (slot p k : ℕ) → Among (stripe_of (slot / bucket_slots)) js → k < slot_words → p ≡ slot_place slot + k → Among (group_of p) js
-under js slot p k own few e = subst (λ (z : ℕ). Among z js) (sym (group_at slot p k few e)) own
+under : (js : List ℕ) (slot p k : ℕ) → IsOneOf (stripe_of (slot / bucket_slots)) js → k < slot_words → p ≡ slot_place slot + k → IsOneOf (group_of p) js
+under js slot p k own few e = subst (λ (z : ℕ). IsOneOf z js) (sym (group_at slot p k few e)) own
 
 pub returns-then-not-is_of_cache-clause-noted : goal.returns-then-not-is_of_cache-clause-noted
 returns-then-not-is_of_cache-clause-noted g c js own =

@@ -1,9 +1,9 @@
 use Rattle.std.proofs.Common.{◌≡◌, ◌+◌, ◌-◌, ◌*◌, ◌≤◌, List, ℕ, drop, false}
-use Rattle.jc_stripes.specs.Stripes.{Among, glance_of}
+use Rattle.jc_stripes.specs.Stripes.{IsOneOf, glance_of}
 use Rattle.jc_index.specs.Layout.{bucket_slots, stripe_of}
-use Rattle.jc_index.specs.Spelling.{key_of}
+use Rattle.jc_index.specs.Spelling.{key_of_words}
 use Rattle.jc_index.specs.Found.{first_seen}
-use Rattle.jc_index.specs.Passes.{IsNoted, IsSpeltIn, bucket_at}
+use Rattle.jc_index.specs.Passes.{IsNoted, IsSpeltIn, slots_in_bucket}
 use Rattle.jc_index.proofs.look.look_bucket.Given as goal
 
 -- the first slots do not hold the key
@@ -13,6 +13,6 @@ invariant-loop-slot g l = record {
   young : (glance_of l.reader.seat.me.0).settled ≡ false;
   start : bucket_slots * l.bucket ≤ l.slot;
   few : l.slot ≤ bucket_slots * l.bucket + bucket_slots;
-  noted : (js : List ℕ) → Among (stripe_of l.bucket) js
-      → IsNoted js l.fn.reader.seat l.reader.seat (λ words. IsSpeltIn words l.bucket → first_seen l.sought.id (key_of l.sought.words) l.sought.moment (bucket_at words l.bucket) ≡ first_seen l.sought.id (key_of l.sought.words) l.sought.moment (drop (l.slot - bucket_slots * l.bucket) (bucket_at words l.bucket)));
+  noted : (js : List ℕ) → IsOneOf (stripe_of l.bucket) js
+      → IsNoted js l.fn.reader.seat l.reader.seat (λ words. IsSpeltIn words l.bucket → first_seen l.sought.id (key_of_words l.sought.words) l.sought.moment (slots_in_bucket words l.bucket) ≡ first_seen l.sought.id (key_of_words l.sought.words) l.sought.moment (drop (l.slot - bucket_slots * l.bucket) (slots_in_bucket words l.bucket)));
 }

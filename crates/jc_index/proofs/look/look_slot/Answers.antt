@@ -1,5 +1,5 @@
 use Rattle.std.proofs.Common.{◌+◌, ℕ, arith, sym, subst}
-use Rattle.jc_stripes.specs.Stripes.{Among}
+use Rattle.jc_stripes.specs.Stripes.{IsOneOf}
 use Rattle.jc_index.specs.Layout.{moment_place, slot_place}
 use Rattle.jc_index.specs.Spelling.{group_of}
 use Rattle.jc_index.specs.Passes.{IsHeadAt}
@@ -23,6 +23,6 @@ returns-clause-noted g c js own =
     let slot = c.args.slot in
     let p = slot_place slot + moment_place in
     let it = c.note-moment in
-    let under : Among (group_of p) js = subst (λ (z : ℕ). Among z js) (sym (group_at slot p moment_place (omega arith) (omega arith))) own in
+    let under : IsOneOf (group_of p) js = subst (λ (z : ℕ). IsOneOf z js) (sym (group_at slot p moment_place (omega arith) (omega arith))) own in
     noted_as (noted_and (c.head_at.ensures.noted js own) (note_is js c.head_at.new.reader.seat it.new.self.seat p it.result under it.ensures.same it.ensures.view))
     (λ words k at. until me words slot at c.in-Some.head it.result c.if-head-ge-NEVER.false k.1 (subst (IsHeadAt me.id me.words words slot) c.in-Some.is (k.0 at)))

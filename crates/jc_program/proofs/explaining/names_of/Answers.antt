@@ -1,6 +1,6 @@
 use Rattle.std.proofs.Common.{◌∙◌, ap, List, ℕ, arith, map, Bor}
 use Rattle.std.proofs.lemmas.List.{map_push}
-use Rattle.jc_config.specs.Limits.{names_in}
+use Rattle.jc_config.specs.Limits.{names_of_caches}
 use Rattle.jc_model.specs.declared.config.CacheConfig.{CacheConfig}
 use Rattle.jc_runner.proofs.Pushed.{more_mapped, all_mapped}
 use Rattle.jc_program.proofs.explaining.names_of.Goals as goal
@@ -14,4 +14,4 @@ loop-cache-preserved c =
 pub returns : goal.returns
 returns c =
     all_mapped (λ (cache : CacheConfig). cache.name) c.caches-cache-items.result.now c.loop-cache.cache-index (map (λ name. name.now) c.loop-cache.names.items) (omega (arith, c.loop-cache-test.false)) c.loop-cache.invariant
-    ∙ ap names_in c.caches-cache-items.ensures.same
+    ∙ ap names_of_caches c.caches-cache-items.ensures.same

@@ -12,12 +12,12 @@ use Rattle.jc_runner.proofs.threaded_run.threaded_as.Goals as goal
 pub returns-in_err-text-clause-refused : goal.returns-in_err-text-clause-refused
 returns-in_err-text-clause-refused g c = λ is.
     let p = err_from_is_err_and c.from_residual.result c.from_residual.ensures.1 in
-    c.gathered.ensures.refused (c.in_err-text.was ∙ ap Err (passed_fault c.from_residual.result c.in_err-text.field-0.0 _ p is))
+    c.gather_report.ensures.refused (c.in_err-text.was ∙ ap Err (passed_fault c.from_residual.result c.in_err-text.field-0.0 _ p is))
 
 pub returns-in_err-text-clause-closed : goal.returns-in_err-text-clause-closed
 returns-in_err-text-clause-closed g c = λ is.
     let p = err_from_is_err_and c.from_residual.result c.from_residual.ensures.1 in
-    c.gathered.ensures.closed (c.in_err-text.was ∙ ap Err (passed_fault c.from_residual.result c.in_err-text.field-0.0 _ p is))
+    c.gather_report.ensures.closed (c.in_err-text.was ∙ ap Err (passed_fault c.from_residual.result c.in_err-text.field-0.0 _ p is))
 
 pub returns-clause-ok : goal.returns-clause-ok
 returns-clause-ok g c =

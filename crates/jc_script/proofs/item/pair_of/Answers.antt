@@ -1,12 +1,12 @@
 use Rattle.std.proofs.Common.{◌≡◌, ◌≢◌, List, [], ◌∷◌, length, None, refl, sym}
 use Rattle.std.specs.declared.alloc.Global.{Global}
 use Rattle.json.specs.declared.value.Value.{Value}
-use Rattle.jc_script.specs.Member.{pair_of}
+use Rattle.jc_script.specs.Member.{pair_in}
 use Rattle.jc_script.specs.Tree.{items_in}
 use Rattle.jc_script.proofs.item.pair_of.Goals as goal
 
 -- a list of other than two items is no pair
-no_pair : (items : List (Value Global)) → length items ≢ 2 → pair_of (items_in items) ≡ None
+no_pair : (items : List (Value Global)) → length items ≢ 2 → pair_in (items_in items) ≡ None
 no_pair [] h = refl
 no_pair (first ∷ []) h = refl
 no_pair (first ∷ second ∷ []) h = absurd (h refl)

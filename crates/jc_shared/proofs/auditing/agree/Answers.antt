@@ -33,8 +33,8 @@ loop-entry-preserved g c =
     let lt : e.session < length rests = omega (arith, c.if-entry-ge-MOST_SESSIONS.false, c.loop-entry.invariant.0) in
     let agree : AgreeBy c.args.entries.now logs (e ∷ c.in-Some.later.now) rests =
     subst (λ (es : List Entry). AgreeBy c.args.entries.now logs es rests) c.in-Some.ensures.cases.0 c.loop-entry.invariant.1 in (
-      length-set rests e.session c.in-Some-past.rest ∙ c.loop-entry.invariant.0,
-      agree_next rests e.session c.in-Some-past.rest c.args.entries.now c.in-Some.later.now logs e lt refl (rest_read e.session rests c.index-rests-entry.result lt ∙ c.in-Some-past.ensures) agree,
+      length-set rests e.session c.in-Some-rest_behind.rest ∙ c.loop-entry.invariant.0,
+      agree_next rests e.session c.in-Some-rest_behind.rest c.args.entries.now c.in-Some.later.now logs e lt refl (rest_read e.session rests c.index-rests-entry.result lt ∙ c.in-Some-rest_behind.ensures) agree,
     )
 
 pub loop-session-init : goal.loop-session-init

@@ -10,4 +10,4 @@ loop-entry-preserved c =
     let done = take c.loop-entry.entry-index c.args.entries.now in
     let more : take (c.loop-entry.entry-index + 1) c.args.entries.now ≡ done ++ e ∷ [] =
     take_more c.args.entries.now c.loop-entry.entry-index e (omega (arith, c.loop-entry-test.true)) ∙ ap (λ (x : Entry). done ++ x ∷ []) (sym c.entry-item.is) in
-    subst (λ (es : List Entry). IsLeastFrom c.args.given es c.lesser-least.result) (sym more) (c.lesser-least.ensures done e refl c.loop-entry.invariant)
+    subst (λ (es : List Entry). IsLeastFrom c.args.given es c.lesser_session-least.result) (sym more) (c.lesser_session-least.ensures done e refl c.loop-entry.invariant)

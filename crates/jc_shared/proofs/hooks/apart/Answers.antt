@@ -12,7 +12,7 @@ loop-own-init g c = (c.in_ok-shared.ensures.items, ap (map is_some) c.in_ok-lock
 pub loop-own-preserved : goal.loop-own-preserved
 loop-own-preserved g c =
     let before = c.loop-own.invariant in (
-      shared_more shared_of c.loop-own.yielded c.in-Some.own c.loop-own.shared.items c.push.new.self.items c.parted-asked.result.0 c.in_ok-push.ensures.items before.0 c.parted-asked.ensures.asked,
+      shared_more shared_of c.loop-own.yielded c.in-Some.own c.loop-own.shared.items c.push.new.self.items c.split_hooks-asked.result.0 c.in_ok-push.ensures.items before.0 c.split_hooks-asked.ensures.asked,
       told_more wants_lock is_some c.loop-own.yielded c.in-Some.own c.loop-own.locks.items c.push-in-loop-own.new.self.items c.lock_over.result c.in_ok-push-2.ensures.items before.1 (c.lock_over.ensures ∙ c.wants_lock-wanted.ensures),
     )
 

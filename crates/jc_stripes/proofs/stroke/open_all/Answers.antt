@@ -1,7 +1,7 @@
 use Rattle.std.proofs.Common.{rules, ap, ◌∙◌}
 use Rattle.atomic_table.specs.Table.{Me}
 use Rattle.jc_stripes.specs.declared.board.View.{View}
-use Rattle.jc_stripes.specs.Stripes.{IsOpened, desk, desk_of}
+use Rattle.jc_stripes.specs.Stripes.{IsVersionOpened, desk, desk_of}
 use Rattle.jc_stripes.proofs.Opening.{changes_next, opened_again}
 use Rattle.jc_stripes.proofs.stroke.open_all.Goals as goal
 
@@ -11,5 +11,5 @@ loop-i-preserved g c =
       search rules,
       search rules,
       c.open_one.ensures.view ∙ ap (λ (m : Me (Unit {0}) (View g.row.L.Denot)). (record m.0 { role = desk c.open_one.new.versions (desk_of m.0).words }, m.1)) was.2,
-      changes_next IsOpened opened_again c.args.stripes.now c.args.versions.now _ c.open_one.new.versions c.loop-i.i (search rules) was.3 c.open_one.ensures.one c.open_one.ensures.others,
+      changes_next IsVersionOpened opened_again c.args.stripes.now c.args.versions.now _ c.open_one.new.versions c.loop-i.i (search rules) was.3 c.open_one.ensures.one c.open_one.ensures.others,
     )

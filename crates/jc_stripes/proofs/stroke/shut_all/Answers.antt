@@ -1,7 +1,7 @@
 use Rattle.std.proofs.Common.{rules, ap, ◌∙◌}
 use Rattle.atomic_table.specs.Table.{Me}
 use Rattle.jc_stripes.specs.declared.board.View.{View}
-use Rattle.jc_stripes.specs.Stripes.{IsShut, desk, last_of}
+use Rattle.jc_stripes.specs.Stripes.{IsVersionShut, desk, last_of}
 use Rattle.jc_stripes.proofs.Opening.{changes_next, shut_again}
 use Rattle.jc_stripes.proofs.stroke.shut_all.Goals as goal
 
@@ -11,5 +11,5 @@ loop-i-preserved g c =
       search rules,
       search rules,
       c.shut_one.ensures.view ∙ ap (λ (m : Me (Unit {0}) (View g.row.L.Denot)). (record m.0 { role = desk c.shut_one.new.versions (last_of m.0.front) }, m.1)) was.2,
-      changes_next IsShut shut_again c.args.stripes.now c.args.versions.now _ c.shut_one.new.versions c.loop-i.i (search rules) was.3 c.shut_one.ensures.one c.shut_one.ensures.others,
+      changes_next IsVersionShut shut_again c.args.stripes.now c.args.versions.now _ c.shut_one.new.versions c.loop-i.i (search rules) was.3 c.shut_one.ensures.one c.shut_one.ensures.others,
     )

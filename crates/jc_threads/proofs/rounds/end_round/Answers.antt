@@ -10,15 +10,15 @@ pub returns-clause-counted : goal.returns-clause-counted
 returns-clause-counted g c =
     let crew = c.args.crew.items in
     let results = c.in_ok-results.results.items in
-    IfOk-weaker c.gathered.result (λ v. map Ok v.items ≡ results) (λ v. length v.items ≡ length crew) (λ v done. as_many g.N.Name.stated crew v.items results c.in_ok-results.ensures done) c.gathered.ensures.ok
+    IfOk-weaker c.gather_workers.result (λ v. map Ok v.items ≡ results) (λ v. length v.items ≡ length crew) (λ v done. as_many g.N.Name.stated crew v.items results c.in_ok-results.ensures done) c.gather_workers.ensures.ok
 
 pub returns-clause-rested : goal.returns-clause-rested
 returns-clause-rested g c =
     let stated = g.N.Name.stated in
     let crew = c.args.crew.items in
     let results = c.in_ok-results.results.items in
-    IfOk-weaker c.gathered.result (λ v. map Ok v.items ≡ results) (λ v. (all : List LineCall) → AreUnderWay stated all crew → HaveRested stated all v.items)
-    (λ v done. rested stated crew v.items results c.in_ok-results.ensures done) c.gathered.ensures.ok
+    IfOk-weaker c.gather_workers.result (λ v. map Ok v.items ≡ results) (λ v. (all : List LineCall) → AreUnderWay stated all crew → HaveRested stated all v.items)
+    (λ v done. rested stated crew v.items results c.in_ok-results.ensures done) c.gather_workers.ensures.ok
 
 -- a worker held a call
 pub returns-in_err-results-clause-idle : goal.returns-in_err-results-clause-idle
@@ -31,7 +31,7 @@ pub returns-clause-rest : goal.returns-clause-rest
 returns-clause-rest g c =
     let crew = c.args.crew.items in
     let results = c.in_ok-results.results.items in
-    IfOk-weaker c.gathered.result (λ v. map Ok v.items ≡ results) (λ v. AreAtRest v.items) (λ v done. at_rest g.N.Name.stated crew v.items results c.in_ok-results.ensures done) c.gathered.ensures.ok
+    IfOk-weaker c.gather_workers.result (λ v. map Ok v.items ≡ results) (λ v. AreAtRest v.items) (λ v done. at_rest g.N.Name.stated crew v.items results c.in_ok-results.ensures done) c.gather_workers.ensures.ok
 
 -- no worker held a call
 pub returns-then-are_at_rest-clause-rest : goal.returns-then-are_at_rest-clause-rest

@@ -1,6 +1,6 @@
 use Rattle.std.proofs.Common.{◌<◌, List, length, subst, arith}
 use Rattle.std.specs.List.{flat_map}
-use Rattle.jc_script.specs.Calls.{calls_in}
+use Rattle.jc_script.specs.Calls.{calls_in_lines}
 use Rattle.jc_shared.specs.Accounts.{Accounts}
 use Rattle.jc_shared.specs.Sessions.{Own}
 use Rattle.jc_threads.specs.Dealing.{Share}
@@ -10,7 +10,7 @@ use Rattle.jc_threads.proofs.together.made_by_sessions.Goals as goal
 pub returns-clause-made : goal.returns-clause-made
 returns-clause-made g c = λ given entries accounts.
     let stated = g.N.Name.stated in
-    let all = calls_in c.args.lines.items in
+    let all = calls_in_lines c.args.lines.items in
     let crew = c.in_ok-crew-3.crew.items in
     let some : 0 < length crew = omega (arith, c.in_ok-crew.ensures.ready.0, c.in_ok-crew-2.ensures.counted, c.in_ok-crew-3.ensures.counted, c.requires) in
     let rest = c.in_ok-crew-3.ensures.rested all (c.in_ok-crew-2.ensures.made c.in_ok-crew.ensures.ready.1) in

@@ -1,10 +1,10 @@
 use Rattle.std.proofs.Common.{drop, All}
-use Rattle.jc_words.specs.Program.{IsCapacity, texts_lent}
+use Rattle.jc_words.specs.Program.{IsRowCount, texts_lent}
 use Rattle.jc_words.proofs.Parts.{IsSoFar}
 use Rattle.jc_words.proofs.capacities.read_parts.Given as goal
 
 abbrev pub invariant-loop-part : goal.invariant-loop-part
 invariant-loop-part l = record {
   so_far : IsSoFar (texts_lent l.parts) l.capacities.items (texts_lent (drop l.part-index l.parts));
-  limits : All IsCapacity l.capacities.items;
+  limits : All IsRowCount l.capacities.items;
 }

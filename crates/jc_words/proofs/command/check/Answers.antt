@@ -7,7 +7,7 @@ use Rattle.jc_words.proofs.command.check.Goals as goal
 
 before : (c : goal.After-arg-4) → Has (with_rule (files_app (codes "check") false) (flag_rule (codes "strict"))) c.in_ok-arg-3.field-0
 before c =
-    let one = adds _ _ _ _ (path_rule (codes "CONFIG") true) c.in_ok-arg.ensures c.path.ensures.global c.path.ensures.rule (c.described.ensures.app, c.described.ensures.local) in
+    let one = adds _ _ _ _ (path_rule (codes "CONFIG") true) c.in_ok-arg.ensures c.path.ensures.global c.path.ensures.rule (c.command_with_help.ensures.app, c.command_with_help.ensures.local) in
     let two = adds _ _ _ _ (path_rule (codes "SCRIPT") false) c.in_ok-arg-2.ensures c.optional_path.ensures.global c.optional_path.ensures.rule one in
     adds _ _ _ _ (flag_rule (codes "strict")) c.in_ok-arg-3.ensures c.flag.ensures.global c.flag.ensures.rule two
 

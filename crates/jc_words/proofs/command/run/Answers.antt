@@ -7,7 +7,7 @@ use Rattle.jc_words.proofs.command.run.Goals as goal
 
 before : (c : goal.After-arg-8) → Has (with_rule (with_rule (with_rule (with_rule (with_rule (files_app (codes "run") true) workers_rule) seed_rule) (flag_rule (codes "serial"))) format_rule) (flag_rule (codes "strict"))) c.in_ok-arg-7.field-0
 before c =
-    let one = adds _ _ _ _ (path_rule (codes "CONFIG") true) c.in_ok-arg.ensures c.path.ensures.global c.path.ensures.rule (c.described.ensures.app, c.described.ensures.local) in
+    let one = adds _ _ _ _ (path_rule (codes "CONFIG") true) c.in_ok-arg.ensures c.path.ensures.global c.path.ensures.rule (c.command_with_help.ensures.app, c.command_with_help.ensures.local) in
     let two = adds _ _ _ _ (path_rule (codes "SCRIPT") true) c.in_ok-arg-2.ensures c.path-2.ensures.global c.path-2.ensures.rule one in
     let three = adds _ _ _ _ workers_rule c.in_ok-arg-3.ensures c.workers.ensures.global c.workers.ensures.rule two in
     let four = adds _ _ _ _ seed_rule c.in_ok-arg-4.ensures c.seed.ensures.global c.seed.ensures.rule three in

@@ -3,9 +3,9 @@ use Rattle.std.specs.FinMap as map
 use Rattle.std.proofs.lemmas.List.{get_or-set_same}
 use Rattle.jc_rows.specs.Rows.{RowMap}
 use Rattle.jc_cuckoo.specs.declared.held.Work.{Work}
-use Rattle.jc_cuckoo.specs.Cells.{cell, place_of, row_of}
+use Rattle.jc_cuckoo.specs.Cells.{cell, held_place, held_row}
 use Rattle.jc_rows.specs.Images.{Image}
-use Rattle.jc_cuckoo.specs.Images.{Covers}
+use Rattle.jc_cuckoo.specs.Images.{CoversImage}
 use Rattle.jc_cuckoo.specs.Table.{image}
 use Rattle.jc_cuckoo.proofs.Covers.{told_last}
 use Rattle.jc_cuckoo.proofs.cuckoo.Cuckoo.settle.Goals as goal
@@ -21,7 +21,7 @@ returns-in-Some-clause-settled g c =
     let wide = c.self-in-Some.invariant.0.sound.wide in
     let low = c.displace-gap.ensures.slot in
     rw (← c.self.view_is) (λ t. record {
-      rows = c.fill.ensures.rows ∙ ap (λ (m : RowMap). map.insert m (place_of c.args.held) (row_of c.args.held)) rows;
+      rows = c.fill.ensures.rows ∙ ap (λ (m : RowMap). map.insert m (held_place c.args.held) (held_row c.args.held)) rows;
       room = c.fill.ensures.room ∙ room;
       placer = c.fill.ensures.follows.placer ∙ same.0;
       buckets = buckets;
@@ -41,7 +41,7 @@ returns-in-Some-clause-settled g c =
         images = told_last _ _ _ e.way _ e.images c.fill.ensures.follows.images;
         count = e.count ∙ sym moves;
         kept = e.kept;
-        covers = subst (λ (x : Image). Covers x (image c.fill.new.self)) (sym e.last) c.fill.ensures.covers;
+        covers = subst (λ (x : Image). CoversImage x (image c.fill.new.self)) (sym e.last) c.fill.ensures.covers;
         shows = c.fill.ensures.follows.shows;
       };
     })

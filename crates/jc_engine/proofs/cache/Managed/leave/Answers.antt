@@ -1,5 +1,9 @@
+use Rattle.std.proofs.Common.{◌≡◌, [], subst}
+use Rattle.jc_state.specs.Visited.{Visited}
 use Rattle.jc_engine.proofs.Tables.{none_left}
 use Rattle.jc_engine.proofs.cache.Managed.leave.Goals as goal
 
 pub returns-clause-gone : goal.returns-clause-gone
-returns-clause-gone g c = none_left (g.R.Rows.contents c.clear.new.rows) c.args.self.now.state c.clear.new.self c.clear.ensures.keeps.tied c.clear.ensures.cleared
+returns-clause-gone g c =
+    let cleared = subst (λ (v : Visited). c.clear.new.self.cache ≡ record v.cache { cells = [] }) c.enter.ensures.entered c.clear.ensures.cleared in
+    rw (← c.self.view_is, c.leave.ensures.exchanged) (none_left c.clear.new.self.table c.self.inside.state.value c.clear.new.self.cache c.leave.ensures.was_kept.tied cleared)

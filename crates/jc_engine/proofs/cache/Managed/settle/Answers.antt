@@ -1,10 +1,12 @@
-use Rattle.std.proofs.Common.{arith, subst}
-use Rattle.jc_engine.proofs.Names.{ComesTo}
+use Rattle.std.proofs.Common.{subst, sym}
+use Rattle.jc_engine.proofs.Names.{Noted, WaitsOn, progress_of}
 use Rattle.jc_engine.proofs.Calls.{settled_waiting}
 use Rattle.jc_engine.proofs.cache.Managed.settle.Goals as goal
 
 pub returns-in-Ended-clause-settled : goal.returns-in-Ended-clause-settled
-returns-in-Ended-clause-settled g c = λ f run k come. c.end.ensures.settled f run k (subst (λ n. ComesTo f run n k) c.in-Ended.is come)
+returns-in-Ended-clause-settled g c = λ f run k come. c.end.ensures.settled f run k (rw c.in-Ended.is at come)
 
-pub returns-in-Waiting : goal.returns-in-Waiting
-returns-in-Waiting c = grind (arith, settled_waiting)
+pub returns-in-Waiting-clause-settled : goal.returns-in-Waiting-clause-settled
+returns-in-Waiting-clause-settled g c = λ f run k come.
+    let waits = subst (λ (n : Noted). WaitsOn f (progress_of k n.told) c.in-Waiting.request c.in-Waiting.suspended run) (sym c.hand_out_notices-notices.ensures.notices) (rw c.in-Waiting.is at come) in
+    rw c.stand_at.ensures (settled_waiting f run k _ _ waits)

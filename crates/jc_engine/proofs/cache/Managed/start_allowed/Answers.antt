@@ -1,25 +1,41 @@
-use Rattle.jc_engine.proofs.Names.{Settled, begun, carried_out, plan}
-use Rattle.jc_state.specs.Kept.{state_of}
-use Rattle.jc_engine.proofs.Calls.{began}
+use Rattle.std.proofs.Common.{[], List, subst, sym, ◌≡◌, ◌∙◌, ap}
+use Rattle.jc_state.specs.Visited.{Visited, progress_in}
+use Rattle.jc_bulk.specs.Calls.{EndsFrom, call_run}
+use Rattle.jc_engine.proofs.Names.{CacheConfig, Notice, Settled, ended, progress_of}
+use Rattle.jc_engine.proofs.Calls.{began, managed_settled, run_over}
 use Rattle.jc_engine.proofs.cache.Managed.start_allowed.Given as given
 use Rattle.jc_engine.proofs.cache.Managed.start_allowed.Goals.{After-end}
 use Rattle.jc_engine.proofs.cache.Managed.start_allowed.Goals as goal
 
 -- the call has ended at once, and its cache stands as its run does
 module _ (g : given.Over) (c : After-end g) where
-  settled : Settled c.args.self.now.state.config (carried_out c.args.self.now.state.config c.args.now (plan c.args.self.now.state.config c.args.now c.args.call.now (begun (state_of c.args.self.now.state))) (begun (state_of c.args.self.now.state)))
-      c.end_at_once.new.state c.end.new.self.turn c.end.result
-  settled = c.end.ensures.settled _ _ _ (rw c.in-Ok-Some.field-0-is at c.in-Ok-Some.ensures.ended)
+  same_config : c.end_at_once-at_once.new.visit.cache.config ≡ c.self.inside.state.value.config
+  same_config = c.in-Ok-Some.ensures.same_visit.config ∙ ap (λ (v : Visited). v.cache.config) c.enter.ensures.entered
 
-pub returns-in-Ok-Some-clause-ok : goal.returns-in-Ok-Some-clause-ok
-returns-in-Ok-Some-clause-ok g c =
-    let k = c.args.self.now.state in
-    rw (c.end.ensures.state, c.in-Ok-Some.ensures.remains.config) (began k.config k c.args.self.now.turn c.args.now c.args.call.now c.end_at_once.new.state c.end.new.self.turn c.end.result c.requires.allowed (settled g c))
+  settled : Settled c.self.inside.state.value.config (run_over c.self.inside.state.value [] c.args.now c.args.call.now) c.end_at_once-at_once.new.visit.cache c.end.new.self.turn c.end.result
+  settled =
+      let k = c.self.inside.state.value in
+      let w = c.end_at_once-at_once.new.visit in
+      let call = c.args.call.now in
+      let reply = c.in-Ok-Some.reply in
+      let ends = rw c.in-Ok-Some.field-0-is at c.in-Ok-Some.ensures.ended in
+      let runs = subst (λ (v : Visited). EndsFrom (call_run v call) w reply) c.enter.ensures.entered ends in
+      let new = subst (λ (told : List Notice). run_over k told c.args.now call ≡ ended (progress_in w) reply) c.requires.between.untold runs in
+      let told = subst (λ (v : Visited). run_over k [] c.args.now call ≡ ended (progress_of w.cache v.noted.told) reply) (sym c.leave.ensures.exchanged) new in
+      c.end.ensures.settled k.config (run_over k [] c.args.now call) w.cache told
 
 pub returns-in-Ok-Some-clause-managed_after : goal.returns-in-Ok-Some-clause-managed_after
 returns-in-Ok-Some-clause-managed_after g c =
-    let remains = c.in-Ok-Some.ensures.remains in
-    record {
-      kept = rw c.end.ensures.state (record { id_is = remains.id; tied = remains.tied; within = remains.within c.requires.managed.kept.within });
-      waits = rw (c.end.ensures.state, remains.config) (settled g c).waits;
-    }
+    let k = c.self.inside.state.value in
+    let w = c.end_at_once-at_once.new.visit in
+    let run = run_over k [] c.args.now c.args.call.now in
+    let id = c.in-Ok-Some.ensures.same_visit.id ∙ ap (λ (v : Visited). v.cache.id) c.enter.ensures.entered in
+    let left = subst (λ (f : CacheConfig). Settled f run w.cache c.end.new.self.turn c.end.result) (sym (same_config g c)) (settled g c) in
+    rw (← c.self.view_is, c.end.ensures.state, c.leave.ensures.left, c.end.ensures.table, c.leave.ensures.exchanged) (managed_settled w.table k.id w.cache run c.end.new.self.turn c.end.result id c.leave.ensures.was_kept left)
+
+pub returns-in-Ok-Some-clause-ok : goal.returns-in-Ok-Some-clause-ok
+returns-in-Ok-Some-clause-ok g c =
+    let k = c.self.inside.state.value in
+    let w = c.end_at_once-at_once.new.visit in
+    let allowed = rw (← c.self.view_is) at c.requires.allowed in
+    rw (← c.self.view_is, c.end.ensures.state, c.leave.ensures.left, same_config g c) (began k.config k c.self.inside.turn c.args.now c.args.call.now w.cache c.end.new.self.turn c.end.result allowed (settled g c))

@@ -1,7 +1,7 @@
 use Rattle.std.proofs.Common.{Some, None, Option, IfSome, sym, ap, rules, nat_eq}
 use Rattle.jc_engine.proofs.Names.{get, cache_in}
 use Rattle.jc_engine.proofs.Numbered.{puts_for}
-use Rattle.jc_engine.proofs.Places.{within, managed_own, Changes, sound_moved}
+use Rattle.jc_engine.proofs.Places.{within, managed_own, Changes, manager_moved, between}
 use Rattle.jc_engine.proofs.Moving.{moved_on, one_after, new_here, unchanged, outcome_after, lives_later}
 use Rattle.jc_engine.proofs.engine.Engine.get_at_once.Given as given
 use Rattle.jc_engine.proofs.engine.Engine.get_at_once.Goals as goal
@@ -12,14 +12,16 @@ if_some None f p = tt
 if_some (Some x) f p = f x p
 
 pub get_at_once-requires : goal.get_at_once-requires
-get_at_once-requires g c = record { managed = managed_own (within c.self.view_is c.self.invariant) c.args.id (sym (rw c.number-number.ensures at c.in-Some.ensures.value)) }
+get_at_once-requires g c =
+    let at = sym (rw c.number-number.ensures at c.in-Some.ensures.value) in
+    record { managed = managed_own (within c.self.view_is c.self.invariant.sound) c.args.id at; between = between c.self.inside.visit c.self.invariant c.args.id _ at }
 
 module _ (g : given.Over) (c : goal.After-self-in-Some-1 g) where
-  changes : Changes (within c.self.view_is c.self.invariant) c.args.id c.in-Some.cache.now (Some c.get_at_once.new.self) (get nat_eq (c.get_mut.follows.lender c.get_at_once.new.self))
+  changes : Changes (within c.self.view_is c.self.invariant.sound) c.args.id c.in-Some.cache.now (Some c.get_at_once.new.self) (get nat_eq (c.get_mut.follows.lender c.get_at_once.new.self))
   changes = record { at = sym (rw c.number-number.ensures at c.in-Some.ensures.value); puts = puts_for _ _ _ c.number-number.ensures ((c.get_mut.follows.holds c.get_at_once.new.self).3 (search rules)).0 }
 
 pub invariant_of-self : goal.invariant_of-self
-invariant_of-self g c = sound_moved (changes g c) _ c.get_at_once.ensures.managed_after c.get_at_once.ensures.config c.get_at_once.ensures.elsewhere
+invariant_of-self g c = manager_moved (changes g c) _ c.self.invariant c.get_at_once.ensures.rests.cache c.get_at_once.ensures.rests.untold c.get_at_once.ensures.managed_after c.get_at_once.ensures.config c.get_at_once.ensures.elsewhere
 
 pub returns-in-Some : goal.returns-in-Some
 returns-in-Some g c = record {

@@ -1,10 +1,10 @@
 use Rattle.std.proofs.Common.{◌≡◌, ◌+◌, ◌<◌, ◌++◌, ℕ, List, [], ◌∷◌, Some, length, map, ap, sym, subst, ◌∙◌, arith, take}
 use Rattle.std.specs.List.{All}
 use mathlib.Core.List.{map-append}
-use Rattle.jc_stripes.specs.Stripes.{Changes, IsCommitted, desk_of, last_of, set_all}
+use Rattle.jc_stripes.specs.Stripes.{Changes, IsVersionCommitted, desk_of, last_of, set_all}
 use Rattle.jc_stripes.proofs.Lists.{last-append}
 use Rattle.jc_rows.specs.Images.{Image, last_image}
-use Rattle.jc_cuckoo.specs.Images.{IsImage, written}
+use Rattle.jc_cuckoo.specs.Images.{IsImage, written_image}
 use Rattle.jc_stripes.specs.Layout.{version_count}
 use Rattle.jc_index.specs.Layout.{table_words}
 use Rattle.jc_index.specs.Spelling.{IsSpelt, IsLawful, image_in}
@@ -35,7 +35,7 @@ commit-requires-clause-lawful g c =
     let front = me.lineage.writer.seat.me.0.front in
     let content = last_of front in
     let k = c.of-change.ensures.image me.buckets content inside is.spelt is.counted in
-    let same : written (last_image (map image_in front)) c.args.writes.now c.args.stash ≡ written (image_in content) c.args.writes.now c.args.stash = ap (λ (image : Image). written image c.args.writes.now c.args.stash) (last_images front) in
+    let same : written_image (last_image (map image_in front)) c.args.writes.now c.args.stash ≡ written_image (image_in content) c.args.writes.now c.args.stash = ap (λ (image : Image). written_image image c.args.writes.now c.args.stash) (last_images front) in
     let placing = g.P.Placer.placing me.placer in
     let lawful : IsLawful placing me.buckets (set_all content (take c.of-change.result.batch.length c.of-change.result.batch.writes)) = record { spelt = k.0; image = subst (IsImage placing) (same ∙ sym k.1) wanted } in
     (record { placer = me.placer; buckets = me.buckets }, is.lawful, subst (λ (l : List (ℕ × ℕ)). IsLawful placing me.buckets (set_all content l)) (sym c.writes.ensures) lawful)
@@ -70,8 +70,8 @@ returns-clause-images g c =
     let front = me.lineage.writer.seat.me.0.front in
     let content = last_of front in
     let k = c.of-change.ensures.image me.buckets content inside is.spelt is.counted in
-    let next : image_in (set_all content c.writes.result.now) ≡ written (last_image (map image_in front)) c.args.writes.now c.args.stash =
-    ap (λ (l : List (ℕ × ℕ)). image_in (set_all content l)) c.writes.ensures ∙ (k.1 ∙ sym (ap (λ (image : Image). written image c.args.writes.now c.args.stash) (last_images front))) in
+    let next : image_in (set_all content c.writes.result.now) ≡ written_image (last_image (map image_in front)) c.args.writes.now c.args.stash =
+    ap (λ (l : List (ℕ × ℕ)). image_in (set_all content l)) c.writes.ensures ∙ (k.1 ∙ sym (ap (λ (image : Image). written_image image c.args.writes.now c.args.stash) (last_images front))) in
     rw (← c.self.view_is)
     (ap (λ (l : List Image). Some l) (ap (map image_in) c.commit.ensures.front ∙ (map-append image_in front (set_all content c.writes.result.now ∷ []) ∙ ap (λ (image : Image). map image_in front ++ image ∷ []) next)))
 
@@ -81,4 +81,4 @@ returns-clause-versions g c =
     let stash = last_stash me.placer me.buckets me.count me.lineage c.self.invariant.0 in
     let taken : c.stripes.result.now ≡ stripes_for c.args.writes.now (is_some (count_for (length c.args.writes.now) (last_image (map image_in me.lineage.writer.seat.me.0.front)).stash c.args.stash)) =
     c.stripes.ensures ∙ (c.of-change.ensures.stripes ∙ ap (λ (n : ℕ). stripes_for c.args.writes.now (is_some (count_for (length c.args.writes.now) n c.args.stash))) (sym stash)) in
-    rw (← c.self.view_is) (subst (λ (js : List ℕ). Changes IsCommitted js (desk_of me.lineage.writer.seat.me.0).versions (desk_of c.commit.new.self.writer.seat.me.0).versions) taken c.commit.ensures.versions)
+    rw (← c.self.view_is) (subst (λ (js : List ℕ). Changes IsVersionCommitted js (desk_of me.lineage.writer.seat.me.0).versions (desk_of c.commit.new.self.writer.seat.me.0).versions) taken c.commit.ensures.versions)

@@ -2,9 +2,9 @@ use Rattle.std.proofs.Common.{◌≤◌, ◌<◌, ◌+◌, ◌∙◌, ◌++◌, 
 use Rattle.std.specs.HashMap.{get}
 use Rattle.std.specs.Str.{bytes_eq}
 use Rattle.jc_model.specs.Limits.{most_ids, most_rows_together}
-use Rattle.jc_roster.specs.Members.{Member}
 use Rattle.jc_roster.specs.Fields.{IsRoster}
 use Rattle.jc_roster.proofs.Rosters.{added, same_fields, is_kept, stands_for}
+use Rattle.jc_model.specs.Refusals.{Member}
 use Rattle.jc_roster.proofs.roster.Roster.add.Goals as goal
 
 one_more : (c : goal.After-self-2-1) → IsRoster (c.args.self.now ++ Some (record { name = c.args.name; capacity = c.args.capacity }) ∷ []) (c.self.inside.next + 1) c.push_reserved.new.self.items c.push_reserved-2.new.self.items c.push_reserved-3.new.self.items (get bytes_eq c.insert.new.self) (c.self.inside.total + c.from.result)

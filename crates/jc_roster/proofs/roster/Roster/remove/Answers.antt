@@ -4,9 +4,9 @@ use Rattle.std.specs.HashMap.{get}
 use Rattle.std.specs.Str.{bytes_eq}
 use Rattle.std.proofs.lemmas.List.Sorted.{searched}
 use Rattle.std.proofs.lemmas.Option.{slice_get-get_or}
-use Rattle.jc_roster.specs.Members.{Member}
 use Rattle.jc_roster.specs.Fields.{IsRoster}
 use Rattle.jc_roster.proofs.Rosters.{in_place, rises, not_missed, same_count, StandsAt, stands_at, removed, same_fields, is_kept, stands_for}
+use Rattle.jc_model.specs.Refusals.{Member}
 use Rattle.jc_roster.proofs.roster.Roster.remove.Goals as goal
 
 -- what the search finds

@@ -1,8 +1,8 @@
 use Rattle.std.proofs.Common.{◌≡◌, ◌+◌, ◌-◌, length, Some}
-use Rattle.jc_model.specs.Runs.{live_at}
 use Rattle.jc_runner.specs.Halfway.{lives_now, Reached}
 use Rattle.jc_runner.specs.Hooks.{asked_of}
 use Rattle.jc_runner.proofs.Bounds.{most_at, answers_in}
+use Rattle.jc_model.specs.Places.{at_place}
 use Rattle.jc_runner.proofs.serial_run.calls.carry_out.Given as goal
 
 abbrev pub invariant-loop-step : goal.invariant-loop-step
@@ -14,4 +14,4 @@ invariant-loop-step g l = record {
 -- how many answers the call may still be given
 abbrev pub decreases-loop-step : goal.decreases-loop-step
 decreases-loop-step g l =
-    (most_at (live_at (lives_now l.fn.recorded) l.fn.line.id) l.fn.line.at l.fn.line.call + length (answers_in l.fn.recorded.transcript.entries)) - length (answers_in l.recorded.transcript.entries)
+    (most_at (at_place (lives_now l.fn.recorded) l.fn.line.id) l.fn.line.at l.fn.line.call + length (answers_in l.fn.recorded.transcript.entries)) - length (answers_in l.recorded.transcript.entries)

@@ -2,9 +2,9 @@ use Rattle.std.proofs.Common.{◌≡◌, ap, ◌∙◌, rules, List, Option, Non
 use Rattle.jc_model.specs.declared.config.CacheConfig.{CacheConfig}
 use Rattle.jc_model.specs.Places.{at_place}
 use Rattle.jc_model.specs.Runs.{destroys, answer_in, lives_by}
-use Rattle.jc_roster.specs.Members.{member_of}
 use Rattle.jc_script.specs.Live.{lives_in}
 use Rattle.jc_script.proofs.KeptCaches.{somewhere, member_by_place, one_less, nothing_there, destroyed}
+use Rattle.jc_model.specs.Refusals.{member_of}
 use Rattle.jc_script.proofs.live.Live.destroy.Goals as goal
 
 pub returns-then-is_none : goal.returns-then-is_none

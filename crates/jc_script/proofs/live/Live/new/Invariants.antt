@@ -1,6 +1,6 @@
 use Rattle.std.proofs.Common.{◌≡◌, Some, map, take}
-use Rattle.jc_roster.specs.Members.{members_of}
 use Rattle.jc_script.specs.Live.{lives_in}
+use Rattle.jc_model.specs.Runs.{members_of}
 use Rattle.jc_script.proofs.live.Live.new.Given as goal
 
 -- the caches so far are there

@@ -2,7 +2,7 @@ use Rattle.std.proofs.Common.{◌≡◌, ◌==◌, ◌++◌, ◌∷◌, [], List
 use Rattle.jc_model.specs.declared.call.Notice.{Notice}
 use Rattle.jc_model.specs.declared.event.Entry.{Entry}
 use Rattle.jc_model.specs.Legal.{History}
-use Rattle.jc_shared.specs.Calls.{Stands}
+use Rattle.jc_shared.specs.Calls.{EntryIsLast}
 use Rattle.jc_shared.specs.Pending.{given_up_entry}
 use Rattle.jc_shared.proofs.GivingUp.{told_and_left, given_up_as}
 use Rattle.jc_shared.proofs.by_hand.Session+N+L+W+P+K+OpenCalls.give_up.Goals as goal
@@ -18,5 +18,5 @@ returns-clause-ok g c =
     rw (← c.self.view_is)
     (record {
       added = ap (λ (h : History). h.entries) c.push.ensures ∙ ap (λ (e : Entry). c.self.inside.own.past.history.entries ++ e ∷ []) entry;
-      stands = subst (λ (e : Entry). Stands g.N.Name.configs e c.give_up-given_up.new.pass) entry c.in_default.ensures.ok.1;
+      stands = subst (λ (e : Entry). EntryIsLast g.N.Name.configs e c.give_up-given_up.new.pass) entry c.in_default.ensures.ok.1;
     })

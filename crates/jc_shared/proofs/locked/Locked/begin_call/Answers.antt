@@ -6,7 +6,7 @@ use Rattle.jc_engine.specs.Caches.{lives_of}
 use Rattle.jc_engine.specs.Recording.{blank}
 use Rattle.jc_engine.specs.Results.{of_recorded_begin}
 use Rattle.jc_model.specs.Runs.{begins}
-use Rattle.jc_shared.specs.Finding.{ended_by}
+use Rattle.jc_shared.specs.Finding.{entry_ended_by}
 use Rattle.jc_shared.proofs.Tenures.{still_begins, begun_asks, begun_live, begin_faults, begun_goes_on, is_tenure}
 use Rattle.jc_shared.proofs.locked.Locked.begin_call.Goals as goal
 
@@ -21,8 +21,8 @@ returns-in-Ok-clause-ok g c =
     let old = c.args.self.now.recorded in
     let new = c.begin.new.self in
     let entry : Entry = blank c.args.session c.args.id c.args.now c.args.call in
-    begun_goes_on g.N.Name.configs old.transcript new.transcript entry (ended_by c.in-Ok.pair.1 entry) c.show_reply.new.pass c.args.call c.in-Ok.pair.0
-    refl (ap (λ (copy : Option Reply). ended_by copy entry) c.in-Ok.ensures.copy) c.in-Ok.ensures.told.1.legal
+    begun_goes_on g.N.Name.configs old.transcript new.transcript entry (entry_ended_by c.in-Ok.pair.1 entry) c.show_reply.new.pass c.args.call c.in-Ok.pair.0
+    refl (ap (λ (copy : Option Reply). entry_ended_by copy entry) c.in-Ok.ensures.copy) c.in-Ok.ensures.told.1.legal
     (still_begins g.N.Name.configs old.transcript new.transcript c.args.session c.args.id (begins c.args.now c.args.call) (of_recorded_begin c.begin.result) c.args.self.now.begins c.begin.ensures.transcript)
     (lives_of new.caches) (begun_live (lives_of old.caches) (lives_of new.caches) c.args.id c.args.now c.args.call c.in-Ok.pair.0 _ c.in-Ok.ensures.outcome c.in-Ok.ensures.lives)
     c.show_reply.ensures.sees c.in-Ok.ensures.transcript (begun_asks (lives_of old.caches) c.args.id c.args.now c.args.call c.in-Ok.pair.0 _ c.in-Ok.ensures.outcome)

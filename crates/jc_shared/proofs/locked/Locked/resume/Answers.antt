@@ -4,7 +4,7 @@ use Rattle.jc_model.specs.declared.event.Event.TheVariants as event
 use Rattle.jc_model.specs.Runs.{answers}
 use Rattle.jc_engine.specs.Caches.{lives_of}
 use Rattle.jc_engine.specs.Results.{of_recorded_resume}
-use Rattle.jc_shared.specs.Finding.{ended_by}
+use Rattle.jc_shared.specs.Finding.{entry_ended_by}
 use Rattle.jc_shared.proofs.Tenures.{still_begins, resumed_goes_on, is_tenure, refused_answer, last_given}
 use Rattle.jc_shared.proofs.locked.Locked.resume.Goals as goal
 
@@ -22,7 +22,7 @@ returns-in-Ok-clause-ok g c =
     let draft = c.args.draft.now in
     let given : draft.answers ≡ c.in-Some.before.now ++ c.args.answer ∷ [] = last_given draft.answers c.in-Some.before.now c.requires.answered.0 c.in-Some.field-0-0.now c.args.answer (sym c.items.ensures ∙ c.in-Some.ensures.cases.0) c.requires.answered.1 in
     resumed_goes_on g.N.Name.configs (lives_of old.caches) (lives_of new.caches) old.transcript new.transcript draft c.end_by.new.draft c.in-Some.before.now c.show_reply.new.pass (c.is_open.ensures c.if-not-is_open.false) c.requires.waits
-    c.args.answer c.in-Ok.pair.0 _ given (c.end_by.ensures ∙ ap (λ (copy : Option Reply). ended_by copy draft) c.in-Ok.ensures.copy) c.in-Ok.ensures.told.1.legal
+    c.args.answer c.in-Ok.pair.0 _ given (c.end_by.ensures ∙ ap (λ (copy : Option Reply). entry_ended_by copy draft) c.in-Ok.ensures.copy) c.in-Ok.ensures.told.1.legal
     (still_begins g.N.Name.configs old.transcript new.transcript draft.session draft.id (answers c.args.answer) (of_recorded_resume c.resume.result) c.args.self.now.begins (c.resume.ensures.transcript draft.session))
     c.show_reply.ensures.sees c.in-Ok.ensures.lives (c.in-Ok.ensures.transcript draft.session) c.in-Ok.ensures.outcome
 

@@ -2,7 +2,7 @@ use Rattle.std.proofs.Common.{◌≡◌, List, [], ◌∷◌, ◌++◌, refl, sy
 use Rattle.jc_model.specs.declared.call.Notice.{Notice}
 use Rattle.jc_model.specs.declared.event.Entry.{Entry}
 use Rattle.jc_shared.specs.Calls.{IsSameCall}
-use Rattle.jc_shared.specs.Serving.{told_behind, Tells}
+use Rattle.jc_shared.specs.Serving.{told_behind, TellsListeners}
 use Rattle.jc_engine.proofs.Recordings.{on_ok}
 use Rattle.jc_shared.proofs.Carrying.{second_on_err, on_err, served_on, noted_waits, goes_stays, goes_untold, goes_unanswered}
 use Rattle.jc_shared.proofs.manager.Manager.advance.Goals as goal
@@ -19,7 +19,7 @@ returns-then-is_err-clause-told g c =
     let same : c.note_answer.new.draft ≡ c.keep_told.new.draft = on_err c.note_answer.result c.note_answer.ensures.err (sym c.is_err.ensures.value ∙ c.if-is_err.true) in
     let kept : c.note_answer.new.draft.told ≡ told = ap (λ (e : Entry). e.told) same ∙ ap (λ (e : Entry). e.told) c.keep_told.ensures in
     let served = served_on g.K.Hearer.state_after g.W.Writer.may c.args.hooks.now c.answer.new.hooks c.args.request c.in-Ok.answer c.args.draft.now.told (c.tells_again.ensures c.if-tells_again.false) c.in-Ok.ensures.served in
-    λ first h. c.give_up-then-is_err.ensures.told first (subst (λ (ns : List Notice). Tells g.K.Hearer.state_after first c.answer.new.hooks ns) (sym kept) (served first h))
+    λ first h. c.give_up-then-is_err.ensures.told first (subst (λ (ns : List Notice). TellsListeners g.K.Hearer.state_after first c.answer.new.hooks ns) (sym kept) (served first h))
 
 pub returns-in-Err-OutOfMemory-clause-told : goal.returns-in-Err-OutOfMemory-clause-told
 returns-in-Err-OutOfMemory-clause-told g c =
@@ -29,7 +29,7 @@ returns-in-Err-OutOfMemory-clause-told g c =
     let back = c.take_back.ensures.taken c.keep_told.new.draft.answers c.in-Ok.answer (ap (λ (e : Entry). e.answers) (same ∙ noted)) in
     let kept : c.take_back.new.draft.told ≡ told = ap (λ (e : Entry). e.told) back ∙ ap (λ (e : Entry). e.told) (same ∙ noted) ∙ ap (λ (e : Entry). e.told) c.keep_told.ensures in
     let served = served_on g.K.Hearer.state_after g.W.Writer.may c.args.hooks.now c.answer.new.hooks c.args.request c.in-Ok.answer c.args.draft.now.told (c.tells_again.ensures c.if-tells_again.false) c.in-Ok.ensures.served in
-    λ first h. c.give_up-in-Err-OutOfMemory.ensures.told first (subst (λ (ns : List Notice). Tells g.K.Hearer.state_after first c.answer.new.hooks ns) (sym kept) (served first h))
+    λ first h. c.give_up-in-Err-OutOfMemory.ensures.told first (subst (λ (ns : List Notice). TellsListeners g.K.Hearer.state_after first c.answer.new.hooks ns) (sym kept) (served first h))
 
 pub returns-in-Err : goal.returns-in-Err
 returns-in-Err g c =
@@ -48,7 +48,7 @@ returns-in-Err g c =
       kept = ap (λ (e : Entry). e.answers) back;
       brought = ap (λ (e : Entry). e.end) back ∙ c.requires.asked.waits;
       front = c.resume-resumed.ensures.front;
-      told = λ first h. subst (λ (ns : List Notice). Tells g.K.Hearer.state_after first c.answer.new.hooks ns) (sym (ap (λ (e : Entry). e.told) back)) (served first h);
+      told = λ first h. subst (λ (ns : List Notice). TellsListeners g.K.Hearer.state_after first c.answer.new.hooks ns) (sym (ap (λ (e : Entry). e.told) back)) (served first h);
     }
 
 pub returns-in-Ok-resumed-clause-told : goal.returns-in-Ok-resumed-clause-told
@@ -58,7 +58,7 @@ returns-in-Ok-resumed-clause-told g c =
     let kept : c.resume-resumed.new.draft.told ≡ told =
     goes_untold g.N.Name.configs c.note_answer.new.draft c.resume-resumed.new.draft c.resume-resumed.new.pass c.in-Ok-resumed.step c.in-Ok-resumed.ensures.ok ∙ ap (λ (e : Entry). e.told) noted ∙ ap (λ (e : Entry). e.told) c.keep_told.ensures in
     let served = served_on g.K.Hearer.state_after g.W.Writer.may c.args.hooks.now c.answer.new.hooks c.args.request c.in-Ok.answer c.args.draft.now.told (c.tells_again.ensures c.if-tells_again.false) c.in-Ok.ensures.served in
-    λ first h. subst (λ (ns : List Notice). Tells g.K.Hearer.state_after first c.answer.new.hooks ns) (sym kept) (served first h)
+    λ first h. subst (λ (ns : List Notice). TellsListeners g.K.Hearer.state_after first c.answer.new.hooks ns) (sym kept) (served first h)
 
 pub returns-in-Ok-resumed-clause-served : goal.returns-in-Ok-resumed-clause-served
 returns-in-Ok-resumed-clause-served g c =

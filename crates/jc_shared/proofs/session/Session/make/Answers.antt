@@ -38,4 +38,4 @@ returns-in-Err-clause-err g c =
     let own : Sitting = record { number = c.self.inside.number; calls = g.J.Own.OwnCalls.calls c.self.inside.own; pass = c.self.inside.pass } in
     let refused = c.in-Err.ensures in
     let fails = unaccepted_fails g.N.Name.configs g.N.Name.stated own own c.args.id c.args.now c.args.call c.in-Err.fault refused.err refl (record { names = refused.names; lacks = λ k at. not_accepted (has_processor k c.args.call) c.in-Err.fault (refused.agrees k (c.requires.counted k at)) }) in
-    rw (← c.self.view_is) (told_or_gone g.N.Name.configs g.N.Name.stated own own c.args.id c.args.now c.args.call c.in-Err.fault c.lacking.result refl c.lacking.ensures fails)
+    rw (← c.self.view_is) (told_or_gone g.N.Name.configs g.N.Name.stated own own c.args.id c.args.now c.args.call c.in-Err.fault c.lack_fault.result refl c.lack_fault.ensures fails)

@@ -1,7 +1,7 @@
 use Rattle.std.proofs.Common.{ap, ◌∙◌, subst, List}
 use Rattle.jc_model.specs.declared.config.CacheConfig.{CacheConfig}
 use Rattle.jc_engine.specs.Recording.{Recording}
-use Rattle.jc_shared.specs.Opening.{Handed}
+use Rattle.jc_shared.specs.Opening.{HandedIn}
 use Rattle.jc_shared.specs.Sessions.{BeginsWith}
 use Rattle.jc_shared.proofs.Opened.{begins_opened}
 use Rattle.jc_shared.proofs.shared.Shared.named.Goals as goal
@@ -12,5 +12,5 @@ over-requires-clause-opened g c = (0, c.self.inside.configs.items, c.self.invari
 pub new-requires-3 : goal.new-requires-3
 new-requires-3 g c =
     let me = c.self.inside in
-    subst (λ (cs : List CacheConfig). BeginsWith cs c.over.result.transcript) (ap (λ (h : Handed _ _). h.configs) c.self.view_is ∙ c.requires.configs)
+    subst (λ (cs : List CacheConfig). BeginsWith cs c.over.result.transcript) (ap (λ (h : HandedIn _ _). h.configs) c.self.view_is ∙ c.requires.configs)
     (begins_opened me.configs.items c.over.result.transcript (ap (λ (r : Recording). r.transcript) c.over.ensures ∙ c.self.invariant.uncalled))

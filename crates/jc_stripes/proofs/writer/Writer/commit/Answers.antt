@@ -4,7 +4,7 @@ use Rattle.jc_stripes.specs.declared.board.View.{View}
 use Rattle.jc_stripes.specs.declared.board.Role.{Role}
 use Rattle.jc_stripes.specs.declared.board.Role.TheVariants.{Writing}
 use Rattle.jc_stripes.specs.Layout.{version_count}
-use Rattle.jc_stripes.specs.Stripes.{Changes, IsCommitted, desk, desk_in, desk_of, last_of, set_all}
+use Rattle.jc_stripes.specs.Stripes.{Changes, IsVersionCommitted, desk, desk_in, desk_of, last_of, set_all}
 use Rattle.jc_stripes.proofs.Lists.{last-append}
 use Rattle.jc_stripes.proofs.Opening.{set_all-last, length-set_all, covered_at, covered_take, both, opened_fits, shut_fits, settled_after}
 use Rattle.jc_stripes.proofs.writer.Writer.commit.Goals as goal
@@ -107,7 +107,7 @@ returns-clause-versions g c =
     let was : (desk_of own.seat.me.0).versions ≡ own.versions = ap (λ (r : Role). (desk_in r).versions) own.at_rest in
     let is : (desk_of c.shut_all.new.seat.me.0).versions ≡ us = ap (λ (m : Sat g.row.L.Denot). (desk_of m.0).versions) c.shut_all.ensures.view in
     let fits = opened_fits c.args.stripes.now own.versions vs own.fits c.open_all.ensures.changes in
-    subst (λ (z : List ℕ × List ℕ). Changes IsCommitted c.args.stripes.now z.0 z.1) (λ i. (sym was i, sym is i))
+    subst (λ (z : List ℕ × List ℕ). Changes IsVersionCommitted c.args.stripes.now z.0 z.1) (λ i. (sym was i, sym is i))
     (both c.args.stripes.now own.versions vs us own.fits fits own.settled c.open_all.ensures.changes c.shut_all.ensures.changes)
 
 pub returns-clause-front : goal.returns-clause-front

@@ -1,6 +1,6 @@
 use Rattle.std.proofs.Common.{◌≡◌, ◌+◌, ◌<◌, ◌^◌, ◌%◌, ℕ, List, [], ◌∷◌, ◌++◌, length, replicate, get_or, zero, suc, rules, arith, ap, sym, subst, refl, ◌∙◌}
 use Rattle.jc_stripes.specs.Layout.{content_of, version_count, versions_at}
-use Rattle.jc_stripes.specs.Stripes.{Kept, last_of, front_before, opening_view, desk}
+use Rattle.jc_stripes.specs.Stripes.{BoardRule, last_of, front_before, opening_view, desk}
 use Rattle.jc_stripes.proofs.Lists.{last-append}
 use Rattle.jc_stripes.proofs.Keeps.{opens_kept}
 use Rattle.jc_stripes.proofs.writer.Writer.over.Goals as goal
@@ -16,7 +16,7 @@ of_words-requires g c =
     let origin = c.args.origin in
     let content = content_of origin.words.value.items in
     let is : c.as_slice.result.now ≡ versions_at origin.start ++ content = c.as_slice.ensures.value ∙ (c.requires.versions ∙ ap (λ w. versions_at origin.start ++ content_of w.items) (sym c.requires.words)) in
-    subst (λ (ws : List ℕ). Kept g.L.Law.group version_count g.L.Law.admits origin.law.value record { words = ws; homes = []; views = opening_view origin ∷ [] }) (sym is)
+    subst (λ (ws : List ℕ). BoardRule g.L.Law.group version_count g.L.Law.admits origin.law.value record { words = ws; homes = []; views = opening_view origin ∷ [] }) (sym is)
     (opens_kept g.L.Law.group version_count g.L.Law.admits origin.law.value (versions_at origin.start) content (front_before origin) refl (subst (λ w. g.L.Law.admits origin.law.value (content_of w.items)) (sym c.requires.words) c.requires.lawful))
 
 pub invariant_of-result : goal.invariant_of-result

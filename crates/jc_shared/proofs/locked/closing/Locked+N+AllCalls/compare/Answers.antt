@@ -1,6 +1,6 @@
 use Rattle.std.proofs.Common.{sym, map, subst}
 use Rattle.jc_model.specs.Legal.{History, IsLegal}
-use Rattle.jc_shared.specs.Accounts.{IsFault, IsCloseRefusal}
+use Rattle.jc_shared.specs.Accounts.{IsAuditFault, IsCloseRefusal}
 use Rattle.jc_shared.specs.Sessions.{BeginsWith}
 use Rattle.jc_shared.proofs.Comparing.{cannot_close, fault_weaker}
 use Rattle.jc_shared.proofs.locked.closing.Locked+N+AllCalls.compare.Goals as goal
@@ -12,5 +12,5 @@ returns-clause-refused g c =
     let logs = map g.S.Logged.log c.args.logs.now in
     let told = c.transcript-transcript.result.now in
     let value = sym c.transcript-transcript.ensures.value in
-    fault_weaker (IsFault given logs told.entries) (IsCloseRefusal configs logs) c.audit.result
+    fault_weaker (IsAuditFault given logs told.entries) (IsCloseRefusal configs logs) c.audit.result
     (λ fault is. cannot_close configs given logs told fault (subst IsLegal value c.transcript-transcript.ensures.legal) (subst (λ (h : History). BeginsWith configs h) value c.args.self.now.begins) is) c.audit.ensures.fault

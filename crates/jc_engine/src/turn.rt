@@ -1,0 +1,74 @@
+//! An open call: for what it waits, and what it has come to.
+ghost use Rattle.std.specs.Prelude.{◌≡◌};
+ghost use Rattle.jc_engine.specs.Journals.{is_replied};
+ghost use Rattle.jc_engine.specs.Managed.{step_of};
+
+use jc_bulk::waits::Suspended;
+use jc_model::call::{Reply, Request};
+use jc_model::copies::Copies;
+use jc_model::event::Step;
+use jc_state::notices::Notices;
+use std::marker::Model;
+
+/// A call that waits for an answer, with its notices so far.
+#[derive(Drop)]
+pub(crate) struct WaitingCall {
+    pub(crate) suspended: Suspended,
+    pub(crate) notices: Notices,
+}
+
+impl Model for WaitingCall {
+    ghost use Rattle.jc_engine.specs.Waiting.{WaitState};
+
+    ghost Value = { WaitState };
+
+    ghost view = { λ w. record { call = w.suspended; told = w.notices.told } };
+}
+
+impl WaitingCall {
+    /// Gives the call up: the notices that are left to be told.
+    pub(crate) fn into_notices(self) -> Notices
+        ensures { result.told ≡ self.told }
+    {
+        let WaitingCall { suspended, notices } = self;
+        drop(suspended);
+        notices
+    }
+}
+
+/// Whether a call is open, and for what it waits.
+#[derive(Drop)]
+pub(crate) enum Turn {
+    Idle,
+    Waiting(WaitingCall),
+    /// Its notices are being told; then this is its reply.
+    Telling(Copies<Reply>),
+}
+
+/// What an open call has come to: its step, with the copies that a transcript needs.
+#[derive(Drop)]
+pub enum Advance {
+    Replied(Copies<Reply>),
+    Asked(Request),
+    Told(Notices),
+}
+
+impl Advance {
+    /// Whether the call has ended with its reply.
+    pub(crate) fn is_replied(&self) -> bool
+        ensures { result ≡ is_replied self.now }
+    {
+        matches!(self, Advance::Replied(_))
+    }
+
+    /// The step alone; the copies are let go.
+    pub(crate) fn into_step(self) -> Step
+        ensures { result ≡ step_of self }
+    {
+        match self {
+            Advance::Replied(reply) => Step::Done(reply.into_first()),
+            Advance::Asked(request) => Step::Need(request),
+            Advance::Told(notices) => Step::Need(Request::Tell(notices.into_lists().0)),
+        }
+    }
+}

@@ -1,0 +1,13 @@
+use Rattle.std.proofs.Common.{◌≡◌, ◌-◌, length}
+use Rattle.std.specs.Vec.{vec_capacity}
+use Rattle.jc_state.proofs.Walk.{WalkedTo}
+use Rattle.jc_state.proofs.visit.Visit.keys.Given as goal
+
+abbrev pub invariant-rows : goal.invariant-rows
+invariant-rows g l = record {
+  walked : WalkedTo l.self.cache.cells l.keys.items l.next;
+  room : vec_capacity l.keys ≡ length l.self.cache.cells;
+}
+
+abbrev pub decreases-rows : goal.decreases-rows
+decreases-rows g l = length l.self.cache.cells - length l.keys.items

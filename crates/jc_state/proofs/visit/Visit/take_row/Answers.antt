@@ -1,0 +1,37 @@
+use Rattle.std.proofs.Common.{◌≡◌, refl, arith}
+use Rattle.jc_rows.proofs.Laws.{get-removed_same, get-removed_absent, get-removed_cache}
+use Rattle.jc_state.proofs.Names.{IsRow}
+use Rattle.jc_state.proofs.Changes.{kept-removed}
+use Rattle.jc_state.proofs.Found.{row_of-absent, items_of-without, only_row}
+use Rattle.jc_state.proofs.visit.Visit.take_row.Goals as goal
+
+pub invariant_of-self : goal.invariant_of-self
+invariant_of-self g c =
+    let id : c.id.result ≡ c.self.inside.cache.value.id = rw (c.id.ensures, c.deref.ensures, c.take-gone.ensures.kept, c.deref_mut.ensures.value) in
+    rw (c.remove-row.ensures.removed, id, c.take-gone.ensures.kept, c.deref_mut.ensures.value)
+    (kept-removed _ _ c.self.invariant c.args.row c.take-gone.result (rw c.deref_mut.ensures.value at c.take-gone.ensures.was))
+
+pub returns-clause-spends : goal.returns-clause-spends
+returns-clause-spends g c =
+    let id : c.id.result ≡ c.self.inside.cache.value.id = rw (c.id.ensures, c.deref.ensures, c.take-gone.ensures.kept, c.deref_mut.ensures.value) in
+    rw (← c.self.view_is, c.remove-row.ensures.removed, id, c.take-gone.ensures.kept, c.deref_mut.ensures.value)
+    record {
+      same = record { config = refl; id = refl; moment = refl; elsewhere = get-removed_cache _ _ _ };
+      room = omega (arith, c.remove-row.ensures.kept);
+      places = omega arith;
+    }
+
+pub returns-clause-gone : goal.returns-clause-gone
+returns-clause-gone g c =
+    let was = rw c.deref_mut.ensures.value at c.take-gone.ensures.was in
+    let kept = kept-removed _ _ c.self.invariant c.args.row c.take-gone.result was in
+    rw (c.take-gone.ensures.kept, c.deref_mut.ensures.value) (row_of-absent _ _ c.take-gone.result.key _ kept.tied.placed (get-removed_same _ _))
+
+pub returns-clause-left : goal.returns-clause-left
+returns-clause-left g c = λ key x is.
+    let row : IsRow key c.self.inside.cache.value c.args.row x = rw (← c.self.view_is) at is in
+    rw (← c.self.view_is, c.take-gone.ensures.kept, c.deref_mut.ensures.value, row.key_is)
+    (items_of-without c.args.row key c.self.inside.cache.value.cells (only_row _ key _ c.args.row x c.self.invariant.tied row))
+
+pub returns-clause-still_absent : goal.returns-clause-still_absent
+returns-clause-still_absent g c = λ k h. rw (c.remove-row.ensures.removed, ← c.self.view_is) (get-removed_absent _ _ _ (rw (← c.self.view_is) at h))

@@ -1,0 +1,51 @@
+//! Uses of a row that is there: access and update.
+ghost use Rattle.std.specs.Prelude.{◌≡◌, ℕ, List, true};
+ghost use Rattle.jc_model.specs.State.{Item};
+ghost use Rattle.jc_model.specs.Changes.{access, update};
+ghost use Rattle.jc_state.specs.Shelf.{has_row};
+ghost use Rattle.jc_state.specs.Noted.{IsTold};
+ghost use Rattle.jc_state.specs.Kept.{IsRow};
+ghost use Rattle.jc_state.specs.Visited.{SpendsAtMost, HasPlacesIn, progress_in};
+
+use super::Visit;
+use crate::slots::Record;
+use crate::stored::Stored;
+use jc_expiry::expiry::{after_access, after_update};
+use jc_model::call::Kind;
+use jc_ring::ring::Ring;
+use jc_rows::rows::Rows;
+
+impl<R: Rows, G: Ring> Visit<R, G> {
+    /// Uses a row: its bit is set, and its expiry renewed as the policy says.
+    pub fn access(&mut self, row: u32)
+        requires there { has_row row self.old.cache.cells ≡ true }
+        ensures spends { SpendsAtMost 0 0 self.old self.new }
+        ensures progress { (key : List ℕ) (x : Item) → IsRow key self.old.cache row x →
+            progress_in self.new
+            ≡ access self.old.cache.config self.old.moment x (progress_in self.old) }
+        ensures noted { self.new.noted ≡ self.old.noted }
+    {
+        let before = self.record(row).expiry;
+        let expiry = after_access(self.config().policy, before, self.moment);
+        self.renew_row(row, expiry);
+    }
+
+    /// Gives a row another value: its bit is set, its expiry renewed as the policy says, and the change is told where
+    /// the cache has listeners.
+    pub fn update(&mut self, row: u32, stored: Stored)
+        requires there { has_row row self.old.cache.cells ≡ true }
+        requires places { HasPlacesIn 1 self.old }
+        requires told { IsTold self.old.cache.config stored }
+        ensures spends { SpendsAtMost 0 1 self.old self.new }
+        ensures progress { (key : List ℕ) (x : Item) → IsRow key self.old.cache row x →
+            progress_in self.new
+            ≡ update self.old.cache.config self.old.moment x stored.value (progress_in self.old) }
+    {
+        let Stored { value, told } = stored;
+        let held = self.record(row);
+        let key = held.key;
+        let expiry = after_update(self.config().policy, held.expiry, self.moment);
+        let before = self.store_row(row, Record { key, value, expiry });
+        self.tell(Kind::Updated, key, told, Some(before.value));
+    }
+}
