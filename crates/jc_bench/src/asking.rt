@@ -7,6 +7,7 @@ use jc_model::call::Call;
 use jc_model::key::Key;
 use jc_shards::Caches;
 use std::alloc::Global;
+use std::hint::spin_loop;
 use std::sync::Wait;
 use std::sync::atomic::{AtomicU32, Ordering};
 
@@ -123,23 +124,36 @@ fn picked(keys: &[Key], number: u64) -> Option<&Key> {
     keys.get(((number >> 33) % count) as usize)
 }
 
-/// Does it so often, each time for one of the keys of one of the caches, picked by numbers that follow `first`.
+/// What a session does again and again.
+#[derive(Clone, Copy)]
+pub struct Task {
+    pub kind: Kind,
+    /// How often.
+    pub calls: u32,
+    /// How many steps of the processor's pause go by after each.
+    pub between: u32,
+    /// The number that its picks follow.
+    pub first: u64,
+}
+
+/// Does its task, each time for one of the keys of one of the caches.
 pub fn ask_often<S: Seats, R: Wait>(
     rt: &R,
     alloc: Global,
     seat: &mut S::Seat,
-    kind: Kind,
+    task: Task,
     (caches, keys): (Span, &[Key]),
-    calls: u32,
-    first: u64,
     counts: &mut Counts,
 ) {
-    let mut number = first;
-    for _ in 0..calls {
+    let mut number = task.first;
+    for _ in 0..task.calls {
         number = following(number);
         if let Some(key) = picked(keys, number) {
             let cache = S::id(cache_picked(caches, number));
-            counts.add(ask(rt, alloc, seat, kind, cache, key));
+            counts.add(ask(rt, alloc, seat, task.kind, cache, key));
+        }
+        for _ in 0..task.between {
+            spin_loop();
         }
     }
 }

@@ -1,5 +1,5 @@
 //! The threads of a run, each with a session of its own.
-use crate::asking::{Counts, Span, WRITTEN, ask_often, write_meanwhile};
+use crate::asking::{Counts, Span, Task, WRITTEN, ask_often, write_meanwhile};
 use crate::caches::{fill, numbered};
 use crate::fault::Fault;
 use crate::seats::Seats;
@@ -34,20 +34,19 @@ pub struct Done {
     pub took: Moment,
 }
 
-/// Asks so often in a session of its own. Where none is given any more, it says so.
+/// Does this task in a session of its own. Where none is given any more, it says so.
 fn ask_in_session<S: Seats, R: Wait>(
     rt: &R,
     alloc: Global,
     job: &Job<'_, S>,
-    calls: u32,
-    first: u64,
+    task: Task,
     counts: &mut Counts,
 ) -> bool {
     let Ok(mut seat) = job.seats.seat(rt) else {
         return false;
     };
     let asked = (job.caches, job.keys);
-    ask_often::<S, R>(rt, alloc, &mut seat, job.kind, asked, calls, first, counts);
+    ask_often::<S, R>(rt, alloc, &mut seat, task, asked, counts);
     true
 }
 
@@ -55,8 +54,13 @@ fn ask_in_session<S: Seats, R: Wait>(
 fn ask_in_turn<S: Seats, R: Wait>(rt: &R, alloc: Global, job: &Job<'_, S>, counts: &mut Counts) {
     let calls = job.size.calls / job.size.sessions.max(1);
     for turn in 0..job.size.sessions {
-        let first = job.first.wrapping_add(turn as u64);
-        if !ask_in_session(rt, alloc, job, calls, first, counts) {
+        let task = Task {
+            kind: job.kind,
+            calls,
+            between: job.size.between,
+            first: job.first.wrapping_add(turn as u64),
+        };
+        if !ask_in_session(rt, alloc, job, task, counts) {
             return;
         }
     }

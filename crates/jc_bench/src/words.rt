@@ -61,6 +61,8 @@ pub struct Size {
     pub writers: u32,
     /// How often each thread does it.
     pub calls: u32,
+    /// How many steps of the processor's pause each thread lets go by after each.
+    pub between: u32,
     /// How many sessions each thread has for it, one after the other.
     pub sessions: u32,
     /// Whether each thread asks one cache, and no other thread that one where there are enough.
@@ -159,6 +161,13 @@ fn command<'a>(alloc: Global) -> Result<Command<'a>, AllocError> {
         ))?
         .arg(number(
             alloc,
+            "between",
+            "Steps of the processor's pause after each",
+            (0, 1_000_000),
+            "0",
+        ))?
+        .arg(number(
+            alloc,
             "sessions",
             "How many sessions each thread has, one after the other",
             (1, 1_000_000),
@@ -178,6 +187,7 @@ fn size_of(matches: &ArgMatches<'_>) -> Option<Size> {
         threads: matches.get_one::<u32>("threads")?,
         writers: matches.get_one::<u32>("writers")?,
         calls: matches.get_one::<u32>("calls")?,
+        between: matches.get_one::<u32>("between")?,
         sessions: matches.get_one::<u32>("sessions")?,
         apart: matches.get_flag("apart"),
         stashed: matches.get_flag("stashed"),

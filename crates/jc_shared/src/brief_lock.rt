@@ -1,41 +1,48 @@
 //! A lock that most calls hold for a moment only.
 use std::hint::spin_loop;
+use std::sync::atomic::{AtomicU64, Ordering};
 use std::sync::{Mutex, MutexGuard, Wait};
+use std::time::Duration;
 
-/// How often a thread that finds the lock held tries again before it lets itself be put to sleep.
-const TRIES: u32 = 12;
+/// How many threads in a row find the lock held before one of them stays away.
+const CROWD: u64 = 4;
 
-/// The first and the longest pause between two tries, in steps of `spin_loop`, each as a power of two.
-const FIRST_PAUSE: u32 = 10;
+/// For how long it stays away, in microseconds.
+const AWAY: u64 = 100;
 
-const LONGEST_PAUSE: u32 = 13;
+/// How often a thread that found the lock held tries again before it lets itself be put to sleep.
+const TRIES: u32 = 40;
+
+/// The pause between two tries, in steps of `spin_loop`.
+const PAUSE: u32 = 8;
 
 /// A `Mutex` for what a call on one key holds for less than a microsecond. To be put to sleep and woken takes many times
-/// as long, for the thread that waits and for the one that wakes it: so a thread tries for a while first. Each pause is
-/// twice as long as the one before, and all are much longer than such a call: what the lock guards moves to another
-/// processor at each change of hands, so a thread makes many calls between two.
+/// as long, for the thread that waits and for the one that wakes it: so a thread that finds the lock held tries again at
+/// short intervals.
+///
+/// Where threads find it held again and again they are too many for it, and each change of hands moves what the lock
+/// guards to another processor. Then one of them stays away for a time that is much longer than a call, and those that
+/// are left make many calls each.
 #[derive(Drop)]
 pub(crate) struct BriefLock<T> {
     mutex: Mutex<T>,
-}
-
-/// Lets some time go by, the more the more tries there were.
-fn pause(tries: u32) {
-    let rounds = 1u32 << FIRST_PAUSE.saturating_add(tries).min(LONGEST_PAUSE);
-    for _ in 0..rounds {
-        spin_loop();
-    }
+    /// How many threads found the lock held since one last found it free, or stayed away.
+    crowd: AtomicU64,
+    /// Always zero: a thread that stays away sleeps on it, and no one wakes it.
+    away: AtomicU64,
 }
 
 impl<T> BriefLock<T> {
     pub(crate) fn new(value: T) -> BriefLock<T> {
         BriefLock {
             mutex: Mutex::new(value),
+            crowd: AtomicU64::new(0),
+            away: AtomicU64::new(0),
         }
     }
 
     pub(crate) fn into_inner(self) -> T {
-        let BriefLock { mutex } = self;
+        let BriefLock { mutex, .. } = self;
         mutex.into_inner()
     }
 
@@ -46,11 +53,36 @@ impl<T> BriefLock<T> {
 
     /// Takes the lock; waits while another has it.
     pub(crate) fn lock<R: Wait>(&self, rt: &R) -> MutexGuard<'_, T> {
-        for tries in 0..TRIES {
+        match self.try_lock() {
+            Some(guard) => {
+                if self.crowd.load(Ordering::SeqCst) != 0 {
+                    self.crowd.store(0, Ordering::SeqCst);
+                }
+                guard
+            }
+            None => self.lock_held(rt),
+        }
+    }
+
+    /// Stays away for a while where threads find the lock held again and again.
+    fn give_way<R: Wait>(&self, rt: &R) {
+        if self.crowd.fetch_add(1, Ordering::SeqCst) >= CROWD - 1 {
+            self.crowd.store(0, Ordering::SeqCst);
+            self.away.park_timeout(rt, 0, Duration::from_micros(AWAY));
+        }
+    }
+
+    /// Takes the lock that another thread had a moment ago.
+    #[inline(never)]
+    fn lock_held<R: Wait>(&self, rt: &R) -> MutexGuard<'_, T> {
+        self.give_way(rt);
+        for _ in 0..TRIES {
             if let Some(guard) = self.try_lock() {
                 return guard;
             }
-            pause(tries);
+            for _ in 0..PAUSE {
+                spin_loop();
+            }
         }
         self.mutex.lock(rt)
     }
