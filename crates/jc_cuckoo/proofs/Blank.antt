@@ -1,9 +1,9 @@
 -- No bucket overflows where the rows of one go to two.
-use Rattle.std.proofs.Common.{◌≡◌, ℕ, ◌+◌, ◌-◌, ◌*◌, ◌%◌, ◌/◌, ◌<◌, ◌≤◌, Bool, true, false, List, length, Option, Some, None, ◌⊎◌, refl, sym, ap, ◌∙◌, subst, arith, inl, inr}
+use Rattle.std.proofs.Common.{◌≡◌, ℕ, ◌+◌, ◌-◌, ◌*◌, ◌%◌, ◌/◌, ◌<◌, ◌≤◌, Bool, true, false, List, Option, Some, None, ◌⊎◌, refl, sym, ap, ◌∙◌, subst, arith, inl, inr}
 use Rattle.std.proofs.Math.Nat.{mod-eq_of_lt, add-mod_left}
 use Rattle.std.proofs.lemmas.Bool.{cases_lt}
 use Rattle.std.proofs.lemmas.Nat.{mod_below}
-use Rattle.std.proofs.lemmas.List.{get_or-set_other, length-set}
+use Rattle.std.proofs.lemmas.List.{get_or-set_other}
 use Rattle.jc_place.specs.declared.place.Place.{Place}
 use Rattle.jc_place.specs.Place.{IsTableSize, alternate_of}
 use Rattle.jc_place.proofs.Other.{counts, size_positive}
@@ -64,9 +64,6 @@ still_blank n at t cs ds h heir blank f = record {
 
 pub blank_on : (n at : ℕ) (cs : List (Option Held)) → IsBlankFrom n cs at → IsBlankFrom n cs (at + 1)
 blank_on n at cs blank = record { blank = λ j after below. blank.blank j (omega arith) below }
-
-pub filled_length : (cs ds : List (Option Held)) (t : ℕ) (h : Held) → IsFilled cs ds t h → length ds ≡ length cs
-filled_length cs ds t h f = ap length f.cells ∙ length-set cs f.at (Some h)
 
 -- which of its two buckets
 

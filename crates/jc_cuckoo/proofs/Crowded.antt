@@ -23,9 +23,6 @@ pub record Same {P M : Type 0} (told : M → Option (List Image)) (a b : Table P
   pub buckets : b.buckets ≡ a.buckets
   pub images : told b.mirror ≡ told a.mirror
 
-pub same_more : {P M : Type 0} (told : M → Option (List Image)) (a b c : Table P M) → Same told a b → Same told b c → Same told a c
-same_more told a b c s t = record { placer = t.placer ∙ s.placer; cells = t.cells ∙ s.cells; buckets = t.buckets ∙ s.buckets; images = t.images ∙ s.images }
-
 image_same : {P M : Type 0} (told : M → Option (List Image)) (a b : Table P M) → Same told a b → image b ≡ image a
 image_same told a b same = ap₂ image_of same.buckets same.cells
 

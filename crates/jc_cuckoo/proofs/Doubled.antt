@@ -59,16 +59,6 @@ stash_brought {P = P} placing t at u v h once below is has added needed = record
   needed = subst (λ (p : P). NeedsStash (placing p) v.buckets v.cells) has.placer (needed (subst (λ (p : P). NeedsStash (placing p) u.buckets u.cells) (sym has.placer) has.needed));
 }
 
-pub stash_passed : {P M N : Type 0} (placing : P → ℕ → List ℕ → Place) (t : Table P M) (at : ℕ) (u : Table P N) → at < length t.cells → cell t.cells at ≡ None → HasStash placing t at u → HasStash placing t (at + 1) u
-stash_passed placing t at u below is has = record {
-  placer = has.placer;
-  buckets = has.buckets;
-  rows = has.rows ∙ sym (taken_none t.cells at below is);
-  short = let short = has.short in omega arith;
-  covers = has.covers;
-  needed = has.needed;
-}
-
 -- none, all slots, all cells
 
 no_slots : (n at : ℕ) (cs ds : List (Option Held)) → ds ≡ replicate (8 * n) None → (rows_in ds ≡ rows_in (take 0 cs)) × (length ds ≡ 8 * n) × IsBlankFrom n ds at

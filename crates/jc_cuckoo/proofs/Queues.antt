@@ -1,5 +1,5 @@
 -- A queue of buckets grows by one.
-use Rattle.std.proofs.Common.{◌≡◌, ◌≢◌, ℕ, zero, suc, ◌+◌, ◌-◌, ◌*◌, ◌/◌, ◌%◌, ◌<◌, ◌≤◌, List, [], ◌∷◌, ◌++◌, length, set, get_or, Option, Some, None, refl, sym, ap, ap₂, ◌∙◌, subst, arith, inl, inr}
+use Rattle.std.proofs.Common.{◌≡◌, ◌≢◌, ℕ, ◌+◌, ◌-◌, ◌*◌, ◌/◌, ◌%◌, ◌<◌, ◌≤◌, List, [], ◌∷◌, ◌++◌, length, set, get_or, Option, Some, None, refl, sym, ap, ap₂, ◌∙◌, subst, arith, inl, inr}
 use Rattle.std.proofs.lemmas.Bool.{cases_lt}
 use Rattle.std.proofs.lemmas.List.{length-set, get_or-set_same, get_or-set_other, get_or_read, get_or_append_left, get_or_past}
 use Rattle.jc_place.specs.declared.place.Place.{Place}
@@ -8,7 +8,7 @@ use Rattle.jc_place.proofs.Other.{other_back}
 use Rattle.jc_cuckoo.specs.declared.held.Held.{Held}
 use Rattle.jc_cuckoo.specs.declared.queue.Queue.{Queue}
 use Rattle.jc_cuckoo.specs.Cells.{held_place, cell, IsFull, IsSlotVacant, AreSoundCells, IsBucketOf, first_bucket}
-use Rattle.jc_cuckoo.specs.Search.{IsQueue, IsStep, IsSized, Grows, looked_slot, queued_bucket, queued_slot, queued_tag, queued_parent, queued_depth}
+use Rattle.jc_cuckoo.specs.Search.{IsQueue, IsStep, Grows, looked_slot, queued_bucket, queued_slot, queued_tag, queued_parent, queued_depth}
 
 pub record Pushed (q r : Queue) (bucket slot tag parent : ℕ) : Type 0 where
   pub buckets : r.buckets ≡ set q.buckets q.count bucket
@@ -229,34 +229,6 @@ all_full cells q looked k full all low = record {
   where
     back : (i b : ℕ) → b ≤ i → b + (i - b) ≡ i
     back i b h = omega arith
-
--- the two buckets of a key
-pub queue_new : (p : ℕ → List ℕ → Place) (n : ℕ) (cells : List (Option Held)) (q : Queue) (one two : ℕ) → IsSized q → q.count ≡ 2 → queued_bucket q 0 ≡ one → queued_bucket q 1 ≡ two → queued_depth q 0 ≡ 0 → queued_depth q 1 ≡ 0 → one < n → two < n → two ≢ one → IsQueue p n cells q
-queue_new p n cells q one two sized count e0 e1 d0 d1 l0 l1 differ = record {
-  wide = sized;
-  first_depth = d0;
-  second_depth = d1;
-  some = omega arith;
-  few = omega arith;
-  below = λ j low. pick j (λ x. queued_bucket q x < n) (subst (λ (b : ℕ). b < n) (sym e0) l0) (subst (λ (b : ℕ). b < n) (sym e1) l1) (omega arith);
-  near = λ j low. pick j (λ x. queued_depth q x ≤ 5) (omega arith) (omega arith) (omega arith);
-  apart = λ i j li lj same. part i j (omega arith) (omega arith) same;
-  steps = λ j above low. absurd (omega arith);
-}
-  where
-    pick : (j : ℕ) (F : ℕ → Type 0) → F 0 → F 1 → j < 2 → F j
-    pick zero F a b low = a
-    pick (suc zero) F a b low = b
-    pick (suc (suc j)) F a b low = absurd (omega arith)
-
-    part : (i j : ℕ) → i < 2 → j < 2 → queued_bucket q i ≡ queued_bucket q j → i ≡ j
-    part zero zero li lj same = refl
-    part zero (suc zero) li lj same = absurd (differ (sym e1 ∙ (sym same ∙ e0)))
-    part zero (suc (suc j)) li lj same = absurd (omega arith)
-    part (suc zero) zero li lj same = absurd (differ (sym e1 ∙ (same ∙ e0)))
-    part (suc zero) (suc zero) li lj same = refl
-    part (suc zero) (suc (suc j)) li lj same = absurd (omega arith)
-    part (suc (suc i)) j li lj same = absurd (omega arith)
 
 -- a bucket stays full while the stash grows
 pub full_pushed : (cs : List (Option Held)) (h : Held) (b : ℕ) → IsFull cs b → IsFull (cs ++ Some h ∷ []) b

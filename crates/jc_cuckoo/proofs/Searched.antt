@@ -1,5 +1,5 @@
 -- A step of the search.
-use Rattle.std.proofs.Common.{◌≡◌, ℕ, zero, suc, ◌+◌, ◌*◌, ◌/◌, ◌%◌, ◌<◌, ◌≤◌, List, get_or, Option, Some, ◌⊎◌, sym, ap, ◌∙◌, subst, arith, inl, inr}
+use Rattle.std.proofs.Common.{◌≡◌, ℕ, ◌+◌, ◌*◌, ◌/◌, ◌%◌, ◌<◌, ◌≤◌, List, get_or, Option, Some, ◌⊎◌, sym, ap, ◌∙◌, subst, arith, inl, inr}
 use Rattle.std.proofs.lemmas.Bool.{cases_lt}
 use Rattle.std.proofs.lemmas.Bool.Decides.{eqb_tells}
 use Rattle.jc_place.specs.declared.place.Place.{Place}
@@ -15,18 +15,6 @@ use Rattle.jc_cuckoo.specs.Search.{IsQueue, IsSearched, IsIn, Grows, looked_slot
 abbrev pub Asked : (ℕ → List ℕ → Place) → ℕ → List (Option Held) → Queue → ℕ → Type 0
 Asked p n cells q j = (h : Held) → queued_depth q (j / 4) < 5 → cell cells (looked_slot q j) ≡ Some h
     → IsIn q (alternate_of n (p h.id h.key).tag (queued_bucket q (j / 4))) (queued_depth q (j / 4) + 1) ⊎ ((q.count ≡ 64) × ((m : ℕ) → m < q.count → queued_depth q m ≤ queued_depth q (j / 4) + 1))
-
-pub searched_none : (p : ℕ → List ℕ → Place) (n : ℕ) (cells : List (Option Held)) (q : Queue) → IsQueue p n cells q → q.count ≡ 2 → IsSearched p n cells q 0
-searched_none p n cells q queue two = record {
-  sorted = λ i j le low. (let a = flat i (omega arith) in let b = flat j (omega arith) in omega arith);
-  ahead = λ m k lm lk past. (let a = flat m (omega arith) in omega arith);
-  closed = record { closed = λ j h none. absurd (omega arith) };
-}
-  where
-    flat : (m : ℕ) → m < 2 → queued_depth q m ≡ 0
-    flat zero low = queue.first_depth
-    flat (suc zero) low = queue.second_depth
-    flat (suc (suc m)) low = absurd (omega arith)
 
 pub searched_same : (p : ℕ → List ℕ → Place) (n : ℕ) (cells : List (Option Held)) (q : Queue) (looked : ℕ) → IsSearched p n cells q looked → Asked p n cells q looked → IsSearched p n cells q (looked + 1)
 searched_same p n cells q looked s asked = record {

@@ -1,16 +1,13 @@
 -- One cache and its call: what the call has come to is what the cache is to answer.
 use Rattle.jc_engine.proofs.Names.{common_steps, Answer, Call, Notice, Request, CacheConfig, Cause, WrongAnswer, Outcome, Progress, begun, Run, ended, waiting, and_then, resume, for_tell, fits, plan, carried_out}
 use Rattle.jc_engine.proofs.Names.{told_first, Standing, Status, begins, answers, shown, standing_of, reply_of, Wait, one, many, telling, run_of, standing_by, Kept, progress_of, wait_run, WaitsOn, Advance}
-use Rattle.jc_engine.proofs.Names.{Asked, Replied, Idle, Waiting, Telling, Cache, turn_in, notices_in, is_step, WaitsThere, Settled, Moves, Refused}
-use Rattle.std.proofs.Common.{◌≡◌, ℕ, eqb, List, Bool, true, false, if◌then◌else◌, [], refl, sym, ap, subst, ◌∙◌, arith}
+use Rattle.jc_engine.proofs.Names.{Asked, Idle, Waiting, Telling, Cache, turn_in, notices_in, is_step, WaitsThere, Settled, Moves, Refused}
+use Rattle.std.proofs.Common.{◌≡◌, ℕ, List, Bool, true, false, if◌then◌else◌, [], refl, sym, ap, subst, ◌∙◌, arith}
 use Rattle.jc_model.specs.declared.call.Reply.{Reply}
 use Rattle.jc_state.specs.Kept.{state_of}
-use Rattle.jc_state.specs.Tied.{SameElsewhere}
-use Rattle.jc_state.specs.Visited.{Visited, IsKeptIn}
-use Rattle.jc_state.proofs.Ties.{Tied-same}
-use Rattle.jc_engine.specs.Managed.{IsBetweenCalls}
+use Rattle.jc_state.specs.Visited.{IsKeptIn}
 use Rattle.jc_engine.specs.Waiting.{WaitState}
-use Rattle.jc_engine.proofs.Names.{RowMap, Slot, IsManaged, nat_tests}
+use Rattle.jc_engine.proofs.Names.{RowMap, Slot, IsManaged}
 use Rattle.jc_engine.specs.declared.turn.Turn.{Turn}
 use Rattle.jc_engine.proofs.Untold.{not_told, carried_out-untold, resume-untold, wait_run-untold}
 
@@ -34,18 +31,6 @@ began c k Idle now call k' turn' advance allowed settled = grind (arith, carried
 began c k (Waiting s) now call k' turn' advance allowed settled = absurd cc
 began c k (Telling r) now call k' turn' advance allowed settled = absurd cc
 
--- a call that has ended, and told nothing, stands as its run does
-settled_at_once : (c : CacheConfig) (run : Run) (k : Kept) (reply : Reply) → run ≡ ended (progress_of k []) reply → Settled c run k Idle (Replied reply)
-settled_at_once c run k reply is = grind (arith, common_steps)
-
--- a call has begun, and has ended at once
-pub began_at_once : (c : CacheConfig) (k : Kept) (turn : Turn) (now : ℕ) (call : Call) (k' : Kept) (reply : Reply)
-    → is_step (reply_of c (standing_by c (progress_of k (notices_in turn)) (turn_in turn)) (begins now call)) ≡ true
-    → carried_out c now (plan c now call (begun (state_of k))) (begun (state_of k)) ≡ ended (progress_of k' []) reply → Moves (cache_of c k turn) (begins now call) (Replied reply) (cache_of c k' turn)
-began_at_once c k Idle now call k' reply allowed run = began c k Idle now call k' Idle (Replied reply) allowed (settled_at_once c (carried_out c now (plan c now call (begun (state_of k))) (begun (state_of k))) k' reply run)
-began_at_once c k (Waiting s) now call k' reply allowed run = absurd cc
-began_at_once c k (Telling r) now call k' reply allowed run = absurd cc
-
 -- a cache of which no call is open stays managed when its visit has ended
 pub managed_idle : (n : RowMap) (cache : Slot) (k : Kept) → cache.turn ≡ Idle → k.id ≡ cache.state.id → IsKeptIn n k → IsManaged n cache.state.id (record { state = k; turn = cache.turn })
 managed_idle n cache k idle id kept = record { id_is = id; kept = kept; waits = rw idle tt }
@@ -53,14 +38,6 @@ managed_idle n cache k idle id kept = record { id_is = id; kept = kept; waits = 
 -- and one whose call has come to this
 pub managed_settled : (n : RowMap) (id : ℕ) (k : Kept) (run : Run) (turn : Turn) (advance : Advance) → k.id ≡ id → IsKeptIn n k → Settled k.config run k turn advance → IsManaged n id (record { state = k; turn = turn })
 managed_settled n id k run turn advance is kept settled = record { id_is = is; kept = kept; waits = settled.waits }
-
--- the spare cache stays tied where another cache's rows have changed
-pub spare_kept : (n : RowMap) (id : ℕ) (v : Visited) → IsKeptIn v.table v.cache → IsBetweenCalls id v → SameElsewhere id v.table n → IsKeptIn n v.cache
-spare_kept n id v kept rest same =
-    let apart : eqb v.cache.id id ≡ false = grind (arith, nat_tests, rest.apart) in record {
-      tied = Tied-same v.table n v.cache.id v.cache.cells (λ key. same v.cache.id key apart) kept.tied;
-      within = kept.within;
-    }
 
 -- a suspended call goes on as its run does
 run_on : (c : CacheConfig) (p : Progress) (w : Wait) (a : Answer) (run : Run) → wait_run c p w ≡ run → ((q : Progress) (r : Reply) → run ≡ ended q r → ⊥) → run_of c p w a ≡ and_then (resume (wait_run c p w) a) told_first
@@ -89,15 +66,6 @@ went_on c k (Waiting t) a k' turn' advance w is there allowed settled =
       moves = ap (λ (s : Standing). (let status : Status = record { config = c; standing = s } in status)) (settled'.stands ∙ ap standing_of (sym goes));
       fits = settled'.fits (resume-untold (wait_run c p t.call.wait) a (wait_run-untold c p t.call.wait));
     }
-
--- an answer that a waiting call takes is of the kind that it awaits
-pub awaited_there : (c : CacheConfig) (k : Kept) (turn : Turn) (a : Answer) (w : WaitState) → turn ≡ Waiting w
-    → is_step (reply_of c (standing_by c (progress_of k (notices_in turn)) (turn_in turn)) (answers a)) ≡ true → fits w.call.awaits a ≡ true
-awaited_there c k Idle a w is allowed = absurd cc
-awaited_there c k (Telling r) a w is allowed = absurd cc
-awaited_there c k (Waiting t) a w is allowed =
-    let same : t ≡ w = cc in
-    rw (← same) (first_of (fits t.call.awaits a) (shown (run_of c (progress_of k t.told) t.call.wait a)) WrongAnswer allowed)
 
 -- that notices were told is no answer that a suspended call takes
 pub never_told : (c : CacheConfig) (k : Kept) (turn : Turn) (a : Answer) (s : WaitState) → turn ≡ Waiting s → WaitsThere c k turn

@@ -60,10 +60,6 @@ started (Err cause) ok err same = record { shows = err; moves = λ e. absurd cc;
 pub moved_on : {k k' : Cache} {said : CacheEvent} {advance : Advance} → Moves k said advance k' → Did k k' said false (Stepped (step_of advance))
 moved_on moves = record { shows = moves.shows ∙ sym (plain _); moves = λ _. moves.moves; stays = λ e. absurd cc }
 
--- a call is refused for want of memory, in the place of a step
-pub memory_alone : (reply : Outcome) → is_step reply ≡ true → Refused OutOfMemory ≡ refuse_last (for_memory (Refused OutOfMemory)) reply
-memory_alone reply is = memory_refused reply is
-
 -- the manager's fields after it
 module _ {w : Within} {id : ℕ} {cache cache' : Slot} {g : ℕ → Option Slot} (c : Changes w id cache (Some cache') g) where
   pub one_after : ChangesOne w.seen id (caches_in g (length w.members))

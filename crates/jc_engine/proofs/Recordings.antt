@@ -1,10 +1,9 @@
 -- What a recorded manager keeps, after each of its calls.
-use Rattle.std.proofs.Common.{◌≡◌, ◌⊎◌, inl, inr, IfSome, ℕ, zero, suc, Bool, true, false, List, [], ◌∷◌, ◌++◌, ◌+◌, length, take, Option, Some, None, Result, Ok, Err, refl, sym, ap, ap₂, subst, ◌∙◌, arith, slice_get, slice_set, set-set, option_map, MatchOption, OnOk, OnErr, IsSome, is_some, is_err}
+use Rattle.std.proofs.Common.{◌≡◌, ◌⊎◌, inl, inr, IfSome, ℕ, zero, suc, Bool, true, false, List, [], ◌∷◌, ◌++◌, ◌+◌, length, take, Option, Some, None, Result, Ok, Err, refl, sym, ap, subst, ◌∙◌, arith, slice_get, slice_set, set-set, option_map, OnOk, OnErr, IsSome, is_some, is_err}
 use Rattle.jc_engine.proofs.Names.{Answer, Call, Notice, CacheConfig, Event, Begin, GiveUp, Create, Destroy, Outcome, Entry, Progress, Awaited, told_by, there, at_place, Status, CacheEvent, on_cache, answers, gives_up, idle}
 use Rattle.jc_engine.proofs.Names.{is_refused, reply_of, for_memory, answer_of, answer_in, answer_to, lives_after, Wait, one, many, telling, standing_by, History, Tells, recorded, numbered_lives, at_first, with_outcome, with_answer}
 use Rattle.jc_engine.proofs.Names.{on_open, Noted, Advance, Replied, Asked, Told, Cache, status_of, fresh_cache, fresh_from, lives_of, step_of, is_step, is_telling, tells, FitsTurn, LeavesNotices, of_abandon, FitsAt, ClosedAt, is_open_in}
 use Rattle.jc_engine.proofs.Names.{ChangesOne, IsOpenAt, HasEntry, IsRecorded, CanTell, blank, left_in, with_entries, with_life, State, Answered, Created, Destroyed, GivenUp, Stepped, at_same, at_other, at_place_map, common_steps}
-use Rattle.jc_engine.proofs.Names.{length_push, same_from_push}
 use Rattle.jc_model.specs.declared.event.Life.{Life}
 use Rattle.jc_model.proofs.Recording.{one_more_event, nothing_told}
 use Rattle.jc_engine.specs.Changed.{begun_entry}
@@ -259,13 +258,6 @@ one_life first configs i c at = ap (λ (ls : List Life). (let all : History = re
 
 -- What is written and taken back.
 
-pub same_history : (h h' : History) → h'.lives ≡ h.lives → h'.entries ≡ h.entries → h' ≡ h
-same_history h h' lives entries = ap₂ (λ (ls : List Life) (es : List Entry). (let all : History = record { lives = ls; entries = es } in all)) lives entries
-
-pub popped_back : {A : Type 0} (o : Option A) (old new before : List A) (e : A) → MatchOption o ((old ≡ []) × (new ≡ [])) (λ d. old ≡ new ++ d ∷ []) → old ≡ before ++ e ∷ [] → new ≡ before
-popped_back None old new before e h is = absurd (omega (arith, ap length (sym is ∙ h.0), length_push before e))
-popped_back (Some d) old new before e h is = (same_from_push new before d e (sym h ∙ is)).0
-
 pub on_ok : {A E P : Type 0} (r : Result A E) → OnOk r P → is_err r ≡ false → P
 on_ok (Ok x) p ok = p
 on_ok (Err e) p ok = absurd cc
@@ -303,10 +295,6 @@ keeps_over old mid new id place advance same keeps = record { others = λ other 
 pub entry_found : {X : Type 0} (o : Option X) (now : X → Entry) (entries : List Entry) (id place : ℕ) (e : Entry) → option_map now o ≡ Some e → IsEntryOf entries id place e → IfSome o (λ x. (place : ℕ) × IsEntryOf entries id place (now x))
 entry_found None now entries id place e is of = absurd cc
 entry_found (Some x) now entries id place e is of = let same : now x ≡ e = cc in (place, subst (IsEntryOf entries id place) (sym same) of)
-
-pub some_found : {X : Type 0} (o : Option X) (now : X → Entry) (e : Entry) → option_map now o ≡ Some e → is_some o ≡ true
-some_found None now e is = absurd cc
-some_found (Some x) now e is = refl
 
 -- a call has told its notices, or they are left
 pub told_or_left : (left : Option Noted) (k : Cache) (w : Awaited × Wait) (e : Entry) → LeavesNotices k left → k.turn ≡ Some w → (is_telling w.1 ≡ false → e.told ≡ []) → (e.told ≡ []) ⊎ (left_in left ≡ [])

@@ -1,8 +1,7 @@
 -- One listener after the other is told.
-use Rattle.std.proofs.Common.{◌≡◌, ℕ, zero, suc, ◌+◌, ◌<◌, ◌≤◌, List, [], ◌∷◌, ◌++◌, map, length, get_or, take, drop, refl, sym, ap, ◌∙◌, subst, arith, add-one, append-nil}
+use Rattle.std.proofs.Common.{◌≡◌, ℕ, zero, suc, ◌+◌, ◌<◌, List, [], ◌∷◌, ◌++◌, map, length, get_or, take, drop, refl, sym, ap, ◌∙◌, subst, arith, add-one}
 use Rattle.std.specs.Prelude.{slice_set}
 use Rattle.std.proofs.Math.ListN.{set}
-use Rattle.std.proofs.lemmas.List.{take_all, drop_all}
 use Rattle.std.proofs.lemmas.Option.{same_Some, slice_get-get_or}
 use Rattle.jc_model.specs.declared.call.Notice.{Notice}
 use Rattle.jc_hooks.specs.Asking.{states_after, TellsAt}
@@ -11,10 +10,6 @@ length_set : {A : Type 0} (xs : List A) (i : ℕ) (y : A) → length (slice_set 
 length_set [] i y = refl
 length_set (x ∷ xs) zero y = refl
 length_set (x ∷ xs) (suc i) y = ap suc (length_set xs i y)
-
-pub none_told : {K A : Type 0} (after before : K → A) (xs : List K) → map after (take 0 xs) ++ map before (drop 0 xs) ≡ map before xs
-none_told after before [] = refl
-none_told after before (x ∷ xs) = refl
 
 one_told : {K A : Type 0} (after before : K → A) (xs : List K) (i : ℕ) (d x' : K) → i < length xs → after x' ≡ before (get_or xs i d)
     → map after (take (suc i) (set xs i x')) ++ map before (drop (suc i) (set xs i x')) ≡ map after (take i xs) ++ map before (drop i xs)
@@ -25,9 +20,6 @@ one_told after before (y ∷ ys) (suc i) d x' lt told = ap (λ zs. after y ∷ z
 pub one_more_told : {K A : Type 0} (after before : K → A) (xs : List K) (i : ℕ) (d x' : K) → i < length xs → after x' ≡ before (get_or xs i d)
     → map after (take (i + 1) (set xs i x')) ++ map before (drop (i + 1) (set xs i x')) ≡ map after (take i xs) ++ map before (drop i xs)
 one_more_told after before xs i d x' lt told = rw add-one (one_told after before xs i d x' lt told)
-
-pub all_told : {K A : Type 0} (after before : K → A) (xs : List K) (i : ℕ) → length xs ≤ i → map after (take i xs) ++ map before (drop i xs) ≡ map after xs
-all_told after before xs i le = rw (take_all i xs le, drop_all i xs le) (append-nil (map after xs))
 
 module _ {K : Type 0} (state_after : K → List Notice → List ℕ) where
   pub next_told : (old new : List K) (i : ℕ) (notice : Notice) → i < length old → TellsAt state_after old new i notice → (rest : List Notice)

@@ -46,11 +46,6 @@ long_take zero xs h = refl
 long_take (suc n) [] h = absurd (omega arith)
 long_take (suc n) (x ∷ xs) h = ap suc (long_take n xs (omega arith))
 
-take_drop : (n : ℕ) (xs : List ℕ) → take n xs ++ drop n xs ≡ xs
-take_drop zero xs = refl
-take_drop (suc n) [] = refl
-take_drop (suc n) (x ∷ xs) = ap (λ l. x ∷ l) (take_drop n xs)
-
 take_none : (n : ℕ) → take {A = ℕ} n [] ≡ []
 take_none zero = refl
 take_none (suc n) = refl

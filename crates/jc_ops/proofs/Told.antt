@@ -5,9 +5,6 @@ use Rattle.jc_ops.specs.Supply.{most_told_in, HasPlacesFor}
 use Rattle.jc_model.specs.declared.table.Ask.{Ask}
 use Rattle.jc_model.specs.declared.table.Change.{Change}
 
-pub told_least : (there : Bool) (a : Ask) (ch : Change) → told_of there ch ≤ told_by there a ch
-told_least there a ch = grind (arith, common_steps)
-
 told_most : (there : Bool) (a : Ask) (ch : Change) → told_by there a ch ≤ told_of there Put
 told_most there a ch = grind (arith, common_steps)
 

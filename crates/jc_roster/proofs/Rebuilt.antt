@@ -1,8 +1,8 @@
 -- The fields of a roster give its list back.
-use Rattle.std.proofs.Common.{◌≡◌, ℕ, zero, suc, ◌+◌, ◌≤◌, Bool, true, false, if◌then◌else◌, List, [], ◌∷◌, map, length, Option, Some, None, refl, ◌∙◌, ap, arith}
+use Rattle.std.proofs.Common.{◌≡◌, ℕ, suc, ◌+◌, ◌≤◌, Bool, true, false, if◌then◌else◌, List, [], ◌∷◌, map, length, Option, Some, None, refl, ◌∙◌, ap, arith}
 use Rattle.std.specs.Prelude.{◌==◌, slice_get}
 use Rattle.std.proofs.lemmas.Bool.Decides.{nat_tests}
-use Rattle.jc_model.specs.Places.{all_there, none_before}
+use Rattle.jc_model.specs.Places.{all_there}
 use Rattle.jc_roster.specs.Members.{members}
 use Rattle.jc_roster.specs.Fields.{spread, numbers_from}
 use Rattle.jc_roster.proofs.Listing.{at_least}
@@ -32,7 +32,3 @@ rebuilt i (Some x ∷ xs) =
 pub members-apart : (ms : List Member) → members (map (λ m. m.name) ms) (map (λ m. m.capacity) ms) ≡ ms
 members-apart [] = refl
 members-apart (m ∷ ms) = ap (λ l. m ∷ l) (members-apart ms)
-
-pub none_spread : {A : Type 0} (n i : ℕ) → spread {A = A} n i [] [] ≡ none_before n []
-none_spread zero i = refl
-none_spread (suc n) i = ap (λ l. None ∷ l) (none_spread n (i + 1))

@@ -81,20 +81,10 @@ len-removed m x present = elim (eqb_tells (map.len m) 0) [
   | inr some ↦ (let left : map.len (map.remove m x) ≡ map.len m - 1 = map.len-remove places_total m x ∙ ap (λ b. cond b (map.len m - 1) (map.len m)) present in omega arith)
 ]
 
-pub len-removed_most : (m : RowMap) (x : ℕ × List ℕ) → map.len (map.remove m x) ≤ map.len m
-len-removed_most m x = grind (arith, common_steps, map.len-remove places_total m x)
-
 pub removed_absent : (m : RowMap) (x : ℕ × List ℕ) → map.get m x ≡ None → map.remove m x ≡ m
 removed_absent m x absent = same_rows _ _ (λ y. elim (place_tells y x) [
   | inl same ↦ ap (map.get (map.remove m x)) same.1 ∙ (get-removed_same m x ∙ sym (ap (map.get m) same.1 ∙ absent))
   | inr other ↦ get-removed_other m x y other.1
-])
-
--- a row that is put and then removed leaves the table as it was
-pub put_removed : (m : RowMap) (x : ℕ × List ℕ) (row : ℕ × Expiry) → map.get m x ≡ None → map.remove (map.insert m x row) x ≡ m
-put_removed m x row absent = same_rows _ _ (λ y. elim (place_tells y x) [
-  | inl same ↦ ap (map.get (map.remove (map.insert m x row) x)) same.1 ∙ (get-removed_same (map.insert m x row) x ∙ sym (ap (map.get m) same.1 ∙ absent))
-  | inr other ↦ get-removed_other (map.insert m x row) x y other.1 ∙ get-put_other m x row y other.1
 ])
 
 -- After the expiry of a row is changed.
@@ -105,9 +95,6 @@ with_expiry_is m x r e expiry found = ap (with_expiry_at m x expiry) found
 pub with_expiry_absent : (m : RowMap) (x : ℕ × List ℕ) (expiry : Expiry) → map.get m x ≡ None → with_expiry m x expiry ≡ m
 with_expiry_absent m x expiry absent = ap (with_expiry_at m x expiry) absent
 
-pub get-with_expiry_same : (m : RowMap) (x : ℕ × List ℕ) (r : ℕ) (e expiry : Expiry) → map.get m x ≡ Some (r, e) → map.get (with_expiry m x expiry) x ≡ Some (r, expiry)
-get-with_expiry_same m x r e expiry found = ap (λ n. map.get n x) (with_expiry_is m x r e expiry found) ∙ get-put_same m x (r, expiry)
-
 get-with_expiry_at : (m : RowMap) (x : ℕ × List ℕ) (expiry : Expiry) (o : Option (ℕ × Expiry)) (y : ℕ × List ℕ) → (y ≡ x → ⊥) → map.get (with_expiry_at m x expiry o) y ≡ map.get m y
 get-with_expiry_at m x expiry None y differ = refl
 get-with_expiry_at m x expiry (Some row) y differ = get-put_other m x (row.0, expiry) y differ
@@ -115,15 +102,5 @@ get-with_expiry_at m x expiry (Some row) y differ = get-put_other m x (row.0, ex
 pub get-with_expiry_other : (m : RowMap) (x : ℕ × List ℕ) (expiry : Expiry) (y : ℕ × List ℕ) → (y ≡ x → ⊥) → map.get (with_expiry m x expiry) y ≡ map.get m y
 get-with_expiry_other m x expiry y differ = get-with_expiry_at m x expiry (map.get m x) y differ
 
-pub get-with_expiry_key : (m : RowMap) (i : ℕ) (k : List ℕ) (expiry : Expiry) (j : ℕ) (q : List ℕ) → bytes_eq q k ≡ false → map.get (with_expiry m (i, k) expiry) (j, q) ≡ map.get m (j, q)
-get-with_expiry_key m i k expiry j q differ = get-with_expiry_other m (i, k) expiry (j, q) (keys_apart j i q k differ)
-
 pub get-with_expiry_cache : (m : RowMap) (i : ℕ) (k : List ℕ) (expiry : Expiry) (j : ℕ) (q : List ℕ) → eqb j i ≡ false → map.get (with_expiry m (i, k) expiry) (j, q) ≡ map.get m (j, q)
 get-with_expiry_cache m i k expiry j q differ = get-with_expiry_other m (i, k) expiry (j, q) (caches_apart j i q k differ)
-
-len-with_expiry_at : (m : RowMap) (x : ℕ × List ℕ) (expiry : Expiry) (o : Option (ℕ × Expiry)) → map.get m x ≡ o → map.len (with_expiry_at m x expiry o) ≡ map.len m
-len-with_expiry_at m x expiry None found = refl
-len-with_expiry_at m x expiry (Some row) found = map.len-insert places_total m x (row.0, expiry) ∙ ap (λ o. cond (is_some o) (map.len m) (map.len m + 1)) found
-
-pub len-with_expiry : (m : RowMap) (x : ℕ × List ℕ) (expiry : Expiry) → map.len (with_expiry m x expiry) ≡ map.len m
-len-with_expiry m x expiry = len-with_expiry_at m x expiry (map.get m x) refl

@@ -1,8 +1,7 @@
 -- A run on worker threads: its callbacks, and what its manager has refused.
-use Rattle.std.proofs.Common.{◌≡◌, ℕ, zero, suc, ◌+◌, ◌<◌, ◌≤◌, Bool, List, [], ◌∷◌, ◌++◌, length, map, get_or, take, sym, ap, ap₂, subst, ◌∙◌, arith, Option, Some, None, Result, Err, true, refl}
+use Rattle.std.proofs.Common.{◌≡◌, ℕ, Bool, List, [], length, map, sym, ap, subst, ◌∙◌, Option, Some, None, Result, Err, true, refl}
 use Rattle.std.specs.Prelude.{is_some}
 use Rattle.std.specs.Result.{result_err}
-use Rattle.std.proofs.lemmas.List.{take_all, take_more, map_push}
 use Rattle.std.proofs.lemmas.Bool.{false≢true}
 use Rattle.std.proofs.lemmas.Option.{same_Some}
 use Rattle.jc_hooks.specs.declared.cache_hooks.CacheHooks.{CacheHooks}
@@ -69,25 +68,6 @@ module _ {L W P K : Type 0} (wants : P → Bool) where
       by (Some r) never = absurd (never refl)
 
 -- What was refused, line by line.
-
-pub refused_at : (managed : List Managed) (all : List (Option CreateRefusal)) (i : ℕ) (m d : Managed) (r e : Option CreateRefusal) → i < length managed → refusals_of managed ≡ all → m ≡ get_or managed i d → r ≡ get_or all i e → m.refusal ≡ r
-refused_at [] all i m d r e below same is is' = absurd (omega arith)
-refused_at (x ∷ xs) [] i m d r e below same is is' = cc
-refused_at (x ∷ xs) (y ∷ ys) zero m d r e below same is is' = ap (λ (z : Managed). z.refusal) is ∙ ap (λ (zs : List (Option CreateRefusal)). get_or zs 0 e) same ∙ sym is'
-refused_at (x ∷ xs) (y ∷ ys) (suc i) m d r e below same is is' = refused_at xs ys i m d r e (omega arith) (ap (λ (zs : List (Option CreateRefusal)). get_tail zs) same) is is'
-  where
-    get_tail : List (Option CreateRefusal) → List (Option CreateRefusal)
-    get_tail [] = []
-    get_tail (z ∷ zs) = zs
-
-pub one_more_refused : (managed : List Managed) (all : List (Option CreateRefusal)) (i : ℕ) (m d : Managed) (r e : Option CreateRefusal) → i < length managed → i < length all → refusals_of (take i managed) ≡ take i all → m ≡ get_or managed i d → r ≡ get_or all i e → m.refusal ≡ r
-    → refusals_of (take (i + 1) managed) ≡ take (i + 1) all
-one_more_refused managed all i m d r e below below' so_far is is' same =
-    ap refusals_of (take_more managed i d below) ∙ map_push (λ (x : Managed). x.refusal) (take i managed) (get_or managed i d)
-    ∙ ap₂ (λ (xs : List (Option CreateRefusal)) (x : Option CreateRefusal). xs ++ x ∷ []) so_far (ap (λ (x : Managed). x.refusal) (sym is) ∙ same ∙ is') ∙ sym (take_more all i e below')
-
-pub all_refused : (managed : List Managed) (all : List (Option CreateRefusal)) (i : ℕ) → length managed ≤ i → length managed ≡ length all → refusals_of (take i managed) ≡ take i all → refusals_of managed ≡ all
-all_refused managed all i le same so_far = ap refusals_of (sym (take_all i managed le)) ∙ so_far ∙ take_all i all (omega (arith, same))
 
 -- The report of what was made.
 

@@ -3,7 +3,7 @@ use Rattle.std.proofs.Common.{◌≡◌, ◌<◌, ◌+◌, ℕ, List, [], ◌++�
 use Rattle.std.specs.Prelude.{IfSome}
 use Rattle.std.proofs.lemmas.List.{append-nil, take-append-drop}
 use Rattle.std.proofs.Math.Seq.{take-length}
-use Rattle.std.specs.Io.KnownBytes.{Consumes, Appends, Keeps}
+use Rattle.std.specs.Io.KnownBytes.{Consumes, Appends}
 
 pub reads_none : (a : Option (List ℕ)) → Consumes a a []
 reads_none None = tt
@@ -34,12 +34,6 @@ writes_more None b c xs ys h k = tt
 writes_more (Some x) None c xs ys h k = absurd h
 writes_more (Some x) (Some y) None xs ys h k = absurd k
 writes_more (Some x) (Some y) (Some z) xs ys h k = k ∙ ap (λ w. w ++ ys) h ∙ append_assoc x xs ys
-
-pub writes_no_more : (a b c : Option (List ℕ)) (xs : List ℕ) → Appends a b xs → Keeps b c → Appends a c xs
-writes_no_more None b c xs h k = tt
-writes_no_more (Some x) None c xs h k = absurd h
-writes_no_more (Some x) (Some y) None xs h k = absurd k
-writes_no_more (Some x) (Some y) (Some z) xs h k = k ∙ h
 
 pub step_on : (a b c : Option (List ℕ)) (text front rest : List ℕ) (n m : ℕ) → text ≡ front ++ rest → m ≡ length (drop n rest) → Appends a b front → Appends b c (take n rest) → (x : List ℕ) × (text ≡ x ++ take m (drop n rest)) × Appends a c x
 step_on a b c text front rest n m whole size h k =

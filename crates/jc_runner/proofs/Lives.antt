@@ -13,12 +13,11 @@ use Rattle.jc_model.specs.declared.call.Verdict.{Verdict}
 use Rattle.jc_model.specs.declared.config.CacheConfig.{CacheConfig}
 use Rattle.jc_model.specs.declared.event.Cause.{Cause}
 use Rattle.jc_model.specs.declared.event.CreateRefusal.{CreateRefusal}
-use Rattle.jc_model.specs.declared.event.CreateRefusal.TheVariants.{OutOfMemory}
 use Rattle.jc_model.specs.declared.event.Entry.{Entry}
 use Rattle.jc_model.specs.declared.event.Event.TheVariants.{Create, Destroy}
 use Rattle.jc_model.specs.declared.event.Life.{Life}
 use Rattle.jc_model.specs.declared.event.Outcome.{Outcome}
-use Rattle.jc_model.specs.declared.event.Outcome.TheVariants.{Created, CreateRefused, Destroyed}
+use Rattle.jc_model.specs.declared.event.Outcome.TheVariants.{CreateRefused, Destroyed}
 use Rattle.jc_model.specs.State.{first_state}
 use Rattle.jc_model.specs.Runs.{Status, fresh, opened, Lives, create_refusal, answer_to_create, answer_to_destroy, destroyed_by, answer_to, for_memory, creates, destroys, lives_by}
 use Rattle.jc_model.specs.Solo.{standing_from}
@@ -49,15 +48,6 @@ use Rattle.jc_model.specs.Places.{at_place}
 pub record IsRefused (refusal : Option CreateRefusal) (next : ℕ) (why : CreateRefusal) : Type 0 where
   pub is : refusal ≡ Some why
   pub sure : CreateRefused why ≡ answer_to_create refusal next false
-
-pub refused_so : (refusal : Option CreateRefusal) (next : ℕ) (why : CreateRefusal) (memory : Bool) → why ≢ OutOfMemory → CreateRefused why ≡ answer_to_create refusal next memory → IsRefused refusal next why
-refused_so (Some other) next why memory differ e = let same : other ≡ why = cc in record { is = ap Some same; sure = e }
-refused_so None next why true differ e = let same : why ≡ OutOfMemory = cc in absurd (differ same)
-refused_so None next why false differ e = absurd cc
-
-pub created_so : (refusal : Option CreateRefusal) (next id : ℕ) → Created id ≡ answer_to_create refusal next false → None ≡ refusal
-created_so None next id e = refl
-created_so (Some other) next id e = absurd cc
 
 -- A creating.
 

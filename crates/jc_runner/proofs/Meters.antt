@@ -3,9 +3,6 @@ use Rattle.std.proofs.Common.{◌≡◌, ℕ, suc, ◌<◌, ◌==◌, Bool, true
 use Rattle.std.proofs.lemmas.Bool.Decides.{nat_tests}
 use Rattle.jc_runner.specs.Meters.{next_count, next_count_if, AddsAtMost}
 
-pub none_added : (most n : ℕ) → AddsAtMost most n n
-none_added most n = (0, omega arith, refl)
-
 pub one_added : (most most' old n new : ℕ) → AddsAtMost most old n → new ≡ next_count n → most < most' → AddsAtMost most' old new
 one_added most most' old n new a e lt = (suc a.0, omega (arith, a.1, lt), e ∙ ap next_count a.2)
 

@@ -32,7 +32,6 @@ use Rattle.jc_hooks.specs.Suits.{Suits}
 use Rattle.jc_hooks.specs.Suits.{AllSuit}
 use Rattle.jc_runner.specs.Naming.{ProgramHooks, loader_named, writer_named, processor_named, fresh_listener, AreHooksNamed, AllHooksNamed}
 use Rattle.jc_runner.specs.Opens.{HasKinds, AllHaveKinds, CanOpenConfiguration}
-use Rattle.jc_runner.specs.Program.{demonstration}
 
 -- A reading that succeeded.
 
@@ -208,12 +207,6 @@ configuration_opens bytes c e =
     let (within, e5, k5) = bind_ok (check_totals cs) _ c k4 in
     let sound : AllSound cs = sound_caches 1 tables cs e4 in
     subst CanOpenConfiguration (ok_same _ c k5) (record { kinds = all_kinds cs sound; refuses_nothing = opens_none cs within sound e5 })
-
-pub demonstration_opens : CanOpenConfiguration demonstration
-demonstration_opens = record {
-  kinds = (record { loads = refl; writes = refl; processes = refl }, (record { loads = refl; writes = refl; processes = refl }, tt));
-  refuses_nothing = refl;
-}
 
 -- The callbacks that are named are those that the caches are to have.
 

@@ -21,9 +21,3 @@ abbrev pub AsksForPath : Option (List (List ℕ)) → Option (List (List ℕ)) �
 AsksForPath None None path = ⊤
 AsksForPath (Some old) (Some new) path = new ≡ old ++ path ∷ []
 AsksForPath _ _ path = ⊥
-
--- what is true of the bytes of a path that was opened
-abbrev pub OfBytes : Option (Option (List ℕ)) → (List ℕ → Type 0) → Type 0
-OfBytes None P = ⊤
-OfBytes (Some None) P = ⊥
-OfBytes (Some (Some bytes)) P = P bytes

@@ -8,7 +8,7 @@ use Rattle.jc_model.specs.declared.event.Event.TheVariants.{Create}
 use Rattle.jc_model.specs.declared.event.Outcome.{Outcome}
 use Rattle.jc_model.specs.declared.event.Outcome.TheVariants.{Created, Destroyed}
 use Rattle.jc_model.specs.Places.{at_place, there}
-use Rattle.jc_model.specs.Runs.{Lives, Status, CacheEvent, gives_up, on_cache, idle, busy, moved, put_moved, answer_of, answer_in, answer_to, answer_to_destroy, answer_to_create, create_refusal, for_memory, is_refused, lives_after, lives_by}
+use Rattle.jc_model.specs.Runs.{Lives, Status, CacheEvent, on_cache, moved, put_moved, answer_of, answer_in, answer_to, answer_to_destroy, answer_to_create, create_refusal, for_memory, is_refused, lives_after, lives_by}
 use Rattle.jc_model.proofs.Lives.{at_same, at_other, same_length}
 use Rattle.jc_engine.proofs.Names.{at_place_map}
 use Rattle.jc_engine.specs.Caches.{Cache, status_of, lives_of, fresh_cache}
@@ -96,10 +96,6 @@ module _ (caches caches' : List (Option Cache)) (f g : ℕ → Option Outcome) (
     pub shown_after : places_of g (length caches') ≡ slice_set (places_of f (length caches)) id (Some o)
     shown_after = ap (places_of g) length_after ∙ places_put f g id (Some o) puts (length caches) (below caches id live)
 
--- what is refused leaves all as it was
-pub slots_same : (caches caches' : List (Option Cache)) (f : ℕ → Option Outcome) → HaveSlots caches f → caches' ≡ caches → HaveSlots caches' f
-slots_same caches caches' f slots same = subst (λ (ks : List (Option Cache)). HaveSlots ks f) (sym same) slots
-
 pub refused_does : (caches caches' : List (Option Cache)) (f g : ℕ → Option Outcome) (event : Event) (o : Outcome) → is_refused o ≡ true → o ≡ answer_to (lives_of caches) event (for_memory o)
     → lives_of caches' ≡ lives_after (lives_of caches) event o → (takes_none event ≡ true → o ≡ answer_to (lives_of caches) event false) → caches' ≡ caches → ((i : ℕ) → g i ≡ f i)
     → Does (seated_of caches f) event o (seated_of caches' g)
@@ -125,15 +121,6 @@ accepted_does caches caches' f g event o accepted answer lives free shown =
       shows = rw accepted shown;
       refused = λ refused. (let clash = sym accepted ∙ refused in absurd cc);
     }
-
--- giving up takes no memory
-pub give_up_any : (found : Option Status) (memory : Bool) → answer_of found gives_up false ≡ answer_of found gives_up memory
-give_up_any None memory = refl
-give_up_any (Some k) memory = by k.standing
-  where
-    by : (s : _) → answer_of (Some (record k { standing = s })) gives_up false ≡ answer_of (Some (record k { standing = s })) gives_up memory
-    by (idle s) = refl
-    by (busy w p resumed) = refl
 
 -- A cache was destroyed.
 module _ (caches caches' : List (Option Cache)) (f g : ℕ → Option Outcome) (id : ℕ) (slots : HaveSlots caches f) (answer : Destroyed ≡ answer_to_destroy (at_place (lives_of caches) id))

@@ -31,7 +31,7 @@ use Rattle.jc_shared.specs.Stated.{Stated, AreStated, IsStatedBy}
 use Rattle.jc_shared.specs.Finding.{ok_or_no_processor, entry_ended_by}
 use Rattle.jc_shared.specs.Sessions.{Sitting, Sight}
 use Rattle.jc_shared.specs.Living.{Refuses}
-use Rattle.jc_shared.specs.Calls.{EntryIsLast, call_entry, IsSameCall, HasEnded, CallStands, CallEndsFaulty, CallGoesOn, Adds, AddsWaiting, CallFails, MayLackProcessor, IsBeginFault}
+use Rattle.jc_shared.specs.Calls.{EntryIsLast, call_entry, IsSameCall, HasEnded, CallStands, CallEndsFaulty, CallGoesOn, Adds, AddsWaiting, CallFails, MayLackProcessor}
 
 -- no answers are stated ones
 no_answers : (h : Option Stated) (call : Call) (answers : List Answer) → answers ≡ [] → AreStated h call answers
@@ -101,11 +101,6 @@ goes_stays configs stated d e pass (Done r) goes h = record {
   answered = subst (λ (x : Entry). AreStated (slice_get stated x.id) x.call x.answers) (sym goes.0) h.1;
 }
 
--- the call has begun
-pub begun_stays : (configs : List CacheConfig) (stated : List Stated) (session id at : ℕ) (call : Call) (draft draft' : Entry) (pass : Sight) (step : Step) → draft ≡ blank session id at call → CallGoesOn configs draft step draft' pass → CallStands configs stated step draft' pass
-begun_stays configs stated session id at call draft draft' pass step is goes =
-    goes_stays configs stated draft draft' pass step goes (ap (λ (e : Entry). e.end) is, no_answers (slice_get stated draft.id) draft.call draft.answers (ap (λ (e : Entry). e.answers) is))
-
 -- it is the call of its draft
 pub begun_same : (configs : List CacheConfig) (draft draft' : Entry) (pass : Sight) (step : Step) → CallGoesOn configs draft step draft' pass → IsSameCall draft draft'
 begun_same configs draft draft' pass (Need q) goes = subst (IsSameCall draft) (sym goes.0) refl
@@ -170,14 +165,6 @@ replied_adds configs stated old new id at call begun step second reply copy turn
 -- it waits
 pub waiting_adds : (old new : Sitting) (id at : ℕ) (call : Call) (begun : Begun) → begun_entry begun ≡ blank old.number id at call → new.calls ≡ old.calls ++ begun_entry begun ∷ [] → AddsWaiting old new id at call
 waiting_adds old new id at call begun begins added = record { answers = []; told = []; added = added ∙ ap (λ (x : Entry). old.calls ++ x ∷ []) begins }
-
--- it did not begin
-pub begin_fails : (configs : List CacheConfig) (stated : List Stated) (old new : Sitting) (id at : ℕ) (call : Call) (draft : Entry) (fault : CallFault) → draft ≡ blank old.number id at call → new ≡ old → IsBeginFault configs draft.id draft.at call fault → CallFails configs stated old new id at call fault
-begin_fails configs stated old new id at call draft faults.NoSuchCache is same h = (same, λ c there. subst (λ (e : Entry). Refuses configs (event.Begin e.id e.at call) causes.NoSuchCache) is h)
-begin_fails configs stated old new id at call draft faults.NoSuchProcessor is same h = (same, subst (λ (e : Entry). MayLackProcessor configs e.id call) is h.1)
-begin_fails configs stated old new id at call draft faults.Busy is same h = (same, subst (λ (e : Entry). Refuses configs (event.Begin e.id e.at call) causes.Busy) is h)
-begin_fails configs stated old new id at call draft faults.Overtaken is same h = absurd h
-begin_fails configs stated old new id at call draft faults.OutOfMemory is same h = inl same
 
 -- it was not accepted
 pub not_accepted : (b : Bool) (fault : CallFault) → Err fault ≡ ok_or_no_processor b → b ≡ false

@@ -1,17 +1,12 @@
 -- Opening a manager.
-use Rattle.std.proofs.Common.{◌≡◌, ◌≤◌, ℕ, ◌+◌, suc, Bool, true, false, if◌then◌else◌, List, [], ◌∷◌, map, length, take, Option, Some, None, refl, sym, ◌∙◌, ap, subst, arith}
-use Rattle.std.specs.Prelude.{ltb, sum}
+use Rattle.std.proofs.Common.{◌≡◌, ℕ, ◌+◌, suc, Bool, true, false, List, [], ◌∷◌, map, length, take, Option, None, refl, sym, ◌∙◌, ap, subst, arith}
 use Rattle.std.specs.Option.{option_or}
-use Rattle.std.proofs.lemmas.Bool.Decides.{nat_tests}
 use Rattle.jc_model.specs.declared.config.CacheConfig.{CacheConfig}
-use Rattle.jc_model.specs.Limits.{most_caches, most_rows_together}
 use Rattle.jc_model.specs.Refusals.{refused_if}
 use Rattle.jc_model.specs.declared.event.Life.{Life}
 use Rattle.jc_model.specs.Legal.{History, numbered_lives, at_first}
 use Rattle.jc_hooks.specs.declared.cache_hooks.CacheHooks.{CacheHooks}
 use Rattle.jc_engine.specs.declared.open.OpenRefusal.{OpenRefusal}
-use Rattle.jc_engine.specs.declared.open.OpenRefusal.TheVariants.{TooManyCaches, TotalCapacity}
-use Rattle.jc_engine.specs.Opening.{capacities, open_refusal, refusal_from}
 use Rattle.jc_place.specs.Place.{IsTableSize}
 use Rattle.jc_hooks.specs.Suits.{AllSuit}
 use Rattle.jc_shared.specs.Stated.{shared_of, processor_counts, wanted_counts}
@@ -33,13 +28,6 @@ begins_opened configs h opens = ap (λ (t : History). take (length configs) t.li
 not_refused : (b : Bool) (r : OpenRefusal) (next : Option OpenRefusal) → option_or (refused_if b r) next ≡ None → b ≡ false
 not_refused true r next h = absurd cc
 not_refused false r next h = refl
-
--- caches that open are not too many
-pub few_opened : (configs : List CacheConfig) → open_refusal configs ≡ None → length configs ≤ most_caches
-few_opened configs h =
-    let next = option_or (refusal_from [] 0 configs) (refused_if (ltb most_rows_together (sum (capacities configs))) TotalCapacity) in
-    let test : ltb most_caches (length configs) ≡ false = not_refused (ltb most_caches (length configs)) TooManyCaches next h in
-    grind (arith, nat_tests)
 
 module _ {L W P K : Type 0} (wants : P → Bool) where
   -- as many callbacks as caches

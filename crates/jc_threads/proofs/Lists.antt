@@ -99,10 +99,6 @@ pub on_ok_both : {T E A B C : Type 0} (r : Result T E) → OnOk r A → OnOk r B
 on_ok_both (Ok x) a b f = f a b
 on_ok_both (Err e) a b f = tt
 
-pub on_ok_always : {T E A : Type 0} (r : Result T E) → A → OnOk r A
-on_ok_always (Ok x) a = a
-on_ok_always (Err e) a = tt
-
 -- nothing is left
 pub all_taken : {X : Type 0} (xs rest all : List X) → xs ++ rest ≡ all → length rest ≡ 0 → xs ≡ all
 all_taken xs [] all is none = sym (append-nil xs) ∙ is
