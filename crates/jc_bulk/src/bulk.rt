@@ -2,7 +2,7 @@
 //!
 //! All that they need was made before the first of them, so none is refused. Where one waits for an answer, those after
 //! it keep their values: no other step changes the value of its key.
-ghost use Rattle.std.specs.Prelude.{◌≡◌, ◌≤◌, ◌∷◌, ℕ, true, List, [], length};
+ghost use Rattle.std.specs.Prelude.{◌≡◌, ◌≤◌, ◌∷◌, ℕ, true, false, List, [], length};
 ghost use Rattle.jc_state.specs.Visited.{IsSameVisit, HasPlacesIn};
 ghost use Rattle.jc_bulk.specs.Ahead.{IsAheadOf, AreCoveredIn, AreReady};
 ghost use Rattle.jc_bulk.specs.Ahead.{places_ahead, ahead_run, behind_run};
@@ -62,6 +62,7 @@ impl Ahead {
     /// No steps are left, and nothing is gathered.
     pub(crate) fn none(alloc: Global) -> Ahead
         ensures rest { result.rest.items ≡ [] }
+        ensures needs { result.needs ≡ record { adds = false; tells = false } }
         ensures ahead { (key : List ℕ) → IsAhead (key ∷ []) [] result.sum result.needs }
     {
         Ahead {

@@ -1,5 +1,5 @@
 //! All entries of a cache at once.
-ghost use Rattle.std.specs.Prelude.{◌≡◌, ◌+◌, ◌<◌, ◌≤◌, [], ◌∷◌, Some, map, option_map};
+ghost use Rattle.std.specs.Prelude.{◌≡◌, ◌+◌, ◌<◌, ◌≤◌, [], ◌∷◌, Some, None, map, option_map};
 ghost use Rattle.std.specs.Prelude.{IfOk, OnOk, OnErr};
 ghost use Rattle.jc_model.specs.State.{Item};
 ghost use Rattle.jc_model.specs.Sound.{HasDistinctKeys};
@@ -72,6 +72,7 @@ fn touch<R: Rows, G: Ring>(visit: &mut Visit<R, G>, key: &Key)
     ensures same { IsSameVisit visit.old visit.new }
     ensures progress { (x : Item) → key_row visit.old.cache key.now ≡ Some x →
         TouchesEach visit.old (x ∷ []) visit.new }
+    ensures none { key_row visit.old.cache key.now ≡ None → visit.new ≡ visit.old }
 {
     if let Some(row) = visit.find(key) {
         if visit.is_live(row) {

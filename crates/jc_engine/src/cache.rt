@@ -1,7 +1,7 @@
 //! One cache under the manager: its configuration, its rows and counters, and its open call.
 mod calls;
 
-ghost use Rattle.std.specs.Prelude.{◌≡◌, ℕ, true, None, is_some, MatchOption};
+ghost use Rattle.std.specs.Prelude.{◌≡◌, ℕ, true, None, is_some, MatchOption, []};
 ghost use Rattle.jc_model.specs.declared.event.Outcome.TheVariants.{Refused, Destroyed};
 ghost use Rattle.jc_model.specs.Whole.{holds};
 ghost use Rattle.jc_model.specs.Runs.{begins, answers, destroyed_by};
@@ -121,6 +121,8 @@ impl<G: Ring> Managed<G> {
     pub(crate) fn leave<R: Rows>(&mut self, visit: &mut Visit<R, G>)
         requires managed { IsManaged visit.old.table self.old.state.id self.old }
         requires between { IsBetweenCalls self.old.state.id visit.old }
+        ensures cleared { self.new
+            ≡ record self.old { state = record self.old.state { cells = [] } } }
         ensures gone { IsAt visit.new.table self.old.state.id None }
         ensures elsewhere { SameElsewhere self.old.state.id visit.old.table visit.new.table }
         ensures rests { RestsAgain visit.old visit.new }

@@ -71,7 +71,9 @@ impl<R: Rows, G: Ring> Visit<R, G> {
         requires kept { IsKeptIn (R.contents rows) cache.value }
         ensures cache { result.cache ≡ cache.value }
         ensures table { result.table ≡ R.contents rows }
+        ensures spare { result.spare ≡ R.spare rows }
         ensures untold { result.noted.told ≡ [] }
+        ensures moment { result.moment ≡ 0 }
     {
         Visit {
             cache,
@@ -86,7 +88,9 @@ impl<R: Rows, G: Ring> Visit<R, G> {
         requires kept { IsKeptIn (S.contents rows) self.cache }
         ensures cache { result.cache ≡ self.cache }
         ensures table { result.table ≡ S.contents rows }
+        ensures spare { result.spare ≡ S.spare rows }
         ensures notices { result.noted ≡ self.noted }
+        ensures moment { result.moment ≡ self.moment }
     {
         Visit {
             cache: self.cache,
@@ -143,6 +147,7 @@ impl<R: Rows, G: Ring> Visit<R, G> {
     /// The table.
     pub fn rows(&self) -> &R
         ensures table { R.contents result.now ≡ self.now.table }
+        ensures spare { R.spare result.now ≡ self.now.spare }
         ensures kept { IsKeptIn self.now.table self.now.cache }
     {
         &self.rows
