@@ -6,7 +6,7 @@ use Rattle.jc_model.specs.declared.call.Op.TheVariants as op
 use Rattle.jc_model.proofs.Everywhere.{at_each-answered}
 use Rattle.jc_model.proofs.Purge.{purged_row, purge-again, step-purged}
 use Rattle.jc_model.proofs.Waits.{step-waits}
-use Rattle.jc_ops.specs.declared.supply.Supply.{Supply}
+use Rattle.jc_ops.specs.declared.supply.values.Values.{Values}
 use Rattle.jc_ops.specs.Supply.{Covers, CoversAnswer, HasRoom, adds, adds_at, most_told_in}
 
 -- while a step waits, its key's expired row is gone
@@ -40,7 +40,7 @@ told_in_all : (o : Op) (there : Bool) (a b n : ℕ) → a ≤ b + (if there then
 told_in_all o there a b n fewer rest = grind (arith, common_steps)
 
 -- A step that begins, once its key's expired row is gone.
-pub record Begins (v w : Visited) (f : CacheConfig) (now : ℕ) (call : KeyCall) (there : Bool) (y : Supply) : Type 0 where
+pub record Begins (v w : Visited) (f : CacheConfig) (now : ℕ) (call : KeyCall) (there : Bool) (y : Values) : Type 0 where
   pub purged : purge f now call.key (progress_in w) ≡ progress_in w
   pub same : step f now call (progress_in w) ≡ step_run v call
   pub covered : Covers f.writer f call (items_of w.cache.cells) y
@@ -49,7 +49,7 @@ pub record Begins (v w : Visited) (f : CacheConfig) (now : ℕ) (call : KeyCall)
   pub told : (n : ℕ) → w.noted.spare ≤ n + told_on there call.op → v.noted.spare ≤ n + most_told_in v call
 
 -- A step that waits, once its key's row was looked for anew: nothing has changed but the room. The code has the view u of it.
-pub record GoesOn (v w : Visited) (f : CacheConfig) (z u : KeyWait) (a : Answer) (row : Option ℕ) (y : Supply) : Type 0 where
+pub record GoesOn (v w : Visited) (f : CacheConfig) (z u : KeyWait) (a : Answer) (row : Option ℕ) (y : Values) : Type 0 where
   pub found : FoundRow u.call.key w.cache row
   pub waits : IsWaiting f (progress_in w) u
   pub same : resume (key_run f (progress_in w) u) a ≡ answer_run v z a
@@ -58,7 +58,7 @@ pub record GoesOn (v w : Visited) (f : CacheConfig) (z u : KeyWait) (a : Answer)
   pub places : HasPlaces f (told_on (is_some row) u.call.op) w.noted
   pub told : (n : ℕ) → w.noted.spare ≤ n + told_on (is_some row) u.call.op → v.noted.spare ≤ n + most_told_in v z.call
 
-module _ (v w : Visited) (call : KeyCall) (row : Option ℕ) (gone : Purged v w call.key row) (y : Supply) where
+module _ (v w : Visited) (call : KeyCall) (row : Option ℕ) (gone : Purged v w call.key row) (y : Values) where
   before : (x : Item) → row_of call.key (items_of w.cache.cells) ≡ Some x → row_of call.key (items_of v.cache.cells) ≡ Some x
   before x there = purged_row v.cache.config v.moment call.key (progress_in v) x (ap (λ q. find_row call.key q) (sym gone.is) ∙ there)
 
@@ -91,7 +91,7 @@ module _ (v w : Visited) (call : KeyCall) (row : Option ℕ) (gone : Purged v w 
     told = told_on_all;
   })
 
-module _ (v w : Visited) (z : KeyWait) (row : Option ℕ) (gone : Purged v w z.call.key row) (y : Supply) where
+module _ (v w : Visited) (z : KeyWait) (row : Option ℕ) (gone : Purged v w z.call.key row) (y : Values) where
   pub goes_on : (u : KeyWait) (a : Answer) → u ≡ z → WaitsIn v z → CoversAnswer v.cache.config z a (items_of v.cache.cells) y → HasRoom (adds_at (has_live_in v z.call.key) v.cache.config z a) v.spare →
       HasPlaces v.cache.config (most_told_in v z.call) v.noted → GoesOn v w w.cache.config z u a row y
   goes_on u a is waits covered adding places =

@@ -17,7 +17,7 @@ use Rattle.jc_ops.specs.Stepped.{invoked}
 use Rattle.jc_ops.specs.Supply.{CoversVerdict, adds_by}
 use Rattle.jc_ops.specs.Verdicts.{act_on, processed_on, loaded_on, agreed_on}
 use Rattle.jc_ops.specs.declared.step.invoke.Invocation.{Invocation}
-use Rattle.jc_ops.specs.declared.supply.Supply.{Supply}
+use Rattle.jc_ops.specs.declared.supply.values.Values.{Values}
 
 abbrev pub part_of : Invocation → KeyCall
 part_of i = record { key = i.at.key; op = Invoke i.processor i.argument }
@@ -35,7 +35,7 @@ abbrev pub wait_loaded : ℕ → Invocation → Option (List ℕ) → KeyWait
 wait_loaded now i loaded = invoked now i.at.key i.processor i.argument (given_by (Some loaded) None)
 
 -- the supply has the values for a verdict
-abbrev pub CoversVerdictOf : Bool → CacheConfig → Invocation → Verdict → Supply → Type 0
+abbrev pub CoversVerdictOf : Bool → CacheConfig → Invocation → Verdict → Values → Type 0
 CoversVerdictOf writer c i v s = CoversVerdict writer c (value_in i.loaded) v s
 
 -- whether a verdict adds a row

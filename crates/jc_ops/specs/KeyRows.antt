@@ -41,8 +41,8 @@ HasRoomToStore at change stored spare = is_there at ≡ false → stores change 
 -- On a visit.
 
 -- the key has no expired row, and so nothing is purged
-abbrev pub PurgesNothing : Visited → KeyRow → Type 0
-PurgesNothing v at = purge v.cache.config v.moment at.key (progress_in v) ≡ progress_in v
+abbrev pub PurgesNothing : Visited → List ℕ → Type 0
+PurgesNothing v key = purge v.cache.config v.moment key (progress_in v) ≡ progress_in v
 
 -- the step, which waits for its first answer
 abbrev pub wait_at : Visited → KeyRow → Op → KeyWait

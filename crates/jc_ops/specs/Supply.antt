@@ -9,7 +9,7 @@ use Rattle.jc_model.specs.declared.config.CacheConfig.{CacheConfig}
 use Rattle.jc_model.specs.Run.{is_written, loaded_by, verdict_of}
 use Rattle.jc_model.specs.State.{Item, row_of}
 use Rattle.jc_model.specs.Suspended.{KeyWait}
-use Rattle.jc_ops.specs.declared.supply.Supply.{Supply}
+use Rattle.jc_ops.specs.declared.supply.values.Values.{Values}
 use Rattle.jc_ops.specs.Given.{loaded_in, verdict_in}
 use Rattle.jc_model.specs.Table.{value_of}
 use Rattle.jc_state.specs.Kept.{items_of}
@@ -20,7 +20,7 @@ use Rattle.jc_ops.specs.Verdicts.{stores_by, hands_by}
 
 -- The supply has the values for the step of this call, in a cache with these items.
 -- Where the writer is asked first, it is a copy for the writer; what is stored comes with the writer's answer.
-pub record Covers (writer : Bool) (c : CacheConfig) (call : KeyCall) (items : List Item) (s : Supply) : Type 0 where
+pub record Covers (writer : Bool) (c : CacheConfig) (call : KeyCall) (items : List Item) (s : Values) : Type 0 where
   pub stored : option_map (λ t. t.value) s.stored ≡ (if writer then None else value_of call.op)
   pub told : StoredIsTold c s.stored
   pub copy : s.copy ≡ handed writer call.op
@@ -28,7 +28,7 @@ pub record Covers (writer : Bool) (c : CacheConfig) (call : KeyCall) (items : Li
   pub entry : is_invoke call.op ≡ true → (x : Item) → row_of call.key items ≡ Some x → s.entry ≡ Some x.value
 
 -- for the loader's answer, which gave this, to a line that loads or to a call of a processor
-pub record CoversLoaded (c : CacheConfig) (o : Op) (loaded : Option (List ℕ)) (s : Supply) : Type 0 where
+pub record CoversLoaded (c : CacheConfig) (o : Op) (loaded : Option (List ℕ)) (s : Values) : Type 0 where
   pub stored : is_invoke o ≡ false → option_map (λ t. t.value) s.stored ≡ loaded
   pub told : StoredIsTold c s.stored
   pub shown : is_invoke o ≡ false → shows_loaded o ≡ true → s.shown ≡ loaded
@@ -36,14 +36,14 @@ pub record CoversLoaded (c : CacheConfig) (o : Op) (loaded : Option (List ℕ)) 
   pub copy : is_invoke o ≡ true → s.copy ≡ handed false o
 
 -- for a verdict, where the loader gave this value, if any
-pub record CoversVerdict (writer : Bool) (c : CacheConfig) (loaded : Option (List ℕ)) (v : Verdict) (s : Supply) : Type 0 where
+pub record CoversVerdict (writer : Bool) (c : CacheConfig) (loaded : Option (List ℕ)) (v : Verdict) (s : Values) : Type 0 where
   pub stored : option_map (λ t. t.value) s.stored ≡ stores_by writer loaded v.action
   pub told : StoredIsTold c s.stored
   pub copy : s.copy ≡ hands_by writer v.action
   pub shown : s.shown ≡ v.answer
 
 -- for the step that waits, at this answer
-pub record CoversAnswer (c : CacheConfig) (w : KeyWait) (a : Answer) (items : List Item) (s : Supply) : Type 0 where
+pub record CoversAnswer (c : CacheConfig) (w : KeyWait) (a : Answer) (items : List Item) (s : Values) : Type 0 where
   pub told : StoredIsTold c s.stored
   pub written : is_written a ≡ true → verdict_in w.given ≡ None → Covers false c w.call items s
   pub agreed : is_written a ≡ true → (v : Verdict) → verdict_in w.given ≡ Some v → CoversVerdict false c (loaded_in w.given) v s
@@ -82,11 +82,11 @@ OnVerdict a P = (v : Verdict) → verdict_of a ≡ Some v → P v
 -- The same of a step on a visit.
 
 -- the supply has the values for a step that begins
-abbrev pub CoversIn : Bool → Visited → KeyCall → Supply → Type 0
+abbrev pub CoversIn : Bool → Visited → KeyCall → Values → Type 0
 CoversIn writer v call s = Covers writer v.cache.config call (items_of v.cache.cells) s
 
 -- and for one that waits, at this answer
-abbrev pub CoversAnswerIn : Visited → KeyWait → Answer → Supply → Type 0
+abbrev pub CoversAnswerIn : Visited → KeyWait → Answer → Values → Type 0
 CoversAnswerIn v w a s = CoversAnswer v.cache.config w a (items_of v.cache.cells) s
 
 -- the most notices that it may tell

@@ -110,60 +110,56 @@ impl KeyStep {
         }
     }
 
-    /// Begins a step on the key that has this row, if it has one. It takes no memory beside its supply, and so can't be
-    /// refused.
+    /// Begins a step. It takes no memory beside its supply, and so can't be refused.
     pub fn start<R: Rows, G: Ring>(
         visit: &mut Visit<R, G>,
         call: KeyCall,
-        row: Option<u32>,
         supply: Supply,
     ) -> Next<KeyStep>
-        requires row { FoundRow call.key visit.old.cache row }
+        requires row { FoundRow call.key visit.old.cache supply.row }
         requires places { HasPlacesFor call visit.old }
-        requires covered { CoversIn visit.old.cache.config.writer visit.old call supply }
+        requires covered { CoversIn visit.old.cache.config.writer visit.old call supply.values }
         requires room { HasRoomFor call visit.old }
         ensures spends { SpendsAtMost 1 (most_told_in visit.old call) visit.old visit.new }
         ensures next { StepsFrom visit.old (step_run visit.old call) result visit.new }
         ensures call_stays { StaysAt visit.old.moment call result }
     {
+        let Supply { row, values } = supply;
         let row = visit.purge(row);
-        let KeyCall { key, op } = call;
-        begin(visit, &KeyRow { key, row }, op, supply)
+        begin(visit, call, Supply { row, values })
     }
 
     /// The same of a step that asks no one, and so ends: its reply.
     pub fn end_at_once<R: Rows, G: Ring>(
         visit: &mut Visit<R, G>,
         call: KeyCall,
-        row: Option<u32>,
         supply: Supply,
     ) -> Copies<Reply>
-        requires row { FoundRow call.key visit.old.cache row }
+        requires row { FoundRow call.key visit.old.cache supply.row }
         requires places { HasPlacesFor call visit.old }
-        requires covered { CoversIn visit.old.cache.config.writer visit.old call supply }
+        requires covered { CoversIn visit.old.cache.config.writer visit.old call supply.values }
         requires room { HasRoomFor call visit.old }
         requires unasked { asks_no_one visit.old.cache.config call.op ≡ true }
         ensures spends { SpendsAtMost 1 (most_told_in visit.old call) visit.old visit.new }
         ensures ended { step_run visit.old call ≡ ended (progress_in visit.new) result }
     {
+        let Supply { row, values } = supply;
         let row = visit.purge(row);
-        let KeyCall { key, op } = call;
-        end_at_once(visit, &KeyRow { key, row }, &op, supply)
+        end_at_once(visit, &call, Supply { row, values })
     }
 
-    /// Goes on with the answer to the request for which the step waits, where the key has this row. It takes no memory
-    /// beside its supply, and so can't be refused. No row number is kept while a step waits.
+    /// Goes on with the answer to the request for which the step waits. It takes no memory beside its supply, and so
+    /// can't be refused. No row number is kept while a step waits.
     pub fn answer<R: Rows, G: Ring>(
         self,
         visit: &mut Visit<R, G>,
         answer: Answer,
-        row: Option<u32>,
         supply: Supply,
     ) -> Next<KeyStep>
-        requires row { FoundRow self.call.key visit.old.cache row }
+        requires row { FoundRow self.call.key visit.old.cache supply.row }
         requires places { HasPlacesFor self.call visit.old }
         requires waits { WaitsIn visit.old self }
-        requires covered { CoversAnswerIn visit.old self answer supply }
+        requires covered { CoversAnswerIn visit.old self answer supply.values }
         requires room { HasRoomAt self answer visit.old }
         ensures spends { SpendsAtMost 1 (most_told_in visit.old self.call) visit.old visit.new }
         ensures next { StepsFrom visit.old (answer_run visit.old self answer) result visit.new }
@@ -176,6 +172,7 @@ impl KeyStep {
             verdict,
         } = self;
         let KeyCall { key, op } = call;
+        let Supply { row, values } = supply;
         let row = visit.purge(row);
         let at = KeyRow { key, row };
         match op {
@@ -189,9 +186,9 @@ impl KeyStep {
                     argument,
                     loaded,
                 };
-                answer_invoke(visit, invocation, verdict, answer, supply)
+                answer_invoke(visit, invocation, verdict, answer, values)
             }
-            op => answer_line(visit, &at, &op, &answer, supply),
+            op => answer_line(visit, &at, &op, &answer, values),
         }
     }
 }

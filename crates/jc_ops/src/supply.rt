@@ -4,247 +4,78 @@
 //! it replies, and what its writer or processor is given. So the step itself can't be refused. Values may be kept
 //! while a call waits; room in the table may be used up by others meanwhile, and is made anew.
 mod needs;
+pub mod values;
 
-ghost use Rattle.std.specs.Prelude.{◌≡◌, ℕ, List, true, Some, None, option_map, IfOk, OnOk};
-ghost use Rattle.jc_model.specs.State.{Item};
-ghost use Rattle.jc_state.specs.Shelf.{has_row};
-ghost use Rattle.jc_state.specs.Kept.{key_row, FoundRow};
+ghost use Rattle.std.specs.Prelude.{◌≡◌, IfOk, OnOk};
+ghost use Rattle.jc_state.specs.Kept.{FoundRow};
 ghost use Rattle.jc_state.specs.Visited.{IsUnchanged};
-ghost use Rattle.jc_ops.specs.Lines.{takes_value};
-ghost use Rattle.jc_ops.specs.Supply.{CoversIn, CoversLoaded, CoversVerdict, CoversAnswerIn};
+ghost use Rattle.jc_ops.specs.Supply.{CoversIn, CoversAnswerIn};
 ghost use Rattle.jc_ops.specs.Supply.{HasPlacesFor, HasRoomFor, HasRoomAt};
 
 use crate::step::KeyStep;
-use crate::supply::needs::{
-    adds, adds_at, handed, handed_by, is_invoke, shows, shows_loaded, stored_by, stored_now,
-};
+use crate::supply::needs::{adds, adds_at};
 pub use crate::supply::needs::{asks_no_one, creates, most_notices, takes_value};
+use crate::supply::values::Values;
 use jc_model::OutOfMemory;
-use jc_model::call::{Answer, KeyCall, Op, Verdict};
-use jc_model::config::CacheConfig;
-use jc_model::copies::Copies;
-use jc_model::value::Value;
+use jc_model::call::{Answer, KeyCall};
 use jc_ring::ring::Ring;
 use jc_rows::rows::Rows;
-use jc_state::stored::Stored;
 use jc_state::visit::Visit;
 
-/// The values of one step.
+/// What one step is given.
 #[derive(Drop)]
 pub struct Supply {
-    /// What the step stores.
-    pub stored: Option<Stored>,
-    /// What the step replies.
-    pub shown: Option<Copies<Value>>,
-    /// What the writer is given, or the processor as its argument.
-    pub copy: Option<Value>,
-    /// What the processor is given as the value of its entry.
-    pub entry: Option<Value>,
-}
-
-/// Copies of what is replied, if a value is.
-fn to_show(value: Option<&Value>) -> Result<Option<Copies<Value>>, OutOfMemory>
-    ensures { IfOk result (λ shown. shown ≡ option_map (λ v. v.now) value.entry) }
-{
-    match value {
-        None => Ok(None),
-        Some(value) => {
-            let shown = Copies::of(value)?;
-            Ok(Some(shown))
-        }
-    }
-}
-
-/// A copy of what a hook is given, if it is given a value.
-fn to_hand(value: Option<&Value>) -> Result<Option<Value>, OutOfMemory>
-    ensures { IfOk result (λ copy. copy ≡ option_map (λ v. v.now) value.entry) }
-{
-    match value {
-        None => Ok(None),
-        Some(value) => {
-            let copy = value.share()?;
-            Ok(Some(copy))
-        }
-    }
-}
-
-/// The value of a key's row, where it is wanted.
-fn value_if<'a, R: Rows, G: Ring>(
-    visit: &'a Visit<R, G>,
-    row: Option<u32>,
-    wanted: bool,
-) -> Option<&'a Value>
-    requires there { wanted ≡ true → (r : ℕ) → row ≡ Some r →
-        has_row r visit.now.cache.cells ≡ true }
-    ensures { wanted ≡ true → (key : List ℕ) (x : Item) → FoundRow key visit.now.cache row →
-        key_row visit.now.cache key ≡ Some x → option_map (λ v. v.now) result ≡ Some x.value }
-{
-    if !wanted {
-        return None;
-    }
-    match row {
-        None => None,
-        Some(row) => Some(visit.value(row).first()),
-    }
+    /// The number of its key's row, if it has one.
+    pub row: Option<u32>,
+    pub values: Values,
 }
 
 impl Supply {
-    /// Nothing.
-    fn nothing() -> Supply
-        ensures { result ≡ record { stored = None; shown = None; copy = None; entry = None } }
-    {
-        Supply {
-            stored: None,
-            shown: None,
-            copy: None,
-            entry: None,
-        }
-    }
-
-    /// The values of a step that stores at once, or that asks its writer first: then the writer alone is given a copy.
-    /// The key's row is wanted only where a value of it is taken.
-    pub fn values_for<R: Rows, G: Ring>(
-        visit: &Visit<R, G>,
-        row: Option<u32>,
-        call: &KeyCall,
-        writer: bool,
-    ) -> Result<Supply, OutOfMemory>
-        requires row { takes_value call.now.op ≡ true →
-            FoundRow call.now.key visit.now.cache row }
-        ensures { IfOk result (λ s. CoversIn writer visit.now call.now s) }
-    {
-        let shown = to_show(value_if(visit, row, shows(&call.op)))?;
-        let entry = to_hand(value_if(visit, row, is_invoke(&call.op)))?;
-        let stored = Stored::of_any(visit.config(), stored_now(&call.op, writer))?;
-        let copy = to_hand(handed(&call.op, writer))?;
-        Ok(Supply {
-            stored,
-            shown,
-            copy,
-            entry,
-        })
-    }
-
-    /// All that such a step may need: its values, places for its notices, and room in the table where it adds a row.
+    /// All that a step of this call may need: its values, places for its notices, and room in the table where it adds a
+    /// row.
     pub fn for_step<R: Rows, G: Ring>(
         visit: &mut Visit<R, G>,
-        row: Option<u32>,
         call: &KeyCall,
     ) -> Result<Supply, OutOfMemory>
-        requires row { FoundRow call.now.key visit.old.cache row }
         ensures same { IsUnchanged visit.old visit.new }
+        ensures row { IfOk result (λ s. FoundRow call.now.key visit.old.cache s.row) }
         ensures places { OnOk result (HasPlacesFor call.now visit.new) }
         ensures room { OnOk result (HasRoomFor call.now visit.new) }
         ensures asks { HasRoomFor call.now visit.old → visit.new.spare ≡ visit.old.spare }
         ensures covers { IfOk result (λ s.
-            CoversIn visit.old.cache.config.writer visit.old call.now s) }
+            CoversIn visit.old.cache.config.writer visit.old call.now s.values) }
     {
+        let row = visit.find(&call.key);
         let there = visit.has_live(row);
         let writer = visit.config().writer;
         visit.reserve_notices(most_notices(&call.op, there))?;
         visit.reserve_rows(usize::from(adds(there, writer, &call.op)))?;
-        Supply::values_for(visit, row, call, writer)
+        let values = Values::for_call(visit, row, call, writer)?;
+        Ok(Supply { row, values })
     }
 
-    /// The values for a loader's answer: to store and reply for a line that loads, to hand on for a processor's step.
-    fn values_loaded(
-        config: &CacheConfig,
-        op: &Op,
-        loaded: Option<&Value>,
-    ) -> Result<Supply, OutOfMemory>
-        ensures { IfOk result (λ s.
-            CoversLoaded config.now op.now (option_map (λ v. v.now) loaded.entry) s) }
-    {
-        if is_invoke(op) {
-            let entry = to_hand(loaded)?;
-            let copy = to_hand(handed(op, false))?;
-            return Ok(Supply {
-                stored: None,
-                shown: None,
-                copy,
-                entry,
-            });
-        }
-        let stored = Stored::of_any(config, loaded)?;
-        let shown = to_show(if shows_loaded(op) { loaded } else { None })?;
-        Ok(Supply {
-            stored,
-            shown,
-            copy: None,
-            entry: None,
-        })
-    }
-
-    /// The values for a verdict, where the loader gave `loaded`. Where the writer is asked first, it alone is given a
-    /// copy.
-    fn values_judged(
-        config: &CacheConfig,
-        loaded: Option<&Value>,
-        verdict: &Verdict,
-        writer: bool,
-    ) -> Result<Supply, OutOfMemory>
-        ensures { IfOk result (λ s.
-            CoversVerdict writer config.now (option_map (λ v. v.now) loaded.entry) verdict.now s) }
-    {
-        let stored = Stored::of_any(config, stored_by(&verdict.action, loaded, writer))?;
-        let shown = to_show(verdict.answer.as_ref())?;
-        let copy = to_hand(handed_by(&verdict.action, writer))?;
-        Ok(Supply {
-            stored,
-            shown,
-            copy,
-            entry: None,
-        })
-    }
-
-    /// The values for the answer to a step that waits, where its key has this row.
-    fn values_at<R: Rows, G: Ring>(
-        visit: &Visit<R, G>,
-        row: Option<u32>,
-        step: &KeyStep,
-        answer: &Answer,
-    ) -> Result<Supply, OutOfMemory>
-        requires row { FoundRow step.now.call.key visit.now.cache row }
-        ensures { IfOk result (λ s. CoversAnswerIn visit.now step.entry.now answer.now s) }
-    {
-        let config = visit.config();
-        match answer {
-            Answer::Written => match step.verdict() {
-                None => Supply::values_for(visit, row, step.call(), false),
-                Some(verdict) => Supply::values_judged(config, step.loaded(), verdict, false),
-            },
-            Answer::Loaded(loaded) => {
-                Supply::values_loaded(config, &step.call().op, loaded.as_ref())
-            }
-            Answer::Processed(judged) => match judged {
-                Ok(verdict) => {
-                    Supply::values_judged(config, step.loaded(), verdict, config.writer)
-                }
-                Err(_) => Ok(Supply::nothing()),
-            },
-            _ => Ok(Supply::nothing()),
-        }
-    }
-
-    /// All that a step that waits may need at this answer, where its key has this row.
+    /// All that a step that waits may need at this answer.
     pub fn for_answer<R: Rows, G: Ring>(
         visit: &mut Visit<R, G>,
-        row: Option<u32>,
         step: &KeyStep,
         answer: &Answer,
     ) -> Result<Supply, OutOfMemory>
-        requires row { FoundRow step.now.call.key visit.old.cache row }
         ensures same { IsUnchanged visit.old visit.new }
+        ensures row { IfOk result (λ s.
+            FoundRow step.entry.now.call.key visit.old.cache s.row) }
         ensures places { OnOk result (HasPlacesFor step.entry.now.call visit.new) }
         ensures room { OnOk result (HasRoomAt step.entry.now answer.now visit.new) }
         ensures asks { HasRoomAt step.entry.now answer.now visit.old →
             visit.new.spare ≡ visit.old.spare }
-        ensures covers { IfOk result (λ s. CoversAnswerIn visit.old step.entry.now answer.now s) }
+        ensures covers { IfOk result (λ s.
+            CoversAnswerIn visit.old step.entry.now answer.now s.values) }
     {
+        let row = visit.find(&step.call().key);
         let there = visit.has_live(row);
         visit.reserve_notices(most_notices(&step.call().op, there))?;
         let adds = adds_at(there, visit.config(), step, answer);
         visit.reserve_rows(usize::from(adds))?;
-        Supply::values_at(visit, row, step, answer)
+        let values = Values::at(visit, row, step, answer)?;
+        Ok(Supply { row, values })
     }
 }

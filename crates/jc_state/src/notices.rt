@@ -1,6 +1,6 @@
 //! The notices of one call, in places that were made before any change.
 ghost use Rattle.std.specs.Prelude.{◌≡◌, ◌+◌, ◌<◌, ◌≤◌, ◌∷◌, ◌++◌, [], length, eqb, OnOk, IsOk};
-ghost use Rattle.jc_state.specs.Noted.{HasPlaces, notice_of, told_after};
+ghost use Rattle.jc_state.specs.Noted.{HasPlaces, told_after};
 
 use jc_model::OutOfMemory;
 use jc_model::call::{Kind, Notice};
@@ -11,6 +11,55 @@ use jc_model::list::Sequence;
 use jc_model::value::Value;
 use std::alloc::Global;
 use std::marker::Model;
+
+/// What happened to a row, with its values after and before. Contracts see the notice of it.
+#[derive(Drop)]
+pub(crate) struct Happening {
+    pub(crate) kind: Kind,
+    pub(crate) key: Key,
+    pub(crate) value: Option<Copies<Value>>,
+    pub(crate) before: Option<Copies<Value>>,
+}
+
+impl Model for Happening {
+    ghost use Rattle.jc_model.specs.declared.call.Notice.{Notice};
+
+    ghost Value = { Notice };
+
+    ghost view = { λ h.
+        record { kind = h.kind; key = h.key; value = h.value; before = h.before } };
+}
+
+impl Happening {
+    /// Its notice, twice.
+    fn into_notices(self) -> (Notice, Notice)
+        ensures told { result.0 ≡ self }
+        ensures kept { result.1 ≡ self }
+    {
+        let Happening {
+            kind,
+            key,
+            value,
+            before,
+        } = self;
+        let (value, kept_value) = two(value);
+        let (before, kept_before) = two(before);
+        let (kind, kept_kind) = two_kinds(kind);
+        let told = Notice {
+            kind,
+            key,
+            value,
+            before,
+        };
+        let kept = Notice {
+            kind: kept_kind,
+            key,
+            value: kept_value,
+            before: kept_before,
+        };
+        (told, kept)
+    }
+}
 
 /// The notices so far, kept twice: one list is told to the listeners, the other goes into the transcript.
 #[derive(Drop)]
@@ -75,51 +124,25 @@ impl Notices {
         self.told.is_empty()
     }
 
-    /// Adds a notice. It needs a place, and takes no memory.
-    fn note(
-        &mut self,
-        kind: Kind,
-        key: Key,
-        value: Option<Copies<Value>>,
-        before: Option<Copies<Value>>,
-    )
+    /// Adds the notice of what happened. It needs a place, and takes no memory.
+    fn note(&mut self, happening: Happening)
         requires { 0 < self.old.spare }
-        ensures told { self.new.told ≡ self.old.told ++ notice_of kind key value before ∷ [] }
+        ensures told { self.new.told ≡ self.old.told ++ happening ∷ [] }
         ensures spare { self.new.spare + 1 ≡ self.old.spare }
     {
-        let (value, kept_value) = two(value);
-        let (before, kept_before) = two(before);
-        let (kind, kept_kind) = two_kinds(kind);
-        self.told.push_reserved(Notice {
-            kind,
-            key,
-            value,
-            before,
-        });
-        self.kept.push_reserved(Notice {
-            kind: kept_kind,
-            key,
-            value: kept_value,
-            before: kept_before,
-        });
+        let (told, kept) = happening.into_notices();
+        self.told.push_reserved(told);
+        self.kept.push_reserved(kept);
     }
 
-    /// Adds a notice where the cache has listeners.
-    pub(crate) fn note_for(
-        &mut self,
-        config: &CacheConfig,
-        kind: Kind,
-        key: Key,
-        value: Option<Copies<Value>>,
-        before: Option<Copies<Value>>,
-    )
+    /// Adds it where the cache has listeners.
+    pub(crate) fn note_for(&mut self, config: &CacheConfig, happening: Happening)
         requires { HasPlaces config.now 1 self.old }
-        ensures told { self.new.told
-            ≡ told_after config.now (notice_of kind key value before) self.old.told }
+        ensures told { self.new.told ≡ told_after config.now happening self.old.told }
         ensures spare { self.old.spare ≤ self.new.spare + 1 }
     {
         if config.listeners > 0 {
-            self.note(kind, key, value, before);
+            self.note(happening);
         }
     }
 

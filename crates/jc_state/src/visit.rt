@@ -19,14 +19,14 @@ ghost use Rattle.jc_state.specs.declared.slots.Record.{Record};
 ghost use Rattle.jc_state.specs.Shelf.{seek, has_row};
 ghost use Rattle.jc_state.specs.Kept.{items_of, FoundRow, with_hit, with_miss, with_put, with_removal};
 ghost use Rattle.jc_state.specs.Kept.{with_eviction};
-ghost use Rattle.jc_state.specs.Noted.{notice_of, told_after};
+ghost use Rattle.jc_state.specs.Noted.{told_after};
 ghost use Rattle.jc_state.specs.Visited.{IsKeptIn, HasPlacesIn, has_live_in};
 
-use crate::notices::Notices;
+use crate::notices::{Happening, Notices};
 use crate::slots::Record;
 use crate::state::{CacheState, no_counts};
 use jc_expiry::counters::{with_eviction, with_hit, with_miss, with_put, with_removal};
-use jc_model::call::{Counts, Kind};
+use jc_model::call::Counts;
 use jc_model::config::CacheConfig;
 use jc_model::copies::Copies;
 use jc_model::key::Key;
@@ -40,6 +40,7 @@ use std::mem;
 /// A call's visit to its cache. It owns what the call may change. Between two calls it has a cache that no call visits.
 #[derive(Drop)]
 pub struct Visit<R: Rows, G: Ring> {
+    alloc: Global,
     cache: Box<CacheState<G>>,
     rows: R,
     notices: Notices,
@@ -76,6 +77,7 @@ impl<R: Rows, G: Ring> Visit<R, G> {
         ensures moment { result.moment ≡ 0 }
     {
         Visit {
+            alloc,
             cache,
             rows,
             notices: Notices::none(alloc),
@@ -93,6 +95,7 @@ impl<R: Rows, G: Ring> Visit<R, G> {
         ensures moment { result.moment ≡ self.moment }
     {
         Visit {
+            alloc: self.alloc,
             cache: self.cache,
             rows,
             notices: self.notices,
@@ -100,19 +103,20 @@ impl<R: Rows, G: Ring> Visit<R, G> {
         }
     }
 
-    /// Takes this cache in, for a call of this moment, and leaves the one that it had in its place.
-    pub fn enter(&mut self, cache: &mut Box<CacheState<G>>, moment: u64)
-        requires kept { IsKeptIn self.old.table cache.old.value }
-        ensures entered { self.new ≡ record self.old { cache = cache.old.value; moment = moment } }
-        ensures left { cache.new.value ≡ self.old.cache }
-        ensures was_kept { IsKeptIn self.old.table self.old.cache }
+    /// What the call's lists are made with.
+    pub fn alloc(&self) -> Global {
+        self.alloc
+    }
+
+    /// From now on it is for a call of this moment.
+    pub fn set_moment(&mut self, moment: u64)
+        ensures { self.new ≡ record self.old { moment = moment } }
     {
-        mem::swap(&mut self.cache, cache);
         self.moment = moment;
     }
 
-    /// Gives the cache back, and takes this one in.
-    pub fn leave(&mut self, cache: &mut Box<CacheState<G>>)
+    /// Takes this cache in, and leaves the one that it had in its place.
+    pub fn exchange(&mut self, cache: &mut Box<CacheState<G>>)
         requires kept { IsKeptIn self.old.table cache.old.value }
         ensures exchanged { self.new ≡ record self.old { cache = cache.old.value } }
         ensures left { cache.new.value ≡ self.old.cache }
@@ -136,12 +140,12 @@ impl<R: Rows, G: Ring> Visit<R, G> {
     }
 
     /// Hands the notices out, to be told.
-    pub fn hand_out_notices(&mut self, alloc: Global) -> Notices
+    pub fn hand_out_notices(&mut self) -> Notices
         ensures same { self.new ≡ record self.old { noted = self.new.noted } }
         ensures untold { self.new.noted.told ≡ [] }
         ensures notices { result ≡ self.old.noted }
     {
-        mem::replace(&mut self.notices, Notices::none(alloc))
+        mem::replace(&mut self.notices, Notices::none(self.alloc))
     }
 
     /// The table.
@@ -256,22 +260,15 @@ impl<R: Rows, G: Ring> Visit<R, G> {
         self.cache.set_counts(counts);
     }
 
-    /// Adds a notice where the cache has listeners.
-    fn tell(
-        &mut self,
-        kind: Kind,
-        key: Key,
-        value: Option<Copies<Value>>,
-        before: Option<Copies<Value>>,
-    )
+    /// Adds the notice of what happened where the cache has listeners.
+    fn tell(&mut self, happening: Happening)
         requires { HasPlacesIn 1 self.old }
         ensures same { self.new ≡ record self.old { noted = self.new.noted } }
-        ensures told { self.new.noted.told ≡ told_after self.old.cache.config
-            (notice_of kind key value before) self.old.noted.told }
+        ensures told { self.new.noted.told
+            ≡ told_after self.old.cache.config happening self.old.noted.told }
         ensures spare { self.old.noted.spare ≤ self.new.noted.spare + 1 }
     {
-        self.notices
-            .note_for(self.cache.config(), kind, key, value, before);
+        self.notices.note_for(self.cache.config(), happening);
     }
 
     /// Counts an eviction.

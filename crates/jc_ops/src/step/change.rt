@@ -29,6 +29,13 @@ pub(crate) struct KeyRow {
     pub(crate) row: Option<u32>,
 }
 
+/// A change of a row, and the value that it stores, if it does.
+#[derive(Drop)]
+struct Effect {
+    change: Change,
+    stored: Option<Stored>,
+}
+
 /// Counts a hit where the key has a row, else a miss, if the line counts.
 pub(crate) fn count<R: Rows, G: Ring>(visit: &mut Visit<R, G>, counts: bool, there: bool)
     ensures same { visit.new ≡ record visit.old {
@@ -47,19 +54,15 @@ pub(crate) fn count<R: Rows, G: Ring>(visit: &mut Visit<R, G>, counts: bool, the
 }
 
 /// What becomes of a live row.
-fn change_live<R: Rows, G: Ring>(
-    visit: &mut Visit<R, G>,
-    row: u32,
-    change: Change,
-    stored: Option<Stored>,
-)
+fn change_live<R: Rows, G: Ring>(visit: &mut Visit<R, G>, row: u32, effect: Effect)
     requires there { has_row row visit.old.cache.cells ≡ true }
-    requires places { HasPlacesIn (told_of true change) visit.old }
-    requires told { StoredIsTold visit.old.cache.config stored }
-    ensures spends { SpendsAtMost 0 (told_of true change) visit.old visit.new }
+    requires places { HasPlacesIn (told_of true effect.change) visit.old }
+    requires told { StoredIsTold visit.old.cache.config effect.stored }
+    ensures spends { SpendsAtMost 0 (told_of true effect.change) visit.old visit.new }
     ensures progress { (key : List ℕ) (x : Item) → IsRow key visit.old.cache row x →
-        progress_in visit.new ≡ changed_in visit.old key change (Some x) stored }
+        progress_in visit.new ≡ changed_in visit.old key effect.change (Some x) effect.stored }
 {
+    let Effect { change, stored } = effect;
     match change {
         Change::Keep => {}
         Change::Access => visit.access(row),
@@ -98,19 +101,15 @@ fn put_absent<R: Rows, G: Ring>(visit: &mut Visit<R, G>, key: Key, stored: Store
 }
 
 /// What becomes of a key without a row.
-fn change_absent<R: Rows, G: Ring>(
-    visit: &mut Visit<R, G>,
-    key: Key,
-    change: Change,
-    stored: Option<Stored>,
-)
+fn change_absent<R: Rows, G: Ring>(visit: &mut Visit<R, G>, key: Key, effect: Effect)
     requires absent { key_row visit.old.cache key ≡ None }
-    requires places { HasPlacesIn (told_of false change) visit.old }
-    requires told { StoredIsTold visit.old.cache.config stored }
-    requires room { stores change ≡ true → is_some stored ≡ true → 0 < visit.old.spare }
-    ensures spends { SpendsAtMost 1 (told_of false change) visit.old visit.new }
-    ensures progress { progress_in visit.new ≡ changed_in visit.old key change None stored }
+    requires places { HasPlacesIn (told_of false effect.change) visit.old }
+    requires told { StoredIsTold visit.old.cache.config effect.stored }
+    requires room { stores effect.change ≡ true → is_some effect.stored ≡ true → 0 < visit.old.spare }
+    ensures spends { SpendsAtMost 1 (told_of false effect.change) visit.old visit.new }
+    ensures progress { progress_in visit.new ≡ changed_in visit.old key effect.change None effect.stored }
 {
+    let Effect { change, stored } = effect;
     match change {
         Change::Keep => {}
         Change::Access => {}
@@ -129,22 +128,18 @@ fn change_absent<R: Rows, G: Ring>(
 }
 
 /// What becomes of the key's row.
-fn change<R: Rows, G: Ring>(
-    visit: &mut Visit<R, G>,
-    at: &KeyRow,
-    change: Change,
-    stored: Option<Stored>,
-)
+fn change<R: Rows, G: Ring>(visit: &mut Visit<R, G>, at: &KeyRow, effect: Effect)
     requires row { FoundRow at.now.key visit.old.cache at.now.row }
-    requires places { HasPlacesIn (told_at at.now change) visit.old }
-    requires told { StoredIsTold visit.old.cache.config stored }
-    requires room { HasRoomToStore at.now change stored visit.old.spare }
-    ensures spends { SpendsAtMost 1 (told_at at.now change) visit.old visit.new }
-    ensures progress { progress_in visit.new ≡ changed_at visit.old at.now change stored }
+    requires places { HasPlacesIn (told_at at.now effect.change) visit.old }
+    requires told { StoredIsTold visit.old.cache.config effect.stored }
+    requires room { HasRoomToStore at.now effect.change effect.stored visit.old.spare }
+    ensures spends { SpendsAtMost 1 (told_at at.now effect.change) visit.old visit.new }
+    ensures progress { progress_in visit.new
+        ≡ changed_at visit.old at.now effect.change effect.stored }
 {
     match at.row {
-        Some(row) => change_live(visit, row, change, stored),
-        None => change_absent(visit, at.key, change, stored),
+        Some(row) => change_live(visit, row, effect),
+        None => change_absent(visit, at.key, effect),
     }
 }
 
@@ -165,6 +160,10 @@ pub(crate) fn end<R: Rows, G: Ring>(
         ≡ ended (progress_in visit.new) result }
 {
     count(visit, line.counts, at.row.is_some());
-    change(visit, at, line.change, stored);
+    let effect = Effect {
+        change: line.change,
+        stored,
+    };
+    change(visit, at, effect);
     reply_of(line.reply, shown)
 }

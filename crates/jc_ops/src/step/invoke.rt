@@ -20,7 +20,7 @@ use crate::step::line::is_written;
 use crate::step::reply::fault;
 use crate::step::request::{ask_writer, loads_for, process};
 use crate::step::{KeyStep, Next};
-use crate::supply::Supply;
+use crate::supply::values::Values;
 use jc_model::call::{Action, Answer, By, KeyCall, Op, Reply, Request, Verdict};
 use jc_model::config::CacheConfig;
 use jc_model::copies::Copies;
@@ -133,11 +133,11 @@ fn answer_load<R: Rows, G: Ring>(
     visit: &mut Visit<R, G>,
     invocation: Invocation,
     answer: Answer,
-    supply: Supply,
+    values: Values,
 ) -> Next<KeyStep>
     requires first { invocation.loaded ≡ None }
-    requires entry { OnLoaded answer (λ loaded. supply.entry ≡ loaded) }
-    requires copy { OnLoaded answer (λ loaded. supply.copy ≡ Some invocation.argument) }
+    requires entry { OnLoaded answer (λ loaded. values.entry ≡ loaded) }
+    requires copy { OnLoaded answer (λ loaded. values.copy ≡ Some invocation.argument) }
     ensures same { visit.new ≡ record visit.old {
       cache = record visit.old.cache { counts = visit.new.cache.counts };
     } }
@@ -147,7 +147,7 @@ fn answer_load<R: Rows, G: Ring>(
         (answer_run visit.old (wait_of visit.old invocation None) answer) result visit.new }
     ensures call_stays { StaysAt visit.old.moment (part_of invocation) result }
 {
-    let Supply { copy, entry, .. } = supply;
+    let Values { copy, entry, .. } = values;
     match loaded_by(answer) {
         Some(loaded) => ask_processor(visit.moment(), invocation, loaded, entry, copy),
         None => {
@@ -162,12 +162,12 @@ fn end_verdict<R: Rows, G: Ring>(
     visit: &mut Visit<R, G>,
     invocation: &Invocation,
     verdict: &Verdict,
-    supply: Supply,
+    values: Values,
 ) -> Copies<Reply>
     requires row { FoundRow invocation.now.at.key visit.old.cache invocation.now.at.row }
     requires places { HasPlacesIn (told_at invocation.now.at Put) visit.old }
     requires covered { CoversVerdict false visit.old.cache.config
-        (value_in invocation.now.loaded) verdict.now supply }
+        (value_in invocation.now.loaded) verdict.now values }
     requires room { HasRoom
         (adds_by (is_there invocation.now.at) false (value_in invocation.now.loaded) verdict.now)
         visit.old.spare }
@@ -177,7 +177,7 @@ fn end_verdict<R: Rows, G: Ring>(
 {
     let at = &invocation.at;
     let line = verdict_line(&verdict.action, at.row.is_some());
-    end(visit, at, line, supply.stored, supply.shown)
+    end(visit, at, line, values.stored, values.shown)
 }
 
 /// The verdict: the writer is asked, or it is carried out at once.
@@ -185,12 +185,12 @@ fn act<R: Rows, G: Ring>(
     visit: &mut Visit<R, G>,
     invocation: Invocation,
     verdict: Verdict,
-    supply: Supply,
+    values: Values,
 ) -> Next<KeyStep>
     requires row { FoundRow invocation.at.key visit.old.cache invocation.at.row }
     requires places { HasPlacesIn (told_at invocation.at Put) visit.old }
     requires covered { CoversVerdictOf visit.old.cache.config.writer visit.old.cache.config
-        invocation verdict supply }
+        invocation verdict values }
     requires room { HasRoom
         (verdict_adds visit.old.cache.config.writer invocation verdict) visit.old.spare }
     requires means { waiting_run visit.old (wait_of visit.old invocation (Some verdict))
@@ -201,25 +201,25 @@ fn act<R: Rows, G: Ring>(
     ensures call_stays { StaysAt visit.old.moment (part_of invocation) result }
 {
     let line = verdict_line(&verdict.action, invocation.at.row.is_some());
-    let Supply {
+    let Values {
         stored,
         shown,
         copy,
         entry,
-    } = supply;
+    } = values;
     match ask_writer(visit.config(), &invocation.at.key, line.asks, copy) {
         Some(request) => {
             let step = invocation.waiting(visit.moment(), Some(verdict));
             Next::Waiting(request, step)
         }
         None => {
-            let supply = Supply {
+            let values = Values {
                 stored,
                 shown,
                 copy: None,
                 entry,
             };
-            Next::Ended(end_verdict(visit, &invocation, &verdict, supply))
+            Next::Ended(end_verdict(visit, &invocation, &verdict, values))
         }
     }
 }
@@ -229,13 +229,13 @@ fn answer_process<R: Rows, G: Ring>(
     visit: &mut Visit<R, G>,
     invocation: Invocation,
     answer: Answer,
-    supply: Supply,
+    values: Values,
 ) -> Next<KeyStep>
     requires row { FoundRow invocation.at.key visit.old.cache invocation.at.row }
     requires places { HasPlacesIn (told_at invocation.at Put) visit.old }
     requires covered { OnVerdict answer (λ v.
         CoversVerdictOf visit.old.cache.config.writer visit.old.cache.config
-        invocation v supply) }
+        invocation v values) }
     requires room { OnVerdict answer (λ v.
         HasRoom (verdict_adds visit.old.cache.config.writer invocation v) visit.old.spare) }
     requires means { waiting_run visit.old (wait_of visit.old invocation None)
@@ -246,7 +246,7 @@ fn answer_process<R: Rows, G: Ring>(
     ensures call_stays { StaysAt visit.old.moment (part_of invocation) result }
 {
     match verdict_of(answer) {
-        Some(verdict) => act(visit, invocation, verdict, supply),
+        Some(verdict) => act(visit, invocation, verdict, values),
         None => {
             count(visit, true, invocation.at.row.is_some());
             Next::Ended(fault(By::Processor, None))
@@ -260,12 +260,12 @@ fn answer_verdict<R: Rows, G: Ring>(
     invocation: &Invocation,
     verdict: &Verdict,
     answer: &Answer,
-    supply: Supply,
+    values: Values,
 ) -> Next<KeyStep>
     requires row { FoundRow invocation.now.at.key visit.old.cache invocation.now.at.row }
     requires places { HasPlacesIn (told_at invocation.now.at Put) visit.old }
     requires covered { is_written answer.now ≡ true →
-        CoversVerdictOf false visit.old.cache.config invocation.now verdict.now supply }
+        CoversVerdictOf false visit.old.cache.config invocation.now verdict.now values }
     requires room { is_written answer.now ≡ true →
         HasRoom (verdict_adds false invocation.now verdict.now) visit.old.spare }
     ensures spends { SpendsAtMost 1 (told_at invocation.now.at Put) visit.old visit.new }
@@ -277,7 +277,7 @@ fn answer_verdict<R: Rows, G: Ring>(
     if !is_written(answer) {
         return Next::Ended(fault(By::Writer, None));
     }
-    Next::Ended(end_verdict(visit, invocation, verdict, supply))
+    Next::Ended(end_verdict(visit, invocation, verdict, values))
 }
 
 /// The answer to a step of a processor.
@@ -286,12 +286,12 @@ pub(super) fn answer_invoke<R: Rows, G: Ring>(
     invocation: Invocation,
     verdict: Option<Verdict>,
     answer: Answer,
-    supply: Supply,
+    values: Values,
 ) -> Next<KeyStep>
     requires row { FoundRow invocation.at.key visit.old.cache invocation.at.row }
     requires places { HasPlacesIn (told_at invocation.at Put) visit.old }
     requires covered { CoversAnswerIn visit.old
-        (wait_of visit.old invocation verdict) answer supply }
+        (wait_of visit.old invocation verdict) answer values }
     requires room { HasRoom
         (adds_at (is_there invocation.at) visit.old.cache.config
         (wait_of visit.old invocation verdict) answer)
@@ -303,14 +303,14 @@ pub(super) fn answer_invoke<R: Rows, G: Ring>(
     ensures call_stays { StaysAt visit.old.moment (part_of invocation) result }
 {
     match verdict {
-        Some(verdict) => answer_verdict(visit, &invocation, &verdict, &answer, supply),
+        Some(verdict) => answer_verdict(visit, &invocation, &verdict, &answer, values),
         None => {
             let there = invocation.at.row.is_some();
             let answered = invocation.loaded.is_some();
             if awaits_load(visit.config(), invocation.processor, there, answered) {
-                answer_load(visit, invocation, answer, supply)
+                answer_load(visit, invocation, answer, values)
             } else {
-                answer_process(visit, invocation, answer, supply)
+                answer_process(visit, invocation, answer, values)
             }
         }
     }

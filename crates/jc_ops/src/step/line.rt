@@ -1,5 +1,5 @@
 //! A step of a line of the case table: as it begins, and at the answer of its writer or loader.
-ghost use Rattle.std.specs.Prelude.{◌≡◌, ◌<◌, ℕ, List, true, false, Some, None, option_map};
+ghost use Rattle.std.specs.Prelude.{◌≡◌, ◌<◌, ℕ, List, true, false, Some, None, is_some, option_map};
 ghost use Rattle.jc_model.specs.declared.call.KeyCall.{KeyCall};
 ghost use Rattle.jc_model.specs.Run.{ended, is_written, loaded_by};
 ghost use Rattle.jc_model.specs.Step.{live_in};
@@ -17,6 +17,7 @@ use crate::step::reply::fault;
 use crate::step::request::first_request;
 use crate::step::{KeyStep, Next};
 use crate::supply::Supply;
+use crate::supply::values::Values;
 use jc_model::call::{Answer, By, KeyCall, Op, Reply};
 use jc_model::copies::Copies;
 use jc_model::table::{Ask, Line, absent_line, expected, live_line, otherwise};
@@ -86,37 +87,35 @@ pub(crate) fn is_written(answer: &Answer) -> bool
 /// The step as it begins, once the key's expired row is gone.
 pub(super) fn begin<R: Rows, G: Ring>(
     visit: &mut Visit<R, G>,
-    at: &KeyRow,
-    op: Op,
+    call: KeyCall,
     supply: Supply,
 ) -> Next<KeyStep>
-    requires row { FoundRow at.now.key visit.old.cache at.now.row }
-    requires places { HasPlacesIn (told_on (is_there at.now) op) visit.old }
-    requires covered { CoversIn visit.old.cache.config.writer visit.old (call_at at.now op) supply }
-    requires room { HasRoom (adds (is_there at.now) visit.old.cache.config.writer op)
+    requires row { FoundRow call.key visit.old.cache supply.row }
+    requires places { HasPlacesIn (told_on (is_some supply.row) call.op) visit.old }
+    requires covered { CoversIn visit.old.cache.config.writer visit.old call supply.values }
+    requires room { HasRoom (adds (is_some supply.row) visit.old.cache.config.writer call.op)
         visit.old.spare }
-    requires purged { PurgesNothing visit.old at.now }
-    ensures spends { SpendsAtMost 1 (told_on (is_there at.now) op) visit.old visit.new }
-    ensures next { StepsFrom visit.old (step_run visit.old (call_at at.now op)) result visit.new }
-    ensures call_stays { StaysAt visit.old.moment (call_at at.now op) result }
+    requires purged { PurgesNothing visit.old call.key }
+    ensures spends { SpendsAtMost 1 (told_on (is_some supply.row) call.op) visit.old visit.new }
+    ensures next { StepsFrom visit.old (step_run visit.old call) result visit.new }
+    ensures call_stays { StaysAt visit.old.moment call result }
 {
-    let Supply {
+    let Supply { row, values } = supply;
+    let Values {
         stored,
         shown,
         copy,
         entry,
-    } = supply;
-    let there = at.row.is_some();
-    let line = line_at(&op, live_at(visit, at));
+    } = values;
+    let there = row.is_some();
+    let at = KeyRow { key: call.key, row };
+    let line = line_at(&call.op, live_at(visit, &at));
     let entry = where_there(there, entry);
-    match first_request(visit.config(), &at.key, &op, line.asks, copy, entry) {
-        Some(request) => {
-            let call = KeyCall { key: at.key, op };
-            Next::Waiting(request, KeyStep::begun(visit.moment(), call))
-        }
+    match first_request(visit.config(), &call, line.asks, copy, entry) {
+        Some(request) => Next::Waiting(request, KeyStep::begun(visit.moment(), call)),
         None => {
             let shown = where_there(there, shown);
-            Next::Ended(end(visit, at, line, stored, shown))
+            Next::Ended(end(visit, &at, line, stored, shown))
         }
     }
 }
@@ -124,27 +123,27 @@ pub(super) fn begin<R: Rows, G: Ring>(
 /// The same of a step that asks no one, and so ends.
 pub(super) fn end_at_once<R: Rows, G: Ring>(
     visit: &mut Visit<R, G>,
-    at: &KeyRow,
-    op: &Op,
+    call: &KeyCall,
     supply: Supply,
 ) -> Copies<Reply>
-    requires row { FoundRow at.now.key visit.old.cache at.now.row }
-    requires places { HasPlacesIn (told_on (is_there at.now) op.now) visit.old }
-    requires covered { CoversIn visit.old.cache.config.writer visit.old
-        (call_at at.now op.now) supply }
-    requires room { HasRoom (adds (is_there at.now) visit.old.cache.config.writer op.now)
+    requires row { FoundRow call.now.key visit.old.cache supply.row }
+    requires places { HasPlacesIn (told_on (is_some supply.row) call.now.op) visit.old }
+    requires covered { CoversIn visit.old.cache.config.writer visit.old call.now supply.values }
+    requires room { HasRoom (adds (is_some supply.row) visit.old.cache.config.writer call.now.op)
         visit.old.spare }
-    requires purged { PurgesNothing visit.old at.now }
-    requires unasked { asks_no_one visit.old.cache.config op.now ≡ true }
-    ensures spends { SpendsAtMost 1 (told_on (is_there at.now) op.now) visit.old visit.new }
-    ensures ended { step_run visit.old (call_at at.now op.now)
-        ≡ ended (progress_in visit.new) result }
+    requires purged { PurgesNothing visit.old call.now.key }
+    requires unasked { asks_no_one visit.old.cache.config call.now.op ≡ true }
+    ensures spends { SpendsAtMost 1 (told_on (is_some supply.row) call.now.op)
+        visit.old visit.new }
+    ensures ended { step_run visit.old call.now ≡ ended (progress_in visit.new) result }
 {
-    let Supply { stored, shown, .. } = supply;
-    let there = at.row.is_some();
-    let line = line_at(op, live_at(visit, at));
+    let Supply { row, values } = supply;
+    let Values { stored, shown, .. } = values;
+    let there = row.is_some();
+    let at = KeyRow { key: call.key, row };
+    let line = line_at(&call.op, live_at(visit, &at));
     let shown = where_there(there, shown);
-    end(visit, at, line, stored, shown)
+    end(visit, &at, line, stored, shown)
 }
 
 /// The loader's answer to a line that loads.
@@ -153,13 +152,13 @@ fn answer_loaded<R: Rows, G: Ring>(
     at: &KeyRow,
     line: Line,
     answer: &Answer,
-    supply: Supply,
+    values: Values,
 ) -> Next<KeyStep>
     requires row { FoundRow at.now.key visit.old.cache at.now.row }
     requires places { HasPlacesIn (told_at at.now line.change) visit.old }
-    requires told { StoredIsTold visit.old.cache.config supply.stored }
-    requires stored { OnLoaded answer.now (λ v. stored_value supply.stored ≡ v) }
-    requires shown { OnLoaded answer.now (λ v. is_shown line.reply ≡ true → supply.shown ≡ v) }
+    requires told { StoredIsTold visit.old.cache.config values.stored }
+    requires stored { OnLoaded answer.now (λ v. stored_value values.stored ≡ v) }
+    requires shown { OnLoaded answer.now (λ v. is_shown line.reply ≡ true → values.shown ≡ v) }
     requires room { is_there at.now ≡ false →
         (v : List ℕ) → loaded_by answer.now ≡ Some (Some v) → 0 < visit.old.spare }
     ensures spends { SpendsAtMost 1 (told_at at.now line.change) visit.old visit.new }
@@ -169,7 +168,7 @@ fn answer_loaded<R: Rows, G: Ring>(
 {
     match answer {
         Answer::Loaded(_) => {
-            let Supply { stored, shown, .. } = supply;
+            let Values { stored, shown, .. } = values;
             Next::Ended(end(visit, at, line, stored, shown))
         }
         _ => {
@@ -185,13 +184,13 @@ pub(super) fn answer_line<R: Rows, G: Ring>(
     at: &KeyRow,
     op: &Op,
     answer: &Answer,
-    supply: Supply,
+    values: Values,
 ) -> Next<KeyStep>
     requires row { FoundRow at.now.key visit.old.cache at.now.row }
     requires places { HasPlacesIn (told_on (is_there at.now) op.now) visit.old }
     requires invoke { is_invoke op.now ≡ false }
     requires covered { CoversAnswerIn visit.old
-        (wait_at visit.old at.now op.now) answer.now supply }
+        (wait_at visit.old at.now op.now) answer.now values }
     requires room { HasRoom
         (adds_at (is_there at.now) visit.old.cache.config
         (wait_at visit.old at.now op.now) answer.now)
@@ -204,12 +203,12 @@ pub(super) fn answer_line<R: Rows, G: Ring>(
 {
     let line = line_at(op, live_at(visit, at));
     if is_load(line.asks) {
-        return answer_loaded(visit, at, line, answer, supply);
+        return answer_loaded(visit, at, line, answer, values);
     }
     if !is_written(answer) {
         return Next::Ended(fault(By::Writer, None));
     }
-    let Supply { stored, shown, .. } = supply;
+    let Values { stored, shown, .. } = values;
     let shown = where_there(at.row.is_some(), shown);
     Next::Ended(end(visit, at, line, stored, shown))
 }

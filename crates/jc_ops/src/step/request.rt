@@ -3,7 +3,7 @@ ghost use Rattle.std.specs.Prelude.{◌≡◌, ℕ, List, true, Some};
 ghost use Rattle.jc_ops.specs.Lines.{handed, loads_for, asks_writer, asks_loader, asks_hook};
 ghost use Rattle.jc_ops.specs.Lines.{asks_processor, first_request};
 
-use jc_model::call::{Op, Request};
+use jc_model::call::{KeyCall, Op, Request};
 use jc_model::config::CacheConfig;
 use jc_model::key::Key;
 use jc_model::table::Ask;
@@ -110,17 +110,16 @@ fn ask_hook(config: &CacheConfig, key: &Key, asks: Ask, copy: Option<Value>) -> 
 /// processor.
 pub(crate) fn first_request(
     config: &CacheConfig,
-    key: &Key,
-    op: &Op,
+    call: &KeyCall,
     asks: Ask,
     copy: Option<Value>,
     live: Option<Value>,
 ) -> Option<Request>
-    requires copy { copy ≡ handed config.now.writer op.now }
-    ensures { result ≡ first_request config.now key.now op.now asks live }
+    requires copy { copy ≡ handed config.now.writer call.now.op }
+    ensures { result ≡ first_request config.now call.now.key call.now.op asks live }
 {
-    match op {
-        Op::Invoke { processor, .. } => ask_processor(config, key, *processor, live, copy),
-        _ => ask_hook(config, key, asks, copy),
+    match &call.op {
+        Op::Invoke { processor, .. } => { ask_processor(config, &call.key, *processor, live, copy) }
+        _ => ask_hook(config, &call.key, asks, copy),
     }
 }

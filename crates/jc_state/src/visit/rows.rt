@@ -14,7 +14,6 @@ use super::Visit;
 use crate::slots::Record;
 use jc_model::config::Expiry;
 use jc_model::event::CacheId;
-use jc_model::key::Key;
 use jc_ring::ring::Ring;
 use jc_rows::rows::Rows;
 
@@ -30,14 +29,15 @@ fn is_same(one: Expiry, other: Expiry) -> bool
     }
 }
 
-/// Gives a row of the table the expiry `to` in place of `from`; nothing is written where they are the same.
-fn renew<R: Rows>(rows: &mut R, id: CacheId, key: &Key, from: Expiry, to: Expiry)
-    requires { option_map (λ row. row.1) (map.get (R.contents rows.old) (id, key.now)) ≡ Some from }
-    ensures set { R.contents rows.new ≡ with_expiry (R.contents rows.old) (id, key.now) to }
+/// Gives the table's row of what is held the expiry `to`; nothing is written where it has it already.
+fn renew<R: Rows>(rows: &mut R, id: CacheId, held: &Record, to: Expiry)
+    requires { option_map (λ row. row.1) (map.get (R.contents rows.old) (id, held.now.key))
+        ≡ Some held.now.expiry }
+    ensures set { R.contents rows.new ≡ with_expiry (R.contents rows.old) (id, held.now.key) to }
     ensures room { R.spare rows.old ≤ R.spare rows.new }
 {
-    if !is_same(from, to) {
-        rows.set_expiry(id, key, to);
+    if !is_same(held.expiry, to) {
+        rows.set_expiry(id, &held.key, to);
     }
 }
 
@@ -96,10 +96,9 @@ impl<R: Rows, G: Ring> Visit<R, G> {
             ≡ record self.old.cache { cells = stored row new self.old.cache.cells } }
         ensures noted { self.new.noted ≡ self.old.noted }
     {
-        let key = new.key;
         let expiry = new.expiry;
         let before = self.cache.store(row, new);
-        renew(&mut self.rows, self.cache.id(), &key, before.expiry, expiry);
+        renew(&mut self.rows, self.cache.id(), &before, expiry);
         before
     }
 
@@ -113,10 +112,12 @@ impl<R: Rows, G: Ring> Visit<R, G> {
             } }
         ensures noted { self.new.noted ≡ self.old.noted }
     {
-        let held = self.record(row);
-        let key = held.key;
-        let before = held.expiry;
+        renew(
+            &mut self.rows,
+            self.cache.id(),
+            self.cache.record(row),
+            expiry,
+        );
         self.cache.renew(row, expiry);
-        renew(&mut self.rows, self.cache.id(), &key, before, expiry);
     }
 }

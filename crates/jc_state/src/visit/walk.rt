@@ -9,17 +9,16 @@ use jc_model::OutOfMemory;
 use jc_model::key::Key;
 use jc_ring::ring::Ring;
 use jc_rows::rows::Rows;
-use std::alloc::Global;
 
 impl<R: Rows, G: Ring> Visit<R, G> {
     /// The keys of all rows, expired ones among them, in the order of the ring.
-    pub fn keys(&self, alloc: Global) -> Result<Vec<Key>, OutOfMemory>
+    pub fn keys(&self) -> Result<Vec<Key>, OutOfMemory>
         ensures keys { IfOk result (λ keys.
             keys.items ≡ map (λ x. x.key) (items_of self.now.cache.cells)) }
         ensures apart { OnOk result (HasDistinctKeys (items_of self.now.cache.cells)) }
         ensures few { IfOk result (λ keys. length keys.items < 2 ^ 32) }
     {
-        let mut keys = Vec::with_capacity(alloc, self.cache.len() as usize)?;
+        let mut keys = Vec::with_capacity(self.alloc, self.cache.len() as usize)?;
         let mut next = self.cache.first();
         'rows: while let Some(row) = next {
             keys.push_reserved(self.record(row).key);

@@ -13,6 +13,6 @@ returns-clause-ok g c = λ key found live.
     let at = found.1 in
     let row : IsRow key c.hit.new.self.cache c.args.row x = rw c.hit.ensures (record { found = at.found; key_is = at.key_is; there = at.there; on = at.on }) in
     let after : progress_in c.access.new.self ≡ access v.cache.config v.moment x (hit (progress_in v)) = rw c.hit.ensures at (c.access.ensures.progress key x row) in
-    let shown : Found (Some c.in_ok-value.value) ≡ Found (Some x.value) =
-    ap (λ (v : List ℕ). Found (Some v)) (c.in_ok-value.ensures ∙ (c.first.ensures ∙ c.value.ensures (record_of x) at.there)) in
+    let shown : Found (Some (g.V.Owned.value c.in_ok-owned.owned)) ≡ Found (Some x.value) =
+    ap (λ (v : List ℕ). Found (Some v)) (c.in_ok-owned.ensures ∙ (c.first.ensures ∙ c.value.ensures (record_of x) at.there)) in
     hits v.cache.config v.moment key x (progress_in v) at.found live ∙ sym (ap₂ ended after shown)

@@ -7,11 +7,11 @@ use Rattle.jc_ops.proofs.step.KeyStep.answer.Goals as goal
 
 -- by the view that the code has of the step
 module _ (g : given.Over) (c : After-purge-row g) (u : KeyWait) (view : u ≡ c.args.self) where
-  goes : GoesOn c.args.visit.now c.purge-row.new.self c.purge-row.new.self.cache.config c.args.self u c.args.answer c.purge-row.result c.args.supply
+  goes : GoesOn c.args.visit.now c.purge-row.new.self c.purge-row.new.self.cache.config c.args.self u c.args.answer c.purge-row.result c.args.supply.values
   goes =
-      let gone = purged c.args.visit.now c.purge-row.new.self c.args.self.call.key c.args.row c.purge-row.result
+      let gone = purged c.args.visit.now c.purge-row.new.self c.args.self.call.key c.args.supply.row c.purge-row.result
       c.purge-row.ensures.spends c.purge-row.ensures.live c.purge-row.ensures.progress c.purge-row.ensures.found c.requires.row in
-      goes_on _ _ c.args.self c.purge-row.result gone c.args.supply u c.args.answer view c.requires.waits c.requires.covered c.requires.room c.requires.places
+      goes_on _ _ c.args.self c.purge-row.result gone c.args.supply.values u c.args.answer view c.requires.waits c.requires.covered c.requires.room c.requires.places
 
 pub answer_invoke-requires : goal.answer_invoke-requires
 answer_invoke-requires g c =

@@ -6,11 +6,11 @@ use Rattle.jc_ops.proofs.step.KeyStep.end_at_once.Goals.{After-purge-row}
 use Rattle.jc_ops.proofs.step.KeyStep.end_at_once.Goals as goal
 
 module _ (g : given.Over) (c : After-purge-row g) where
-  left : Begins c.args.visit.now c.purge-row.new.self c.purge-row.new.self.cache.config c.purge-row.new.self.moment c.args.call (is_some c.purge-row.result) c.args.supply
+  left : Begins c.args.visit.now c.purge-row.new.self c.purge-row.new.self.cache.config c.purge-row.new.self.moment c.args.call (is_some c.purge-row.result) c.args.supply.values
   left =
-      let gone = purged c.args.visit.now c.purge-row.new.self c.args.call.key c.args.row c.purge-row.result
+      let gone = purged c.args.visit.now c.purge-row.new.self c.args.call.key c.args.supply.row c.purge-row.result
       c.purge-row.ensures.spends c.purge-row.ensures.live c.purge-row.ensures.progress c.purge-row.ensures.found c.requires.row in
-      begins _ _ c.args.call c.purge-row.result gone c.args.supply c.requires.covered c.requires.room c.requires.places
+      begins _ _ c.args.call c.purge-row.result gone c.args.supply.values c.requires.covered c.requires.room c.requires.places
 
 pub end_at_once-requires : goal.end_at_once-requires
 end_at_once-requires g c =

@@ -27,7 +27,7 @@ returns-clause-next g c =
     let line = c.line_at-line.ensures ∙ ap (line_at c.args.op.now) c.live_at.ensures in
     let written = sym c.is_written.ensures ∙ c.if-not-is_written.false in
     let cov = c.requires.covered.written written refl in
-    writer_agreed s.config c.args.visit.now.moment c.args.at.now.key c.args.op.now (progress_in c.args.visit.now) c.line_at-line.result line c.is_some.result has c.args.supply.shown c.where_there-shown.result
+    writer_agreed s.config c.args.visit.now.moment c.args.at.now.key c.args.op.now (progress_in c.args.visit.now) c.line_at-line.result line c.is_some.result has c.args.values.shown c.where_there-shown.result
     c.where_there-shown.ensures.there c.where_there-shown.ensures.absent c.args.answer.now _ c.requires.invoke c.requires.waits.waits (sym c.is_load.ensures ∙ c.if-is_load.false) written cov.stored cov.shown ∙ c.end.ensures.run
 
 pub returns-clause-spends : goal.returns-clause-spends

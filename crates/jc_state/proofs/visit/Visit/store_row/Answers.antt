@@ -8,14 +8,15 @@ pub renew-requires : goal.renew-requires
 renew-requires g c =
     let id : c.id.result ≡ c.self.inside.cache.value.id = rw (c.id.ensures, c.deref.ensures, c.store-before.ensures.kept, c.deref_mut.ensures.value) in
     let was = rw c.deref_mut.ensures.value at c.store-before.ensures.was in
-    rw (id, key_of _ _ _ was (rw (← c.self.view_is) at c.requires.key), placed_at _ _ _ _ _ c.self.invariant.tied.placed was)
+    rw (id, placed_at _ _ _ _ _ c.self.invariant.tied.placed was)
 
 pub invariant_of-self : goal.invariant_of-self
 invariant_of-self g c =
     let id : c.id.result ≡ c.self.inside.cache.value.id = rw (c.id.ensures, c.deref.ensures, c.store-before.ensures.kept, c.deref_mut.ensures.value) in
     let was = rw c.deref_mut.ensures.value at c.store-before.ensures.was in
-    rw (c.renew.ensures.set, id, c.store-before.ensures.kept, c.deref_mut.ensures.value)
-    (kept-stored _ _ c.self.invariant c.args.row c.store-before.result c.args.new was (key_of _ _ _ was (rw (← c.self.view_is) at c.requires.key)))
+    let key = key_of _ _ _ was (rw (← c.self.view_is) at c.requires.key) in
+    rw (c.renew.ensures.set, id, c.store-before.ensures.kept, c.deref_mut.ensures.value, ← key)
+    (kept-stored _ _ c.self.invariant c.args.row c.store-before.result c.args.new was key)
 
 pub returns-clause-spends : goal.returns-clause-spends
 returns-clause-spends g c =

@@ -1,0 +1,190 @@
+//! The values of one step, each an owner of its bytes, made before any change.
+ghost use Rattle.std.specs.Prelude.{◌≡◌, ℕ, List, true, Some, None, option_map, IfOk};
+ghost use Rattle.jc_model.specs.State.{Item};
+ghost use Rattle.jc_state.specs.Shelf.{has_row};
+ghost use Rattle.jc_state.specs.Kept.{key_row, FoundRow};
+ghost use Rattle.jc_ops.specs.Lines.{takes_value};
+ghost use Rattle.jc_ops.specs.Supply.{CoversIn, CoversLoaded, CoversVerdict, CoversAnswerIn};
+
+use crate::step::KeyStep;
+use crate::supply::needs::{
+    handed, handed_by, is_invoke, shows, shows_loaded, stored_by, stored_now,
+};
+use jc_model::OutOfMemory;
+use jc_model::call::{Answer, KeyCall, Op, Verdict};
+use jc_model::config::CacheConfig;
+use jc_model::copies::Copies;
+use jc_model::value::Value;
+use jc_ring::ring::Ring;
+use jc_rows::rows::Rows;
+use jc_state::stored::Stored;
+use jc_state::visit::Visit;
+
+/// The values of one step.
+#[derive(Drop)]
+pub struct Values {
+    /// What the step stores.
+    pub stored: Option<Stored>,
+    /// What the step replies.
+    pub shown: Option<Copies<Value>>,
+    /// What the writer is given, or the processor as its argument.
+    pub copy: Option<Value>,
+    /// What the processor is given as the value of its entry.
+    pub entry: Option<Value>,
+}
+
+/// Copies of what is replied, if a value is.
+fn to_show(value: Option<&Value>) -> Result<Option<Copies<Value>>, OutOfMemory>
+    ensures { IfOk result (λ shown. shown ≡ option_map (λ v. v.now) value.entry) }
+{
+    match value {
+        None => Ok(None),
+        Some(value) => {
+            let shown = Copies::of(value)?;
+            Ok(Some(shown))
+        }
+    }
+}
+
+/// A copy of what a hook is given, if it is given a value.
+fn to_hand(value: Option<&Value>) -> Result<Option<Value>, OutOfMemory>
+    ensures { IfOk result (λ copy. copy ≡ option_map (λ v. v.now) value.entry) }
+{
+    match value {
+        None => Ok(None),
+        Some(value) => {
+            let copy = value.share()?;
+            Ok(Some(copy))
+        }
+    }
+}
+
+/// The value of a key's row, where it is wanted.
+fn value_if<'a, R: Rows, G: Ring>(
+    visit: &'a Visit<R, G>,
+    row: Option<u32>,
+    wanted: bool,
+) -> Option<&'a Value>
+    requires there { wanted ≡ true → (r : ℕ) → row ≡ Some r →
+        has_row r visit.now.cache.cells ≡ true }
+    ensures { wanted ≡ true → (key : List ℕ) (x : Item) → FoundRow key visit.now.cache row →
+        key_row visit.now.cache key ≡ Some x → option_map (λ v. v.now) result ≡ Some x.value }
+{
+    if !wanted {
+        return None;
+    }
+    match row {
+        None => None,
+        Some(row) => Some(visit.value(row).first()),
+    }
+}
+
+impl Values {
+    /// Nothing.
+    fn nothing() -> Values
+        ensures { result ≡ record { stored = None; shown = None; copy = None; entry = None } }
+    {
+        Values {
+            stored: None,
+            shown: None,
+            copy: None,
+            entry: None,
+        }
+    }
+
+    /// The values of a step that stores at once, or that asks its writer first: then the writer alone is given a copy.
+    /// The key's row is wanted only where a value of it is taken.
+    pub fn for_call<R: Rows, G: Ring>(
+        visit: &Visit<R, G>,
+        row: Option<u32>,
+        call: &KeyCall,
+        writer: bool,
+    ) -> Result<Values, OutOfMemory>
+        requires row { takes_value call.now.op ≡ true →
+            FoundRow call.now.key visit.now.cache row }
+        ensures { IfOk result (λ s. CoversIn writer visit.now call.now s) }
+    {
+        let shown = to_show(value_if(visit, row, shows(&call.op)))?;
+        let entry = to_hand(value_if(visit, row, is_invoke(&call.op)))?;
+        let stored = Stored::of_any(visit.config(), stored_now(&call.op, writer))?;
+        let copy = to_hand(handed(&call.op, writer))?;
+        Ok(Values {
+            stored,
+            shown,
+            copy,
+            entry,
+        })
+    }
+
+    /// The values for a loader's answer: to store and reply for a line that loads, to hand on for a processor's step.
+    fn loaded(config: &CacheConfig, op: &Op, loaded: Option<&Value>) -> Result<Values, OutOfMemory>
+        ensures { IfOk result (λ s.
+            CoversLoaded config.now op.now (option_map (λ v. v.now) loaded.entry) s) }
+    {
+        if is_invoke(op) {
+            let entry = to_hand(loaded)?;
+            let copy = to_hand(handed(op, false))?;
+            return Ok(Values {
+                stored: None,
+                shown: None,
+                copy,
+                entry,
+            });
+        }
+        let stored = Stored::of_any(config, loaded)?;
+        let shown = to_show(if shows_loaded(op) { loaded } else { None })?;
+        Ok(Values {
+            stored,
+            shown,
+            copy: None,
+            entry: None,
+        })
+    }
+
+    /// The values for a verdict, where the loader gave `loaded`. Where the writer is asked first, it alone is given a
+    /// copy.
+    fn judged(
+        config: &CacheConfig,
+        loaded: Option<&Value>,
+        verdict: &Verdict,
+        writer: bool,
+    ) -> Result<Values, OutOfMemory>
+        ensures { IfOk result (λ s.
+            CoversVerdict writer config.now (option_map (λ v. v.now) loaded.entry) verdict.now s) }
+    {
+        let stored = Stored::of_any(config, stored_by(&verdict.action, loaded, writer))?;
+        let shown = to_show(verdict.answer.as_ref())?;
+        let copy = to_hand(handed_by(&verdict.action, writer))?;
+        Ok(Values {
+            stored,
+            shown,
+            copy,
+            entry: None,
+        })
+    }
+
+    /// The values for the answer to a step that waits, where its key has this row.
+    pub(super) fn at<R: Rows, G: Ring>(
+        visit: &Visit<R, G>,
+        row: Option<u32>,
+        step: &KeyStep,
+        answer: &Answer,
+    ) -> Result<Values, OutOfMemory>
+        requires row { FoundRow step.now.call.key visit.now.cache row }
+        ensures { IfOk result (λ s. CoversAnswerIn visit.now step.entry.now answer.now s) }
+    {
+        let config = visit.config();
+        match answer {
+            Answer::Written => match step.verdict() {
+                None => Values::for_call(visit, row, step.call(), false),
+                Some(verdict) => Values::judged(config, step.loaded(), verdict, false),
+            },
+            Answer::Loaded(loaded) => { Values::loaded(config, &step.call().op, loaded.as_ref()) }
+            Answer::Processed(judged) => match judged {
+                Ok(verdict) => { Values::judged(config, step.loaded(), verdict, config.writer) }
+                Err(_) => Ok(Values::nothing()),
+            },
+            _ => Ok(Values::nothing()),
+        }
+    }
+}
