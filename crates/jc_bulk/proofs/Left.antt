@@ -10,7 +10,7 @@ use Rattle.jc_bulk.proofs.Names.{KeyCall, CacheConfig, Item, passed, stops_at, b
 use Rattle.jc_model.proofs.Everywhere.{at_each-resume, at_each-answered}
 use Rattle.jc_ops.specs.declared.step.Next.{Next}
 use Rattle.jc_ops.specs.declared.step.Next.TheVariants.{Ended, Waiting}
-use Rattle.jc_ops.specs.declared.supply.Supply.{Supply}
+use Rattle.jc_ops.specs.declared.supply.values.Values.{Values}
 use Rattle.jc_bulk.proofs.Rows.{StillThere, all_there}
 
 -- A step of one key leaves the rows of other keys with their values: some may be evicted, none gets another value.
@@ -83,7 +83,7 @@ found_was q old new d stay o h x e = fits-found q o new x (stay o (fits-there q 
 
 -- The values of the steps that are left.
 
-covers-stays : (w : Bool) (c : CacheConfig) (call : KeyCall) (old new : List Item) (s : Supply) → HasDistinctKeys old → ((o : Option (List ℕ)) → Fits call.key o old → Fits call.key o new) → Covers w c call old s → Covers w c call new s
+covers-stays : (w : Bool) (c : CacheConfig) (call : KeyCall) (old new : List Item) (s : Values) → HasDistinctKeys old → ((o : Option (List ℕ)) → Fits call.key o old → Fits call.key o new) → Covers w c call old s → Covers w c call new s
 covers-stays w c call old new s d stay v = record {
   stored = v.stored;
   told = v.told;
@@ -94,7 +94,7 @@ covers-stays w c call old new s d stay v = record {
 
 covered-stays : (c : CacheConfig) (k : List ℕ) (old new : List Item) (rest : List Provided) → IsNone k (keys_in (calls_in rest)) → HasDistinctKeys old → ((q : List ℕ) → k ≢ q → (o : Option (List ℕ)) → Fits q o old → Fits q o new) → AreCovered c old rest → AreCovered c new rest
 covered-stays c k old new [] none d stay v = tt
-covered-stays c k old new (p ∷ ps) none d stay v = (covers-stays c.writer c p.call old new p.supply d (stay p.call.key none.0) v.0, covered-stays c k old new ps none.1 d stay v.1)
+covered-stays c k old new (p ∷ ps) none d stay v = (covers-stays c.writer c p.call old new p.values d (stay p.call.key none.0) v.0, covered-stays c k old new ps none.1 d stay v.1)
 
 -- Where a step has come to, the rows of other keys are as they were.
 
@@ -113,6 +113,6 @@ covered_at_answer c p w a next after rest e none d =
 
 -- One step more.
 
-pub covered-push : (c : CacheConfig) (items : List Item) (ps : List Provided) (p : Provided) → AreCovered c items ps → Covers c.writer c p.call items p.supply → AreCovered c items (ps ++ p ∷ [])
+pub covered-push : (c : CacheConfig) (items : List Item) (ps : List Provided) (p : Provided) → AreCovered c items ps → Covers c.writer c p.call items p.values → AreCovered c items (ps ++ p ∷ [])
 covered-push c items [] p h g = (g, tt)
 covered-push c items (q ∷ qs) p h g = (h.0, covered-push c items qs p h.1 g)

@@ -30,7 +30,7 @@ AreApart (k ∷ ks) = IsNone k ks × AreApart ks
 -- each step has its values, in a cache with these items
 abbrev pub AreCovered : CacheConfig → List Item → List Provided → Type 0
 AreCovered c items [] = Unit {0}
-AreCovered c items (p ∷ ps) = Covers c.writer c p.call items p.supply × AreCovered c items ps
+AreCovered c items (p ∷ ps) = Covers c.writer c p.call items p.values × AreCovered c items ps
 
 -- whether any of these itself stores a key that is not there
 abbrev pub any_creates : List KeyCall → Bool

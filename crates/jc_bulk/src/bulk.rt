@@ -18,6 +18,7 @@ use jc_model::key::Key;
 use jc_ops::step::reply::fault;
 use jc_ops::step::{KeyStep, Next};
 use jc_ops::supply::Supply;
+use jc_ops::supply::values::Values;
 use jc_ring::ring::Ring;
 use jc_rows::rows::Rows;
 use jc_state::visit::Visit;
@@ -29,7 +30,7 @@ use std::marker::Model;
 #[derive(Drop)]
 pub struct Provided {
     pub call: KeyCall,
-    pub supply: Supply,
+    pub values: Values,
 }
 
 /// What steps may need beside their values.
@@ -100,10 +101,10 @@ pub(crate) fn go_on<R: Rows, G: Ring>(visit: &mut Visit<R, G>, mut ahead: Ahead)
     ensures same { IsSameVisit visit.old visit.new }
     ensures moved { ComesFrom visit.old (ahead_run visit.old ahead) result visit.new }
 {
-    'steps: while let Some(Provided { call, supply }) = ahead.rest.pop_front() {
+    'steps: while let Some(Provided { call, values }) = ahead.rest.pop_front() {
         let key = call.key;
         let row = visit.find(&key);
-        match KeyStep::start(visit, call, row, supply) {
+        match KeyStep::start(visit, call, Supply { row, values }) {
             Next::Waiting(request, step) => {
                 let bulk = BulkStep {
                     step,

@@ -7,7 +7,6 @@ ghost use Rattle.jc_model.specs.declared.config.CacheConfig.{CacheConfig};
 ghost use Rattle.jc_model.specs.Changes.{Progress};
 ghost use Rattle.jc_model.specs.Run.{Run, fits};
 ghost use Rattle.jc_model.specs.Whole.{is_at_once, is_free};
-ghost use Rattle.jc_state.specs.Kept.{FoundRow};
 ghost use Rattle.jc_state.specs.Visited.{IsSameVisit, IsUnchanged};
 ghost use Rattle.jc_ops.specs.Stepped.{StepsTo, step_run};
 ghost use Rattle.jc_bulk.specs.Calls.{ComesTo, ComesFrom, EndsFrom, IsSuspendedIn, plan_in};
@@ -63,22 +62,19 @@ fn on_one_key(alloc: Global, next: Next<KeyStep>) -> CallNext
     }
 }
 
-/// Begins a call on one key, which is this step, where the key has this row, if it has one.
+/// Begins a call on one key, which is this step.
 fn start_key<R: Rows, G: Ring>(
-    alloc: Global,
     visit: &mut Visit<R, G>,
-    row: Option<u32>,
     step: KeyCall,
 ) -> Result<CallNext, OutOfMemory>
-    requires row { FoundRow step.key visit.old.cache row }
     ensures same_visit { IsSameVisit visit.old visit.new }
     ensures ok { IfOk result (λ next.
         ComesFrom visit.old (step_run visit.old step) next visit.new) }
     ensures same { OnErr result (IsUnchanged visit.old visit.new) }
 {
-    let supply = Supply::for_step(visit, row, &step)?;
-    let next = KeyStep::start(visit, step, row, supply);
-    Ok(on_one_key(alloc, next))
+    let supply = Supply::for_step(visit, &step)?;
+    let next = KeyStep::start(visit, step, supply);
+    Ok(on_one_key(visit.alloc(), next))
 }
 
 /// What a call on one key or on many ends with where it is on one and asks no one: its reply.
@@ -99,9 +95,8 @@ fn end_steps_at_once<R: Rows, G: Ring>(
     if !asks_no_one(visit.config(), &step.op) {
         return Ok(None);
     }
-    let row = visit.find(&step.key);
-    let supply = Supply::for_step(visit, row, &step)?;
-    Ok(Some(KeyStep::end_at_once(visit, step, row, supply)))
+    let supply = Supply::for_step(visit, &step)?;
+    Ok(Some(KeyStep::end_at_once(visit, step, supply)))
 }
 
 /// Makes a call on one key that asks no one, and so does not wait: its reply. Of any other call nothing, and nothing has
@@ -132,7 +127,6 @@ pub fn end_at_once<R: Rows, G: Ring>(
 
 /// Begins a call on many keys.
 fn start_many<R: Rows, G: Ring>(
-    alloc: Global,
     visit: &mut Visit<R, G>,
     call: &Call,
 ) -> Result<CallNext, OutOfMemory>
@@ -141,13 +135,12 @@ fn start_many<R: Rows, G: Ring>(
         ComesFrom visit.old (many_run visit.old call.now) next visit.new) }
     ensures same { OnErr result (IsUnchanged visit.old visit.new) }
 {
-    let ahead = prepare(alloc, visit, call)?;
+    let ahead = prepare(visit, call)?;
     Ok(go_on(visit, ahead))
 }
 
 /// Begins a call that does a step on one key or on many.
 fn start_steps<R: Rows, G: Ring>(
-    alloc: Global,
     visit: &mut Visit<R, G>,
     call: &Call,
 ) -> Result<CallNext, OutOfMemory>
@@ -158,17 +151,13 @@ fn start_steps<R: Rows, G: Ring>(
     ensures same { OnErr result (IsUnchanged visit.old visit.new) }
 {
     match key_step(call)? {
-        Some(step) => {
-            let row = visit.find(&step.key);
-            start_key(alloc, visit, row, step)
-        }
-        None => start_many(alloc, visit, call),
+        Some(step) => start_key(visit, step),
+        None => start_many(visit, call),
     }
 }
 
 /// Begins a call on a cache. Where memory is refused, nothing has changed; a call that takes none is not refused.
 pub fn start_call<R: Rows, G: Ring>(
-    alloc: Global,
     visit: &mut Visit<R, G>,
     call: &Call,
 ) -> Result<CallNext, OutOfMemory>
@@ -189,8 +178,8 @@ pub fn start_call<R: Rows, G: Ring>(
             visit.clear();
             Ok(Next::Ended(done()))
         }
-        Call::Entries => Ok(Next::Ended(listed(entries(alloc, visit)?))),
-        _ => start_steps(alloc, visit, call),
+        Call::Entries => Ok(Next::Ended(listed(entries(visit)?))),
+        _ => start_steps(visit, call),
     }
 }
 
@@ -209,13 +198,12 @@ pub fn answer_call<R: Rows, G: Ring>(
     ensures same { OnErr result (IsUnchanged visit.old visit.new) }
 {
     let Suspended { bulk, awaits } = suspended;
-    let row = visit.find(&bulk.step.call().key);
-    match prepare_answer(visit, row, &bulk, &answer) {
+    match prepare_answer(visit, &bulk, &answer) {
         Err(_) => Err((Suspended { bulk, awaits }, answer)),
         Ok(supply) => {
             let BulkStep { step, ahead, alone } = bulk;
             let key = step.call().key;
-            match step.answer(visit, answer, row, supply) {
+            match step.answer(visit, answer, supply) {
                 Next::Waiting(request, step) => {
                     let bulk = BulkStep { step, ahead, alone };
                     Ok(suspend(request, bulk))

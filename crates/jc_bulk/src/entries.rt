@@ -17,7 +17,6 @@ use jc_model::value::Value;
 use jc_ring::ring::Ring;
 use jc_rows::rows::Rows;
 use jc_state::visit::Visit;
-use std::alloc::Global;
 
 /// The key's value, if it has a live row.
 fn live_value<'a, R: Rows, G: Ring>(visit: &'a Visit<R, G>, key: &Key) -> Option<&'a Value>
@@ -52,7 +51,6 @@ fn list(pairs: &mut Lists<(Key, Value)>, key: Key, value: Option<&Value>) -> Res
 
 /// The pairs of all live rows, in the order of the ring.
 fn contents<R: Rows, G: Ring>(
-    alloc: Global,
     visit: &Visit<R, G>,
     keys: &[Key],
 ) -> Result<Lists<(Key, Value)>, OutOfMemory>
@@ -60,7 +58,7 @@ fn contents<R: Rows, G: Ring>(
     requires apart { HasDistinctKeys (items_of visit.now.cache.cells) }
     ensures { IfOk result (λ lists. lists.items ≡ live_pairs visit.now) }
 {
-    let mut pairs = Lists::with_room(alloc, keys.len())?;
+    let mut pairs = Lists::with_room(visit.alloc(), keys.len())?;
     for key in keys {
         list(&mut pairs, *key, live_value(visit, key))?;
     }
@@ -96,7 +94,6 @@ fn touch_each<R: Rows, G: Ring>(visit: &mut Visit<R, G>, keys: &[Key])
 
 /// Lists all live rows, and uses each. Where memory is refused, nothing has changed.
 pub(crate) fn entries<R: Rows, G: Ring>(
-    alloc: Global,
     visit: &mut Visit<R, G>,
 ) -> Result<Copies<Sequence<(Key, Value)>>, OutOfMemory>
     ensures same_visit { IsSameVisit visit.old visit.new }
@@ -105,8 +102,8 @@ pub(crate) fn entries<R: Rows, G: Ring>(
         (TouchesEach visit.old (items_of visit.old.cache.cells) visit.new) }
     ensures same { OnErr result (IsUnchanged visit.old visit.new) }
 {
-    let keys = visit.keys(alloc)?;
-    let pairs = contents(alloc, visit, keys.as_slice())?;
+    let keys = visit.keys()?;
+    let pairs = contents(visit, keys.as_slice())?;
     touch_each(visit, keys.as_slice());
     Ok(pairs.into_lists())
 }

@@ -4,7 +4,8 @@ ghost use Rattle.jc_model.specs.Bulk.{empty_sum};
 ghost use Rattle.jc_model.specs.declared.config.CacheConfig.{CacheConfig};
 ghost use Rattle.jc_model.specs.Changes.{Progress};
 ghost use Rattle.jc_model.specs.Whole.{plan, gathers};
-ghost use Rattle.jc_state.specs.Kept.{FoundRow};
+ghost use Rattle.jc_model.specs.Sound.{HasDistinctKeys};
+ghost use Rattle.jc_state.specs.Kept.{items_of, FoundRow};
 ghost use Rattle.jc_state.specs.Visited.{IsUnchanged, HasPlacesIn};
 ghost use Rattle.jc_ops.specs.Lines.{takes_value};
 ghost use Rattle.jc_ops.specs.Supply.{CoversAnswerIn, HasRoomAt};
@@ -19,6 +20,7 @@ use crate::steps::steps_of;
 use crate::tally::Tally;
 use jc_model::OutOfMemory;
 use jc_model::call::{Answer, Call, KeyCall};
+use jc_ops::supply::values::Values;
 use jc_ops::supply::{Supply, creates, most_notices, takes_value};
 use jc_ring::ring::Ring;
 use jc_rows::rows::Rows;
@@ -75,18 +77,17 @@ fn row_for<R: Rows, G: Ring>(visit: &Visit<R, G>, call: &KeyCall) -> Option<u32>
 
 /// The steps with their values.
 fn with_values<R: Rows, G: Ring>(
-    alloc: Global,
     visit: &Visit<R, G>,
     calls: Vec<KeyCall>,
 ) -> Result<VecDeque<Provided>, OutOfMemory>
     ensures calls { IfOk result (λ rest. calls_in rest.items ≡ calls.items) }
     ensures covered { IfOk result (λ rest. AreCoveredIn visit.now rest.items) }
 {
-    let mut rest = VecDeque::with_capacity(alloc, calls.len())?;
+    let mut rest = VecDeque::with_capacity(visit.alloc(), calls.len())?;
     for call in calls {
         let row = row_for(visit, &call);
-        let supply = Supply::values_for(visit, row, &call, visit.config().writer)?;
-        rest.push_back(Provided { call, supply })?;
+        let values = Values::for_call(visit, row, &call, visit.config().writer)?;
+        rest.push_back(Provided { call, values })?;
     }
     Ok(rest)
 }
@@ -105,11 +106,7 @@ fn tally_for(alloc: Global, call: &Call, keys: usize) -> Result<Tally, OutOfMemo
 }
 
 /// All that the steps of a call may need. Nothing has changed yet.
-pub fn prepare<R: Rows, G: Ring>(
-    alloc: Global,
-    visit: &mut Visit<R, G>,
-    call: &Call,
-) -> Result<Ahead, OutOfMemory>
+pub fn prepare<R: Rows, G: Ring>(visit: &mut Visit<R, G>, call: &Call) -> Result<Ahead, OutOfMemory>
     ensures same { IsUnchanged visit.old visit.new }
     ensures asks { HasRoomForSteps (steps_for visit.old call.now) visit.old.spare →
         visit.new.spare ≡ visit.old.spare }
@@ -117,7 +114,7 @@ pub fn prepare<R: Rows, G: Ring>(
     ensures sum { IfOk result (λ ahead. sum_of ahead.sum ≡ first_sum visit.old call.now) }
     ensures ready { IfOk result (AreReady visit.new) }
 {
-    let calls = steps_of(alloc, visit, call)?;
+    let calls = steps_of(visit, call)?;
     let count = calls.len();
     let needs = Needs {
         adds: any_creates(calls.as_slice()),
@@ -125,8 +122,8 @@ pub fn prepare<R: Rows, G: Ring>(
     };
     make_places(visit, needs, count, 0)?;
     visit.reserve_rows(if needs.adds { count } else { 0 })?;
-    let rest = with_values(alloc, visit, calls)?;
-    let sum = tally_for(alloc, call, count)?;
+    let rest = with_values(visit, calls)?;
+    let sum = tally_for(visit.alloc(), call, count)?;
     Ok(Ahead { rest, sum, needs })
 }
 
@@ -134,20 +131,22 @@ pub fn prepare<R: Rows, G: Ring>(
 /// values were made when the call began.
 pub fn prepare_answer<R: Rows, G: Ring>(
     visit: &mut Visit<R, G>,
-    row: Option<u32>,
     bulk: &BulkStep,
     answer: &Answer,
 ) -> Result<Supply, OutOfMemory>
-    requires row { FoundRow bulk.now.key.call.key visit.old.cache row }
     ensures same { IsUnchanged visit.old visit.new }
+    ensures row { IfOk result (λ s.
+        FoundRow bulk.entry.now.key.call.key visit.old.cache s.row) }
+    ensures apart { HasDistinctKeys (items_of visit.old.cache.cells) }
     ensures places { OnOk result (HasPlacesFrom bulk.entry.now visit.new) }
     ensures room { OnOk result (HasRoomAt bulk.entry.now.key answer.now visit.new) }
     ensures asks { HasRoomAt bulk.entry.now.key answer.now visit.old →
         HasRoomFrom bulk.entry.now visit.old.spare → visit.new.spare ≡ visit.old.spare }
     ensures rest_room { OnOk result (HasRoomFrom bulk.entry.now visit.new.spare) }
-    ensures covers { IfOk result (λ s. CoversAnswerIn visit.old bulk.entry.now.key answer.now s) }
+    ensures covers { IfOk result (λ s.
+        CoversAnswerIn visit.old bulk.entry.now.key answer.now s.values) }
 {
-    let supply = Supply::for_answer(visit, row, &bulk.step, answer)?;
+    let supply = Supply::for_answer(visit, &bulk.step, answer)?;
     let steps = bulk.ahead.rest.len() + 1;
     let needs = bulk.ahead.needs;
     let own = most_notices(&bulk.step.call().op, false);

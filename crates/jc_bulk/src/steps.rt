@@ -75,17 +75,14 @@ fn removal(live: bool) -> Op
 }
 
 /// A removal of each row, in the order of the ring.
-fn each_row<R: Rows, G: Ring>(
-    alloc: Global,
-    visit: &Visit<R, G>,
-) -> Result<Vec<KeyCall>, OutOfMemory>
+fn each_row<R: Rows, G: Ring>(visit: &Visit<R, G>) -> Result<Vec<KeyCall>, OutOfMemory>
     ensures steps { IfOk result (λ calls.
         calls.items ≡ remove_each visit.now.moment (items_of visit.now.cache.cells)) }
     ensures apart { IfOk result (λ calls. AreApart (keys_in calls.items)) }
     ensures few { IfOk result (λ calls. length calls.items < 2 ^ 32) }
 {
-    let keys = visit.keys(alloc)?;
-    let mut calls = Vec::with_capacity(alloc, keys.len())?;
+    let keys = visit.keys()?;
+    let mut calls = Vec::with_capacity(visit.alloc(), keys.len())?;
     for key in &keys {
         let op = removal(visit.holds(key));
         calls.push(KeyCall { key: *key, op })?;
@@ -95,7 +92,6 @@ fn each_row<R: Rows, G: Ring>(
 
 /// The steps of a call on many keys, no two on one key.
 pub fn steps_of<R: Rows, G: Ring>(
-    alloc: Global,
     visit: &Visit<R, G>,
     call: &Call,
 ) -> Result<Vec<KeyCall>, OutOfMemory>
@@ -104,12 +100,12 @@ pub fn steps_of<R: Rows, G: Ring>(
     ensures few { IfOk result (λ calls. length calls.items < 2 ^ 32) }
 {
     match call {
-        Call::GetAll(keys) => each_key(alloc, keys, call),
-        Call::InvokeAll { keys, .. } => each_key(alloc, keys, call),
-        Call::RemoveKeys(keys) => each_key(alloc, keys, call),
-        Call::LoadAll { keys, .. } => each_key(alloc, keys, call),
-        Call::PutAll(pairs) => each_put(alloc, pairs),
-        Call::RemoveAll => each_row(alloc, visit),
-        _ => Ok(Vec::new(alloc)),
+        Call::GetAll(keys) => each_key(visit.alloc(), keys, call),
+        Call::InvokeAll { keys, .. } => each_key(visit.alloc(), keys, call),
+        Call::RemoveKeys(keys) => each_key(visit.alloc(), keys, call),
+        Call::LoadAll { keys, .. } => each_key(visit.alloc(), keys, call),
+        Call::PutAll(pairs) => each_put(visit.alloc(), pairs),
+        Call::RemoveAll => each_row(visit),
+        _ => Ok(Vec::new(visit.alloc())),
     }
 }

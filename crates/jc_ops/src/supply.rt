@@ -7,7 +7,8 @@ mod needs;
 pub mod values;
 
 ghost use Rattle.std.specs.Prelude.{◌≡◌, IfOk, OnOk};
-ghost use Rattle.jc_state.specs.Kept.{FoundRow};
+ghost use Rattle.jc_model.specs.Sound.{HasDistinctKeys};
+ghost use Rattle.jc_state.specs.Kept.{items_of, FoundRow};
 ghost use Rattle.jc_state.specs.Visited.{IsUnchanged};
 ghost use Rattle.jc_ops.specs.Supply.{CoversIn, CoversAnswerIn};
 ghost use Rattle.jc_ops.specs.Supply.{HasPlacesFor, HasRoomFor, HasRoomAt};
@@ -63,6 +64,7 @@ impl Supply {
         ensures same { IsUnchanged visit.old visit.new }
         ensures row { IfOk result (λ s.
             FoundRow step.entry.now.call.key visit.old.cache s.row) }
+        ensures apart { HasDistinctKeys (items_of visit.old.cache.cells) }
         ensures places { OnOk result (HasPlacesFor step.entry.now.call visit.new) }
         ensures room { OnOk result (HasRoomAt step.entry.now answer.now visit.new) }
         ensures asks { HasRoomAt step.entry.now answer.now visit.old →
