@@ -128,6 +128,10 @@ between v {f} is id cache at =
       untold = is.untold;
     }
 
+-- and so it has them at any moment
+pub between_at : {id : ℕ} {v : Visited} (moment : ℕ) → IsBetweenCalls id v → IsBetweenCalls id (record v { moment = moment })
+between_at moment is = record { empty = is.empty; apart = is.apart; untold = is.untold }
+
 pub unused_after : {w : Within} {id : ℕ} {cache : Slot} {o : Option Slot} {g : ℕ → Option Slot} → Changes w id cache o g → w.caches most_ids ≡ None → g most_ids ≡ None
 unused_after {w} {id} {cache} {o} {g} c none =
     put_other w.caches g id o c.puts most_ids (λ same. (let here : w.caches most_ids ≡ Some cache = ap w.caches same ∙ c.at in cc)) ∙ none

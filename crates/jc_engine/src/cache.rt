@@ -127,9 +127,9 @@ impl<G: Ring> Managed<G> {
         ensures elsewhere { SameElsewhere self.old.state.id visit.old.table visit.new.table }
         ensures rests { RestsAgain visit.old visit.new }
     {
-        visit.enter(&mut self.state, 0);
+        visit.exchange(&mut self.state);
         visit.clear();
-        visit.leave(&mut self.state);
+        visit.exchange(&mut self.state);
     }
 
     /// Its configuration alone; the rest is let go.

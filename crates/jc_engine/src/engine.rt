@@ -7,12 +7,11 @@ ghost use Rattle.jc_engine.specs.Heard.{IsAnswer, IsFreeAnswer, FreeIsAnswered, 
 ghost use Rattle.jc_engine.specs.Results.{of_begin, of_resume, of_give_up};
 
 use crate::cache::Managed;
-use crate::turn::Advance;
-use jc_model::call::{Answer, Call, Notice};
+use jc_model::call::{Answer, Call, Notice, Reply};
 use jc_model::event::{CacheId, Cause, Step};
 use jc_model::key::Key;
 use jc_model::list::Sequence;
-use jc_ops::step::reply::found;
+use jc_model::value::Value;
 use jc_ring::ring::Ring;
 use jc_roster::roster::Roster;
 use jc_rows::rows::Rows;
@@ -109,8 +108,8 @@ impl<R: Rows, G: Ring> Engine<R, G> {
         ensures back { IfErr result (λ e. e.1 ≡ call) }
         ensures refused { OnErr result (self.new ≡ self.old) }
     {
-        if let Some(value) = self.get_at_once(id, now, &call) {
-            return Ok(Advance::Replied(found(value)).into_step());
+        if let Some(found) = self.get_at_once::<Value>(id, now, &call) {
+            return Ok(Step::Done(Reply::Found(found)));
         }
         match self.start(id, now, &call) {
             Ok(advance) => Ok(advance.into_step()),

@@ -1,6 +1,6 @@
 //! The manager's calls in two parts: whether they are refused, and the move of one cache. Both the plain manager
 //! and the recorded one are made of these.
-ghost use Rattle.std.specs.Prelude.{◌≡◌, ℕ, None, true, false, IsOk, IfSome, IfOk, IfErr, OnOk, OnErr};
+ghost use Rattle.std.specs.Prelude.{◌≡◌, ℕ, None, true, false, IsOk, IfSome, IfOk, IfErr, OnOk, OnErr, option_map};
 ghost use Rattle.jc_model.specs.declared.event.Event.TheVariants.{Begin, Answer as Answered, GiveUp};
 ghost use Rattle.jc_model.specs.declared.call.Reply.TheVariants.{Found};
 ghost use Rattle.jc_model.specs.declared.event.Outcome.TheVariants.{Refused};
@@ -17,9 +17,8 @@ ghost use Rattle.jc_engine.specs.Advances.{outcome_of, of_start, of_abandon, Fit
 use crate::engine::Engine;
 use crate::turn::Advance;
 use jc_model::call::{Answer, Call};
-use jc_model::copies::Copies;
 use jc_model::event::{CacheId, Cause};
-use jc_model::value::Value;
+use jc_ops::hit::Owned;
 use jc_ring::ring::Ring;
 use jc_rows::rows::Rows;
 use jc_state::notices::Notices;
@@ -83,26 +82,28 @@ impl<R: Rows, G: Ring> Engine<R, G> {
     }
 
     /// What a call answers at once, as a cache's own `get_at_once`; else nothing has changed.
-    pub(crate) fn get_at_once(
+    pub(crate) fn get_at_once<V: Owned>(
         &mut self,
         id: CacheId,
         now: u64,
         call: &Call,
-    ) -> Option<Option<Copies<Value>>>
-        ensures outcome { IfSome result (λ value. FindsValue self.old id now call.now value) }
-        ensures lives { IfSome result (λ value.
-            LeadsTo self.old (Begin id now call.now) (of_found value) self.new) }
-        ensures one { IfSome result (λ value. ChangesOne self.old id self.new) }
-        ensures fits { IfSome result (λ value.
-            FitsAt (Replied (Found value)) (at_place self.new id)) }
+    ) -> Option<Option<V>>
+        ensures outcome { IfSome result (λ found.
+            FindsValue self.old id now call.now (option_map V.value found)) }
+        ensures lives { IfSome result (λ found. LeadsTo self.old
+            (Begin id now call.now) (of_found (option_map V.value found)) self.new) }
+        ensures one { IfSome result (λ found. ChangesOne self.old id self.new) }
+        ensures fits { IfSome result (λ found.
+            FitsAt (Replied (Found (option_map V.value found))) (at_place self.new id)) }
         ensures same { result ≡ None → self.new ≡ self.old }
     {
         if !matches!(call, Call::Get(_)) {
             return None;
         }
         let number = id.number();
+        self.visit.set_moment(now);
         match self.caches.get_mut(&number) {
-            Some(cache) => cache.get_at_once(&mut self.visit, now, call),
+            Some(cache) => cache.get_at_once(&mut self.visit, call),
             None => None,
         }
     }
@@ -117,8 +118,9 @@ impl<R: Rows, G: Ring> Engine<R, G> {
         ensures refused { OnErr result (self.new ≡ self.old) }
     {
         let number = id.number();
+        self.visit.set_moment(now);
         match self.caches.get_mut(&number) {
-            Some(cache) => cache.start(self.alloc, &mut self.visit, now, call),
+            Some(cache) => cache.start(&mut self.visit, call),
             None => Err(Cause::NoSuchCache),
         }
     }
@@ -136,7 +138,7 @@ impl<R: Rows, G: Ring> Engine<R, G> {
     {
         let number = id.number();
         match self.caches.get_mut(&number) {
-            Some(cache) => cache.go_on(self.alloc, &mut self.visit, answer),
+            Some(cache) => cache.go_on(&mut self.visit, answer),
             None => unreachable!(),
         }
     }

@@ -208,7 +208,7 @@ impl<R: Rows, G: Ring, J: Journal> Recorded<R, G, J> {
         if !self.journal.notes() {
             return None;
         }
-        let value = self.engine.get_at_once(id, now, call)?;
+        let value = self.engine.get_at_once::<Copies<Value>>(id, now, call)?;
         let (value, copy, noted) = three_of(value);
         let begun = Begun::of(session, id, now, call);
         if !self.journal.note(begun, &Reply::Found(noted)) {
@@ -240,7 +240,9 @@ impl<R: Rows, G: Ring, J: Journal> Recorded<R, G, J> {
             Ok(held) => held,
             Err(call) => return Err((self.engine.begin_refusal_without_memory(id, &call), call)),
         };
-        let at_once = self.engine.get_at_once(id, now, self.journal.call(&held));
+        let at_once = self
+            .engine
+            .get_at_once::<Copies<Value>>(id, now, self.journal.call(&held));
         if let Some(value) = at_once {
             let replied = Advance::Replied(found(value));
             return Ok(self.journal.begin(id, held, replied));

@@ -79,7 +79,7 @@ pub fn get_at_once<R: Rows, G: Ring, V: Owned>(
 ) -> Option<Option<V>>
     ensures same_visit { IsSameVisit visit.old visit.new }
     ensures found { IfSome result (λ found.
-        GetFinds visit.old key.now (option_map (λ owned. V.value owned) found) visit.new) }
+        GetFinds visit.old key.now (option_map V.value found) visit.new) }
     ensures noted { visit.new.noted ≡ visit.old.noted }
     ensures same { result ≡ None → IsUnchanged visit.old visit.new }
 {

@@ -1,7 +1,8 @@
 //! A cache's calls: as they begin, and as they go on.
 //!
-//! Each enters the manager's visit, and leaves it as it was: with the cache that it has between two calls, and no notices.
-ghost use Rattle.std.specs.Prelude.{◌≡◌, ℕ, true, None};
+//! Each takes the manager's visit, whose moment is the call's, and leaves it with the cache that it has between two calls,
+//! and no notices.
+ghost use Rattle.std.specs.Prelude.{◌≡◌, ℕ, true, None, option_map};
 ghost use Rattle.std.specs.Prelude.{IsOk, IfSome, IfOk, IfErr, OnErr};
 ghost use Rattle.jc_model.specs.declared.call.Reply.TheVariants.{Found};
 ghost use Rattle.jc_model.specs.declared.config.CacheConfig.{CacheConfig};
@@ -25,23 +26,16 @@ use jc_bulk::call::{CallNext, answer_call, end_at_once, start_call};
 use jc_model::call::{Answer, Call, Reply};
 use jc_model::copies::Copies;
 use jc_model::event::Cause;
-use jc_model::value::Value;
-use jc_ops::hit::get_at_once;
+use jc_ops::hit::{Owned, get_at_once};
 use jc_ops::step::Next;
 use jc_ring::ring::Ring;
 use jc_rows::rows::Rows;
 use jc_state::visit::Visit;
-use std::alloc::Global;
 use std::mem;
 
 impl<G: Ring> Managed<G> {
     /// Ends its call with this reply. All notices are told before it.
-    fn end<R: Rows>(
-        &mut self,
-        alloc: Global,
-        visit: &mut Visit<R, G>,
-        reply: Copies<Reply>,
-    ) -> Advance
+    fn end<R: Rows>(&mut self, visit: &mut Visit<R, G>, reply: Copies<Reply>) -> Advance
         requires idle { self.old.turn ≡ Idle }
         ensures state { self.new.state ≡ self.old.state }
         ensures table { visit.new.table ≡ visit.old.table }
@@ -54,11 +48,11 @@ impl<G: Ring> Managed<G> {
             return Advance::Replied(reply);
         }
         self.stand_at(Turn::Telling(reply));
-        Advance::Told(visit.hand_out_notices(alloc))
+        Advance::Told(visit.hand_out_notices())
     }
 
     /// Goes on from what its call has come to.
-    fn settle<R: Rows>(&mut self, alloc: Global, visit: &mut Visit<R, G>, next: CallNext) -> Advance
+    fn settle<R: Rows>(&mut self, visit: &mut Visit<R, G>, next: CallNext) -> Advance
         requires idle { self.old.turn ≡ Idle }
         ensures state { self.new.state ≡ self.old.state }
         ensures table { visit.new.table ≡ visit.old.table }
@@ -68,9 +62,9 @@ impl<G: Ring> Managed<G> {
             Settled c run k self.new.turn result }
     {
         match next {
-            Next::Ended(reply) => self.end(alloc, visit, reply),
+            Next::Ended(reply) => self.end(visit, reply),
             Next::Waiting(request, suspended) => {
-                let notices = visit.hand_out_notices(alloc);
+                let notices = visit.hand_out_notices();
                 self.stand_at(Turn::Waiting(WaitingCall { suspended, notices }));
                 Advance::Asked(request)
             }
@@ -80,20 +74,20 @@ impl<G: Ring> Managed<G> {
     /// What a get answers at once: the value of its key's live row, or none, where the key has no row and the cache no
     /// loader. Nothing for any other call, and where a call is open; then nothing has changed. So also where no copies of
     /// the value can be had.
-    pub(crate) fn get_at_once<R: Rows>(
+    pub(crate) fn get_at_once<R: Rows, V: Owned>(
         &mut self,
         visit: &mut Visit<R, G>,
-        now: u64,
         call: &Call,
-    ) -> Option<Option<Copies<Value>>>
+    ) -> Option<Option<V>>
         requires managed { IsManaged visit.old.table self.old.state.id self.old }
         requires between { IsBetweenCalls self.old.state.id visit.old }
         ensures config { self.new.state.config ≡ self.old.state.config }
         ensures managed_after { IsManaged visit.new.table self.old.state.id self.new }
         ensures elsewhere { SameElsewhere self.old.state.id visit.old.table visit.new.table }
         ensures rests { RestsAgain visit.old visit.new }
-        ensures at_once { IfSome result (λ value. Moves (cache_in self.old)
-            (begins now call.now) (Replied (Found value)) (cache_in self.new)) }
+        ensures at_once { IfSome result (λ found. Moves (cache_in self.old)
+            (begins visit.old.moment call.now) (Replied (Found (option_map V.value found)))
+            (cache_in self.new)) }
         ensures same { result ≡ None → self.new ≡ self.old }
         ensures table { result ≡ None → visit.new.table ≡ visit.old.table }
     {
@@ -103,9 +97,9 @@ impl<G: Ring> Managed<G> {
         let None = self.begin_refusal(call) else {
             return None;
         };
-        visit.enter(&mut self.state, now);
+        visit.exchange(&mut self.state);
         let found = get_at_once(visit, key);
-        visit.leave(&mut self.state);
+        visit.exchange(&mut self.state);
         found
     }
 
@@ -114,30 +108,28 @@ impl<G: Ring> Managed<G> {
     #[inline(never)]
     fn start_waiting<R: Rows>(
         &mut self,
-        alloc: Global,
         visit: &mut Visit<R, G>,
-        now: u64,
         call: &Call,
     ) -> Result<Advance, Cause>
         requires managed { IsManaged visit.old.table self.old.state.id self.old }
         requires between { IsBetweenCalls self.old.state.id visit.old }
-        requires allowed { is_step (reply_to (cache_in self.old) (begins now call.now)) ≡ true }
+        requires allowed { is_step (reply_to (cache_in self.old) (begins visit.old.moment call.now)) ≡ true }
         ensures config { self.new.state.config ≡ self.old.state.config }
         ensures managed_after { IsManaged visit.new.table self.old.state.id self.new }
         ensures elsewhere { SameElsewhere self.old.state.id visit.old.table visit.new.table }
         ensures rests { RestsAgain visit.old visit.new }
         ensures ok { IfOk result (λ advance.
-            Moves (cache_in self.old) (begins now call.now) advance (cache_in self.new)) }
+            Moves (cache_in self.old) (begins visit.old.moment call.now) advance (cache_in self.new)) }
         ensures err { IfErr result (λ cause. cause ≡ Cause.OutOfMemory) }
         ensures free { is_free call.now ≡ true → IsOk result }
         ensures same { OnErr result (self.new ≡ self.old) }
         ensures table { OnErr result (visit.new.table ≡ visit.old.table) }
     {
-        visit.enter(&mut self.state, now);
-        let next = start_call(alloc, visit, call);
-        visit.leave(&mut self.state);
+        visit.exchange(&mut self.state);
+        let next = start_call(visit, call);
+        visit.exchange(&mut self.state);
         match next {
-            Ok(next) => Ok(self.settle(alloc, visit, next)),
+            Ok(next) => Ok(self.settle(visit, next)),
             Err(_) => Err(Cause::OutOfMemory),
         }
     }
@@ -145,31 +137,29 @@ impl<G: Ring> Managed<G> {
     /// Begins a call that may begin. Only memory can refuse it, before any change.
     fn start_allowed<R: Rows>(
         &mut self,
-        alloc: Global,
         visit: &mut Visit<R, G>,
-        now: u64,
         call: &Call,
     ) -> Result<Advance, Cause>
         requires managed { IsManaged visit.old.table self.old.state.id self.old }
         requires between { IsBetweenCalls self.old.state.id visit.old }
-        requires allowed { is_step (reply_to (cache_in self.old) (begins now call.now)) ≡ true }
+        requires allowed { is_step (reply_to (cache_in self.old) (begins visit.old.moment call.now)) ≡ true }
         ensures config { self.new.state.config ≡ self.old.state.config }
         ensures managed_after { IsManaged visit.new.table self.old.state.id self.new }
         ensures elsewhere { SameElsewhere self.old.state.id visit.old.table visit.new.table }
         ensures rests { RestsAgain visit.old visit.new }
         ensures ok { IfOk result (λ advance.
-            Moves (cache_in self.old) (begins now call.now) advance (cache_in self.new)) }
+            Moves (cache_in self.old) (begins visit.old.moment call.now) advance (cache_in self.new)) }
         ensures err { IfErr result (λ cause. cause ≡ Cause.OutOfMemory) }
         ensures free { is_free call.now ≡ true → IsOk result }
         ensures same { OnErr result (self.new ≡ self.old) }
         ensures table { OnErr result (visit.new.table ≡ visit.old.table) }
     {
-        visit.enter(&mut self.state, now);
+        visit.exchange(&mut self.state);
         let at_once = end_at_once(visit, call);
-        visit.leave(&mut self.state);
+        visit.exchange(&mut self.state);
         match at_once {
-            Ok(Some(reply)) => Ok(self.end(alloc, visit, reply)),
-            Ok(None) => self.start_waiting(alloc, visit, now, call),
+            Ok(Some(reply)) => Ok(self.end(visit, reply)),
+            Ok(None) => self.start_waiting(visit, call),
             Err(_) => Err(Cause::OutOfMemory),
         }
     }
@@ -177,9 +167,7 @@ impl<G: Ring> Managed<G> {
     /// Begins a call. Refused as `Busy`, `NoSuchProcessor`, `OutOfMemory`, in this order, before any change.
     pub(crate) fn start<R: Rows>(
         &mut self,
-        alloc: Global,
         visit: &mut Visit<R, G>,
-        now: u64,
         call: &Call,
     ) -> Result<Advance, Cause>
         requires managed { IsManaged visit.old.table self.old.state.id self.old }
@@ -189,23 +177,22 @@ impl<G: Ring> Managed<G> {
         ensures elsewhere { SameElsewhere self.old.state.id visit.old.table visit.new.table }
         ensures rests { RestsAgain visit.old visit.new }
         ensures ok { IfOk result (λ advance.
-            Moves (cache_in self.old) (begins now call.now) advance (cache_in self.new)) }
-        ensures err { IfErr result (IsRefusedFor (cache_in self.old) (begins now call.now)) }
+            Moves (cache_in self.old) (begins visit.old.moment call.now) advance (cache_in self.new)) }
+        ensures err { IfErr result (IsRefusedFor (cache_in self.old) (begins visit.old.moment call.now)) }
         ensures free { is_free call.now ≡ true →
-            of_start result ≡ reply_to (cache_in self.old) (begins now call.now) }
+            of_start result ≡ reply_to (cache_in self.old) (begins visit.old.moment call.now) }
         ensures same { OnErr result (self.new ≡ self.old) }
         ensures table { OnErr result (visit.new.table ≡ visit.old.table) }
     {
         if let Some(cause) = self.begin_refusal(call) {
             return Err(cause);
         }
-        self.start_allowed(alloc, visit, now, call)
+        self.start_allowed(visit, call)
     }
 
     /// Goes on with the open call. Only memory can refuse it, before any change.
     pub(crate) fn go_on<R: Rows>(
         &mut self,
-        alloc: Global,
         visit: &mut Visit<R, G>,
         answer: Answer,
     ) -> Result<Advance, Answer>
@@ -226,14 +213,13 @@ impl<G: Ring> Managed<G> {
         match mem::replace(&mut self.turn, Turn::Idle) {
             Turn::Idle => unreachable!(),
             Turn::Telling(reply) => Ok(Advance::Replied(reply)),
-            Turn::Waiting(call) => self.resume(alloc, visit, call, answer),
+            Turn::Waiting(call) => self.resume(visit, call, answer),
         }
     }
 
     /// Gives the call that waited its answer.
     fn resume<R: Rows>(
         &mut self,
-        alloc: Global,
         visit: &mut Visit<R, G>,
         call: WaitingCall,
         answer: Answer,
@@ -258,15 +244,15 @@ impl<G: Ring> Managed<G> {
         ensures table { OnErr result (visit.new.table ≡ visit.old.table) }
     {
         let WaitingCall { suspended, notices } = call;
-        let moment = suspended.moment();
+        visit.set_moment(suspended.moment());
         visit.take_notices(notices);
-        visit.enter(&mut self.state, moment);
+        visit.exchange(&mut self.state);
         let next = answer_call(visit, suspended, answer);
-        visit.leave(&mut self.state);
+        visit.exchange(&mut self.state);
         match next {
-            Ok(next) => Ok(self.settle(alloc, visit, next)),
+            Ok(next) => Ok(self.settle(visit, next)),
             Err((suspended, answer)) => {
-                let notices = visit.hand_out_notices(alloc);
+                let notices = visit.hand_out_notices();
                 self.stand_at(Turn::Waiting(WaitingCall { suspended, notices }));
                 Err(answer)
             }

@@ -1,4 +1,5 @@
 use Rattle.std.proofs.Common.{◌≡◌, ◌++◌, ◌∷◌, [], refl}
+use Rattle.std.proofs.lemmas.Iterator.Adapters.{option_map_id}
 use Rattle.jc_engine.proofs.Names.{Advance, Entry, Replied, at_place, History, with_outcome, step_of, blank, with_entries, Stepped}
 use Rattle.jc_engine.specs.Recording.{CanTell}
 use Rattle.jc_engine.proofs.Recordings.{begun, can_tell_by, keeps_over}
@@ -23,9 +24,9 @@ pub invariant_of-self-in-Some : goal.invariant_of-self-in-Some
 invariant_of-self-in-Some g c =
     let called = c.call.ensures (before g c) (opened g c) c.in-Ok.ensures.entered in
     rw (noted g c)
-    (begun c.self.invariant c.in-Some.ensures.one c.args.session c.args.now c.args.call (replied g c) (g.J.Journal.places c.begin.new.self) (rw (← c.found.ensures) at c.in-Some.ensures.fits)
+    (begun c.self.invariant c.in-Some.ensures.one c.args.session c.args.now c.args.call (replied g c) (g.J.Journal.places c.begin.new.self) (rw (option_map_id c.in-Some.value, ← c.found.ensures) at c.in-Some.ensures.fits)
     (keeps_over (g.J.Journal.places c.self.inside.journal) (g.J.Journal.places c.enter.new.self) (g.J.Journal.places c.begin.new.self) c.args.id _ (replied g c) c.enter.ensures.places (c.begin.ensures.places (before g c) (opened g c) c.in-Ok.ensures.entered))
-    (rw (called, ← c.found.ensures) at c.in-Some.ensures.outcome) (rw called at c.in-Some.ensures.lives))
+    (rw (called, option_map_id c.in-Some.value, ← c.found.ensures) at c.in-Some.ensures.outcome) (rw called at c.in-Some.ensures.lives))
 
 pub returns-in-Some-clause-told : goal.returns-in-Some-clause-told
 returns-in-Some-clause-told g c = (rw (← c.self.view_is) c.self.invariant.told, (invariant_of-self-in-Some g c).told)
