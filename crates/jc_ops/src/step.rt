@@ -188,7 +188,11 @@ impl KeyStep {
                 };
                 answer_invoke(visit, invocation, verdict, answer, values)
             }
-            op => answer_line(visit, &at, &op, &answer, values),
+            op => {
+                let next = answer_line(visit, &at, &op, &answer, values);
+                drop((op, answer, loaded, verdict));
+                next
+            }
         }
     }
 }

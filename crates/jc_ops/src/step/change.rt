@@ -64,8 +64,11 @@ fn change_live<R: Rows, G: Ring>(visit: &mut Visit<R, G>, row: u32, effect: Effe
 {
     let Effect { change, stored } = effect;
     match change {
-        Change::Keep => {}
-        Change::Access => visit.access(row),
+        Change::Keep => drop(stored),
+        Change::Access => {
+            drop(stored);
+            visit.access(row);
+        }
         Change::Store => {
             if let Some(stored) = stored {
                 visit.update(row, stored);
@@ -78,6 +81,7 @@ fn change_live<R: Rows, G: Ring>(visit: &mut Visit<R, G>, row: u32, effect: Effe
             }
         }
         Change::Remove => {
+            drop(stored);
             visit.delete(row);
             visit.removal();
         }
@@ -111,8 +115,7 @@ fn change_absent<R: Rows, G: Ring>(visit: &mut Visit<R, G>, key: Key, effect: Ef
 {
     let Effect { change, stored } = effect;
     match change {
-        Change::Keep => {}
-        Change::Access => {}
+        Change::Keep | Change::Access | Change::Remove => drop(stored),
         Change::Store => {
             if let Some(stored) = stored {
                 let _stored = visit.create(key, stored);
@@ -123,7 +126,6 @@ fn change_absent<R: Rows, G: Ring>(visit: &mut Visit<R, G>, key: Key, effect: Ef
                 put_absent(visit, key, stored);
             }
         }
-        Change::Remove => {}
     }
 }
 

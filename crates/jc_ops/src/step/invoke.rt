@@ -1,5 +1,5 @@
 //! A step that hands its key's entry to a processor, at each answer.
-ghost use Rattle.std.specs.Prelude.{◌≡◌, List, true, false, Some, None};
+ghost use Rattle.std.specs.Prelude.{◌≡◌, List, true, false, Some, None, is_some};
 ghost use Rattle.jc_model.specs.declared.table.Change.TheVariants.{Put};
 ghost use Rattle.jc_model.specs.Run.{ended, is_written, loaded_by, verdict_of};
 ghost use Rattle.jc_state.specs.Kept.{FoundRow};
@@ -41,6 +41,14 @@ pub(super) struct Invocation {
 }
 
 impl Invocation {
+    /// Whether it waits for the loader.
+    fn awaits_load(&self, config: &CacheConfig) -> bool
+        ensures { result ≡ awaits_load config.now self.now.processor
+            (is_some self.now.at.row) (is_some self.now.loaded) }
+    {
+        self.at.row.is_none() && self.loaded.is_none() && loads_for(config, self.processor)
+    }
+
     /// The step at this moment, which waits, with the verdict, if there is one.
     fn waiting(self, moment: u64, verdict: Option<Verdict>) -> KeyStep
         ensures { result ≡ wait_at_moment moment self verdict }
@@ -97,13 +105,6 @@ fn verdict_line(action: &Action, there: bool) -> Line
     }
 }
 
-/// Whether the step waits for the loader.
-fn awaits_load(config: &CacheConfig, processor: u8, there: bool, answered: bool) -> bool
-    ensures { result ≡ awaits_load config.now processor there answered }
-{
-    !there && !answered && loads_for(config, processor)
-}
-
 /// The processor is asked, once the loader has answered.
 fn ask_processor(
     moment: u64,
@@ -147,10 +148,17 @@ fn answer_load<R: Rows, G: Ring>(
         (answer_run visit.old (wait_of visit.old invocation None) answer) result visit.new }
     ensures call_stays { StaysAt visit.old.moment (part_of invocation) result }
 {
-    let Values { copy, entry, .. } = values;
+    let Values {
+        stored,
+        shown,
+        copy,
+        entry,
+    } = values;
+    drop((stored, shown));
     match loaded_by(answer) {
         Some(loaded) => ask_processor(visit.moment(), invocation, loaded, entry, copy),
         None => {
+            drop((invocation, entry, copy));
             visit.miss();
             Next::Ended(fault(By::Loader, None))
         }
@@ -209,6 +217,7 @@ fn act<R: Rows, G: Ring>(
     } = values;
     match ask_writer(visit.config(), &invocation.at.key, line.asks, copy) {
         Some(request) => {
+            drop((stored, shown, entry));
             let step = invocation.waiting(visit.moment(), Some(verdict));
             Next::Waiting(request, step)
         }
@@ -219,7 +228,9 @@ fn act<R: Rows, G: Ring>(
                 copy: None,
                 entry,
             };
-            Next::Ended(end_verdict(visit, &invocation, &verdict, values))
+            let reply = end_verdict(visit, &invocation, &verdict, values);
+            drop((invocation, verdict));
+            Next::Ended(reply)
         }
     }
 }
@@ -249,6 +260,7 @@ fn answer_process<R: Rows, G: Ring>(
         Some(verdict) => act(visit, invocation, verdict, values),
         None => {
             count(visit, true, invocation.at.row.is_some());
+            drop((invocation, values));
             Next::Ended(fault(By::Processor, None))
         }
     }
@@ -275,6 +287,7 @@ fn answer_verdict<R: Rows, G: Ring>(
     ensures call_stays { StaysAt visit.old.moment (part_of invocation.now) result }
 {
     if !is_written(answer) {
+        drop(values);
         return Next::Ended(fault(By::Writer, None));
     }
     Next::Ended(end_verdict(visit, invocation, verdict, values))
@@ -303,11 +316,13 @@ pub(super) fn answer_invoke<R: Rows, G: Ring>(
     ensures call_stays { StaysAt visit.old.moment (part_of invocation) result }
 {
     match verdict {
-        Some(verdict) => answer_verdict(visit, &invocation, &verdict, &answer, values),
+        Some(verdict) => {
+            let next = answer_verdict(visit, &invocation, &verdict, &answer, values);
+            drop((invocation, verdict, answer));
+            next
+        }
         None => {
-            let there = invocation.at.row.is_some();
-            let answered = invocation.loaded.is_some();
-            if awaits_load(visit.config(), invocation.processor, there, answered) {
+            if invocation.awaits_load(visit.config()) {
                 answer_load(visit, invocation, answer, values)
             } else {
                 answer_process(visit, invocation, answer, values)

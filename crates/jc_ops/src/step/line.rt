@@ -112,7 +112,10 @@ pub(super) fn begin<R: Rows, G: Ring>(
     let line = line_at(&call.op, live_at(visit, &at));
     let entry = where_there(there, entry);
     match first_request(visit.config(), &call, line.asks, copy, entry) {
-        Some(request) => Next::Waiting(request, KeyStep::begun(visit.moment(), call)),
+        Some(request) => {
+            drop((stored, shown));
+            Next::Waiting(request, KeyStep::begun(visit.moment(), call))
+        }
         None => {
             let shown = where_there(there, shown);
             Next::Ended(end(visit, &at, line, stored, shown))
@@ -168,10 +171,17 @@ fn answer_loaded<R: Rows, G: Ring>(
 {
     match answer {
         Answer::Loaded(_) => {
-            let Values { stored, shown, .. } = values;
+            let Values {
+                stored,
+                shown,
+                copy,
+                entry,
+            } = values;
+            drop((copy, entry));
             Next::Ended(end(visit, at, line, stored, shown))
         }
         _ => {
+            drop(values);
             count(visit, line.counts, at.row.is_some());
             Next::Ended(fault(By::Loader, None))
         }
@@ -206,9 +216,16 @@ pub(super) fn answer_line<R: Rows, G: Ring>(
         return answer_loaded(visit, at, line, answer, values);
     }
     if !is_written(answer) {
+        drop(values);
         return Next::Ended(fault(By::Writer, None));
     }
-    let Values { stored, shown, .. } = values;
+    let Values {
+        stored,
+        shown,
+        copy,
+        entry,
+    } = values;
+    drop((copy, entry));
     let shown = where_there(at.row.is_some(), shown);
     Next::Ended(end(visit, at, line, stored, shown))
 }

@@ -104,10 +104,10 @@ impl Values {
             FoundRow call.now.key visit.now.cache row }
         ensures { IfOk result (λ s. CoversIn writer visit.now call.now s) }
     {
-        let shown = to_show(value_if(visit, row, shows(&call.op)))?;
-        let entry = to_hand(value_if(visit, row, is_invoke(&call.op)))?;
-        let stored = Stored::of_any(visit.config(), stored_now(&call.op, writer))?;
         let copy = to_hand(handed(&call.op, writer))?;
+        let entry = to_hand(value_if(visit, row, is_invoke(&call.op)))?;
+        let shown = to_show(value_if(visit, row, shows(&call.op)))?;
+        let stored = Stored::of_any(visit.config(), stored_now(&call.op, writer))?;
         Ok(Values {
             stored,
             shown,
@@ -131,8 +131,8 @@ impl Values {
                 entry,
             });
         }
-        let stored = Stored::of_any(config, loaded)?;
         let shown = to_show(if shows_loaded(op) { loaded } else { None })?;
+        let stored = Stored::of_any(config, loaded)?;
         Ok(Values {
             stored,
             shown,
@@ -152,9 +152,9 @@ impl Values {
         ensures { IfOk result (λ s.
             CoversVerdict writer config.now (option_map (λ v. v.now) loaded.entry) verdict.now s) }
     {
-        let stored = Stored::of_any(config, stored_by(&verdict.action, loaded, writer))?;
-        let shown = to_show(verdict.answer.as_ref())?;
         let copy = to_hand(handed_by(&verdict.action, writer))?;
+        let shown = to_show(verdict.answer.as_ref())?;
+        let stored = Stored::of_any(config, stored_by(&verdict.action, loaded, writer))?;
         Ok(Values {
             stored,
             shown,

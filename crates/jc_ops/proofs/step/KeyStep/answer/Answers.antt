@@ -39,10 +39,10 @@ returns-in-Invoke g c =
       call_stays = search rules;
     }
 
-pub answer_line-requires : goal.answer_line-requires
-answer_line-requires g c =
+pub answer_line-next-requires : goal.answer_line-next-requires
+answer_line-next-requires g c =
     let plain = not_invoke c.self.inside.call.op c.in_default.not-Invoke in
-    let on = goes g (goal.at.answer_line-requires g c).After-purge-row _ (line_view c.self.inside.now c.self.inside.call (given_by c.self.inside.loaded c.self.inside.verdict) c.args.self c.purge-row.new.self.moment (rw c.purge-row.ensures.spends.same.moment c.requires.waits.moment) (c.self.invariant plain) c.self.view_is) in
+    let on = goes g (goal.at.answer_line-next-requires g c).After-purge-row _ (line_view c.self.inside.now c.self.inside.call (given_by c.self.inside.loaded c.self.inside.verdict) c.args.self c.purge-row.new.self.moment (rw c.purge-row.ensures.spends.same.moment c.requires.waits.moment) (c.self.invariant plain) c.self.view_is) in
     record {
       row = on.found;
       places = on.places;
@@ -58,10 +58,10 @@ returns-in_default g c =
     let on = goes g (goal.at.returns-in_default g c).After-purge-row _ (line_view c.self.inside.now c.self.inside.call (given_by c.self.inside.loaded c.self.inside.verdict) c.args.self c.purge-row.new.self.moment (rw c.purge-row.ensures.spends.same.moment c.requires.waits.moment) (c.self.invariant plain) c.self.view_is) in
     record {
       spends = record {
-        same = same_on _ _ _ c.purge-row.ensures.spends.same c.answer_line.ensures.spends.same;
-        room = (spends_on _ _ _ 0 _ 1 _ c.purge-row.ensures.spends c.answer_line.ensures.spends).room;
-        places = on.told _ c.answer_line.ensures.spends.places;
+        same = same_on _ _ _ c.purge-row.ensures.spends.same c.answer_line-next.ensures.spends.same;
+        room = (spends_on _ _ _ 0 _ 1 _ c.purge-row.ensures.spends c.answer_line-next.ensures.spends).room;
+        places = on.told _ c.answer_line-next.ensures.spends.places;
       };
-      next = rw (on.same, c.purge-row.ensures.spends.same.config) at c.answer_line.ensures.next;
+      next = rw (on.same, c.purge-row.ensures.spends.same.config) at c.answer_line-next.ensures.next;
       call_stays = search rules;
     }

@@ -2,8 +2,8 @@ use Rattle.jc_ops.proofs.Names.{sym, ◌∙◌, arith, common_steps, find_row, v
 use Rattle.jc_ops.proofs.Judged.{row_is_there, acts_at_once, acts_waiting}
 use Rattle.jc_ops.proofs.step.invoke.act.Goals as goal
 
-pub end_verdict-requires-clause-covered : goal.end_verdict-requires-clause-covered
-end_verdict-requires-clause-covered g c = grind (arith, common_steps)
+pub end_verdict-reply-requires-clause-covered : goal.end_verdict-reply-requires-clause-covered
+end_verdict-reply-requires-clause-covered g c = grind (arith, common_steps)
 
 pub returns-in-Some-clause-next : goal.returns-in-Some-clause-next
 returns-in-Some-clause-next g c =
@@ -20,4 +20,4 @@ returns-in-None-clause-next g c =
     let i = c.args.invocation in
     let has = row_is_there i.at.key s i.at.row c.requires.row ∙ sym c.is_some.ensures in
     c.requires.means
-    ∙ (acts_at_once s.config c.args.visit.now.moment i.at.key (find_row i.at.key p) (value_in i.loaded) p c.args.verdict _ has _ c.verdict_line-line.ensures _ c.config.ensures _ c.requires.covered.copy (sym c.in-None.ensures) ∙ c.end_verdict.ensures.run)
+    ∙ (acts_at_once s.config c.args.visit.now.moment i.at.key (find_row i.at.key p) (value_in i.loaded) p c.args.verdict _ has _ c.verdict_line-line.ensures _ c.config.ensures _ c.requires.covered.copy (sym c.in-None.ensures) ∙ c.end_verdict-reply.ensures.run)

@@ -6,7 +6,7 @@ pub returns-in-Some-clause-next : goal.returns-in-Some-clause-next
 returns-in-Some-clause-next g c =
     let s = c.args.visit.now.cache in
     let i = c.args.invocation in
-    rw (c.in-Some.is, at_writer s.config c.args.visit.now.moment i.at.key i.processor i.argument (progress_in c.args.visit.now) i.loaded c.in-Some.verdict c.args.answer (rw c.in-Some.is at c.requires.waits.waits)) c.answer_verdict.ensures.next
+    rw (c.in-Some.is, at_writer s.config c.args.visit.now.moment i.at.key i.processor i.argument (progress_in c.args.visit.now) i.loaded c.in-Some.verdict c.args.answer (rw c.in-Some.is at c.requires.waits.waits)) c.answer_verdict-next.ensures.next
 
 pub answer_load-requires-clause-entry : goal.answer_load-requires-clause-entry
 answer_load-requires-clause-entry g c = λ o gave. (c.requires.covered.loaded o gave).entry refl
