@@ -8,18 +8,17 @@ use Rattle.jc_model.specs.declared.event.Life.{Life}
 use Rattle.jc_model.proofs.Recording.{one_more_event, nothing_told}
 use Rattle.jc_engine.specs.Changed.{begun_entry}
 use Rattle.jc_engine.specs.declared.journal.change.Begun.{Begun}
+use Rattle.jc_engine.specs.declared.journal.change.Origin.{Origin}
 use Rattle.jc_engine.specs.Journals.{is_replied, IsKept, Keeps, KeepsOthers}
 use Rattle.jc_engine.proofs.Places.{same_set}
-use Rattle.jc_engine.specs.Recording.{IsEntryOf}
+use Rattle.jc_engine.specs.Recording.{IsEntryOf, blank_of}
 use Rattle.jc_engine.proofs.Moving.{plain}
 use Rattle.jc_engine.proofs.Openings.{fresh_lives, made_there}
 use Rattle.jc_engine.proofs.Entries.{get_last, opened_after, added_elsewhere, set_elsewhere, same_elsewhere, written_open}
 
 -- the entry of a call that has begun is that of its parts
-pub begun_is : (begun : Begun) (session id at : ℕ) (call : Call) → (begun.session ≡ session) × (begun.id ≡ id) × (begun.at ≡ at) → begun.call.value ≡ call → begun_entry begun ≡ blank session id at call
-begun_is begun session id at call numbers same =
-    ap (λ (n : ℕ). blank n begun.id begun.at begun.call.value) numbers.0 ∙ ap (λ (n : ℕ). blank session n begun.at begun.call.value) numbers.1
-    ∙ ap (λ (n : ℕ). blank session id n begun.call.value) numbers.2 ∙ ap (blank session id at) same
+pub begun_is : (begun : Begun) (origin : Origin) (call : Call) → begun.origin ≡ origin → begun.call.value ≡ call → begun_entry begun ≡ blank_of origin call
+begun_is begun origin call from same = ap (λ (o : Origin). blank_of o begun.call.value) from ∙ ap (blank_of origin) same
 
 -- a call that waits for its notices to be told then replies
 not_telling : (c : CacheConfig) (p : Progress) (w : Awaited × Wait) (a : Answer) (advance : Advance) → Stepped (step_of advance) ≡ reply_of c (standing_by c p (Some w)) (answers a) → is_replied advance ≡ false → is_telling w.1 ≡ false

@@ -5,14 +5,14 @@ use Rattle.jc_model.specs.declared.event.Entry.{Entry}
 use Rattle.jc_model.specs.declared.event.Outcome.TheVariants.{Step as Stepped}
 use Rattle.jc_model.specs.declared.event.Step.TheVariants.{Done}
 use Rattle.jc_model.specs.Legal.{History, with_outcome}
-use Rattle.jc_engine.specs.Recording.{blank, with_entry, with_entry_at, with_life}
+use Rattle.jc_engine.specs.Recording.{blank_of, with_entry, with_entry_at, with_life}
 use Rattle.jc_engine.specs.declared.journal.change.Change.{Change}
 use Rattle.jc_engine.specs.declared.journal.change.Change.TheVariants.{Entered, Waits, Replied, Written, Lived, Unlived}
 use Rattle.jc_engine.specs.declared.journal.change.Begun.{Begun}
 
 -- the entry of a call that has begun
 abbrev pub begun_entry : Begun → Entry
-begun_entry begun = blank begun.session begun.id begun.at begun.call.value
+begun_entry begun = blank_of begun.origin begun.call.value
 
 -- and where it had its reply at once
 abbrev pub replied_at_once : Begun → Reply → Entry

@@ -6,7 +6,7 @@ use Rattle.jc_model.specs.declared.event.Entry.{Entry}
 use Rattle.jc_model.specs.Legal.{History}
 use Rattle.jc_engine.specs.declared.journal.open_call.OpenCall.{OpenCall}
 use Rattle.jc_engine.specs.declared.journal.open_calls.Beginning.{Beginning}
-use Rattle.jc_engine.specs.Recording.{blank}
+use Rattle.jc_engine.specs.Recording.{blank_of}
 
 abbrev pub place_of : Option OpenCall → Option ℕ
 place_of None = None
@@ -18,7 +18,7 @@ places_in calls = λ id. place_of (get nat_eq calls id)
 
 -- the entry of a call that is about to begin
 abbrev pub beginning_entry : Beginning → Entry
-beginning_entry held = blank held.session held.id held.at held.call
+beginning_entry held = blank_of held.origin held.call
 
 -- the entry stands in the history at its place, is of the cache, and waits
 pub record StandsOpen (h : History) (id : ℕ) (call : OpenCall) : Type 0 where

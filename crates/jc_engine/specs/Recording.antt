@@ -14,6 +14,7 @@ use Rattle.jc_model.specs.Places.{at_place}
 use Rattle.jc_model.specs.Legal.{History, Tells, recorded, with_outcome}
 use Rattle.jc_model.specs.Suspended.{Wait}
 use Rattle.jc_state.specs.Noted.{Noted}
+use Rattle.jc_engine.specs.declared.journal.change.Origin.{Origin}
 use Rattle.jc_engine.specs.declared.turn.Advance.{Advance}
 use Rattle.jc_engine.specs.declared.turn.Advance.TheVariants.{Replied, Asked, Told}
 use Rattle.jc_engine.specs.Caches.{Cache, lives_of}
@@ -104,6 +105,10 @@ CanTell (Told notices) e = e.told ≡ []
 -- the entry of a call that begins
 abbrev pub blank : ℕ → ℕ → ℕ → Call → Entry
 blank session id now call = record { session = session; id = id; at = now; call = call; answers = []; told = []; end = Waiting }
+
+-- and of one of this origin
+abbrev pub blank_of : Origin → Call → Entry
+blank_of origin call = blank origin.session origin.id origin.at call
 
 -- the notices that a give-up hands out
 abbrev pub left_in : Option Noted → List Notice

@@ -51,3 +51,8 @@ of_found value = Stepped (Done (Found value))
 abbrev pub reply_in : Step → Option Reply
 reply_in (Done reply) = Some reply
 reply_in (Need request) = None
+
+-- the value in a reply, if there is one
+abbrev pub found_in : Reply → Option (List ℕ)
+found_in (Found value) = value
+found_in _ = None

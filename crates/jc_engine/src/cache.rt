@@ -147,7 +147,10 @@ impl<G: Ring> Managed<G> {
     {
         match mem::replace(&mut self.turn, Turn::Idle) {
             Turn::Idle => Err(Cause::NoTurn),
-            Turn::Telling(_) => Ok(None),
+            Turn::Telling(reply) => {
+                drop(reply);
+                Ok(None)
+            }
             Turn::Waiting(call) => Ok(Some(call.into_notices())),
         }
     }

@@ -109,10 +109,14 @@ impl<R: Rows, G: Ring> Engine<R, G> {
         ensures refused { OnErr result (self.new ≡ self.old) }
     {
         if let Some(found) = self.get_at_once::<Value>(id, now, &call) {
+            drop(call);
             return Ok(Step::Done(Reply::Found(found)));
         }
         match self.start(id, now, &call) {
-            Ok(advance) => Ok(advance.into_step()),
+            Ok(advance) => {
+                drop(call);
+                Ok(advance.into_step())
+            }
             Err(cause) => Err((cause, call)),
         }
     }

@@ -6,7 +6,7 @@ mod open_call;
 pub mod open_calls;
 pub mod past;
 
-use crate::journal::change::Begun;
+use crate::journal::change::{Begun, Origin};
 use crate::turn::Advance;
 use jc_model::OutOfMemory;
 use jc_model::call::{Answer, Call, Notice, Reply};
@@ -24,7 +24,7 @@ pub trait Journal: Drop {
     ghost use Rattle.jc_model.specs.Legal.{History};
     ghost use Rattle.jc_engine.specs.Managed.{step_of};
     ghost use Rattle.jc_engine.specs.Results.{reply_in};
-    ghost use Rattle.jc_engine.specs.Recording.{blank, left_in, with_entry, with_life};
+    ghost use Rattle.jc_engine.specs.Recording.{blank_of, left_in, with_entry, with_life};
     ghost use Rattle.jc_engine.specs.Changed.{replied_at_once};
     ghost use Rattle.jc_engine.specs.Journals.{CanBegin, BeginsEntry, KeepsBegun, KeepsEntry, KeepsPlace, KeepsOthers};
     ghost use Rattle.jc_engine.specs.Journals.{CanGoOn, CanGiveUp, AnswersEntry, AdvancesEntry, GivesUp};
@@ -67,16 +67,9 @@ pub trait Journal: Drop {
         ensures places { KeepsAll (places self.old) (places self.new) };
 
     /// Makes room for a call that is about to begin. Where memory is refused it is handed back, and nothing has changed.
-    fn enter(
-        &mut self,
-        alloc: Global,
-        session: u32,
-        id: CacheId,
-        now: u64,
-        call: Call,
-    ) -> Result<Self::Held, Call>
+    fn enter(&mut self, origin: Origin, call: Call) -> Result<Self::Held, Call>
         ensures entered { IfOk result (λ held.
-            Enters (history self.old) self.new held (blank session id now call)) }
+            Enters (history self.old) self.new held (blank_of origin call)) }
         ensures places { KeepsAll (places self.old) (places self.new) }
         ensures back { IfErr result (λ back. back ≡ call) }
         ensures refused { OnErr result (history self.new ≡ history self.old) };
@@ -126,7 +119,7 @@ pub trait Journal: Drop {
             (places self.new) };
 
     /// A cache's open call was given up. The result is the notices that are left.
-    fn give_up(&mut self, alloc: Global, id: CacheId, left: Option<Notices>) -> Sequence<Notice>
+    fn give_up(&mut self, id: CacheId, left: Option<Notices>) -> Sequence<Notice>
         requires { CanGiveUp (history self.old) (places self.old) id left }
         ensures left { result ≡ left_in left }
         ensures noted { GivesUp (history self.old) (places self.old) id left (history self.new) }

@@ -8,7 +8,7 @@ ghost use Rattle.jc_model.specs.Legal.{IsLegal, at_first};
 ghost use Rattle.jc_engine.specs.Caches.{AreSound, IsTableOf, lives_of, names_of, id_of, holds_in};
 ghost use Rattle.jc_engine.specs.Heard.{IsAnswer, IsFreeAnswer, FindsValue, LeadsTo};
 ghost use Rattle.jc_engine.specs.Opening.{RefusesDue, RefusesNoOther, open_refusal, open_refusal_from};
-ghost use Rattle.jc_engine.specs.Results.{of_found, of_recorded_begin, of_recorded_resume, of_give_up};
+ghost use Rattle.jc_engine.specs.Results.{found_in, of_found, of_recorded_begin, of_recorded_resume, of_give_up};
 ghost use Rattle.jc_engine.specs.Results.{of_create, of_destroy, reply_in};
 ghost use Rattle.jc_engine.specs.Advances.{is_open_in};
 ghost use Rattle.jc_engine.specs.Recording.{AreLeftOf, HasOpenEntry, IsLastOf, RecordsEvent, RecordsFromAny, TellsItsCaches};
@@ -20,7 +20,7 @@ mod watched;
 use crate::engine::Engine;
 use crate::journal::Journal;
 use crate::journal::all_calls::AllCalls;
-use crate::journal::change::Begun;
+use crate::journal::change::{Begun, Origin};
 use crate::open::{OpenRefusal, open_refusal_from};
 use crate::turn::Advance;
 use jc_model::OutOfMemory;
@@ -42,7 +42,6 @@ use std::marker::Model;
 /// the journal tells, whatever it keeps of it in memory.
 #[derive(Drop)]
 pub struct Recorded<R: Rows, G: Ring, J: Journal = AllCalls> {
-    pub(crate) alloc: Global,
     pub(crate) engine: Engine<R, G>,
     pub(crate) journal: J,
 }
@@ -74,13 +73,13 @@ fn first_lives<J: Journal>(
     Ok(journal)
 }
 
-/// The copies of a value, if there is one.
-fn three_of(value: Option<Copies<Value>>) -> (Option<Value>, Option<Value>, Option<Value>)
-    ensures { (result.0 ≡ value) × (result.1 ≡ value) × (result.2 ≡ value) }
+/// The value in a reply to a get, if there is one.
+pub fn found_in(reply: Reply) -> Option<Value>
+    ensures { result ≡ found_in reply }
 {
-    match value {
-        None => (None, None, None),
-        Some(value) => value.map(Some).into_three(),
+    match reply {
+        Reply::Found(value) => value,
+        _ => None,
     }
 }
 
@@ -120,11 +119,7 @@ impl<R: Rows, G: Ring, J: Journal> Recorded<R, G, J> {
         }
         let journal = first_lives(alloc, &configs, first)?;
         let engine = Engine::open_from(alloc, rows, configs, first)?;
-        Ok(Recorded {
-            alloc,
-            engine,
-            journal,
-        })
+        Ok(Recorded { engine, journal })
     }
 
     /// The id of the live cache with this name.
@@ -187,34 +182,29 @@ impl<R: Rows, G: Ring, J: Journal> Recorded<R, G, J> {
         self.engine.open_call()
     }
 
-    /// Makes a get of a session that has its reply at once, and of which the journal keeps nothing: the value that was
-    /// found, twice. Of any other call nothing, and nothing has changed.
-    pub fn get_at_once(
-        &mut self,
-        session: u32,
-        id: CacheId,
-        now: u64,
-        call: &Call,
-    ) -> Option<(Option<Value>, Option<Value>)>
-        ensures outcome { IfSome result (λ it. FindsValue self.old.caches id now call.now it.0) }
-        ensures lives { IfSome result (λ it.
-            LeadsTo self.old.caches (Begin id now call.now) (of_found it.0) self.new.caches) }
-        ensures transcript { IfSome result (λ it.
-            RecordsEvent session (Begin id now call.now) (of_found it.0) self.old self.new) }
+    /// Makes a get that has its reply at once, and of which the journal keeps nothing: the value that was found. Of any
+    /// other call nothing, and nothing has changed.
+    pub fn get_at_once(&mut self, origin: Origin, call: &Call) -> Option<Option<Value>>
+        ensures outcome { IfSome result (λ value.
+            FindsValue self.old.caches origin.id origin.at call.now value) }
+        ensures lives { IfSome result (λ value. LeadsTo self.old.caches
+            (Begin origin.id origin.at call.now) (of_found value) self.new.caches) }
+        ensures transcript { IfSome result (λ value. RecordsEvent origin.session
+            (Begin origin.id origin.at call.now) (of_found value) self.old self.new) }
         ensures told { TellsItsCaches self.old × TellsItsCaches self.new }
-        ensures copy { IfSome result (λ it. it.1 ≡ it.0) }
         ensures same { result ≡ None → self.new ≡ self.old }
     {
         if !self.journal.notes() {
             return None;
         }
-        let value = self.engine.get_at_once::<Copies<Value>>(id, now, call)?;
-        let (value, copy, noted) = three_of(value);
-        let begun = Begun::of(session, id, now, call);
-        if !self.journal.note(begun, &Reply::Found(noted)) {
+        let found = self
+            .engine
+            .get_at_once::<Value>(origin.id, origin.at, call)?;
+        let reply = Reply::Found(found);
+        if !self.journal.note(Begun::of(origin, call), &reply) {
             unreachable!()
         }
-        Some((value, copy))
+        Some(found_in(reply))
     }
 
     /// Begins a call of a session, which becomes the transcript's last entry. At `Done` the second part is an equal
@@ -236,7 +226,12 @@ impl<R: Rows, G: Ring, J: Journal> Recorded<R, G, J> {
         ensures back { IfErr result (λ e. e.1 ≡ call) }
         ensures refused { OnErr result (self.new ≡ self.old) }
     {
-        let held = match self.journal.enter(self.alloc, session, id, now, call) {
+        let origin = Origin {
+            session,
+            id,
+            at: now,
+        };
+        let held = match self.journal.enter(origin, call) {
             Ok(held) => held,
             Err(call) => return Err((self.engine.begin_refusal_without_memory(id, &call), call)),
         };
@@ -296,7 +291,7 @@ impl<R: Rows, G: Ring, J: Journal> Recorded<R, G, J> {
         ensures refused { OnErr result (self.new ≡ self.old) }
     {
         let left = self.engine.abandon(id)?;
-        Ok(self.journal.give_up(self.alloc, id, left))
+        Ok(self.journal.give_up(id, left))
     }
 
     /// Why no cache can be created with this configuration now, where memory suffices.
@@ -363,11 +358,7 @@ impl<R: Rows, G: Ring> Recorded<R, G> {
         ensures value { result ≡ self.transcript }
         ensures legal { IsLegal result }
     {
-        let Recorded {
-            engine,
-            journal,
-            ..
-        } = self;
+        let Recorded { engine, journal } = self;
         drop(engine);
         journal.transcript
     }

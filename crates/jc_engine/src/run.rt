@@ -74,7 +74,10 @@ impl<R: Rows, G: Ring> Engine<R, G> {
             },
             Event::Create(config) => match self.create(config) {
                 Ok(id) => Outcome::Created(id),
-                Err((refusal, _)) => Outcome::CreateRefused(refusal),
+                Err((refusal, config)) => {
+                    drop(config);
+                    Outcome::CreateRefused(refusal)
+                }
             },
             Event::Destroy(id) => match self.destroy(id) {
                 Ok(()) => Outcome::Destroyed,

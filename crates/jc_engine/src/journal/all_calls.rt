@@ -1,16 +1,17 @@
 //! A journal that keeps the entries of all calls.
-ghost use Rattle.std.specs.Prelude.{◌≡◌, ◌≤◌, nat_eq};
+ghost use Rattle.std.specs.Prelude.{◌≡◌, ◌≤◌, ◌<◌, length, nat_eq};
 ghost use Rattle.std.specs.HashMap.{get, spare};
-ghost use Rattle.jc_engine.specs.Recording.{with_entry};
+ghost use Rattle.jc_engine.specs.Recording.{left_in, with_entry};
+ghost use Rattle.jc_engine.specs.Journals.{GivesUpAt};
 
 use super::Journal;
-use super::change::Begun;
-use super::notes::{blank, enter_answer, enter_life, kept_place, note, note_given_up, put_of};
+use super::change::{Begun, Origin};
+use super::notes::{blank, enter_answer, enter_life, kept_place, note, put_of};
 use crate::turn::Advance;
 use jc_model::OutOfMemory;
 use jc_model::call::{Answer, Call, Notice, Reply};
 use jc_model::config::CacheConfig;
-use jc_model::event::{CacheId, Entry, Step};
+use jc_model::event::{CacheId, End, Entry, Step};
 use jc_model::list::Sequence;
 use jc_model::transcript::Transcript;
 use jc_state::notices::Notices;
@@ -20,9 +21,33 @@ use std::collections::HashMap;
 /// The transcript, and where the open calls stand in it.
 #[derive(Drop)]
 pub struct AllCalls {
+    alloc: Global,
     pub(crate) transcript: Transcript,
     /// By cache, the place of the last call that has waited.
     places: HashMap<u32, usize>,
+}
+
+impl AllCalls {
+    /// Writes into an entry that its call was given up. The result is the notices that are left.
+    fn note_given_up(&mut self, place: usize, left: Option<Notices>) -> Sequence<Notice>
+        requires { place < length self.old.transcript.entries }
+        ensures left { result ≡ left_in left }
+        ensures noted { GivesUpAt place left self.old.transcript self.new.transcript }
+        ensures places { self.new.places ≡ self.old.places }
+    {
+        match left {
+            Some(left) => {
+                let (notices, kept) = left.into_lists();
+                self.transcript.set_told(place, kept);
+                self.transcript.set_end(place, End::GivenUp);
+                notices
+            }
+            None => {
+                self.transcript.set_end(place, End::GivenUp);
+                Sequence::new(Vec::new(self.alloc))
+            }
+        }
+    }
 }
 
 impl Journal for AllCalls {
@@ -38,6 +63,7 @@ impl Journal for AllCalls {
 
     fn new(alloc: Global) -> AllCalls {
         AllCalls {
+            alloc,
             transcript: Transcript::new(alloc),
             places: HashMap::new(alloc),
         }
@@ -57,18 +83,11 @@ impl Journal for AllCalls {
         false
     }
 
-    fn enter(
-        &mut self,
-        alloc: Global,
-        session: u32,
-        id: CacheId,
-        now: u64,
-        call: Call,
-    ) -> Result<(), Call> {
+    fn enter(&mut self, origin: Origin, call: Call) -> Result<(), Call> {
         if self.places.reserve(1).is_err() {
             return Err(call);
         }
-        match self.transcript.push(blank(alloc, session, id, now, call)) {
+        match self.transcript.push(blank(self.alloc, origin, call)) {
             Ok(()) => Ok(()),
             Err(entry) => Err(entry.call),
         }
@@ -113,9 +132,9 @@ impl Journal for AllCalls {
         note(&mut self.transcript, place, advance)
     }
 
-    fn give_up(&mut self, alloc: Global, id: CacheId, left: Option<Notices>) -> Sequence<Notice> {
+    fn give_up(&mut self, id: CacheId, left: Option<Notices>) -> Sequence<Notice> {
         let place = kept_place(&self.places, id);
-        note_given_up(alloc, &mut self.transcript, place, left)
+        self.note_given_up(place, left)
     }
 
     fn create(&mut self, id: CacheId, config: &CacheConfig) -> Result<(), OutOfMemory> {

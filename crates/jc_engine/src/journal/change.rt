@@ -6,25 +6,29 @@ use jc_model::config::CacheConfig;
 use jc_model::event::{CacheId, Entry};
 use std::snapshot::Snapshot;
 
-/// A call that has begun: its session, its cache and its moment. The call itself is not in memory.
-#[derive(Drop)]
-pub struct Begun {
+/// Whose a call is: its session, the cache that it asks, and its moment.
+#[derive(Clone, Copy)]
+pub struct Origin {
     pub session: u32,
     pub id: CacheId,
     pub at: u64,
+}
+
+/// A call that has begun. The call itself is not in memory.
+#[derive(Drop)]
+pub struct Begun {
+    pub origin: Origin,
     pub call: Snapshot<Call>,
 }
 
 impl Begun {
-    /// The call of a session on a cache at a moment.
-    pub fn of(session: u32, id: CacheId, at: u64, call: &Call) -> Begun
-        ensures numbers { (result.session ≡ session) × (result.id ≡ id) × (result.at ≡ at) }
+    /// The call of this origin.
+    pub fn of(origin: Origin, call: &Call) -> Begun
+        ensures origin { result.origin ≡ origin }
         ensures call { result.call.value ≡ call.now }
     {
         Begun {
-            session,
-            id,
-            at,
+            origin,
             call: Snapshot::of(call),
         }
     }

@@ -3,29 +3,29 @@ ghost use Rattle.std.specs.Prelude.{◌≡◌, ◌≤◌, ◌<◌, Some, IsSome,
 ghost use Rattle.std.specs.HashMap.{get, spare};
 ghost use Rattle.jc_engine.specs.Results.{reply_in};
 ghost use Rattle.jc_engine.specs.Managed.{step_of};
-ghost use Rattle.jc_engine.specs.Recording.{blank, left_in, with_life};
-ghost use Rattle.jc_engine.specs.Journals.{AnswersAt, AdvancesAt, GivesUpAt, Puts};
+ghost use Rattle.jc_engine.specs.Recording.{blank_of, with_life};
+ghost use Rattle.jc_engine.specs.Journals.{AnswersAt, AdvancesAt, Puts};
 
+use super::change::Origin;
 use crate::turn::Advance;
 use jc_model::OutOfMemory;
-use jc_model::call::{Answer, Call, Notice, Reply, Request};
+use jc_model::call::{Answer, Call, Reply, Request};
 use jc_model::config::CacheConfig;
 use jc_model::event::{CacheId, End, Entry, Life, Step};
 use jc_model::list::Sequence;
 use jc_model::share::Share;
 use jc_model::transcript::Transcript;
-use jc_state::notices::Notices;
 use std::alloc::Global;
 use std::collections::HashMap;
 
 /// The entry of a call that is about to begin.
-pub(super) fn blank(alloc: Global, session: u32, id: CacheId, now: u64, call: Call) -> Entry
-    ensures { result ≡ blank session id now call }
+pub(super) fn blank(alloc: Global, origin: Origin, call: Call) -> Entry
+    ensures { result ≡ blank_of origin call }
 {
     Entry {
-        session,
-        id,
-        at: now,
+        session: origin.session,
+        id: origin.id,
+        at: origin.at,
         call,
         answers: Sequence::new(Vec::new(alloc)),
         told: Sequence::new(Vec::new(alloc)),
@@ -105,31 +105,6 @@ pub(crate) fn note(
             let (told, kept) = notices.into_lists();
             transcript.set_told(place, kept);
             (Step::Need(Request::Tell(told)), None)
-        }
-    }
-}
-
-/// Writes into an entry that its call was given up. The result is the notices that are left.
-pub(crate) fn note_given_up(
-    alloc: Global,
-    transcript: &mut Transcript,
-    place: usize,
-    left: Option<Notices>,
-) -> Sequence<Notice>
-    requires { place < length transcript.old.entries }
-    ensures left { result ≡ left_in left }
-    ensures noted { GivesUpAt place left transcript.old transcript.new }
-{
-    match left {
-        Some(left) => {
-            let (notices, kept) = left.into_lists();
-            transcript.set_told(place, kept);
-            transcript.set_end(place, End::GivenUp);
-            notices
-        }
-        None => {
-            transcript.set_end(place, End::GivenUp);
-            Sequence::new(Vec::new(alloc))
         }
     }
 }

@@ -1,7 +1,7 @@
 //! A journal that keeps the entries of open calls alone. The history of which it tells exists in proofs.
 ghost use Rattle.std.specs.Prelude.{◌≡◌, ◌<◌, ◌≤◌, ◌+◌, ◌^◌, false, nat_eq};
 ghost use Rattle.std.specs.HashMap.{get, spare};
-ghost use Rattle.jc_engine.specs.Changed.{begun_entry, replied_at_once};
+ghost use Rattle.jc_engine.specs.Changed.{replied_at_once};
 ghost use Rattle.jc_engine.specs.Results.{reply_in};
 ghost use Rattle.jc_engine.specs.Managed.{step_of};
 ghost use Rattle.jc_engine.specs.Recording.{CanTell, with_advance, with_entry};
@@ -9,7 +9,7 @@ ghost use Rattle.jc_engine.specs.Journals.{CanGoOn, AdvancesEntry, KeepsAll, Kee
 ghost use Rattle.jc_engine.specs.Opens.{AreOpen, beginning_entry, places_in};
 
 use super::Journal;
-use super::change::Begun;
+use super::change::{Begun, Origin};
 use super::notes::{blank, put_of};
 use super::open_call::{OpenCall, add_answer, take_answer, write_given_up, write_outcome};
 use super::past::Past;
@@ -26,39 +26,14 @@ use std::collections::HashMap;
 /// A call that is about to begin.
 #[derive(Drop)]
 pub struct Beginning {
-    alloc: Global,
-    session: u32,
-    id: CacheId,
-    at: u64,
+    origin: Origin,
     call: Call,
-}
-
-impl Beginning {
-    /// What a history tells of it.
-    fn begun(&self) -> Begun
-        ensures { begun_entry result ≡ beginning_entry self.now }
-    {
-        Begun::of(self.session, self.id, self.at, &self.call)
-    }
-
-    /// Its entry.
-    fn into_entry(self) -> Entry
-        ensures { result ≡ beginning_entry self }
-    {
-        let Beginning {
-            alloc,
-            session,
-            id,
-            at,
-            call,
-        } = self;
-        blank(alloc, session, id, at, call)
-    }
 }
 
 /// By cache its open call. Of all others memory has a number alone.
 #[derive(Drop)]
 pub struct OpenCalls {
+    alloc: Global,
     past: Past,
     /// How many calls have begun.
     begun: usize,
@@ -81,19 +56,20 @@ impl OpenCalls {
     /// A call that has begun goes on. Its entry is kept from now on. Most calls have their reply at once, and are to have
     /// no share in what this needs: so it is no part of `begin`.
     #[inline(never)]
-    fn open(&mut self, id: CacheId, held: Beginning, advance: Advance) -> (Step, Option<Reply>)
+    fn open(&mut self, held: Beginning, advance: Advance) -> (Step, Option<Reply>)
         requires room { (1 ≤ spare self.old.waiting) × (self.old.begun + 1 < 2 ^ 64) }
-        requires own { held.id ≡ id }
         requires tells { CanTell advance (beginning_entry held) }
         requires waits { is_replied advance ≡ false }
         ensures shown { result.0 ≡ step_of advance }
         ensures copy { result.1 ≡ reply_in result.0 }
         ensures noted { self.new.past.history ≡
             with_entry (with_advance advance (beginning_entry held)) self.old.past.history }
-        ensures places { KeepsLast (places_in self.old.waiting) id self.old.past.history advance
-            (places_in self.new.waiting) }
+        ensures places { KeepsLast (places_in self.old.waiting) held.origin.id
+            self.old.past.history advance (places_in self.new.waiting) }
     {
-        let mut entry = held.into_entry();
+        let Beginning { origin, call } = held;
+        let id = origin.id;
+        let mut entry = blank(self.alloc, origin, call);
         let shown = write_outcome(&mut entry, advance);
         self.past.push(&entry);
         let place = self.begun;
@@ -138,6 +114,7 @@ impl OpenCalls {
         };
         let shown = write_outcome(&mut call.entry, advance);
         self.past.set(call.place, &call.entry);
+        drop(call);
         shown
     }
 }
@@ -155,6 +132,7 @@ impl Journal for OpenCalls {
 
     fn new(alloc: Global) -> OpenCalls {
         OpenCalls {
+            alloc,
             past: Past::new(),
             begun: 0,
             waiting: HashMap::new(alloc),
@@ -181,24 +159,11 @@ impl Journal for OpenCalls {
         true
     }
 
-    fn enter(
-        &mut self,
-        alloc: Global,
-        session: u32,
-        id: CacheId,
-        now: u64,
-        call: Call,
-    ) -> Result<Beginning, Call> {
+    fn enter(&mut self, origin: Origin, call: Call) -> Result<Beginning, Call> {
         if !self.notes() || self.waiting.reserve(1).is_err() {
             return Err(call);
         }
-        Ok(Beginning {
-            alloc,
-            session,
-            id,
-            at: now,
-            call,
-        })
+        Ok(Beginning { origin, call })
     }
 
     fn call<'a>(&'a self, held: &'a Beginning) -> &'a Call {
@@ -210,15 +175,15 @@ impl Journal for OpenCalls {
     }
 
     #[inline(always)]
-    fn begin(&mut self, id: CacheId, held: Beginning, advance: Advance) -> (Step, Option<Reply>) {
+    fn begin(&mut self, _id: CacheId, held: Beginning, advance: Advance) -> (Step, Option<Reply>) {
         match advance {
             Advance::Replied(reply) => {
-                self.push_replied(held.begun(), reply.first());
+                self.push_replied(Begun::of(held.origin, &held.call), reply.first());
                 let (reply, copy, kept) = reply.into_three();
                 drop((held, kept));
                 (Step::Done(reply), Some(copy))
             }
-            goes_on => self.open(id, held, goes_on),
+            goes_on => self.open(held, goes_on),
         }
     }
 
@@ -253,13 +218,14 @@ impl Journal for OpenCalls {
         }
     }
 
-    fn give_up(&mut self, alloc: Global, id: CacheId, left: Option<Notices>) -> Sequence<Notice> {
+    fn give_up(&mut self, id: CacheId, left: Option<Notices>) -> Sequence<Notice> {
         let number = id.number();
         let Some(mut call) = self.waiting.remove(&number) else {
             unreachable!()
         };
-        let left = write_given_up(alloc, &mut call.entry, left);
+        let left = write_given_up(self.alloc, &mut call.entry, left);
         self.past.set(call.place, &call.entry);
+        drop(call);
         left
     }
 
@@ -274,6 +240,6 @@ impl Journal for OpenCalls {
 
     fn destroy(&mut self, id: CacheId) {
         let number = id.number();
-        self.waiting.remove(&number);
+        drop(self.waiting.remove(&number));
     }
 }

@@ -16,7 +16,6 @@ impl<R: Rows, G: Ring, J: Journal> Recorded<R, G, J> {
         ensures { result ≡ self }
     {
         Recorded {
-            alloc: self.alloc,
             engine: self.engine.over(rows),
             journal: self.journal,
         }
