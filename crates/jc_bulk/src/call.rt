@@ -72,9 +72,16 @@ fn start_key<R: Rows, G: Ring>(
         ComesFrom visit.old (step_run visit.old step) next visit.new) }
     ensures same { OnErr result (IsUnchanged visit.old visit.new) }
 {
-    let supply = Supply::for_step(visit, &step)?;
-    let next = KeyStep::start(visit, step, supply);
-    Ok(on_one_key(visit.alloc(), next))
+    match Supply::for_step(visit, &step) {
+        Ok(supply) => {
+            let next = KeyStep::start(visit, step, supply);
+            Ok(on_one_key(visit.alloc(), next))
+        }
+        Err(refused) => {
+            drop(step);
+            Err(refused)
+        }
+    }
 }
 
 /// What a call on one key or on many ends with where it is on one and asks no one: its reply.
@@ -93,10 +100,16 @@ fn end_steps_at_once<R: Rows, G: Ring>(
         return Ok(None);
     };
     if !asks_no_one(visit.config(), &step.op) {
+        drop(step);
         return Ok(None);
     }
-    let supply = Supply::for_step(visit, &step)?;
-    Ok(Some(KeyStep::end_at_once(visit, step, supply)))
+    match Supply::for_step(visit, &step) {
+        Ok(supply) => Ok(Some(KeyStep::end_at_once(visit, step, supply))),
+        Err(refused) => {
+            drop(step);
+            Err(refused)
+        }
+    }
 }
 
 /// Makes a call on one key that asks no one, and so does not wait: its reply. Of any other call nothing, and nothing has
@@ -210,6 +223,7 @@ pub fn answer_call<R: Rows, G: Ring>(
                 }
                 Next::Ended(reply) => {
                     if alone {
+                        drop(ahead);
                         return Ok(Next::Ended(reply));
                     }
                     Ok(go_on_after(visit, key, reply, ahead))

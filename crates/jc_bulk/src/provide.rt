@@ -1,5 +1,5 @@
 //! What all steps of a call may need, made before the first of them.
-ghost use Rattle.std.specs.Prelude.{◌≡◌, ℕ, ◌+◌, true, IfOk, OnOk};
+ghost use Rattle.std.specs.Prelude.{◌≡◌, ℕ, ◌+◌, ◌≤◌, true, IfOk, OnOk};
 ghost use Rattle.jc_model.specs.Bulk.{empty_sum};
 ghost use Rattle.jc_model.specs.declared.config.CacheConfig.{CacheConfig};
 ghost use Rattle.jc_model.specs.Changes.{Progress};
@@ -8,7 +8,7 @@ ghost use Rattle.jc_model.specs.Sound.{HasDistinctKeys};
 ghost use Rattle.jc_state.specs.Kept.{items_of, FoundRow};
 ghost use Rattle.jc_state.specs.Visited.{IsUnchanged, HasPlacesIn};
 ghost use Rattle.jc_ops.specs.Lines.{takes_value};
-ghost use Rattle.jc_ops.specs.Supply.{CoversAnswerIn, HasRoomAt};
+ghost use Rattle.jc_ops.specs.Supply.{CoversIn, CoversAnswerIn, HasRoomAt};
 ghost use Rattle.jc_bulk.specs.Ahead.{calls_ahead, AreCoveredIn, AreReady, HasRoomForSteps};
 ghost use Rattle.jc_bulk.specs.Ahead.{HasPlacesFrom, HasRoomFrom};
 ghost use Rattle.jc_bulk.specs.Calls.{steps_for, first_sum};
@@ -75,6 +75,22 @@ fn row_for<R: Rows, G: Ring>(visit: &Visit<R, G>, call: &KeyCall) -> Option<u32>
     }
 }
 
+/// A step with its values.
+fn provided<R: Rows, G: Ring>(visit: &Visit<R, G>, call: KeyCall) -> Result<Provided, OutOfMemory>
+    ensures call { IfOk result (λ p. p.call ≡ call) }
+    ensures covered { IfOk result (λ p.
+        CoversIn visit.now.cache.config.writer visit.now call p.values) }
+{
+    let row = row_for(visit, &call);
+    match Values::for_call(visit, row, &call, visit.config().writer) {
+        Ok(values) => Ok(Provided { call, values }),
+        Err(refused) => {
+            drop(call);
+            Err(refused)
+        }
+    }
+}
+
 /// The steps with their values.
 fn with_values<R: Rows, G: Ring>(
     visit: &Visit<R, G>,
@@ -85,9 +101,7 @@ fn with_values<R: Rows, G: Ring>(
 {
     let mut rest = VecDeque::with_capacity(visit.alloc(), calls.len())?;
     for call in calls {
-        let row = row_for(visit, &call);
-        let values = Values::for_call(visit, row, &call, visit.config().writer)?;
-        rest.push_back(Provided { call, values })?;
+        rest.push_back(provided(visit, call)?)?;
     }
     Ok(rest)
 }
@@ -127,6 +141,25 @@ pub fn prepare<R: Rows, G: Ring>(visit: &mut Visit<R, G>, call: &Call) -> Result
     Ok(Ahead { rest, sum, needs })
 }
 
+/// Places for the notices of the step that waits and of those after it, and room for the rows that they may add.
+fn reserve_ahead<R: Rows, G: Ring>(
+    visit: &mut Visit<R, G>,
+    bulk: &BulkStep,
+) -> Result<(), OutOfMemory>
+    ensures same { IsUnchanged visit.old visit.new }
+    ensures places { OnOk result (HasPlacesFrom bulk.entry.now visit.new) }
+    ensures kept { visit.old.spare ≤ visit.new.spare }
+    ensures asks { HasRoomFrom bulk.entry.now visit.old.spare →
+        visit.new.spare ≡ visit.old.spare }
+    ensures room { OnOk result (HasRoomFrom bulk.entry.now visit.new.spare) }
+{
+    let steps = bulk.ahead.rest.len() + 1;
+    let needs = bulk.ahead.needs;
+    let own = most_notices(&bulk.step.call().op, false);
+    make_places(visit, needs, bulk.ahead.rest.len(), own)?;
+    visit.reserve_rows(if needs.adds { steps } else { 0 })
+}
+
 /// What the step that waits may need at this answer, and the room that it and the steps after it may need. Their
 /// values were made when the call began.
 pub fn prepare_answer<R: Rows, G: Ring>(
@@ -147,10 +180,11 @@ pub fn prepare_answer<R: Rows, G: Ring>(
         CoversAnswerIn visit.old bulk.entry.now.key answer.now s.values) }
 {
     let supply = Supply::for_answer(visit, &bulk.step, answer)?;
-    let steps = bulk.ahead.rest.len() + 1;
-    let needs = bulk.ahead.needs;
-    let own = most_notices(&bulk.step.call().op, false);
-    make_places(visit, needs, bulk.ahead.rest.len(), own)?;
-    visit.reserve_rows(if needs.adds { steps } else { 0 })?;
-    Ok(supply)
+    match reserve_ahead(visit, bulk) {
+        Ok(()) => Ok(supply),
+        Err(refused) => {
+            drop(supply);
+            Err(refused)
+        }
+    }
 }

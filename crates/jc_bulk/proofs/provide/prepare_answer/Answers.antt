@@ -1,22 +1,18 @@
-use Rattle.std.proofs.Common.{◌≡◌, ◌≤◌, ◌+◌, ap, true, length, sym, ◌∙◌, subst, arith}
-use Rattle.jc_bulk.proofs.Names.{Visited, HasRoomAt, Bulk}
-use Rattle.jc_bulk.proofs.provide.prepare_answer.Goals.{then-needs, else-needs}
+use Rattle.std.proofs.Common.{◌≡◌, ℕ, ◌∙◌, subst, sym}
+use Rattle.jc_bulk.specs.Ahead.{HasRoomFrom}
+use Rattle.jc_bulk.proofs.Names.{HasRoomAt, Bulk}
+use Rattle.jc_bulk.proofs.provide.prepare_answer.Given as given
+use Rattle.jc_bulk.proofs.provide.prepare_answer.Goals.{After-reserve_ahead}
 use Rattle.jc_bulk.proofs.provide.prepare_answer.Goals as goal
 
-pub returns-in_err-make_places-clause-asks : goal.returns-in_err-make_places-clause-asks
-returns-in_err-make_places-clause-asks g c = λ own rest.
-    ap (λ (v : Visited). v.spare) c.in_err-make_places.ensures.same
-    ∙ c.for_answer.ensures.asks (subst (λ (b : Bulk). HasRoomAt b.key c.args.answer.now c.args.visit.now) (sym c.bulk.view_is) own)
+-- where the room is there already, none is made
+asks : (g : given.Over) (c : After-reserve_ahead g) → HasRoomAt c.args.bulk.now.key c.args.answer.now c.args.visit.now → HasRoomFrom c.args.bulk.now c.args.visit.now.spare → c.reserve_ahead.new.visit.spare ≡ c.args.visit.now.spare
+asks g c own rest =
+    let spare = c.for_answer.ensures.asks (subst (λ (b : Bulk). HasRoomAt b.key c.args.answer.now c.args.visit.now) (sym c.bulk.view_is) own) in
+    c.reserve_ahead.ensures.asks (subst (λ (n : ℕ). HasRoomFrom c.args.bulk.now n) (sym spare) rest) ∙ spare
 
-pub returns-clause-asks : goal.returns-clause-asks
-returns-clause-asks g c = λ own rest.
-    let old = c.args.visit.now in
-    let kept : c.make_places.new.visit.spare ≡ old.spare =
-    ap (λ (v : Visited). v.spare) c.in_ok-make_places.ensures.same
-    ∙ c.for_answer.ensures.asks (subst (λ (b : Bulk). HasRoomAt b.key c.args.answer.now old) (sym c.bulk.view_is) own) in
-    let all : c.bulk.inside.ahead.needs.adds ≡ true → length c.bulk.inside.ahead.rest.items + 1 ≤ old.spare = rw (← c.bulk.view_is) at rest in
-    let there : c.if-needs.reserve_rows ≤ c.make_places.new.visit.spare = elim c.if-needs.branch [
-      | then-needs w ↦ omega (arith, all w.if-needs.true, kept, w.reserve_rows-is, c.len-steps.ensures)
-      | else-needs w ↦ omega (arith, w.reserve_rows-is)
-    ] in
-    c.in_ok-reserve_rows.ensures.there there ∙ kept
+pub returns-in-Ok-clause-asks : goal.returns-in-Ok-clause-asks
+returns-in-Ok-clause-asks g c = asks g (goal.at.returns-in-Ok-clause-asks g c).After-reserve_ahead
+
+pub returns-in-Err-clause-asks : goal.returns-in-Err-clause-asks
+returns-in-Err-clause-asks g c = asks g (goal.at.returns-in-Err-clause-asks g c).After-reserve_ahead
