@@ -113,13 +113,14 @@ impl<G: Ring> Managed<G> {
     ) -> Result<Advance, Cause>
         requires managed { IsManaged visit.old.table self.old.state.id self.old }
         requires between { IsBetweenCalls self.old.state.id visit.old }
-        requires allowed { is_step (reply_to (cache_in self.old) (begins visit.old.moment call.now)) ≡ true }
+        requires allowed { is_step
+            (reply_to (cache_in self.old) (begins visit.old.moment call.now)) ≡ true }
         ensures config { self.new.state.config ≡ self.old.state.config }
         ensures managed_after { IsManaged visit.new.table self.old.state.id self.new }
         ensures elsewhere { SameElsewhere self.old.state.id visit.old.table visit.new.table }
         ensures rests { RestsAgain visit.old visit.new }
-        ensures ok { IfOk result (λ advance.
-            Moves (cache_in self.old) (begins visit.old.moment call.now) advance (cache_in self.new)) }
+        ensures ok { IfOk result (λ advance. Moves (cache_in self.old)
+            (begins visit.old.moment call.now) advance (cache_in self.new)) }
         ensures err { IfErr result (λ cause. cause ≡ Cause.OutOfMemory) }
         ensures free { is_free call.now ≡ true → IsOk result }
         ensures same { OnErr result (self.new ≡ self.old) }
@@ -142,13 +143,14 @@ impl<G: Ring> Managed<G> {
     ) -> Result<Advance, Cause>
         requires managed { IsManaged visit.old.table self.old.state.id self.old }
         requires between { IsBetweenCalls self.old.state.id visit.old }
-        requires allowed { is_step (reply_to (cache_in self.old) (begins visit.old.moment call.now)) ≡ true }
+        requires allowed { is_step
+            (reply_to (cache_in self.old) (begins visit.old.moment call.now)) ≡ true }
         ensures config { self.new.state.config ≡ self.old.state.config }
         ensures managed_after { IsManaged visit.new.table self.old.state.id self.new }
         ensures elsewhere { SameElsewhere self.old.state.id visit.old.table visit.new.table }
         ensures rests { RestsAgain visit.old visit.new }
-        ensures ok { IfOk result (λ advance.
-            Moves (cache_in self.old) (begins visit.old.moment call.now) advance (cache_in self.new)) }
+        ensures ok { IfOk result (λ advance. Moves (cache_in self.old)
+            (begins visit.old.moment call.now) advance (cache_in self.new)) }
         ensures err { IfErr result (λ cause. cause ≡ Cause.OutOfMemory) }
         ensures free { is_free call.now ≡ true → IsOk result }
         ensures same { OnErr result (self.new ≡ self.old) }
@@ -176,8 +178,8 @@ impl<G: Ring> Managed<G> {
         ensures managed_after { IsManaged visit.new.table self.old.state.id self.new }
         ensures elsewhere { SameElsewhere self.old.state.id visit.old.table visit.new.table }
         ensures rests { RestsAgain visit.old visit.new }
-        ensures ok { IfOk result (λ advance.
-            Moves (cache_in self.old) (begins visit.old.moment call.now) advance (cache_in self.new)) }
+        ensures ok { IfOk result (λ advance. Moves (cache_in self.old)
+            (begins visit.old.moment call.now) advance (cache_in self.new)) }
         ensures err { IfErr result (IsRefusedFor (cache_in self.old) (begins visit.old.moment call.now)) }
         ensures free { is_free call.now ≡ true →
             of_start result ≡ reply_to (cache_in self.old) (begins visit.old.moment call.now) }

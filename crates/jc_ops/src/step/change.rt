@@ -109,9 +109,11 @@ fn change_absent<R: Rows, G: Ring>(visit: &mut Visit<R, G>, key: Key, effect: Ef
     requires absent { key_row visit.old.cache key ≡ None }
     requires places { HasPlacesIn (told_of false effect.change) visit.old }
     requires told { StoredIsTold visit.old.cache.config effect.stored }
-    requires room { stores effect.change ≡ true → is_some effect.stored ≡ true → 0 < visit.old.spare }
+    requires room { stores effect.change ≡ true → is_some effect.stored ≡ true →
+        0 < visit.old.spare }
     ensures spends { SpendsAtMost 1 (told_of false effect.change) visit.old visit.new }
-    ensures progress { progress_in visit.new ≡ changed_in visit.old key effect.change None effect.stored }
+    ensures progress { progress_in visit.new
+        ≡ changed_in visit.old key effect.change None effect.stored }
 {
     let Effect { change, stored } = effect;
     match change {
