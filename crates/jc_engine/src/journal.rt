@@ -14,6 +14,7 @@ use jc_model::config::CacheConfig;
 use jc_model::event::{CacheId, Entry, Step};
 use jc_model::list::Sequence;
 use jc_state::notices::Notices;
+pub use notes::blank;
 use std::alloc::Global;
 
 /// It tells of all lives and calls. It may keep all of their entries in memory, or only those of the calls that wait:

@@ -19,7 +19,7 @@ use std::alloc::Global;
 use std::collections::HashMap;
 
 /// The entry of a call that is about to begin.
-pub(super) fn blank(alloc: Global, origin: Origin, call: Call) -> Entry
+pub fn blank(alloc: Global, origin: Origin, call: Call) -> Entry
     ensures { result ≡ blank_of origin call }
 {
     Entry {
