@@ -12,6 +12,7 @@ use crate::keeping::{Keeping, OwnCalls};
 use crate::name::Name;
 use crate::session::Session;
 use jc_engine::journal::change::Begun;
+use jc_engine::recorded::found_in;
 use jc_hooks::{Hearer, Loader, Processor, Writer};
 use jc_model::call::{Call, Reply};
 use jc_model::event::{CacheId, Step};
@@ -51,6 +52,7 @@ impl<'a, N: Name, L: Loader, W: Writer, P: Processor, K: Hearer, J: Keeping> Ses
             return Err(manager.lack_fault(rt, id, fault));
         }
         if let Some(value) = self.get_at_once(rt, id, now, &call) {
+            drop(call);
             return Ok(Reply::Found(value));
         }
         self.make_kept(rt, id, now, call)
@@ -71,22 +73,21 @@ impl<'a, N: Name, L: Loader, W: Writer, P: Processor, K: Hearer, J: Keeping> Ses
         ensures same { result ≡ None → self.new ≡ self.old }
         ensures front { IsPrefix self.old.pass.images self.new.pass.images }
     {
-        if J::Own::are_in_memory() || !matches!(call, Call::Get(_)) {
+        if !self.own.notes() || !matches!(call, Call::Get(_)) {
             return None;
         }
-        let Ok(kept) = self.own.keep(call) else {
-            return None;
-        };
         let manager = self.manager;
-        let begun = Begun::of(self.number, id, now, call);
+        let begun = Begun::of(self.origin(id, now), call);
         let found = manager
             .locked
             .lock(rt)
-            .get_at_once(self.number, id, now, call, &mut self.pass);
-        let (value, copy) = found?;
-        self.own
-            .push_replied(manager.alloc, begun, kept, Reply::Found(copy));
-        Some(value)
+            .get_at_once(begun.origin, call, &mut self.pass);
+        let value = found?;
+        let reply = Reply::Found(value);
+        if !self.own.note(begun, &reply) {
+            unreachable!()
+        }
+        Some(found_in(reply))
     }
 
     /// Makes a call that the callbacks accept, of which an entry may be kept. It is never inlined: a get that hits is to
@@ -111,14 +112,17 @@ impl<'a, N: Name, L: Loader, W: Writer, P: Processor, K: Hearer, J: Keeping> Ses
             drop(call);
             return Err(CallFault::OutOfMemory);
         };
-        let begun = Begun::of(self.number, id, now, &call);
+        let begun = Begun::of(self.origin(id, now), &call);
         let came = manager
             .locked
             .lock(rt)
             .begin_call(self.number, id, now, call, &mut self.pass);
         let (step, copy) = match came {
             Ok(pair) => pair,
-            Err(fault) => return Err(fault),
+            Err(fault) => {
+                drop((begun, kept));
+                return Err(fault);
+            }
         };
         match step {
             Step::Done(reply) => match copy {
@@ -128,7 +132,8 @@ impl<'a, N: Name, L: Loader, W: Writer, P: Processor, K: Hearer, J: Keeping> Ses
                 }
                 None => unreachable!(),
             },
-            Step::Need(_) => {
+            Step::Need(request) => {
+                drop((request, copy));
                 self.own.push_waiting(manager.alloc, begun, kept);
                 Err(CallFault::Overtaken)
             }

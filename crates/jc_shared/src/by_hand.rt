@@ -14,7 +14,8 @@ use crate::carry::{note_answer, take_back, tells_again};
 use crate::fault::{AnswerFault, CallFault};
 use crate::name::Name;
 use crate::pending::{PendingCall, Progress};
-use crate::session::{Session, copy_for, draft_of};
+use crate::session::{Session, copy_for};
+use jc_engine::journal::blank;
 use jc_engine::journal::open_calls::OpenCalls;
 use jc_hooks::{Hearer, Loader, Processor, Writer};
 use jc_model::call::{Answer, Call, Notice, Request};
@@ -107,7 +108,7 @@ impl<'a, N: Name, L: Loader, W: Writer, P: Processor, K: Hearer> Session<
         let Ok(copy) = copied else {
             return Err((CallFault::OutOfMemory, call));
         };
-        let mut draft = draft_of(manager.alloc, self.number, id, now, copy);
+        let mut draft = blank(manager.alloc, self.origin(id, now), copy);
         let begun = manager
             .locked
             .lock(rt)
@@ -216,6 +217,7 @@ impl<'a, N: Name, L: Loader, W: Writer, P: Processor, K: Hearer> Session<
         match step {
             Step::Done(reply) => {
                 self.own.past.push(&draft);
+                drop(draft);
                 Progress::Replied(reply)
             }
             Step::Need(request) => Progress::Waits(PendingCall::new(draft, request)),

@@ -1,12 +1,11 @@
 //! What a manager keeps of its calls, and each of its sessions of its own.
 ghost use Rattle.jc_shared.specs.Admitting.{after_of_64, after_round};
 
-use crate::session::draft_of;
-use jc_engine::journal::Journal;
 use jc_engine::journal::all_calls::AllCalls;
 use jc_engine::journal::change::Begun;
 use jc_engine::journal::open_calls::OpenCalls;
 use jc_engine::journal::past::Past;
+use jc_engine::journal::{Journal, blank};
 use jc_model::OutOfMemory;
 use jc_model::call::{Call, Reply};
 use jc_model::event::{End, Entry};
@@ -15,7 +14,7 @@ use std::alloc::Global;
 
 /// A session's own calls, in their order.
 pub trait OwnCalls: Drop {
-    ghost use Rattle.std.specs.Prelude.{◌≡◌, ◌∷◌, ◌++◌, List, [], OnOk, IfOk};
+    ghost use Rattle.std.specs.Prelude.{◌≡◌, ◌∷◌, ◌++◌, List, [], true, false, OnOk, IfOk};
     ghost use Rattle.jc_model.specs.declared.call.Call.{Call as Called};
     ghost use Rattle.jc_model.specs.declared.event.Entry.{Entry};
     ghost use Rattle.jc_engine.specs.Changed.{begun_entry, replied_at_once};
@@ -32,12 +31,23 @@ pub trait OwnCalls: Drop {
     /// There is room for one more.
     ghost HasRoom: { Self → Type 0 };
 
-    /// Whether their entries are in memory, by the code alone: it picks a way, and no clause asks for it.
-    fn are_in_memory() -> bool;
+    /// A call that has its reply at once can be noted, and nothing of it is kept in memory.
+    ghost Notes: { Self → Type 0 };
 
     /// No calls.
     fn new(alloc: Global) -> Result<Self, OutOfMemory>
         ensures { IfOk result (λ own. calls own ≡ []) };
+
+    /// Whether a call that has its reply at once can be noted without being handed over.
+    fn notes(&self) -> bool
+        ensures { result ≡ true → Notes self.now };
+
+    /// Notes such a call, the last, and its reply. Where that can't be, nothing has changed.
+    fn note(&mut self, begun: Begun, reply: &Reply) -> bool
+        ensures sure { Notes self.old → result ≡ true }
+        ensures noted { result ≡ true
+            → calls self.new ≡ calls self.old ++ replied_at_once begun reply.now ∷ [] }
+        ensures refused { result ≡ false → calls self.new ≡ calls self.old };
 
     /// Makes room for one more.
     fn make_room(&mut self) -> Result<(), OutOfMemory>
@@ -89,13 +99,19 @@ impl OwnCalls for OwnList {
 
     ghost HasRoom = { λ own. vec_len own.entries < vec_capacity own.entries };
 
-    fn are_in_memory() -> bool {
-        true
-    }
+    ghost Notes = { λ own. ⊥ };
 
     fn new(alloc: Global) -> Result<OwnList, OutOfMemory> {
         let entries = Vec::with_capacity(alloc, FIRST_CALLS)?;
         Ok(OwnList { entries })
+    }
+
+    fn notes(&self) -> bool {
+        false
+    }
+
+    fn note(&mut self, _begun: Begun, _reply: &Reply) -> bool {
+        false
     }
 
     fn make_room(&mut self) -> Result<(), OutOfMemory> {
@@ -112,13 +128,13 @@ impl OwnCalls for OwnList {
     }
 
     fn push_replied(&mut self, alloc: Global, begun: Begun, kept: Call, reply: Reply) {
-        let mut entry = draft_of(alloc, begun.session, begun.id, begun.at, kept);
+        let mut entry = blank(alloc, begun.origin, kept);
         entry.end = End::Replied(reply);
         self.entries.push_reserved(entry);
     }
 
     fn push_waiting(&mut self, alloc: Global, begun: Begun, kept: Call) {
-        let entry = draft_of(alloc, begun.session, begun.id, begun.at, kept);
+        let entry = blank(alloc, begun.origin, kept);
         self.entries.push_reserved(entry);
     }
 }
@@ -140,12 +156,19 @@ impl OwnCalls for OwnPast {
 
     ghost HasRoom = { λ own. ⊤ };
 
-    fn are_in_memory() -> bool {
-        false
-    }
+    ghost Notes = { λ own. ⊤ };
 
     fn new(_alloc: Global) -> Result<OwnPast, OutOfMemory> {
         Ok(OwnPast { past: Past::new() })
+    }
+
+    fn notes(&self) -> bool {
+        true
+    }
+
+    fn note(&mut self, begun: Begun, reply: &Reply) -> bool {
+        self.past.push_replied(begun, reply);
+        true
     }
 
     fn make_room(&mut self) -> Result<(), OutOfMemory> {
@@ -158,10 +181,12 @@ impl OwnCalls for OwnPast {
 
     fn push(&mut self, entry: Entry) {
         self.past.push(&entry);
+        drop(entry);
     }
 
     fn push_replied(&mut self, _alloc: Global, begun: Begun, _kept: (), reply: Reply) {
         self.past.push_replied(begun, &reply);
+        drop(reply);
     }
 
     fn push_waiting(&mut self, _alloc: Global, begun: Begun, _kept: ()) {

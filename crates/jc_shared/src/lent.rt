@@ -99,7 +99,10 @@ impl<'a, N: Name, L: Loader, W: Writer, P: Processor, K: Hearer> Session<
         match self.begin(rt, id, now, call) {
             Ok(Progress::Replied(reply)) => Ok(reply),
             Ok(Progress::Waits(pending)) => self.carry(rt, pending, responder),
-            Err((fault, _)) => Err(fault),
+            Err((fault, call)) => {
+                drop(call);
+                Err(fault)
+            }
         }
     }
 

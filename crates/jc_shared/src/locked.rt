@@ -215,7 +215,10 @@ impl<N: Name, J: Keeping> Locked<N, J> {
                 self.show_reply(&pair.0, pass);
                 Ok(pair)
             }
-            Err((cause, _)) => Err(fault_of(cause)),
+            Err((cause, call)) => {
+                drop(call);
+                Err(fault_of(cause))
+            }
         }
     }
 
@@ -285,7 +288,10 @@ impl<N: Name, J: Keeping> Locked<N, J> {
                 self.show_reply(&step, pass);
                 Ok(step)
             }
-            Err((cause, _)) => Err(answer_fault_of(cause)),
+            Err((cause, answer)) => {
+                drop(answer);
+                Err(answer_fault_of(cause))
+            }
         }
     }
 

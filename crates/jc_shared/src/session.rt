@@ -2,7 +2,6 @@
 ghost use Rattle.std.specs.Prelude.{◌≡◌, ◌<◌, ◌⊎◌, suc, Bool, true, false, Some, None, IfOk, IfErr, OnOk, OnErr, Err, slice_get};
 ghost use mathlib.Core.List.{IsPrefix};
 ghost use Rattle.jc_model.specs.declared.event.End.TheVariants.{Replied};
-ghost use Rattle.jc_engine.specs.Recording.{blank};
 ghost use Rattle.jc_hooks.specs.Suits.{Suits};
 ghost use Rattle.jc_stripes.specs.Stripes.{AreReadAtRest};
 ghost use Rattle.jc_index.specs.declared.lookup.Lookup.TheVariants.{Sure, Unsure};
@@ -21,16 +20,16 @@ use crate::manager::Manager;
 use crate::name::Name;
 use crate::tables::TablePass;
 use jc_engine::journal::all_calls::AllCalls;
+use jc_engine::journal::blank;
+use jc_engine::journal::change::Origin;
 use jc_hooks::{CacheHooks, Hearer, Loader, Processor, Writer, suits};
 use jc_index::lookup::Lookup;
 use jc_model::OutOfMemory;
 use jc_model::call::{Call, Reply};
 use jc_model::config::CacheConfig;
-use jc_model::event::{CacheId, End, Entry, Step};
+use jc_model::event::{CacheId, Entry, Step};
 use jc_model::key::Key;
-use jc_model::list::Sequence;
 use jc_model::share::Share;
-use std::alloc::Global;
 use std::marker::Model;
 use std::sync::Wait;
 
@@ -99,21 +98,6 @@ pub(crate) fn copy_for<O: OwnCalls>(own: &mut O, call: &Call) -> Result<Call, Ou
     call.share()
 }
 
-/// The entry of a call that is to begin.
-pub(crate) fn draft_of(alloc: Global, session: u32, id: CacheId, now: u64, call: Call) -> Entry
-    ensures { result ≡ blank session id now call }
-{
-    Entry {
-        session,
-        id,
-        at: now,
-        call,
-        answers: Sequence::new(Vec::new(alloc)),
-        told: Sequence::new(Vec::new(alloc)),
-        end: End::Waiting,
-    }
-}
-
 impl<'a, N: Name, L: Loader, W: Writer, P: Processor, K: Hearer, J: Keeping> Session<
     'a,
     N,
@@ -144,6 +128,17 @@ impl<'a, N: Name, L: Loader, W: Writer, P: Processor, K: Hearer, J: Keeping> Ses
         ensures { result ≡ self.now.number }
     {
         self.number
+    }
+
+    /// That of its call on a cache at a moment.
+    pub(crate) fn origin(&self, id: CacheId, now: u64) -> Origin
+        ensures { result ≡ record { session = self.now.number; id = id; at = now } }
+    {
+        Origin {
+            session: self.number,
+            id,
+            at: now,
+        }
     }
 
     /// Makes a call on a cache at a moment. The cache's callbacks answer its requests, one call on the cache at a time.
@@ -244,7 +239,7 @@ impl<'a, N: Name, L: Loader, W: Writer, P: Processor, K: Hearer, J: Keeping> Ses
             drop(call);
             return Err(CallFault::OutOfMemory);
         };
-        let mut draft = draft_of(manager.alloc, self.number, id, now, copy);
+        let mut draft = blank(manager.alloc, self.origin(id, now), copy);
         let begun = manager
             .locked
             .lock(rt)

@@ -32,10 +32,10 @@ returns-in-Ok-clause-tenure g c =
     is_tenure c.args.self.now.recorded c.begin.new.self c.show_reply.new.self.recorded c.args.session (event.Begin c.args.id c.args.now c.args.call) c.in-Ok.pair.0
     c.show_reply.ensures.same c.in-Ok.ensures.outcome c.in-Ok.ensures.transcript c.in-Ok.ensures.lives
 
-pub returns-clause-err : goal.returns-clause-err
-returns-clause-err g c =
+pub returns-in-Err-clause-err : goal.returns-in-Err-clause-err
+returns-in-Err-clause-err g c =
     let old = c.args.self.now.recorded in
     rw c.fault_of.ensures (begin_faults (lives_of old.caches) g.N.Name.configs old.transcript c.args.self.now.begins c.in-Err.ensures.told.0 c.args.id c.args.now c.args.call c.in-Err.cause c.in-Err.ensures.outcome)
 
-pub returns-clause-refused : goal.returns-clause-refused
-returns-clause-refused g c = record { cause = c.in-Err.cause; told = c.fault_of.ensures; refusal = c.in-Err.ensures.outcome }
+pub returns-in-Err-clause-refused : goal.returns-in-Err-clause-refused
+returns-in-Err-clause-refused g c = record { cause = c.in-Err.cause; told = c.fault_of.ensures; refusal = c.in-Err.ensures.outcome }

@@ -32,7 +32,7 @@ returns-in-Ok-clause-tenure g c =
     is_tenure c.args.self.now.recorded c.resume.new.self c.show_reply.new.self.recorded draft.session (event.Answer draft.id c.args.answer) c.in-Ok.pair.0
     c.show_reply.ensures.same c.in-Ok.ensures.outcome (c.in-Ok.ensures.transcript draft.session) c.in-Ok.ensures.lives
 
-pub returns-clause-refused : goal.returns-clause-refused
-returns-clause-refused g c =
+pub returns-in-Err-clause-refused : goal.returns-in-Err-clause-refused
+returns-in-Err-clause-refused g c =
     let old = c.args.self.now.recorded in
     rw c.answer_fault_of.ensures (refused_answer g.N.Name.configs (lives_of old.caches) old.transcript c.args.self.now.begins c.in-Err.ensures.told.0 c.args.draft.now.id c.args.answer c.in-Err.cause c.in-Err.ensures.outcome)

@@ -2,7 +2,8 @@ use Rattle.std.proofs.Common.{◌≡◌, ◌++◌, ◌∷◌, [], ◌∙◌, ap,
 use Rattle.jc_model.specs.declared.event.Entry.{Entry}
 use Rattle.jc_stripes.proofs.Lists.{prefix_trans}
 use Rattle.jc_model.specs.Runs.{has_processor}
-use Rattle.jc_engine.specs.Recording.{blank}
+use Rattle.jc_engine.specs.declared.journal.change.Origin.{Origin}
+use Rattle.jc_engine.specs.Recording.{blank, blank_of}
 use Rattle.jc_shared.specs.Calls.{IsSameCall}
 use Rattle.jc_shared.specs.Sessions.{Sitting}
 use Rattle.jc_shared.proofs.Carrying.{begun_same, same_call, added_ok, added_err, not_accepted, told_or_gone, unaccepted_fails}
@@ -11,8 +12,8 @@ use Rattle.jc_shared.proofs.session.Session.make.Goals as goal
 pub returns-clause-ok : goal.returns-clause-ok
 returns-clause-ok g c =
     let e = c.carry_on-replied.new.draft in
-    let draft = c.draft_of-draft.result in
-    let is : draft ≡ blank c.self.inside.number c.args.id c.args.now c.args.call = c.draft_of-draft.ensures ∙ ap (blank c.self.inside.number c.args.id c.args.now) c.in-Ok.ensures.copy in
+    let draft = c.blank-draft.result in
+    let is : draft ≡ blank c.self.inside.number c.args.id c.args.now c.args.call = c.blank-draft.ensures ∙ ap (λ (o : Origin). blank_of o c.in-Ok.copy) c.origin.ensures ∙ ap (blank c.self.inside.number c.args.id c.args.now) c.in-Ok.ensures.copy in
     let same : IsSameCall draft e = same_call draft c.begin-begun.new.draft e (begun_same g.N.Name.configs draft c.begin-begun.new.draft c.begin-begun.new.pass c.in-Ok-Need.field-0 c.in-Ok-Need.ensures.ok) c.carry_on-replied.ensures.same in
     let added : g.J.Own.OwnCalls.calls c.push-2.new.self ≡ g.J.Own.OwnCalls.calls c.self.inside.own ++ e ∷ [] = c.push-2.ensures ∙ ap (λ (es : List Entry). es ++ e ∷ []) c.copy_for-copied.ensures.same in
     rw (← c.self.view_is)
@@ -22,8 +23,8 @@ returns-clause-ok g c =
 pub returns-clause-err : goal.returns-clause-err
 returns-clause-err g c =
     let e = c.carry_on-replied.new.draft in
-    let draft = c.draft_of-draft.result in
-    let is : draft ≡ blank c.self.inside.number c.args.id c.args.now c.args.call = c.draft_of-draft.ensures ∙ ap (blank c.self.inside.number c.args.id c.args.now) c.in-Ok.ensures.copy in
+    let draft = c.blank-draft.result in
+    let is : draft ≡ blank c.self.inside.number c.args.id c.args.now c.args.call = c.blank-draft.ensures ∙ ap (λ (o : Origin). blank_of o c.in-Ok.copy) c.origin.ensures ∙ ap (blank c.self.inside.number c.args.id c.args.now) c.in-Ok.ensures.copy in
     let same : IsSameCall draft e = same_call draft c.begin-begun.new.draft e (begun_same g.N.Name.configs draft c.begin-begun.new.draft c.begin-begun.new.pass c.in-Ok-Need.field-0 c.in-Ok-Need.ensures.ok) c.carry_on-replied.ensures.same in
     let added : g.J.Own.OwnCalls.calls c.push-2.new.self ≡ g.J.Own.OwnCalls.calls c.self.inside.own ++ e ∷ [] = c.push-2.ensures ∙ ap (λ (es : List Entry). es ++ e ∷ []) c.copy_for-copied.ensures.same in
     rw (← c.self.view_is)
