@@ -108,7 +108,10 @@ fn outcome(replied: Result<Reply, CallFault>) -> Result<(), WorkFault>
     ensures fault { IfErr replied (λ fault. result ≡ Err (call_work_fault fault)) }
 {
     match replied {
-        Ok(_) => Ok(()),
+        Ok(reply) => {
+            drop(reply);
+            Ok(())
+        }
         Err(fault) => Err(WorkFault::from(fault)),
     }
 }
@@ -213,9 +216,14 @@ pub(crate) fn work<'a, N: Name, L: Loader, W: Writer, P: Processor, K: Hearer, G
         mut sessions,
         lines,
     } = worker;
-    make_all(rt, gate, workers, sessions.as_mut_slice(), lines)?;
-    Ok(Worker {
-        sessions,
-        lines: Batches::new(alloc),
-    })
+    match make_all(rt, gate, workers, sessions.as_mut_slice(), lines) {
+        Ok(()) => Ok(Worker {
+            sessions,
+            lines: Batches::new(alloc),
+        }),
+        Err(fault) => {
+            drop(sessions);
+            Err(fault)
+        }
+    }
 }

@@ -28,8 +28,14 @@ fn create<R: Rows, G: Ring>(
 {
     match recorded.create(config) {
         Ok(_) => Ok(None),
-        Err((CreateRefusal::OutOfMemory, _)) => Err(RunFault::Memory),
-        Err((refusal, _)) => Ok(Some(refusal)),
+        Err((CreateRefusal::OutOfMemory, config)) => {
+            drop(config);
+            Err(RunFault::Memory)
+        }
+        Err((refusal, config)) => {
+            drop(config);
+            Ok(Some(refusal))
+        }
     }
 }
 

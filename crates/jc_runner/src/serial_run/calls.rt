@@ -29,8 +29,14 @@ fn begin<R: Rows, G: Ring>(recorded: &mut Recorded<R, G>, line: LineCall) -> Res
         call,
     } = line;
     match recorded.begin(session, id, at, call) {
-        Ok((step, _)) => Ok(step),
-        Err((Cause::OutOfMemory, _)) => Err(RunFault::Memory),
+        Ok((step, copy)) => {
+            drop(copy);
+            Ok(step)
+        }
+        Err((Cause::OutOfMemory, call)) => {
+            drop(call);
+            Err(RunFault::Memory)
+        }
         Err(_) => unreachable!(),
     }
 }
@@ -46,8 +52,14 @@ fn resume<R: Rows, G: Ring>(
     ensures faults { IfErr result (λ e. e ≡ faults.Memory) }
 {
     match recorded.resume(id, answer) {
-        Ok((step, _)) => Ok(step),
-        Err((Cause::OutOfMemory, _)) => Err(RunFault::Memory),
+        Ok((step, copy)) => {
+            drop(copy);
+            Ok(step)
+        }
+        Err((Cause::OutOfMemory, answer)) => {
+            drop(answer);
+            Err(RunFault::Memory)
+        }
         Err(_) => unreachable!(),
     }
 }
