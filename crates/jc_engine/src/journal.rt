@@ -68,7 +68,7 @@ pub trait Journal: Drop {
         ensures places { KeepsAll (places self.old) (places self.new) };
 
     /// Makes room for a call that is about to begin. Where memory is refused it is handed back, and nothing has changed.
-    fn enter(&mut self, origin: Origin, call: Call) -> Result<Self::Held, Call>
+    fn enter(&mut self, alloc: Global, origin: Origin, call: Call) -> Result<Self::Held, Call>
         ensures entered { IfOk result (λ held.
             Enters (history self.old) self.new held (blank_of origin call)) }
         ensures places { KeepsAll (places self.old) (places self.new) }

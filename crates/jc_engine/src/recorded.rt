@@ -42,6 +42,7 @@ use std::marker::Model;
 /// the journal tells, whatever it keeps of it in memory.
 #[derive(Drop)]
 pub struct Recorded<R: Rows, G: Ring, J: Journal = AllCalls> {
+    pub(crate) alloc: Global,
     pub(crate) engine: Engine<R, G>,
     pub(crate) journal: J,
 }
@@ -119,7 +120,11 @@ impl<R: Rows, G: Ring, J: Journal> Recorded<R, G, J> {
         }
         let journal = first_lives(alloc, &configs, first)?;
         let engine = Engine::open_from(alloc, rows, configs, first)?;
-        Ok(Recorded { engine, journal })
+        Ok(Recorded {
+            alloc,
+            engine,
+            journal,
+        })
     }
 
     /// The id of the live cache with this name.
@@ -231,7 +236,7 @@ impl<R: Rows, G: Ring, J: Journal> Recorded<R, G, J> {
             id,
             at: now,
         };
-        let held = match self.journal.enter(origin, call) {
+        let held = match self.journal.enter(self.alloc, origin, call) {
             Ok(held) => held,
             Err(call) => return Err((self.engine.begin_refusal_without_memory(id, &call), call)),
         };
@@ -358,7 +363,11 @@ impl<R: Rows, G: Ring> Recorded<R, G> {
         ensures value { result ≡ self.transcript }
         ensures legal { IsLegal result }
     {
-        let Recorded { engine, journal } = self;
+        let Recorded {
+            engine,
+            journal,
+            ..
+        } = self;
         drop(engine);
         journal.transcript
     }

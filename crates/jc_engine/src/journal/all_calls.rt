@@ -83,11 +83,11 @@ impl Journal for AllCalls {
         false
     }
 
-    fn enter(&mut self, origin: Origin, call: Call) -> Result<(), Call> {
+    fn enter(&mut self, alloc: Global, origin: Origin, call: Call) -> Result<(), Call> {
         if self.places.reserve(1).is_err() {
             return Err(call);
         }
-        match self.transcript.push(blank(self.alloc, origin, call)) {
+        match self.transcript.push(blank(alloc, origin, call)) {
             Ok(()) => Ok(()),
             Err(entry) => Err(entry.call),
         }

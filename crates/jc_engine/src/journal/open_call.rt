@@ -15,7 +15,6 @@ use jc_model::event::{End, Entry, Step};
 use jc_model::list::Sequence;
 use jc_model::share::Share;
 use jc_state::notices::Notices;
-use std::alloc::Global;
 
 /// The entry of an open call, and how many calls had begun before it.
 #[derive(Drop)]
@@ -64,11 +63,7 @@ pub(crate) fn write_outcome(entry: &mut Entry, advance: Advance) -> (Step, Optio
 }
 
 /// Writes into an entry that its call was given up. The result is the notices that are left.
-pub(crate) fn write_given_up(
-    alloc: Global,
-    entry: &mut Entry,
-    left: Option<Notices>,
-) -> Sequence<Notice>
+pub(crate) fn write_given_up(entry: &mut Entry, left: Option<Notices>) -> Sequence<Notice>
     ensures left { result ≡ left_in left }
     ensures written { (IsSome left → entry.old.told ≡ [])
         → entry.new ≡ with_give_up left entry.old }
@@ -80,6 +75,6 @@ pub(crate) fn write_given_up(
             entry.told = kept;
             notices
         }
-        None => Sequence::new(Vec::new(alloc)),
+        None => Sequence::new(entry.told.empty()),
     }
 }

@@ -26,6 +26,7 @@ use std::collections::HashMap;
 /// A call that is about to begin.
 #[derive(Drop)]
 pub struct Beginning {
+    alloc: Global,
     origin: Origin,
     call: Call,
 }
@@ -33,7 +34,6 @@ pub struct Beginning {
 /// By cache its open call. Of all others memory has a number alone.
 #[derive(Drop)]
 pub struct OpenCalls {
-    alloc: Global,
     past: Past,
     /// How many calls have begun.
     begun: usize,
@@ -67,9 +67,13 @@ impl OpenCalls {
         ensures places { KeepsLast (places_in self.old.waiting) held.origin.id
             self.old.past.history advance (places_in self.new.waiting) }
     {
-        let Beginning { origin, call } = held;
+        let Beginning {
+            alloc,
+            origin,
+            call,
+        } = held;
         let id = origin.id;
-        let mut entry = blank(self.alloc, origin, call);
+        let mut entry = blank(alloc, origin, call);
         let shown = write_outcome(&mut entry, advance);
         self.past.push(&entry);
         let place = self.begun;
@@ -132,7 +136,6 @@ impl Journal for OpenCalls {
 
     fn new(alloc: Global) -> OpenCalls {
         OpenCalls {
-            alloc,
             past: Past::new(),
             begun: 0,
             waiting: HashMap::new(alloc),
@@ -159,11 +162,15 @@ impl Journal for OpenCalls {
         true
     }
 
-    fn enter(&mut self, origin: Origin, call: Call) -> Result<Beginning, Call> {
+    fn enter(&mut self, alloc: Global, origin: Origin, call: Call) -> Result<Beginning, Call> {
         if !self.notes() || self.waiting.reserve(1).is_err() {
             return Err(call);
         }
-        Ok(Beginning { origin, call })
+        Ok(Beginning {
+            alloc,
+            origin,
+            call,
+        })
     }
 
     fn call<'a>(&'a self, held: &'a Beginning) -> &'a Call {
@@ -223,7 +230,7 @@ impl Journal for OpenCalls {
         let Some(mut call) = self.waiting.remove(&number) else {
             unreachable!()
         };
-        let left = write_given_up(self.alloc, &mut call.entry, left);
+        let left = write_given_up(&mut call.entry, left);
         self.past.set(call.place, &call.entry);
         drop(call);
         left

@@ -16,6 +16,7 @@ impl<R: Rows, G: Ring, J: Journal> Recorded<R, G, J> {
         ensures { result ≡ self }
     {
         Recorded {
+            alloc: self.alloc,
             engine: self.engine.over(rows),
             journal: self.journal,
         }
