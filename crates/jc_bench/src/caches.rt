@@ -58,19 +58,27 @@ pub fn opened<J: Keeping>(alloc: Global, caches: u32) -> Result<Unnamed<J>, Faul
 /// Two of them, between which so many caches are dealt out.
 pub fn opened_two<J: Keeping>(alloc: Global, caches: u32) -> Result<Unnamed2<J>, Fault> {
     let each = caches.div_ceil(2);
-    Ok(Unnamed2 {
-        first: opened(alloc, each)?,
-        second: opened(alloc, each)?,
-    })
+    let first = opened(alloc, each)?;
+    match opened(alloc, each) {
+        Ok(second) => Ok(Unnamed2 { first, second }),
+        Err(fault) => {
+            drop(first);
+            Err(fault)
+        }
+    }
 }
 
 /// Two times two of them, between which so many caches are dealt out.
 pub fn opened_four<J: Keeping>(alloc: Global, caches: u32) -> Result<Unnamed4<J>, Fault> {
     let each = caches.div_ceil(2);
-    Ok(Unnamed4 {
-        left: opened_two(alloc, each)?,
-        right: opened_two(alloc, each)?,
-    })
+    let left = opened_two(alloc, each)?;
+    match opened_two(alloc, each) {
+        Ok(right) => Ok(Unnamed4 { left, right }),
+        Err(fault) => {
+            drop(left);
+            Err(fault)
+        }
+    }
 }
 
 /// The keys with this front and the numbers from 0 on.
@@ -92,7 +100,7 @@ pub fn put<C: Caches, R: Wait>(
     key: &Key,
 ) -> Result<(), Fault> {
     let value = Value::new(alloc, b"v".to_vec(alloc)?)?;
-    seat.call(rt, cache, 0, Call::Put(*key, value))?;
+    drop(seat.call(rt, cache, 0, Call::Put(*key, value))?);
     Ok(())
 }
 

@@ -34,7 +34,9 @@ where
     requires index { unnamed.index ≡ N.index }
 {
     let manager = unnamed.named::<N>();
-    time_threads(rt, alloc, &One { manager: &manager }, kind, size)
+    let done = time_threads(rt, alloc, &One { manager: &manager }, kind, size);
+    manager.discard();
+    done
 }
 
 /// The same, under a name that this call picks.
@@ -105,7 +107,10 @@ where
     let Unnamed2 { first, second } = unnamed;
     let (first, second) = (first.named::<A>(), second.named::<B>());
     let two = (&One { manager: &first }, &One { manager: &second });
-    time_beside(rt, alloc, pair, two, kind, size)
+    let done = time_beside(rt, alloc, pair, two, kind, size);
+    first.discard();
+    second.discard();
+    done
 }
 
 /// The same, under names that this call picks.
@@ -185,7 +190,10 @@ where
     let Unnamed2 { first, second } = unnamed;
     let (first, second) = (first.named::<A>(), second.named::<B>());
     let two = (&One { manager: &first }, &One { manager: &second });
-    time_two(rt, alloc, two, others, kind, size)
+    let done = time_two(rt, alloc, two, others, kind, size);
+    first.discard();
+    second.discard();
+    done
 }
 
 /// The same over managers that keep their open calls alone, under names that this call picks.

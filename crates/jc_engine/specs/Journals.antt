@@ -51,10 +51,10 @@ Puts old number value new = (other : ℕ) → new other ≡ (if nat_eq number ot
 
 -- A call that is about to begin: a journal knows over which history, and with which entry.
 
--- it is on this cache, and can come to this
-abbrev pub CanBegin : (History → Entry → Type 0) → ℕ → Advance → Type 0
-CanBegin Enters id advance =
-    (h : History) × (entry : Entry) × Enters h entry × (entry.id ≡ id) × (entry.end ≡ Waiting) × CanTell advance entry
+-- it can come to this
+abbrev pub CanBegin : (History → Entry → Type 0) → Advance → Type 0
+CanBegin Enters advance =
+    (h : History) × (entry : Entry) × Enters h entry × (entry.end ≡ Waiting) × CanTell advance entry
 
 -- it does not begin: it is handed back, and the history is what it was
 abbrev pub TakesBack : (History → Entry → Type 0) → Call → History → Type 0
@@ -66,8 +66,8 @@ BeginsEntry Enters advance new =
     (h : History) (entry : Entry) → Enters h entry → entry.end ≡ Waiting → CanTell advance entry → new ≡ with_entry (with_advance advance entry) h
 
 -- its place is kept where it goes on
-abbrev pub KeepsBegun : (History → Entry → Type 0) → (ℕ → Option ℕ) → ℕ → Advance → (ℕ → Option ℕ) → Type 0
-KeepsBegun Enters old id advance new = (h : History) (entry : Entry) → Enters h entry → KeepsLast old id h advance new
+abbrev pub KeepsBegun : (History → Entry → Type 0) → (ℕ → Option ℕ) → Advance → (ℕ → Option ℕ) → Type 0
+KeepsBegun Enters old advance new = (h : History) (entry : Entry) → Enters h entry → KeepsLast old entry.id h advance new
 
 -- The entry that is kept of a cache's open call.
 

@@ -87,12 +87,12 @@ pub trait Journal: Drop {
         ensures places { KeepsAll (places self.old) (places self.new) };
 
     /// The call has begun, and come to this. The result is what the caller is shown, and a copy of the reply.
-    fn begin(&mut self, id: CacheId, held: Self::Held, advance: Advance) -> (Step, Option<Reply>)
-        requires { CanBegin (λ h e. Enters h self.old held e) id advance }
+    fn begin(&mut self, held: Self::Held, advance: Advance) -> (Step, Option<Reply>)
+        requires { CanBegin (λ h e. Enters h self.old held e) advance }
         ensures shown { result.0 ≡ step_of advance }
         ensures copy { result.1 ≡ reply_in result.0 }
         ensures noted { BeginsEntry (λ h e. Enters h self.old held e) advance (history self.new) }
-        ensures places { KeepsBegun (λ h e. Enters h self.old held e) (places self.old) id advance
+        ensures places { KeepsBegun (λ h e. Enters h self.old held e) (places self.old) advance
             (places self.new) };
 
     /// Adds an answer to the entry of a cache's open call. Where memory is refused nothing has changed.

@@ -88,13 +88,15 @@ impl<R: Rows, G: Ring> Engine<R, G> {
         ensures opened { IfOk result (λ engine. engine ≡ fresh_from first configs.items) }
     {
         if let Some(refusal) = open_refusal_from(alloc, &configs, first) {
+            drop((rows, configs));
             return Err(refusal);
         }
         let mut engine = Engine::vacant(alloc, rows, first)?;
         for config in configs {
-            let Ok(_) = engine.admit(config) else {
+            if let Err(config) = engine.admit(config) {
+                drop((engine, config));
                 return Err(OpenRefusal::OutOfMemory);
-            };
+            }
         }
         Ok(engine)
     }

@@ -245,10 +245,10 @@ impl<R: Rows, G: Ring, J: Journal> Recorded<R, G, J> {
             .get_at_once::<Copies<Value>>(id, now, self.journal.call(&held));
         if let Some(value) = at_once {
             let replied = Advance::Replied(found(value));
-            return Ok(self.journal.begin(id, held, replied));
+            return Ok(self.journal.begin(held, replied));
         }
         match self.engine.start(id, now, self.journal.call(&held)) {
-            Ok(advance) => Ok(self.journal.begin(id, held, advance)),
+            Ok(advance) => Ok(self.journal.begin(held, advance)),
             Err(cause) => Err((cause, self.journal.take_back(held))),
         }
     }

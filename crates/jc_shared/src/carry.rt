@@ -129,11 +129,11 @@ impl<N: Name, L: Loader, W: Writer, P: Processor, K: Hearer, J: Keeping> Manager
         match resumed {
             Ok(step) => Ok(step),
             Err(AnswerFault::OutOfMemory) => {
-                take_back(draft);
+                drop(take_back(draft));
                 Err(self.give_up(rt, hooks, draft, pass))
             }
             Err(_) => {
-                take_back(draft);
+                drop(take_back(draft));
                 Err(CallFault::Overtaken)
             }
         }

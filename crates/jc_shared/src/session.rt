@@ -31,6 +31,7 @@ use jc_model::event::{CacheId, Entry, Step};
 use jc_model::key::Key;
 use jc_model::share::Share;
 use std::marker::Model;
+use std::mem;
 use std::sync::Wait;
 
 /// A session of a manager, with the entries of its own calls, and a pass, in which it looks keys up. Contracts see its
@@ -286,7 +287,7 @@ impl<'a, N: Name, L: Loader, W: Writer, P: Processor, K: Hearer, J: Keeping> Ses
             Err((fault, config)) => return Err((fault, config, hooks)),
         };
         let Ok(lock) = room else { unreachable!() };
-        *lock.lock(rt) = OwnHooks::of(hooks);
+        drop(mem::replace(&mut *lock.lock(rt), OwnHooks::of(hooks)));
         directory.enter(id, lock);
         Ok(id)
     }
@@ -329,7 +330,7 @@ impl<'a, N: Name, L: Loader, W: Writer, P: Processor, K: Hearer, J: Keeping> Ses
         };
         let mut hooks = lock.lock(rt);
         manager.locked.lock(rt).destroy(id, &mut self.pass)?;
-        *hooks = LockedHooks::none(manager.alloc);
+        drop(mem::replace(&mut *hooks, LockedHooks::none(manager.alloc)));
         Ok(())
     }
 

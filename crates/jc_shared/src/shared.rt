@@ -93,10 +93,10 @@ fn open_parts<L: Loader, W: Writer, P: Processor, K: Hearer, J: Keeping>(
     ensures configs { IfOk result (λ s. s.configs ≡ configs.items) }
     ensures shared { IfOk result (λ s. s.shared ≡ map shared_of hooks.items) }
 {
+    let hooks = apart(alloc, hooks)?;
+    let table = BlankTable::new(alloc, seed)?;
     let second = copies(alloc, configs.as_slice())?;
     let recorded = open_recorded(alloc, second)?;
-    let table = BlankTable::new(alloc, seed)?;
-    let hooks = apart(alloc, hooks)?;
     Ok(Shared {
         alloc,
         configs,

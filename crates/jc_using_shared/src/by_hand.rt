@@ -24,8 +24,14 @@ fn begin<N: Name, R: Wait>(
 ) -> Result<PendingCall<N>, Fault> {
     match seat.begin(rt, user_cache(), 2, Call::Get(name)) {
         Ok(Progress::Waits(pending)) => Ok(pending),
-        Ok(Progress::Replied(_)) => Err(Fault::Unexpected),
-        Err((fault, _)) => Err(Fault::Call(fault)),
+        Ok(Progress::Replied(reply)) => {
+            drop(reply);
+            Err(Fault::Unexpected)
+        }
+        Err((fault, call)) => {
+            drop(call);
+            Err(Fault::Call(fault))
+        }
     }
 }
 
@@ -39,7 +45,10 @@ fn resume<N: Name, R: Wait>(
     match seat.resume(rt, pending, answer) {
         Ok(Progress::Replied(reply)) => Ok(reply),
         Ok(Progress::Waits(pending)) => Err(pending),
-        Err((_, pending, _)) => Err(pending),
+        Err((_, pending, answer)) => {
+            drop(answer);
+            Err(pending)
+        }
     }
 }
 
@@ -52,13 +61,14 @@ fn meets_busy<N: Name, R: Wait>(
     name: Key,
 ) -> bool {
     let mut client = Client { rt, alloc, queries };
-    match store.session(rt) {
-        Ok(mut seat) => match call(&mut seat, &mut client, 2, Call::Get(name)) {
-            Err(Fault::Call(CallFault::Busy)) => true,
-            _ => false,
-        },
-        Err(_) => false,
-    }
+    let Ok(mut seat) = store.session(rt) else {
+        return false;
+    };
+    let got = call(&mut seat, &mut client, 2, Call::Get(name));
+    drop(seat);
+    let busy = matches!(&got, Err(Fault::Call(CallFault::Busy)));
+    drop(got);
+    busy
 }
 
 /// The database's answer for a user, and whether a session of another thread finds the cache busy meanwhile.
@@ -103,10 +113,11 @@ pub fn get_by_hand<N: Name + Send + Sync, R: Threads + Wait + Print + Sync>(
     let reply = match resume(rt, &mut seat, pending, with_note(loaded, note)) {
         Ok(reply) => reply,
         Err(pending) => {
-            seat.give_up(rt, pending)?;
+            drop(seat.give_up(rt, pending)?);
             return Err(Fault::Unexpected);
         }
     };
+    drop(seat);
     println!(rt;
         "eve: {}, busy meanwhile: {busy}",
         reply_text(alloc, &reply)?

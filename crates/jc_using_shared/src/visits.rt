@@ -24,16 +24,14 @@ fn visit<N: Name, R: Wait>(
     queries: &Sender<Query>,
     number: usize,
 ) -> Result<Reply, Fault> {
+    let name = format!(in alloc; "user-{number}")?;
+    let user = Key::from_text(name.as_str())?;
+    let ann = Key::from_text("ann")?;
+    let note = Value::from_text(alloc, "was here")?;
     let mut seat = store.session(rt)?;
     let mut client = Client { rt, alloc, queries };
-    let name = format!(in alloc; "user-{number}")?;
-    let put = Call::Put(
-        Key::from_text(name.as_str())?,
-        Value::from_text(alloc, "was here")?,
-    );
-    call(&mut seat, &mut client, 0, put)?;
-    let get = Call::Get(Key::from_text("ann")?);
-    call(&mut seat, &mut client, 0, get)
+    drop(call(&mut seat, &mut client, 0, Call::Put(user, note))?);
+    call(&mut seat, &mut client, 0, Call::Get(ann))
 }
 
 /// Four threads visit the store at once. What each of them got is printed.
@@ -62,18 +60,20 @@ pub fn refuse<N: Name, R: Wait + Print>(
     store: &Store<N>,
     queries: &Sender<Query>,
 ) -> Result<(), Fault> {
+    let bob = Key::from_text("bob")?;
+    let third = Key::from_text("user-3")?;
+    let note = Value::from_text(alloc, "")?;
     let mut seat = store.session(rt)?;
     let mut client = Client { rt, alloc, queries };
-    let bob = Key::from_text("bob")?;
-    let put = Call::Put(bob, Value::from_text(alloc, "")?);
-    let put = call(&mut seat, &mut client, 1, put)?;
+    let put = call(&mut seat, &mut client, 1, Call::Put(bob, note))?;
     let contains = call(&mut seat, &mut client, 1, Call::Contains(bob))?;
+    let known = seat.contains_key(user_cache(), &third, 2);
+    drop(seat);
     println!(rt;
         "bob, without a note: {}, then {}",
         reply_text(alloc, &put)?,
         reply_text(alloc, &contains)?
     )?;
-    let known = seat.contains_key(user_cache(), &Key::from_text("user-3")?, 2);
     println!(rt; "user-3, beside the lock: {}", known == Lookup::Sure(true))?;
     Ok(())
 }

@@ -107,8 +107,10 @@ impl Journal for AllCalls {
         }
     }
 
-    fn begin(&mut self, id: CacheId, _held: (), advance: Advance) -> (Step, Option<Reply>) {
-        let place = self.transcript.entries().len() - 1;
+    fn begin(&mut self, _held: (), advance: Advance) -> (Step, Option<Reply>) {
+        let entries = self.transcript.entries();
+        let place = entries.len() - 1;
+        let id = entries[place].id;
         let replied = advance.is_replied();
         let shown = note(&mut self.transcript, place, advance);
         if !replied {

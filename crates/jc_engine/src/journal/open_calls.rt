@@ -182,7 +182,7 @@ impl Journal for OpenCalls {
     }
 
     #[inline(always)]
-    fn begin(&mut self, _id: CacheId, held: Beginning, advance: Advance) -> (Step, Option<Reply>) {
+    fn begin(&mut self, held: Beginning, advance: Advance) -> (Step, Option<Reply>) {
         match advance {
             Advance::Replied(reply) => {
                 self.push_replied(Begun::of(held.origin, &held.call), reply.first());

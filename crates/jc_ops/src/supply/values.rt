@@ -174,14 +174,15 @@ impl Values {
         ensures { IfOk result (λ s. CoversAnswerIn visit.now step.entry.now answer.now s) }
     {
         let config = visit.config();
+        let loaded = step.loaded();
         match answer {
             Answer::Written => match step.verdict() {
                 None => Values::for_call(visit, row, step.call(), false),
-                Some(verdict) => Values::judged(config, step.loaded(), verdict, false),
+                Some(verdict) => Values::judged(config, loaded, verdict, false),
             },
-            Answer::Loaded(loaded) => { Values::loaded(config, &step.call().op, loaded.as_ref()) }
+            Answer::Loaded(value) => Values::loaded(config, &step.call().op, value.as_ref()),
             Answer::Processed(judged) => match judged {
-                Ok(verdict) => { Values::judged(config, step.loaded(), verdict, config.writer) }
+                Ok(verdict) => Values::judged(config, loaded, verdict, config.writer),
                 Err(_) => Ok(Values::nothing()),
             },
             _ => Ok(Values::nothing()),
