@@ -24,7 +24,7 @@ use Rattle.jc_model.specs.State.{State}
 use Rattle.jc_model.specs.Run.{Run, ended, waiting, answered, fits, awaited_by}
 use Rattle.jc_model.specs.Whole.{whole}
 use Rattle.jc_model.specs.Runs.{Standing, idle, busy, Status, Lives, CacheEvent, on_cache, begins as begins_with, answers as given_answer, gives_up, has_processor, standing_of, shown, reply_of, is_refused, refuse_last, for_memory, answer_of, answer_to, moved, put_moved, lives_by, lives_after}
-use Rattle.jc_model.specs.Legal.{played, History, IsLegal, Tells, config_of, numbered_lives, entries_of, on_open, lives_with, accepted_in, recorded, with_outcome, with_answer}
+use Rattle.jc_model.specs.Legal.{History, IsLegal, Tells, config_of, numbered_lives, entries_of, on_open, lives_with, accepted_in, recorded, with_outcome, with_answer}
 use Rattle.jc_model.specs.Everywhere.{AtEach}
 use Rattle.jc_model.proofs.Everywhere.{at_each-answered}
 use Rattle.jc_model.specs.declared.event.Life.{Life}
