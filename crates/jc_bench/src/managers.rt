@@ -106,8 +106,14 @@ where
 {
     let Unnamed2 { first, second } = unnamed;
     let (first, second) = (first.named::<A>(), second.named::<B>());
-    let two = (&One { manager: &first }, &One { manager: &second });
-    let done = time_beside(rt, alloc, pair, two, kind, size);
+    let done = time_beside(
+        rt,
+        alloc,
+        pair,
+        (&One { manager: &first }, &One { manager: &second }),
+        kind,
+        size,
+    );
     first.discard();
     second.discard();
     done
@@ -189,8 +195,14 @@ where
 {
     let Unnamed2 { first, second } = unnamed;
     let (first, second) = (first.named::<A>(), second.named::<B>());
-    let two = (&One { manager: &first }, &One { manager: &second });
-    let done = time_two(rt, alloc, two, others, kind, size);
+    let done = time_two(
+        rt,
+        alloc,
+        (&One { manager: &first }, &One { manager: &second }),
+        others,
+        kind,
+        size,
+    );
     first.discard();
     second.discard();
     done
