@@ -5,10 +5,11 @@ use std::sync::{Mutex, MutexGuard, Wait};
 use std::time::Duration;
 
 /// How many threads in a row find the lock held before one of them stays away.
-const CROWD: u64 = 4;
+const CROWD: u64 = 16;
 
-/// For how long it stays away, in microseconds.
-const AWAY: u64 = 100;
+/// For how long it stays away, in microseconds: about a time slice of an operating system, in which those that are left
+/// make tens of thousands of calls.
+const AWAY: u64 = 10_000;
 
 /// How often a thread that found the lock held tries again before it lets itself be put to sleep.
 const TRIES: u32 = 40;
@@ -21,8 +22,8 @@ const PAUSE: u32 = 8;
 /// short intervals.
 ///
 /// Where threads find it held again and again they are too many for it, and each change of hands moves what the lock
-/// guards to another processor. Then one of them stays away for a time that is much longer than a call, and those that
-/// are left make many calls each.
+/// guards to another processor. Then one of them stays away for so long that this is next to nothing beside the calls
+/// which those that are left make meanwhile.
 #[derive(Drop)]
 pub(crate) struct BriefLock<T> {
     mutex: Mutex<T>,
