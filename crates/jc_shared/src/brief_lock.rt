@@ -7,9 +7,15 @@ use std::time::Duration;
 /// How many threads in a row find the lock held before one of them stays away.
 const CROWD: u64 = 16;
 
-/// For how long it stays away, in microseconds: about a time slice of an operating system, in which those that are left
-/// make tens of thousands of calls.
-const AWAY: u64 = 10_000;
+/// How often it looks, while it stays away, whether the others have gone.
+const SLICES: u32 = 50;
+
+/// How long it sleeps between two looks, in microseconds. All of them together are about a time slice of an operating
+/// system, in which those that are left make tens of thousands of calls.
+const SLICE: u64 = 200;
+
+/// How often in a row the lock is free where the others have gone.
+const LOOKS: u32 = 8;
 
 /// How often a thread that found the lock held tries again before it lets itself be put to sleep.
 const TRIES: u32 = 40;
@@ -23,7 +29,7 @@ const PAUSE: u32 = 8;
 ///
 /// Where threads find it held again and again they are too many for it, and each change of hands moves what the lock
 /// guards to another processor. Then one of them stays away for so long that this is next to nothing beside the calls
-/// which those that are left make meanwhile.
+/// which those that are left make meanwhile, unless they go.
 #[derive(Drop)]
 pub(crate) struct BriefLock<T> {
     mutex: Mutex<T>,
@@ -31,6 +37,13 @@ pub(crate) struct BriefLock<T> {
     crowd: AtomicU64,
     /// Always zero: a thread that stays away sleeps on it, and no one wakes it.
     away: AtomicU64,
+}
+
+/// Lets the time between two tries go by.
+fn pause() {
+    for _ in 0..PAUSE {
+        spin_loop();
+    }
 }
 
 impl<T> BriefLock<T> {
@@ -65,11 +78,29 @@ impl<T> BriefLock<T> {
         }
     }
 
+    /// Whether the lock is free, and stays so for a moment.
+    fn is_idle(&self) -> bool {
+        for _ in 0..LOOKS {
+            match self.try_lock() {
+                Some(guard) => drop(guard),
+                None => return false,
+            }
+            pause();
+        }
+        true
+    }
+
     /// Stays away for a while where threads find the lock held again and again.
     fn give_way<R: Wait>(&self, rt: &R) {
-        if self.crowd.fetch_add(1, Ordering::SeqCst) >= CROWD - 1 {
-            self.crowd.store(0, Ordering::SeqCst);
-            self.away.park_timeout(rt, 0, Duration::from_micros(AWAY));
+        if self.crowd.fetch_add(1, Ordering::SeqCst) < CROWD - 1 {
+            return;
+        }
+        self.crowd.store(0, Ordering::SeqCst);
+        for _ in 0..SLICES {
+            self.away.park_timeout(rt, 0, Duration::from_micros(SLICE));
+            if self.is_idle() {
+                return;
+            }
         }
     }
 
@@ -81,9 +112,7 @@ impl<T> BriefLock<T> {
             if let Some(guard) = self.try_lock() {
                 return guard;
             }
-            for _ in 0..PAUSE {
-                spin_loop();
-            }
+            pause();
         }
         self.mutex.lock(rt)
     }
