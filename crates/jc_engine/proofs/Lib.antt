@@ -14,6 +14,3 @@ pub mod Watching
 pub mod Vacant
 pub mod Coming
 pub mod Listed
-pub mod Entries
-pub mod Opens
-pub mod Recordings

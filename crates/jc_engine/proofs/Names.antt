@@ -56,7 +56,6 @@ pub use Rattle.jc_engine.specs.Caches.{Cache, expiry_in, fresh_cache, fresh_from
 pub use Rattle.jc_engine.specs.Fresh.{AreNames, MayCome, fresh_slot}
 pub use Rattle.jc_engine.specs.Managed.{Abandons, FitsTurn, IsManaged, LeavesNotices, Moves, NeverTells, Settled, WaitsThere, cache_in, is_step, is_telling, notices_in, step_of, tells, turn_in}
 pub use Rattle.jc_engine.specs.Opening.{capacities, is_taken, names_in, open_refusal, open_refusal_for, open_refusal_from, refusal_at, refusal_from}
-pub use Rattle.jc_engine.specs.Recording.{CanTell, HasEntry, IsOpenAt, IsRecorded, Recording, blank, left_in, with_entries, with_life}
 pub use Rattle.jc_engine.specs.Sound.{IsAt, IsSound, NoneFrom, caches_in, places_of}
 pub use Rattle.jc_engine.specs.Watching.{ShowsStates, expiry_at, states_of}
 pub use Rattle.jc_model.specs.Refusals.{Member, refusal_beside, member_of, rows_of}

@@ -1,6 +1,6 @@
 -- A function of the numbers, as the list of all numbers given.
 use Rattle.std.proofs.Common.{◌≡◌, ◌≢◌, ℕ, zero, suc, ◌+◌, ◌<◌, ltb, nat_eq, if◌then◌else◌, List, [], ◌∷◌, ◌++◌, length, slice_set, Option, Some, None, inl, inr, refl, sym, ◌∙◌, ap, ap₂, arith}
-pub use Rattle.jc_engine.specs.Journals.{Puts}
+pub use Rattle.jc_engine.specs.Sound.{Puts}
 use Rattle.jc_engine.proofs.Names.{cases_lt, nat_tests, set_at, set-append_left, length_push, at_place, none_before, places_of, NoneFrom}
 
 pub length-places : {A : Type 0} (f : ℕ → Option A) (n : ℕ) → length (places_of f n) ≡ n

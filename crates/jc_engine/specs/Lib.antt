@@ -9,9 +9,4 @@ pub mod Sound
 pub mod Fresh
 pub mod Free
 pub mod Heard
-pub mod Recording
-pub mod Journals
-pub mod Past
-pub mod Changed
-pub mod Opens
 pub mod Watching

@@ -71,6 +71,11 @@ step_of (Replied reply) = Done reply
 step_of (Asked request) = Need request
 step_of (Told notices) = Need (Tell notices.told)
 
+-- whether a call has ended with its reply
+abbrev pub is_replied : Advance → Bool
+is_replied (Replied reply) = true
+is_replied _ = false
+
 abbrev pub is_telling : Wait → Bool
 is_telling (one w) = false
 is_telling (many w) = false

@@ -1,5 +1,5 @@
 -- What is true of a manager's fields.
-use Rattle.std.specs.Prelude.{◌≡◌, ℕ, zero, suc, ◌≤◌, List, [], ◌∷◌, ◌++◌, map, option_map, length}
+use Rattle.std.specs.Prelude.{◌≡◌, ℕ, zero, suc, ◌≤◌, List, [], ◌∷◌, ◌++◌, map, option_map, length, if◌then◌else◌, nat_eq}
 use Rattle.std.specs.Prelude.{Option, Some, None}
 use Rattle.std.specs.FinMap as table
 use Rattle.jc_model.specs.declared.call.Notice.{Notice}
@@ -25,6 +25,10 @@ places_of f (suc n) = places_of f n ++ f n ∷ []
 -- nothing from n on
 abbrev pub NoneFrom : {A : Type 0} → ℕ → (ℕ → Option A) → Type 0
 NoneFrom n f = (k : ℕ) → n ≤ k → f k ≡ None
+
+-- a number has this value now, and the others have what they had
+abbrev pub Puts : {A : Type 0} → (ℕ → Option A) → ℕ → Option A → (ℕ → Option A) → Type 0
+Puts old number value new = (other : ℕ) → new other ≡ (if nat_eq number other then value else old other)
 
 -- the caches at all ids that have been given
 abbrev pub caches_in : (ℕ → Option Slot) → ℕ → List (Option Cache)

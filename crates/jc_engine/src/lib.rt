@@ -1,14 +1,12 @@
-//! The manager of many caches over one table of rows: which calls are open, how they go on, and the transcript.
+//! The manager of many caches over one table of rows: which calls are open, and how they go on.
 #![tactic(auto)]
 
 mod cache;
 pub mod engine;
-pub mod journal;
 mod lives;
 mod moves;
 pub mod open;
 mod over;
-pub mod recorded;
 mod run;
-mod turn;
-pub mod watched;
+pub mod turn;
+mod watched;

@@ -57,14 +57,14 @@ impl<R: Rows, G: Ring> Engine<R, G> {
     }
 
     /// The id that the next cache gets.
-    pub(crate) fn next_id(&self) -> CacheId
+    pub fn next_id(&self) -> CacheId
         ensures { result ≡ length self.now }
     {
         CacheId::new(self.roster.next())
     }
 
     /// Why no cache can be created now, where memory suffices.
-    pub(crate) fn create_refusal(&self, config: &CacheConfig) -> Option<CreateRefusal>
+    pub fn create_refusal(&self, config: &CacheConfig) -> Option<CreateRefusal>
         ensures { result ≡ create_refusal (lives_of self.now) config.now }
     {
         self.roster.refusal(config)

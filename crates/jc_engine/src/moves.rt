@@ -25,7 +25,7 @@ use jc_state::notices::Notices;
 
 impl<R: Rows, G: Ring> Engine<R, G> {
     /// Whether a call is open.
-    pub(crate) fn is_open(&self, id: CacheId) -> bool
+    pub fn is_open(&self, id: CacheId) -> bool
         ensures { result ≡ is_open_in (at_place self.now id) }
     {
         let number = id.number();
@@ -36,7 +36,7 @@ impl<R: Rows, G: Ring> Engine<R, G> {
     }
 
     /// The first cache whose call is open, if any is.
-    pub(crate) fn open_call(&self) -> Option<CacheId>
+    pub fn open_call(&self) -> Option<CacheId>
         ensures none { result ≡ None → (id : ℕ) → is_open_in (at_place self.now id) ≡ false }
         ensures some { IfSome result (λ id. is_open_in (at_place self.now id) ≡ true) }
     {
@@ -50,7 +50,7 @@ impl<R: Rows, G: Ring> Engine<R, G> {
     }
 
     /// Why a call can't begin now, where memory suffices.
-    pub(crate) fn begin_refusal(&self, id: CacheId, call: &Call) -> Option<Cause>
+    pub fn begin_refusal(&self, id: CacheId, call: &Call) -> Option<Cause>
         ensures { (now : ℕ) → IsRefusal self.now (Begin id now call.now) result }
     {
         let number = id.number();
@@ -61,7 +61,7 @@ impl<R: Rows, G: Ring> Engine<R, G> {
     }
 
     /// Why an answer is refused now, where memory suffices.
-    pub(crate) fn resume_refusal(&self, id: CacheId, answer: &Answer) -> Option<Cause>
+    pub fn resume_refusal(&self, id: CacheId, answer: &Answer) -> Option<Cause>
         ensures { IsRefusal self.now (Answered id answer.now) result }
     {
         let number = id.number();
@@ -72,7 +72,7 @@ impl<R: Rows, G: Ring> Engine<R, G> {
     }
 
     /// Why a call does not begin for which memory was refused: what comes before that, or that.
-    pub(crate) fn begin_refusal_without_memory(&self, id: CacheId, call: &Call) -> Cause
+    pub fn begin_refusal_without_memory(&self, id: CacheId, call: &Call) -> Cause
         ensures { (now : ℕ) → IsAnswer self.now (Begin id now call.now) (Refused result) }
     {
         match self.begin_refusal(id, call) {
@@ -82,7 +82,7 @@ impl<R: Rows, G: Ring> Engine<R, G> {
     }
 
     /// What a call answers at once, as a cache's own `get_at_once`; else nothing has changed.
-    pub(crate) fn get_at_once<V: Owned>(
+    pub fn get_at_once<V: Owned>(
         &mut self,
         id: CacheId,
         now: u64,
@@ -109,7 +109,7 @@ impl<R: Rows, G: Ring> Engine<R, G> {
     }
 
     /// Begins a call. Refused as the manager's `begin`, before any change.
-    pub(crate) fn start(&mut self, id: CacheId, now: u64, call: &Call) -> Result<Advance, Cause>
+    pub fn start(&mut self, id: CacheId, now: u64, call: &Call) -> Result<Advance, Cause>
         ensures outcome { IsAnswer self.old (Begin id now call.now) (of_start result) }
         ensures lives { LeadsTo self.old (Begin id now call.now) (of_start result) self.new }
         ensures one { OnOk result (ChangesOne self.old id self.new) }
@@ -126,7 +126,7 @@ impl<R: Rows, G: Ring> Engine<R, G> {
     }
 
     /// Goes on with the open call. Only memory can refuse it, before any change.
-    pub(crate) fn go_on(&mut self, id: CacheId, answer: Answer) -> Result<Advance, Answer>
+    pub fn go_on(&mut self, id: CacheId, answer: Answer) -> Result<Advance, Answer>
         requires { is_step (answer_to (lives_of self.old) (Answered id answer) false) ≡ true }
         ensures outcome { IsAnswer self.old (Answered id answer) (outcome_of result) }
         ensures lives { LeadsTo self.old (Answered id answer) (outcome_of result) self.new }
@@ -144,7 +144,7 @@ impl<R: Rows, G: Ring> Engine<R, G> {
     }
 
     /// Ends the open call without a reply, and hands out the notices that no one was told, if any may be left.
-    pub(crate) fn abandon(&mut self, id: CacheId) -> Result<Option<Notices>, Cause>
+    pub fn abandon(&mut self, id: CacheId) -> Result<Option<Notices>, Cause>
         ensures outcome { IsFreeAnswer self.old (GiveUp id) (of_abandon result) }
         ensures lives { LeadsTo self.old (GiveUp id) (of_abandon result) self.new }
         ensures one { OnOk result (ChangesOne self.old id self.new) }

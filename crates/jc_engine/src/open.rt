@@ -144,7 +144,7 @@ pub fn open_refusal(alloc: Global, configs: &[CacheConfig]) -> Option<OpenRefusa
 }
 
 /// The same, where the first cache gets this id and each further one the next.
-pub(crate) fn open_refusal_from(
+pub fn open_refusal_from(
     alloc: Global,
     configs: &[CacheConfig],
     first: u32,

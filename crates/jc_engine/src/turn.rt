@@ -1,7 +1,6 @@
 //! An open call: for what it waits, and what it has come to.
 ghost use Rattle.std.specs.Prelude.{◌≡◌};
-ghost use Rattle.jc_engine.specs.Journals.{is_replied};
-ghost use Rattle.jc_engine.specs.Managed.{step_of};
+ghost use Rattle.jc_engine.specs.Managed.{is_replied, step_of};
 
 use jc_bulk::waits::Suspended;
 use jc_model::call::{Reply, Request};
@@ -55,7 +54,7 @@ pub enum Advance {
 
 impl Advance {
     /// Whether the call has ended with its reply.
-    pub(crate) fn is_replied(&self) -> bool
+    pub fn is_replied(&self) -> bool
         ensures { result ≡ is_replied self.now }
     {
         matches!(self, Advance::Replied(_))

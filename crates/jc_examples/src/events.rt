@@ -9,7 +9,7 @@ use crate::texts::{asked_text, notices_text};
 use jc_config::{Settings, read_config};
 use jc_cuckoo::cuckoo::Cuckoo;
 use jc_cuckoo::mirror::NoMirror;
-use jc_engine::recorded::Recorded;
+use jc_recorded::recorded::Recorded;
 use jc_model::call::Reply;
 use jc_model::event::{CacheId, Cause, Step};
 use jc_model::key::Key;

@@ -8,7 +8,7 @@ use jc_cuckoo::cuckoo::Cuckoo;
 use jc_cuckoo::mirror::NoMirror;
 use jc_engine::engine::Engine;
 use jc_engine::open::OpenRefusal;
-use jc_engine::recorded::Recorded;
+use jc_recorded::recorded::Recorded;
 use jc_model::call::{Answer, Call, Counts, Notice, Reply};
 use jc_model::config::CacheConfig;
 use jc_model::event::{CacheId, Cause, CreateRefusal, Event, Outcome, Step};

@@ -3,7 +3,7 @@
 use crate::manager::{counts_of, make_journaled, make_plain};
 use crate::trouble::Trouble;
 use jc_engine::engine::Engine;
-use jc_engine::recorded::Recorded;
+use jc_recorded::recorded::Recorded;
 use jc_model::OutOfMemory;
 use jc_model::config::CacheConfig;
 use jc_model::event::{CacheId, Event, Outcome};

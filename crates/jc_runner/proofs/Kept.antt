@@ -6,7 +6,7 @@ use Rattle.jc_model.specs.declared.call.Notice.{Notice}
 use Rattle.jc_model.specs.declared.call.ProcessorFault.{ProcessorFault}
 use Rattle.jc_model.specs.declared.call.Request.{Request}
 use Rattle.jc_model.specs.declared.call.Verdict.{Verdict}
-use Rattle.jc_engine.specs.Recording.{Recording}
+use Rattle.jc_recorded.specs.Recording.{Recording}
 use Rattle.jc_hooks.specs.declared.cache_hooks.CacheHooks.{CacheHooks}
 use Rattle.jc_hooks.specs.declared.loader.Loaded.{Loaded}
 use Rattle.jc_script.specs.declared.line.LineCall.{LineCall}

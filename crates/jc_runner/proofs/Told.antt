@@ -15,7 +15,7 @@ use Rattle.jc_model.specs.Runs.{opened, opened_from, Lives}
 use Rattle.jc_model.specs.Legal.{History, IsLegal, Tells, config_of, entries_of, numbered_lives, at_first}
 use Rattle.jc_model.proofs.Histories.{opened_length, opened_so}
 use Rattle.jc_model.proofs.Recording.{nothing_told}
-use Rattle.jc_engine.specs.Recording.{Recording}
+use Rattle.jc_recorded.specs.Recording.{Recording}
 use Rattle.jc_hooks.specs.declared.cache_hooks.CacheHooks.{CacheHooks}
 use Rattle.jc_hooks.specs.declared.loader.Loaded.{Loaded}
 use Rattle.jc_script.specs.declared.line.Line.{Line}

@@ -32,7 +32,7 @@ use crate::output::{WatchedWriter, write_text};
 use crate::serial_run::lines::run_all;
 use jc_config::Settings;
 use jc_engine::open::OpenRefusal;
-use jc_engine::recorded::Recorded;
+use jc_recorded::recorded::Recorded;
 use jc_hooks::{CacheHooks, Hearer, Loader, Processor, Writer};
 use jc_ring::link_ring::LinkRing;
 use jc_rows::rows::Rows;

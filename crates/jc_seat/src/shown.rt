@@ -1,7 +1,7 @@
 //! What was shown last, by cache.
 ghost use Rattle.std.specs.Prelude.{◌≡◌, ◌≤◌, Some, None, IsSome, nat_eq};
 ghost use Rattle.std.specs.HashMap.{get, spare};
-ghost use Rattle.jc_engine.specs.Journals.{Puts};
+ghost use Rattle.jc_engine.specs.Sound.{Puts};
 ghost use Rattle.jc_seat.specs.Status.{outcome_status};
 
 use crate::status::Status;

@@ -24,7 +24,7 @@ use Rattle.jc_shared.specs.Calls.{Adds, CallFails, LacksProcessor, TellsLack}
 use Rattle.jc_shared.specs.Living.{HasGone, IsCreated, IsCreateFault, IsSessionDestroyRefusal, TellsLiveRow, IsIdOfName, IsSeen}
 use Rattle.jc_shared.specs.Sessions.{Sitting, SeesSome, log_of}
 use Rattle.jc_shared.specs.Stated.{Stated}
-use Rattle.jc_engine.specs.Recording.{blank}
+use Rattle.jc_recorded.specs.Recording.{blank}
 use Rattle.jc_shared.specs.Progress.{AddsCall, FailsBy}
 
 pub record IsCall (configs : List CacheConfig) (stated : List Stated) (old new : Sitting) (id now : ℕ) (call : Call) (result : Result Reply CallFault) : Type 0 where

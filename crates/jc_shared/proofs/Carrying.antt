@@ -16,10 +16,10 @@ use Rattle.jc_model.specs.declared.event.Entry.{Entry}
 use Rattle.jc_model.specs.declared.event.Event.TheVariants as event
 use Rattle.jc_model.specs.declared.event.Step.{Step}
 use Rattle.jc_model.specs.declared.event.Step.TheVariants.{Done, Need}
-use Rattle.jc_engine.specs.Changed.{begun_entry, replied_at_once}
-use Rattle.jc_engine.specs.Recording.{blank}
-use Rattle.jc_engine.specs.Results.{reply_in}
-use Rattle.jc_engine.specs.declared.journal.change.Begun.{Begun}
+use Rattle.jc_recorded.specs.Changed.{begun_entry, replied_at_once}
+use Rattle.jc_recorded.specs.Recording.{blank}
+use Rattle.jc_recorded.specs.Results.{reply_in}
+use Rattle.jc_recorded.specs.declared.journal.change.Begun.{Begun}
 use Rattle.jc_shared.specs.declared.fault.CallFault.{CallFault}
 use Rattle.jc_shared.specs.declared.fault.CallFault.TheVariants as faults
 use Rattle.jc_model.specs.Asking.{AsksOf}

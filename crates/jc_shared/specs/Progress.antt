@@ -11,7 +11,7 @@ use Rattle.jc_model.specs.declared.event.Event.TheVariants as event
 use Rattle.jc_model.specs.declared.event.Step.{Step}
 use Rattle.jc_model.specs.declared.event.Step.TheVariants.{Done, Need}
 use Rattle.jc_model.specs.Asking.{AsksOf}
-use Rattle.jc_engine.specs.Recording.{blank}
+use Rattle.jc_recorded.specs.Recording.{blank}
 use Rattle.jc_shared.specs.Calls.{IsBeginFault, call_entry}
 use Rattle.jc_shared.specs.Living.{IsMissing}
 use Rattle.jc_shared.specs.declared.fault.CallFault.{CallFault}

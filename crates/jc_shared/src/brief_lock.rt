@@ -4,7 +4,7 @@ use std::sync::atomic::{AtomicU64, Ordering};
 use std::sync::{Mutex, MutexGuard, Wait};
 use std::time::Duration;
 
-/// How many threads in a row find the lock held before one of them stays away.
+/// How many more threads find the lock held than find it free before one of them stays away.
 const CROWD: u64 = 16;
 
 /// How often it looks, while it stays away, whether the others have gone.
@@ -33,7 +33,7 @@ const PAUSE: u32 = 8;
 #[derive(Drop)]
 pub(crate) struct BriefLock<T> {
     mutex: Mutex<T>,
-    /// How many threads found the lock held since one last found it free, or stayed away.
+    /// How many more threads found the lock held than found it free, since one last stayed away; never less than 0.
     crowd: AtomicU64,
     /// Always zero: a thread that stays away sleeps on it, and no one wakes it.
     away: AtomicU64,
@@ -69,8 +69,9 @@ impl<T> BriefLock<T> {
     pub(crate) fn lock<R: Wait>(&self, rt: &R) -> MutexGuard<'_, T> {
         match self.try_lock() {
             Some(guard) => {
-                if self.crowd.load(Ordering::SeqCst) != 0 {
-                    self.crowd.store(0, Ordering::SeqCst);
+                let crowd = self.crowd.load(Ordering::SeqCst);
+                if crowd != 0 {
+                    self.crowd.store(crowd - 1, Ordering::SeqCst);
                 }
                 guard
             }

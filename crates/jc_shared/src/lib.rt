@@ -24,8 +24,8 @@ pub use fault::{
     AnswerFault, CallFault, CloseFault, CreateFault, DestroyFault, SessionRefusal, SharedRefusal,
 };
 pub use hooks::SharedHooks;
-pub use jc_engine::journal::all_calls::AllCalls;
-pub use jc_engine::journal::open_calls::OpenCalls;
+pub use jc_recorded::journal::all_calls::AllCalls;
+pub use jc_recorded::journal::open_calls::OpenCalls;
 pub use keeping::{Keeping, OwnCalls, OwnList, OwnPast};
 pub use manager::Manager;
 pub use name::Name;

@@ -5,7 +5,7 @@ ghost use Rattle.jc_shared.specs.Stated.{stated_by};
 use crate::sessions::seated;
 use crate::trouble::{Trouble, done, is, key, no_hooks, plain_cache, value_of};
 use jc_engine::open::OpenRefusal;
-use jc_engine::recorded::Recorded;
+use jc_recorded::recorded::Recorded;
 use jc_hooks::program::{CheckWriter, EchoLoader, ProgramListener, ProgramProcessor};
 use jc_hooks::{CacheHooks, Hearer, ListenerHook, Loader, Processor, TallyListener, Writer};
 use jc_model::call::{Answer, Call, Reply};

@@ -2,7 +2,7 @@
 
 use crate::trouble::{Trouble, is, key, plain_cache};
 use jc_engine::open::OpenRefusal;
-use jc_engine::recorded::Recorded;
+use jc_recorded::recorded::Recorded;
 use jc_model::config::CacheConfig;
 use jc_model::event::CreateRefusal::{IdsSpent, TooManyCaches, TotalCapacity};
 use jc_model::event::{CacheId, CreateRefusal};

@@ -6,7 +6,7 @@ use crate::placers::ConstantPlacer;
 use crate::trouble::{Trouble, done, key, plain_cache, value_of};
 use jc_cuckoo::cuckoo::Cuckoo;
 use jc_cuckoo::mirror::NoMirror;
-use jc_engine::recorded::Recorded;
+use jc_recorded::recorded::Recorded;
 use jc_index::lookup::Lookup;
 use jc_index::naming::{Naming, Unnamed};
 use jc_index::pass::Pass;

@@ -7,7 +7,7 @@ use crate::shapes::{Places, holds_all, placer_of};
 use crate::trouble::{Trouble, done};
 use jc_config::{Configuration, read_config};
 use jc_cuckoo::cuckoo::Cuckoo;
-use jc_engine::recorded::Recorded;
+use jc_recorded::recorded::Recorded;
 use jc_model::OutOfMemory;
 use jc_model::config::CacheConfig;
 use jc_ring::link_ring::LinkRing;

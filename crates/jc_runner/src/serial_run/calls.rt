@@ -7,7 +7,7 @@ ghost use Rattle.jc_runner.specs.declared.exit.fault.RunFault.TheVariants as fau
 
 use crate::callbacks::{answer, no_hooks};
 use crate::exit::fault::RunFault;
-use jc_engine::recorded::Recorded;
+use jc_recorded::recorded::Recorded;
 use jc_hooks::{CacheHooks, Hearer, Loader, Processor, Writer};
 use jc_model::call::Answer;
 use jc_model::event::{CacheId, Cause, Step};

@@ -3,7 +3,7 @@ use Rattle.jc_model.specs.declared.call.Notice.{Notice}
 use Rattle.jc_model.specs.declared.event.Entry.{Entry}
 use Rattle.jc_shared.specs.Calls.{IsSameCall}
 use Rattle.jc_shared.specs.Serving.{told_behind, TellsListeners}
-use Rattle.jc_engine.proofs.Recordings.{on_ok}
+use Rattle.jc_recorded.proofs.Recordings.{on_ok}
 use Rattle.jc_shared.proofs.Carrying.{second_on_err, on_err, served_on, noted_waits, goes_stays, goes_untold, goes_unanswered}
 use Rattle.jc_shared.proofs.manager.Manager.advance.Goals as goal
 

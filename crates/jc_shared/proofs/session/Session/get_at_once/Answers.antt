@@ -1,9 +1,9 @@
 use Rattle.std.proofs.Common.{◌≡◌, ◌∙◌, refl, Some, subst}
 use Rattle.jc_model.specs.declared.call.Reply.TheVariants.{Found}
 use Rattle.jc_model.specs.declared.event.Step.TheVariants.{Done}
-use Rattle.jc_engine.specs.declared.journal.change.Origin.{Origin}
-use Rattle.jc_engine.specs.Recording.{blank_of}
-use Rattle.jc_engine.proofs.Recordings.{begun_is}
+use Rattle.jc_recorded.specs.declared.journal.change.Origin.{Origin}
+use Rattle.jc_recorded.specs.Recording.{blank_of}
+use Rattle.jc_recorded.proofs.Recordings.{begun_is}
 use Rattle.jc_shared.specs.Calls.{CallGoesOnTo}
 use Rattle.jc_shared.specs.Sessions.{Sitting}
 use Rattle.jc_shared.proofs.Carrying.{replied_adds}

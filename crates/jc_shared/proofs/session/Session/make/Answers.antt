@@ -2,8 +2,8 @@ use Rattle.std.proofs.Common.{◌≡◌, ◌++◌, ◌∷◌, [], ◌∙◌, ap,
 use Rattle.jc_model.specs.declared.event.Entry.{Entry}
 use Rattle.jc_stripes.proofs.Lists.{prefix_trans}
 use Rattle.jc_model.specs.Runs.{has_processor}
-use Rattle.jc_engine.specs.declared.journal.change.Origin.{Origin}
-use Rattle.jc_engine.specs.Recording.{blank, blank_of}
+use Rattle.jc_recorded.specs.declared.journal.change.Origin.{Origin}
+use Rattle.jc_recorded.specs.Recording.{blank, blank_of}
 use Rattle.jc_shared.specs.Calls.{IsSameCall}
 use Rattle.jc_shared.specs.Sessions.{Sitting}
 use Rattle.jc_shared.proofs.Carrying.{begun_same, same_call, added_ok, added_err, not_accepted, told_or_gone, unaccepted_fails}

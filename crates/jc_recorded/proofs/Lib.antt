@@ -1,0 +1,3 @@
+pub mod Entries
+pub mod Opens
+pub mod Recordings
