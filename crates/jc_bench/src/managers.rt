@@ -4,7 +4,7 @@
 //! prover nothing to search for.
 ghost use Rattle.std.specs.Prelude.{◌≡◌, Err, map};
 ghost use Rattle.jc_hooks.specs.declared.loader.Loaded.TheVariants.{Failed};
-ghost use Rattle.jc_shared.specs.Stated.{stated_by};
+ghost use Rattle.jc_locked.specs.Stated.{stated_by};
 
 use crate::caches::{Unnamed, Unnamed2, Unnamed4, opened, opened_four, opened_two};
 use crate::fault::Fault;

@@ -82,12 +82,7 @@ impl<R: Rows, G: Ring> Engine<R, G> {
     }
 
     /// What a call answers at once, as a cache's own `get_at_once`; else nothing has changed.
-    pub fn get_at_once<V: Owned>(
-        &mut self,
-        id: CacheId,
-        now: u64,
-        call: &Call,
-    ) -> Option<Option<V>>
+    pub fn get_at_once<V: Owned>(&mut self, id: CacheId, now: u64, call: &Call) -> Option<Option<V>>
         ensures outcome { IfSome result (λ found.
             FindsValue self.old id now call.now (option_map V.value found)) }
         ensures lives { IfSome result (λ found. LeadsTo self.old

@@ -144,11 +144,7 @@ pub fn open_refusal(alloc: Global, configs: &[CacheConfig]) -> Option<OpenRefusa
 }
 
 /// The same, where the first cache gets this id and each further one the next.
-pub fn open_refusal_from(
-    alloc: Global,
-    configs: &[CacheConfig],
-    first: u32,
-) -> Option<OpenRefusal>
+pub fn open_refusal_from(alloc: Global, configs: &[CacheConfig], first: u32) -> Option<OpenRefusal>
     ensures { result ≡ open_refusal_from first configs.now }
 {
     let refusal = open_refusal(alloc, configs);

@@ -8,10 +8,10 @@ use Rattle.std.proofs.lemmas.Bool.Decides.{nat_tests}
 use Rattle.jc_model.specs.declared.config.CacheConfig.{CacheConfig}
 use Rattle.jc_model.specs.declared.event.Entry.{Entry}
 use Rattle.jc_model.specs.Legal.{History, IsLegal}
-use Rattle.jc_shared.specs.declared.fault.CloseFault.{CloseFault}
-use Rattle.jc_shared.specs.declared.fault.CloseFault.TheVariants.{Missing, StillOpen, Differs, OutOfMemory}
-use Rattle.jc_shared.specs.Sessions.{Own, BeginsWith}
-use Rattle.jc_shared.specs.Accounts.{calls_of, own_of, IsLeastFrom, PartAt, IsAuditFault, IsCloseRefusal}
+use Rattle.jc_locked.specs.declared.fault.CloseFault.{CloseFault}
+use Rattle.jc_locked.specs.declared.fault.CloseFault.TheVariants.{Missing, StillOpen, Differs, OutOfMemory}
+use Rattle.jc_locked.specs.Sessions.{Own, BeginsWith}
+use Rattle.jc_locked.specs.Accounts.{calls_of, own_of, IsLeastFrom, PartAt, IsAuditFault, IsCloseRefusal}
 
 take_none : (xs : List Entry) → take 0 xs ≡ []
 take_none [] = refl

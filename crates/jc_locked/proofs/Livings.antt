@@ -13,10 +13,10 @@ use Rattle.jc_model.specs.Runs.{Status, Lives, opened, create_refusal, answer_to
 use Rattle.jc_model.specs.Legal.{History, IsLegal, Tells, config_of, numbered_lives, recorded}
 use Rattle.jc_model.proofs.Lives.{live_same, live_last}
 use Rattle.jc_engine.specs.Caches.{Cache, lives_of}
-use Rattle.jc_shared.specs.Sessions.{Sight, BeginsWith, Sees}
+use Rattle.jc_locked.specs.Sessions.{Sight, BeginsWith, Sees}
 use Rattle.jc_recorded.specs.Recording.{Recording}
-use Rattle.jc_shared.specs.Living.{IsToldOf, IsCreated, HasGone}
-use Rattle.jc_shared.specs.Tenures.{IsTenure}
+use Rattle.jc_locked.specs.Living.{IsToldOf, IsCreated, HasGone}
+use Rattle.jc_locked.specs.Tenures.{IsTenure}
 
 -- names are found among the lives as among the caches
 pub named_lives : (name : List ℕ) (i : ℕ) (caches : List (Option Cache)) → named_from (λ (k : Cache). k.config.name) name i caches ≡ named_from (λ (k : Status). k.config.name) name i (lives_of caches)

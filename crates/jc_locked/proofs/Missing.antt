@@ -8,8 +8,8 @@ use Rattle.jc_model.specs.Places.{at_place}
 use Rattle.jc_model.specs.Legal.{History, Tells}
 use Rattle.jc_engine.specs.Caches.{Cache, lives_of, status_of}
 use Rattle.jc_engine.proofs.Names.{at_place_map}
-use Rattle.jc_shared.specs.Sessions.{BeginsWith}
-use Rattle.jc_shared.specs.Living.{Refuses}
+use Rattle.jc_locked.specs.Sessions.{BeginsWith}
+use Rattle.jc_locked.specs.Living.{Refuses}
 
 none_of : {A : Type 0} (o : Option A) → false ≡ is_some o → o ≡ None
 none_of (Some x) is = absurd cc

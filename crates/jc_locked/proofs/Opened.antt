@@ -9,9 +9,9 @@ use Rattle.jc_hooks.specs.declared.cache_hooks.CacheHooks.{CacheHooks}
 use Rattle.jc_engine.specs.declared.open.OpenRefusal.{OpenRefusal}
 use Rattle.jc_place.specs.Place.{IsTableSize}
 use Rattle.jc_hooks.specs.Suits.{AllSuit}
-use Rattle.jc_shared.specs.Stated.{shared_of, processor_counts, wanted_counts}
+use Rattle.jc_locked.specs.Stated.{shared_of, processor_counts, wanted_counts}
 use Rattle.std.proofs.lemmas.List.{length-map}
-use Rattle.jc_shared.specs.Sessions.{BeginsWith}
+use Rattle.jc_locked.specs.Sessions.{BeginsWith}
 
 -- the size of a new table
 pub sixteen : IsTableSize 16

@@ -14,7 +14,7 @@ use Rattle.jc_index.specs.declared.lookup.Lookup.{Lookup}
 use Rattle.jc_index.specs.declared.lookup.Lookup.TheVariants.{Sure, Unsure}
 use Rattle.jc_index.specs.Found.{found_in_image, first_seen, answer_with_stash}
 use Rattle.jc_index.proofs.Found.{seen_some, seen_none, got}
-use Rattle.jc_shared.specs.Living.{has_live_row}
+use Rattle.jc_locked.specs.Living.{has_live_row}
 
 -- a pass that has met the table, or was refused
 pub met_shows : {A E P : Type 0} (R : Type 0) (r : Result A E) (m : Bool) → OnOk r (P × (m ≡ true)) → OnErr r (R × (m ≡ false)) → m ≡ true → P

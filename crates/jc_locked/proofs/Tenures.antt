@@ -33,17 +33,17 @@ use Rattle.jc_model.proofs.Recording.{event_of}
 use Rattle.jc_engine.specs.Caches.{lives_of}
 use Rattle.jc_recorded.specs.Recording.{Recording, HasOpen, IsEntryOf, blank}
 use Rattle.jc_model.specs.Asking.{AsksOf, AsksIn, processor_invoked}
-use Rattle.jc_shared.specs.declared.fault.CallFault.{CallFault}
-use Rattle.jc_shared.specs.declared.fault.CallFault.TheVariants as faults
-use Rattle.jc_shared.specs.Sessions.{Sight, BeginsWith, Sees}
-use Rattle.jc_shared.specs.Calls.{EntryIsLast, CallGoesOn, MayLackProcessor, IsBeginFault, call_entry}
+use Rattle.jc_locked.specs.declared.fault.CallFault.{CallFault}
+use Rattle.jc_locked.specs.declared.fault.CallFault.TheVariants as faults
+use Rattle.jc_locked.specs.Sessions.{Sight, BeginsWith, Sees}
+use Rattle.jc_locked.specs.Calls.{EntryIsLast, CallGoesOn, MayLackProcessor, IsBeginFault, call_entry}
 use Rattle.jc_recorded.specs.Results.{reply_in}
-use Rattle.jc_shared.specs.Finding.{fault_of, answer_fault_of, entry_ended_by, IsOfCall, IsOpen, IsReplied}
-use Rattle.jc_shared.specs.Living.{Refuses}
-use Rattle.jc_shared.specs.Pending.{IsRefusedAnswer}
-use Rattle.jc_shared.specs.Tenures.{IsTenure, IsRefusedEvent, StopsDraft}
+use Rattle.jc_locked.specs.Finding.{fault_of, answer_fault_of, entry_ended_by, IsOfCall, IsOpen, IsReplied}
+use Rattle.jc_locked.specs.Living.{Refuses}
+use Rattle.jc_locked.specs.Pending.{IsRefusedAnswer}
+use Rattle.jc_locked.specs.Tenures.{IsTenure, IsRefusedEvent, StopsDraft}
 use Rattle.jc_model.proofs.Asking.{whole_asks}
-use Rattle.jc_shared.proofs.Last.{open_last, open_stands, changed_there, open_same, changed_last, added_last}
+use Rattle.jc_locked.proofs.Last.{open_last, open_stands, changed_there, open_same, changed_last, added_last}
 use Rattle.jc_model.specs.Places.{at_place}
 
 kept_lives : (session id : ℕ) (said : CacheEvent) (o : Outcome) (t : History) → (recorded session (event_of id said) o t).lives ≡ t.lives

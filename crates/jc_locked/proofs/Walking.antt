@@ -5,9 +5,9 @@ use Rattle.std.specs.List.{All}
 use Rattle.std.proofs.lemmas.Bool.Decides.{nat_tests}
 use Rattle.std.proofs.lemmas.List.{get_or-set_same, get_or-set_other, get_or_past, map-set, length-map}
 use Rattle.jc_model.specs.declared.event.Entry.{Entry}
-use Rattle.jc_shared.specs.Sessions.{Own}
-use Rattle.jc_shared.specs.Accounts.{calls_of, own_of, AllAgree}
-use Rattle.jc_shared.proofs.Comparing.{calls_own, no_calls, own_beyond, below_next}
+use Rattle.jc_locked.specs.Sessions.{Own}
+use Rattle.jc_locked.specs.Accounts.{calls_of, own_of, AllAgree}
+use Rattle.jc_locked.proofs.Comparing.{calls_own, no_calls, own_beyond, below_next}
 
 -- what is left of a number's list; of one behind the last there is nothing
 abbrev pub rest_of : ℕ → List (Bor (List Entry)) → List Entry

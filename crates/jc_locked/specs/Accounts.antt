@@ -5,10 +5,10 @@ use Rattle.jc_model.specs.declared.event.End.TheVariants.{Waiting}
 use Rattle.jc_model.specs.declared.event.Entry.{Entry}
 use Rattle.jc_model.specs.declared.config.CacheConfig.{CacheConfig}
 use Rattle.jc_model.specs.Legal.{History, IsLegal}
-use Rattle.jc_shared.specs.declared.auditing.SessionLog.{SessionLog}
-use Rattle.jc_shared.specs.declared.fault.CloseFault.{CloseFault}
-use Rattle.jc_shared.specs.declared.fault.CloseFault.TheVariants.{Missing, StillOpen, Differs, OutOfMemory}
-use Rattle.jc_shared.specs.Sessions.{Own, BeginsWith}
+use Rattle.jc_locked.specs.declared.auditing.SessionLog.{SessionLog}
+use Rattle.jc_locked.specs.declared.fault.CloseFault.{CloseFault}
+use Rattle.jc_locked.specs.declared.fault.CloseFault.TheVariants.{Missing, StillOpen, Differs, OutOfMemory}
+use Rattle.jc_locked.specs.Sessions.{Own, BeginsWith}
 
 -- what a log of plain values shows
 abbrev pub own_log : SessionLog → Own

@@ -1,7 +1,7 @@
 -- Which number a session is given.
 use Rattle.std.specs.Prelude.{◌≡◌, ◌+◌, ◌%◌, ◌^◌, ltb, if◌then◌else◌, ℕ, Bool, true, false, Option, Some, None, IsSome, Result, Ok, Err}
-use Rattle.jc_shared.specs.declared.fault.SessionRefusal.{SessionRefusal}
-use Rattle.jc_shared.specs.declared.fault.SessionRefusal.TheVariants.{Closed, TooManySessions, OutOfMemory}
+use Rattle.jc_locked.specs.declared.fault.SessionRefusal.{SessionRefusal}
+use Rattle.jc_locked.specs.declared.fault.SessionRefusal.TheVariants.{Closed, TooManySessions, OutOfMemory}
 
 module _ (next : ℕ → Option ℕ) where
   -- the next one, unless the manager is closed, there are as many as it can tell apart, or there is no room

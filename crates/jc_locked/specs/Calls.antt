@@ -15,13 +15,13 @@ use Rattle.jc_model.specs.declared.event.Step.{Step}
 use Rattle.jc_model.specs.declared.event.Step.TheVariants.{Done, Need}
 use Rattle.jc_model.specs.Runs.{Lives, has_processor}
 use Rattle.jc_model.specs.Legal.{History, IsLegal, entries_of}
-use Rattle.jc_shared.specs.declared.fault.CallFault.{CallFault}
-use Rattle.jc_shared.specs.declared.fault.CallFault.TheVariants.{NoSuchCache, NoSuchProcessor, Busy, Overtaken, OutOfMemory}
+use Rattle.jc_locked.specs.declared.fault.CallFault.{CallFault}
+use Rattle.jc_locked.specs.declared.fault.CallFault.TheVariants.{NoSuchCache, NoSuchProcessor, Busy, Overtaken, OutOfMemory}
 use Rattle.jc_model.specs.Asking.{AsksOf, processor_invoked}
-use Rattle.jc_shared.specs.Finding.{entry_ended_by}
-use Rattle.jc_shared.specs.Sessions.{Sitting, Sight, BeginsWith, Sees}
-use Rattle.jc_shared.specs.Living.{Refuses, IsMissing}
-use Rattle.jc_shared.specs.Stated.{Stated, AreStated}
+use Rattle.jc_locked.specs.Finding.{entry_ended_by}
+use Rattle.jc_locked.specs.Sessions.{Sitting, Sight, BeginsWith, Sees}
+use Rattle.jc_locked.specs.Living.{Refuses, IsMissing}
+use Rattle.jc_locked.specs.Stated.{Stated, AreStated}
 use Rattle.jc_model.specs.Places.{at_place}
 
 -- the cache is one of the opening, and has not the processor that the call names

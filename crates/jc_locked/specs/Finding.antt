@@ -4,14 +4,10 @@ use Rattle.jc_model.specs.declared.call.Answer.{Answer}
 use Rattle.jc_model.specs.declared.call.Reply.{Reply}
 use Rattle.jc_model.specs.declared.event.Cause.{Cause}
 use Rattle.jc_model.specs.declared.event.Cause.TheVariants as causes
-use Rattle.jc_shared.specs.declared.fault.CallFault.{CallFault}
-use Rattle.jc_shared.specs.declared.fault.CallFault.TheVariants.{NoSuchCache, NoSuchProcessor, Busy, Overtaken, OutOfMemory}
-use Rattle.jc_shared.specs.declared.fault.DestroyFault.{DestroyFault}
-use Rattle.jc_shared.specs.declared.fault.DestroyFault.TheVariants as destroying
-use Rattle.jc_shared.specs.declared.fault.AnswerFault.{AnswerFault}
-use Rattle.jc_shared.specs.declared.fault.AnswerFault.TheVariants as answering
-use Rattle.jc_shared.specs.declared.fault.Unfound.{Unfound}
-use Rattle.jc_shared.specs.declared.fault.Unfound.TheVariants as unfound
+use Rattle.jc_locked.specs.declared.fault.CallFault.{CallFault}
+use Rattle.jc_locked.specs.declared.fault.CallFault.TheVariants.{NoSuchCache, NoSuchProcessor, Busy, Overtaken, OutOfMemory}
+use Rattle.jc_locked.specs.declared.fault.AnswerFault.{AnswerFault}
+use Rattle.jc_locked.specs.declared.fault.AnswerFault.TheVariants as answering
 use Rattle.jc_model.specs.declared.event.Entry.{Entry}
 use Rattle.jc_model.specs.declared.event.End.TheVariants as end
 use Rattle.jc_model.specs.declared.event.Step.{Step}
@@ -35,19 +31,6 @@ abbrev pub answer_fault_of : Cause → AnswerFault
 answer_fault_of causes.OutOfMemory = answering.OutOfMemory
 answer_fault_of causes.WrongAnswer = answering.WrongAnswer
 answer_fault_of _ = answering.Overtaken
-
--- a hooks lock that is there is refused for memory alone
-abbrev pub unfound_at : {A : Type 0} → Option A → Unfound
-unfound_at None = unfound.NoSuchCache
-unfound_at (Some lock) = unfound.OutOfMemory
-
-abbrev pub call_fault_of : Unfound → CallFault
-call_fault_of unfound.NoSuchCache = NoSuchCache
-call_fault_of unfound.OutOfMemory = OutOfMemory
-
-abbrev pub destroy_fault_of : Unfound → DestroyFault
-destroy_fault_of unfound.NoSuchCache = destroying.NoSuchCache
-destroy_fault_of unfound.OutOfMemory = destroying.OutOfMemory
 
 -- a call is accepted where its processor is there
 abbrev pub ok_or_no_processor : Bool → Result ⊤ CallFault

@@ -18,12 +18,12 @@ use Rattle.jc_recorded.specs.Recording.{Recording}
 use Rattle.jc_rows.specs.Images.{last_image}
 use Rattle.jc_stripes.specs.Stripes.{AreReadAtRest}
 use Rattle.jc_index.specs.Found.{found_in_image}
-use Rattle.jc_shared.specs.declared.fault.CreateFault.{CreateFault}
-use Rattle.jc_shared.specs.declared.fault.CreateFault.TheVariants.{Cache, HooksDiffer, OutOfMemory}
-use Rattle.jc_shared.specs.declared.fault.DestroyFault.{DestroyFault}
-use Rattle.jc_shared.specs.declared.fault.DestroyFault.TheVariants as destroying
-use Rattle.jc_shared.specs.Sessions.{Sight, BeginsWith, Sees, SeesEngine}
-use Rattle.jc_shared.specs.Tenures.{IsTenure, IsRefusedEvent}
+use Rattle.jc_locked.specs.declared.fault.CreateFault.{CreateFault}
+use Rattle.jc_locked.specs.declared.fault.CreateFault.TheVariants.{Cache, HooksDiffer, OutOfMemory}
+use Rattle.jc_locked.specs.declared.fault.DestroyFault.{DestroyFault}
+use Rattle.jc_locked.specs.declared.fault.DestroyFault.TheVariants as destroying
+use Rattle.jc_locked.specs.Sessions.{Sight, BeginsWith, Sees, SeesEngine}
+use Rattle.jc_locked.specs.Tenures.{IsTenure, IsRefusedEvent}
 
 -- these caches are live, and stand as a legal transcript leaves them, which begins with the caches of the opening
 pub record AreTold (configs : List CacheConfig) (transcript : History) (lives : Lives) : Type 0 where

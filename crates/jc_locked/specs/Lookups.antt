@@ -3,7 +3,7 @@ use Rattle.std.specs.Prelude.{◌≡◌, ℕ, Bool, true, List, Some}
 use Rattle.jc_place.specs.Seeded.{seeded_place}
 pub use Rattle.jc_index.specs.Lookups.{found_by, MayBeUnsure}
 use Rattle.jc_index.specs.Lookups as lookups
-use Rattle.jc_shared.specs.Sessions.{Sight}
+use Rattle.jc_locked.specs.Sessions.{Sight}
 
 -- where the last meeting succeeded and the last image tells, this is what it tells
 abbrev pub Agrees : Sight → ℕ → List ℕ → ℕ → Bool → Type 0

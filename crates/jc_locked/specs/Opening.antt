@@ -12,16 +12,21 @@ use Rattle.jc_model.specs.Legal.{at_first}
 use Rattle.jc_engine.specs.Caches.{lives_of}
 use Rattle.jc_recorded.specs.Recording.{Recording}
 use Rattle.jc_engine.specs.Opening.{open_refusal}
-use Rattle.jc_shared.specs.declared.fault.SharedRefusal.{SharedRefusal}
-use Rattle.jc_shared.specs.declared.fault.SharedRefusal.TheVariants.{Caches, HooksDiffer, OutOfMemory}
-use Rattle.jc_shared.specs.declared.hooks.SharedHooks.{SharedHooks}
-use Rattle.jc_shared.specs.Stated.{processor_counts, wanted_counts}
+use Rattle.jc_locked.specs.declared.fault.SharedRefusal.{SharedRefusal}
+use Rattle.jc_locked.specs.declared.fault.SharedRefusal.TheVariants.{Caches, HooksDiffer, OutOfMemory}
+use Rattle.jc_locked.specs.declared.hooks.SharedHooks.{SharedHooks}
+use Rattle.jc_locked.specs.Stated.{processor_counts, wanted_counts}
 
 -- no call has been made of the recorded engine, which has these configurations, and there are callbacks for each
 pub record IsOpened {L P : Type 0} (configs : List CacheConfig) (recorded : Recording) (shared : List (SharedHooks L P)) : Type 0 where
   pub unused : lives_of recorded.caches ≡ opened_from 0 configs
   pub uncalled : recorded.transcript ≡ at_first 0 configs
   pub counted : processor_counts shared ≡ wanted_counts configs
+
+-- a table without rows: the name of the index that shows it, and the seed that picks the places of its rows
+pub record Blank : Type 0 where
+  pub index : TableId
+  pub seed : ℕ
 
 -- a table of 16 buckets without rows, and an index that shows it
 pub record IsBlank (placer buckets : ℕ) (cells : List (Option Held)) (words : Index ℕ) : Type 0 where
@@ -34,6 +39,7 @@ pub record HandedIn (L P : Type 0) : Type 0 where
   pub configs : List CacheConfig
   pub shared : List (SharedHooks L P)
   pub index : TableId
+  pub seed : ℕ
 
 module _ {L W P K : Type 0} (wants : P → Bool) where
   abbrev pub CanOpen : List CacheConfig → List (CacheHooks L W P K) → Type 0

@@ -10,14 +10,14 @@ use Rattle.jc_model.specs.declared.event.Cause.TheVariants as causes
 use Rattle.jc_model.specs.declared.event.End.TheVariants as ends
 use Rattle.jc_model.specs.declared.event.Entry.{Entry}
 use Rattle.jc_model.specs.declared.event.Event.TheVariants as event
-use Rattle.jc_shared.specs.declared.fault.AnswerFault.{AnswerFault}
-use Rattle.jc_shared.specs.declared.fault.AnswerFault.TheVariants as answering
-use Rattle.jc_shared.specs.declared.fault.CallFault.{CallFault}
-use Rattle.jc_shared.specs.declared.fault.CallFault.TheVariants as faults
-use Rattle.jc_shared.specs.Calls.{EntryIsLast, IsBeginFault}
-use Rattle.jc_shared.specs.Living.{Refuses}
-use Rattle.jc_shared.specs.Serving.{told_behind}
-use Rattle.jc_shared.specs.Sessions.{Sitting}
+use Rattle.jc_locked.specs.declared.fault.AnswerFault.{AnswerFault}
+use Rattle.jc_locked.specs.declared.fault.AnswerFault.TheVariants as answering
+use Rattle.jc_locked.specs.declared.fault.CallFault.{CallFault}
+use Rattle.jc_locked.specs.declared.fault.CallFault.TheVariants as faults
+use Rattle.jc_locked.specs.Calls.{EntryIsLast, IsBeginFault}
+use Rattle.jc_locked.specs.Living.{Refuses}
+use Rattle.jc_locked.specs.Serving.{told_behind}
+use Rattle.jc_locked.specs.Sessions.{Sitting}
 
 -- a call that waits: its entry before the request, and the request
 pub record Pending : Type 0 where

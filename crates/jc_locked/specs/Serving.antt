@@ -9,7 +9,7 @@ use Rattle.jc_model.specs.declared.call.Notice.{Notice}
 use Rattle.jc_model.specs.declared.call.Request.{Request}
 use Rattle.jc_model.specs.declared.call.Request.TheVariants.{Write, Delete, Tell}
 use Rattle.jc_model.specs.Run.{is_answer_to}
-use Rattle.jc_shared.specs.declared.hooks.LockedHooks.{LockedHooks}
+use Rattle.jc_locked.specs.declared.hooks.LockedHooks.{LockedHooks}
 
 -- what has been told of a call, behind a request
 abbrev pub told_behind : Request → List Notice → List Notice

@@ -10,8 +10,8 @@ use Rattle.jc_model.specs.declared.config.CacheConfig.{CacheConfig}
 use Rattle.jc_hooks.specs.Answers.{load_answer_of}
 use Rattle.jc_hooks.specs.declared.cache_hooks.CacheHooks.{CacheHooks}
 use Rattle.jc_hooks.specs.declared.loader.Loaded.{Loaded}
-use Rattle.jc_shared.specs.declared.hooks.LockedHooks.{LockedHooks}
-use Rattle.jc_shared.specs.declared.hooks.SharedHooks.{SharedHooks}
+use Rattle.jc_locked.specs.declared.hooks.LockedHooks.{LockedHooks}
+use Rattle.jc_locked.specs.declared.hooks.SharedHooks.{SharedHooks}
 use Rattle.jc_model.specs.Asking.{IsKeyOf, processor_invoked}
 
 -- the loader's answer by the key, and each processor's by value and argument

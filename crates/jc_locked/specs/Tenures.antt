@@ -13,10 +13,10 @@ use Rattle.jc_model.specs.Runs.{Lives, answer_to, lives_after, for_memory}
 use Rattle.jc_model.specs.Legal.{recorded}
 use Rattle.jc_engine.specs.Caches.{lives_of}
 use Rattle.jc_recorded.specs.Recording.{Recording}
-use Rattle.jc_shared.specs.declared.fault.CallFault.{CallFault}
-use Rattle.jc_shared.specs.declared.fault.AnswerFault.{AnswerFault}
-use Rattle.jc_shared.specs.declared.fault.AnswerFault.TheVariants as answering
-use Rattle.jc_shared.specs.Finding.{fault_of, IsOpenIn}
+use Rattle.jc_locked.specs.declared.fault.CallFault.{CallFault}
+use Rattle.jc_locked.specs.declared.fault.AnswerFault.{AnswerFault}
+use Rattle.jc_locked.specs.declared.fault.AnswerFault.TheVariants as answering
+use Rattle.jc_locked.specs.Finding.{fault_of, IsOpenIn}
 
 -- the engine has taken this one event of a session, and answered it so
 pub record IsTenure (old new : Recording) (session : ℕ) (event : Event) (o : Outcome) : Type 0 where

@@ -3,7 +3,7 @@ ghost use Rattle.std.specs.Prelude.{◌≡◌, ◌≢◌, ◌≤◌, ◌<◌, �
 ghost use Rattle.jc_model.specs.declared.event.End.TheVariants.{Waiting};
 ghost use Rattle.jc_model.specs.declared.event.Entry.{Entry as Entries};
 ghost use Rattle.std.specs.List.{All};
-ghost use Rattle.jc_shared.specs.Accounts.{calls_of, times, own_of, IsLeastFrom, AreGiven, NoneWaits, AllAgree, PartAt, DiffersFirst, Accounts, IsAuditFault};
+ghost use Rattle.jc_locked.specs.Accounts.{calls_of, times, own_of, IsLeastFrom, AreGiven, NoneWaits, AllAgree, PartAt, DiffersFirst, Accounts, IsAuditFault};
 
 use crate::fault::CloseFault;
 use crate::keeping::MOST_SESSIONS;
@@ -14,7 +14,7 @@ use jc_model::transcript::Transcript;
 /// What has a session's number, and the entries of its own calls.
 pub trait Logged {
     ghost use Rattle.std.specs.Prelude.{◌≡◌};
-    ghost use Rattle.jc_shared.specs.Sessions.{Own};
+    ghost use Rattle.jc_locked.specs.Sessions.{Own};
 
     ghost log: { Self → Own };
 
@@ -33,7 +33,7 @@ pub struct SessionLog {
 }
 
 impl Logged for SessionLog {
-    ghost use Rattle.jc_shared.specs.Accounts.{own_log};
+    ghost use Rattle.jc_locked.specs.Accounts.{own_log};
 
     ghost log = { own_log };
 

@@ -4,8 +4,8 @@ ghost use Rattle.std.specs.Prelude.{◌≡◌, [], None, false, length, map, is_
 ghost use Rattle.jc_model.specs.declared.config.CacheConfig.{CacheConfig as Configured};
 ghost use Rattle.jc_model.specs.Asking.{processor_invoked};
 ghost use Rattle.jc_model.specs.Runs.{has_processor};
-ghost use Rattle.jc_shared.specs.Finding.{ok_or_no_processor};
-ghost use Rattle.jc_shared.specs.Stated.{shared_of, locked_of, wants_lock};
+ghost use Rattle.jc_locked.specs.Finding.{ok_or_no_processor};
+ghost use Rattle.jc_locked.specs.Stated.{shared_of, locked_of, wants_lock};
 
 use crate::fault::CallFault;
 use jc_hooks::{CacheHooks, Hearer, Loader, Processor, Writer};
@@ -18,37 +18,38 @@ use std::sync::Mutex;
 /// The loader and the processors of one cache.
 #[derive(Drop)]
 pub struct SharedHooks<L, P> {
-    pub(crate) loader: Option<L>,
-    pub(crate) processors: Vec<P>,
+    pub loader: Option<L>,
+    pub processors: Vec<P>,
 }
 
 /// Its writer and its listeners.
 #[derive(Drop)]
-pub(crate) struct LockedHooks<W, K> {
-    pub(crate) writer: Option<W>,
-    pub(crate) listeners: Vec<K>,
+pub struct LockedHooks<W, K> {
+    pub writer: Option<W>,
+    pub listeners: Vec<K>,
 }
 
 /// What lies under the hooks lock of a cache that a session has created: all its callbacks.
 #[derive(Drop)]
-pub(crate) struct OwnHooks<L, W, P, K> {
-    pub(crate) asked: SharedHooks<L, P>,
-    pub(crate) locked: LockedHooks<W, K>,
+pub struct OwnHooks<L, W, P, K> {
+    pub asked: SharedHooks<L, P>,
+    pub locked: LockedHooks<W, K>,
 }
 
 /// The hooks lock of a cache of the opening: a cache without callbacks has none, since none of its calls makes a
 /// request.
-pub(crate) type OpeningLock<W, K> = Option<Mutex<LockedHooks<W, K>>>;
+pub type OpeningLock<W, K> = Option<Mutex<LockedHooks<W, K>>>;
 
 /// All callbacks of the opening, by cache: loaders and processors, and what goes under the hooks locks.
 #[derive(Drop)]
-pub(crate) struct AllHooks<L, W, P, K> {
-    pub(crate) shared: Vec<SharedHooks<L, P>>,
-    pub(crate) locks: Vec<OpeningLock<W, K>>,
+pub struct AllHooks<L, W, P, K> {
+    pub shared: Vec<SharedHooks<L, P>>,
+    pub locks: Vec<OpeningLock<W, K>>,
 }
 
 impl<L, P> SharedHooks<L, P> {
-    pub(crate) fn none(alloc: Global) -> SharedHooks<L, P>
+    /// No loader and no processors.
+    pub fn none(alloc: Global) -> SharedHooks<L, P>
         ensures { (result.loader ≡ None) × (result.processors.items ≡ []) }
     {
         SharedHooks {
@@ -72,7 +73,7 @@ impl<L, P> SharedHooks<L, P> {
     }
 
     /// Refuses a call that names a processor which is not there.
-    pub(crate) fn accept(&self, call: &Call) -> Result<(), CallFault>
+    pub fn accept(&self, call: &Call) -> Result<(), CallFault>
         ensures agrees { (c : Configured) → length c.processors ≡ length self.now.processors.items →
             result ≡ ok_or_no_processor (has_processor c call.now) }
         ensures err { IfErr result (λ fault. fault ≡ CallFault.NoSuchProcessor) }
@@ -87,7 +88,8 @@ impl<L, P> SharedHooks<L, P> {
 }
 
 impl<W, K> LockedHooks<W, K> {
-    pub(crate) fn none(alloc: Global) -> LockedHooks<W, K>
+    /// No writer and no listeners.
+    pub fn none(alloc: Global) -> LockedHooks<W, K>
         ensures { (result.writer ≡ None) × (result.listeners.items ≡ []) }
     {
         LockedHooks {
@@ -98,7 +100,11 @@ impl<W, K> LockedHooks<W, K> {
 }
 
 impl<L, W, P, K> OwnHooks<L, W, P, K> {
-    pub(crate) fn none(alloc: Global) -> OwnHooks<L, W, P, K> {
+    /// No callbacks.
+    pub fn none(alloc: Global) -> OwnHooks<L, W, P, K>
+        ensures asked { (result.asked.loader ≡ None) × (result.asked.processors.items ≡ []) }
+        ensures locked { (result.locked.writer ≡ None) × (result.locked.listeners.items ≡ []) }
+    {
         OwnHooks {
             asked: SharedHooks::none(alloc),
             locked: LockedHooks::none(alloc),
@@ -106,7 +112,7 @@ impl<L, W, P, K> OwnHooks<L, W, P, K> {
     }
 
     /// All callbacks of a cache that a session creates.
-    pub(crate) fn of(hooks: CacheHooks<L, W, P, K>) -> OwnHooks<L, W, P, K>
+    pub fn of(hooks: CacheHooks<L, W, P, K>) -> OwnHooks<L, W, P, K>
         ensures { result ≡ record { asked = shared_of hooks; locked = locked_of hooks } }
     {
         let (asked, locked) = split_hooks(hooks);
@@ -152,7 +158,7 @@ fn lock_over<W: Drop, K: Drop>(wanted: bool, locked: LockedHooks<W, K>) -> Openi
 }
 
 /// The callbacks apart, in the order of the caches. Exactly the caches that have any have a lock.
-pub(crate) fn apart<L: Loader, W: Writer, P: Processor, K: Hearer>(
+pub fn apart<L: Loader, W: Writer, P: Processor, K: Hearer>(
     alloc: Global,
     hooks: Vec<CacheHooks<L, W, P, K>>,
 ) -> Result<AllHooks<L, W, P, K>, OutOfMemory>

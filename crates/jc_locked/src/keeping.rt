@@ -1,15 +1,15 @@
 //! What a manager keeps of its calls, and each of its sessions of its own.
-ghost use Rattle.jc_shared.specs.Admitting.{after_of_64, after_round};
+ghost use Rattle.jc_locked.specs.Admitting.{after_of_64, after_round};
 
+use jc_model::OutOfMemory;
+use jc_model::call::{Call, Reply};
+use jc_model::event::{End, Entry};
+use jc_model::share::Share;
 use jc_recorded::journal::all_calls::AllCalls;
 use jc_recorded::journal::change::Begun;
 use jc_recorded::journal::open_calls::OpenCalls;
 use jc_recorded::journal::past::Past;
 use jc_recorded::journal::{Journal, blank};
-use jc_model::OutOfMemory;
-use jc_model::call::{Call, Reply};
-use jc_model::event::{End, Entry};
-use jc_model::share::Share;
 use std::alloc::Global;
 
 /// A session's own calls, in their order.
@@ -81,7 +81,7 @@ pub trait OwnCalls: Drop {
 /// Entries in memory, with which a manager closes.
 #[derive(Drop)]
 pub struct OwnList {
-    pub(crate) entries: Vec<Entry>,
+    pub entries: Vec<Entry>,
 }
 
 /// For how many calls there is room at first.
@@ -142,7 +142,7 @@ impl OwnCalls for OwnList {
 /// Entries that exist in proofs alone.
 #[derive(Drop)]
 pub struct OwnPast {
-    pub(crate) past: Past,
+    pub past: Past,
 }
 
 impl OwnCalls for OwnPast {
@@ -222,7 +222,7 @@ impl Keeping for AllCalls {
 }
 
 /// The most sessions of a manager that keeps all calls, which tells them apart when it closes.
-pub(crate) const MOST_SESSIONS: u32 = 64;
+pub const MOST_SESSIONS: u32 = 64;
 
 impl Keeping for OpenCalls {
     type Own = OwnPast;

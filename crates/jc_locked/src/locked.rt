@@ -12,14 +12,14 @@ ghost use Rattle.jc_model.specs.Places.{at_place};
 ghost use Rattle.jc_recorded.specs.Recording.{blank};
 ghost use Rattle.jc_engine.specs.Caches.{lives_of};
 ghost use Rattle.jc_recorded.specs.Results.{reply_in};
-ghost use Rattle.jc_shared.specs.Admitting.{Admits};
-ghost use Rattle.jc_shared.specs.Calls.{EntryIsLast, CallGoesOn, CallGoesOnTo, IsBeginFault};
-ghost use Rattle.jc_shared.specs.Living.{TellsLiveRow, HasNoOpenCall, HasOpenCall, Refuses, has_live_row};
-ghost use Rattle.jc_shared.specs.Lookups.{Agrees};
-ghost use Rattle.jc_shared.specs.Pending.{IsRefusedAnswer};
-ghost use Rattle.jc_shared.specs.Sessions.{BeginsWith, SeesEngine, SeesSome};
-ghost use Rattle.jc_shared.specs.Finding.{fault_of, answer_fault_of, entry_ended_by, IsOfCall, IsOpenIn, IsReplied};
-ghost use Rattle.jc_shared.specs.Tenures.{IsTenure, IsRefusedCall, StopsDraft, GivesUpDraft};
+ghost use Rattle.jc_locked.specs.Admitting.{Admits};
+ghost use Rattle.jc_locked.specs.Calls.{EntryIsLast, CallGoesOn, CallGoesOnTo, IsBeginFault};
+ghost use Rattle.jc_locked.specs.Living.{TellsLiveRow, HasNoOpenCall, HasOpenCall, Refuses, has_live_row};
+ghost use Rattle.jc_locked.specs.Lookups.{Agrees};
+ghost use Rattle.jc_locked.specs.Pending.{IsRefusedAnswer};
+ghost use Rattle.jc_locked.specs.Sessions.{BeginsWith, SeesEngine, SeesSome};
+ghost use Rattle.jc_locked.specs.Finding.{fault_of, answer_fault_of, entry_ended_by, IsOfCall, IsOpenIn, IsReplied};
+ghost use Rattle.jc_locked.specs.Tenures.{IsTenure, IsRefusedCall, StopsDraft, GivesUpDraft};
 
 mod at_once;
 mod closing;
@@ -29,23 +29,24 @@ use crate::fault::{AnswerFault, CallFault, SessionRefusal};
 use crate::keeping::Keeping;
 use crate::name::Name;
 use crate::tables::{ShownTable, TablePass};
-use jc_recorded::recorded::Recorded;
 use jc_model::OutOfMemory;
 use jc_model::call::{Answer, Call, Notice, Reply};
 use jc_model::event::{CacheId, Cause, End, Entry, Step};
 use jc_model::exact::Exact;
 use jc_model::key::Key;
 use jc_model::list::Sequence;
+use jc_recorded::recorded::Recorded;
 use jc_ring::link_ring::LinkRing;
 use std::marker::PhantomData;
 
 /// A recorded engine, whose first caches are those that the name tells.
 #[derive(Drop)]
-pub(crate) struct Locked<N: Name, J: Keeping> {
-    recorded: Recorded<ShownTable<N>, LinkRing, J>,
+pub struct Locked<N: Name, J: Keeping> {
+    pub recorded: Recorded<ShownTable<N>, LinkRing, J>,
     /// How many numbers were given out to sessions.
-    given: u32,
-    closed: bool,
+    pub given: u32,
+    /// Whether its transcript has been handed out at the close.
+    pub closed: bool,
     of: PhantomData<N>,
     ghost begins: { BeginsWith N.configs recorded.transcript },
 }
@@ -128,7 +129,8 @@ fn end_by(draft: &mut Entry, reply: Option<Reply>)
 }
 
 impl<N: Name, J: Keeping> Locked<N, J> {
-    pub(crate) fn new(recorded: Recorded<ShownTable<N>, LinkRing, J>) -> Locked<N, J>
+    /// No session has its number yet.
+    pub fn new(recorded: Recorded<ShownTable<N>, LinkRing, J>) -> Locked<N, J>
         requires { BeginsWith N.configs recorded.transcript }
         ensures { (result.recorded ≡ recorded) × (result.given ≡ 0) × (result.closed ≡ false) }
     {
@@ -151,7 +153,7 @@ impl<N: Name, J: Keeping> Locked<N, J> {
     }
 
     /// The pass sees the table as it is now, or memory for the meeting was refused.
-    pub(crate) fn refresh(&mut self, pass: &mut TablePass<N>) -> Result<(), OutOfMemory>
+    pub fn refresh(&mut self, pass: &mut TablePass<N>) -> Result<(), OutOfMemory>
         ensures same { self.new.recorded ≡ self.old.recorded }
         ensures kept { (self.new.given ≡ self.old.given) × (self.new.closed ≡ self.old.closed) }
         ensures front { IsPrefix pass.old.images pass.new.images }
@@ -188,7 +190,7 @@ impl<N: Name, J: Keeping> Locked<N, J> {
     }
 
     /// Begins a session's call. At the reply, of which the second part is a copy, the pass sees what it has changed.
-    pub(crate) fn begin_call(
+    pub fn begin_call(
         &mut self,
         session: u32,
         id: CacheId,
@@ -223,7 +225,7 @@ impl<N: Name, J: Keeping> Locked<N, J> {
     }
 
     /// Begins the draft's call. At the reply the draft ends with it.
-    pub(crate) fn begin(
+    pub fn begin(
         &mut self,
         draft: &mut Entry,
         call: Call,
@@ -254,7 +256,7 @@ impl<N: Name, J: Keeping> Locked<N, J> {
 
     /// Gives the draft's call its next answer, which the draft has already as its last. At the reply the draft ends with
     /// it, and the pass sees what the call has changed.
-    pub(crate) fn resume(
+    pub fn resume(
         &mut self,
         draft: &mut Entry,
         answer: Answer,
@@ -297,11 +299,7 @@ impl<N: Name, J: Keeping> Locked<N, J> {
 
     /// Ends the draft's call without a reply. The draft then has the notices that no one was told, and the pass sees
     /// what the call has changed.
-    pub(crate) fn give_up(
-        &mut self,
-        draft: &mut Entry,
-        pass: &mut TablePass<N>,
-    ) -> Result<(), CallFault>
+    pub fn give_up(&mut self, draft: &mut Entry, pass: &mut TablePass<N>) -> Result<(), CallFault>
         requires { draft.old.end ≡ Waiting }
         ensures ok { OnOk result
             ((draft.new ≡ record draft.old { told = draft.new.told; end = GivenUp })
@@ -328,7 +326,7 @@ impl<N: Name, J: Keeping> Locked<N, J> {
     }
 
     /// The first cache whose call is open, if any is.
-    pub(crate) fn open_call(&self) -> Option<CacheId>
+    pub fn open_call(&self) -> Option<CacheId>
         ensures none { result ≡ None → HasNoOpenCall N.configs }
         ensures some { IfSome result (λ id. HasOpenCall N.configs id) }
     {
@@ -336,7 +334,7 @@ impl<N: Name, J: Keeping> Locked<N, J> {
     }
 
     /// Whether a cache has this id. Where none has, the engine refuses a call there for that.
-    pub(crate) fn is_live(&self, id: CacheId) -> bool
+    pub fn is_live(&self, id: CacheId) -> bool
         ensures exact { result ≡ is_some (at_place self.now.recorded.caches id) }
         ensures missing { result ≡ false →
             (at : ℕ) (call : Called) → Refuses N.configs (Begin id at call) NoSuchCache }
@@ -345,7 +343,7 @@ impl<N: Name, J: Keeping> Locked<N, J> {
     }
 
     /// Whether a cache has a live row of this key. The pass sees the table as it is now, where memory allows it.
-    pub(crate) fn has(&mut self, id: CacheId, key: &Key, now: u64, pass: &mut TablePass<N>) -> bool
+    pub fn has(&mut self, id: CacheId, key: &Key, now: u64, pass: &mut TablePass<N>) -> bool
         ensures same { self.new.recorded ≡ self.old.recorded }
         ensures kept { (self.new.given ≡ self.old.given) × (self.new.closed ≡ self.old.closed) }
         ensures front { IsPrefix pass.old.images pass.new.images }
@@ -359,7 +357,7 @@ impl<N: Name, J: Keeping> Locked<N, J> {
     }
 
     /// Gives a session its number, where there is room for its list. Numbers go upward from 0.
-    pub(crate) fn admit(&mut self, room: bool) -> Result<u32, SessionRefusal>
+    fn admit(&mut self, room: bool) -> Result<u32, SessionRefusal>
         ensures admits { Admits J.after self.old.closed self.old.given room result self.new.given }
         ensures kept { (self.new.recorded ≡ self.old.recorded)
             × (self.new.closed ≡ self.old.closed) }
@@ -379,7 +377,7 @@ impl<N: Name, J: Keeping> Locked<N, J> {
     }
 
     /// Gives a session its number and a pass, where there is room for its list.
-    pub(crate) fn enter(&mut self, room: bool) -> Result<(u32, TablePass<N>), SessionRefusal>
+    pub fn enter(&mut self, room: bool) -> Result<(u32, TablePass<N>), SessionRefusal>
         ensures sees { IfOk result (λ s. SeesSome N.configs s.1 × (s.1.met ≡ true)) }
         ensures shows { IfOk result (λ s. SeesEngine self.old.recorded s.1) }
         ensures admits { IfOk result (λ s.

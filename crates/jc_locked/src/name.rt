@@ -9,7 +9,7 @@ pub trait Name {
     ghost use Rattle.std.specs.Prelude.{List};
     ghost use Rattle.atomic_table.specs.Seated.{TableId};
     ghost use Rattle.jc_model.specs.declared.config.CacheConfig.{CacheConfig};
-    ghost use Rattle.jc_shared.specs.Stated.{Stated};
+    ghost use Rattle.jc_locked.specs.Stated.{Stated};
 
     ghost configs: { List CacheConfig };
 

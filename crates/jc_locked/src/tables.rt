@@ -18,10 +18,10 @@ use std::marker::Model;
 pub type Table = Cuckoo<SeededPlacer, NoMirror>;
 
 /// The same, which tells its images to an index.
-pub(crate) type ShownTable<N> = Cuckoo<SeededPlacer, Words<IndexOf<N>, SeededPlacer>>;
+pub type ShownTable<N> = Cuckoo<SeededPlacer, Words<IndexOf<N>, SeededPlacer>>;
 
 /// What a session has seen of that index.
-pub(crate) type TablePass<N> = Pass<IndexOf<N>, SeededPlacer>;
+pub type TablePass<N> = Pass<IndexOf<N>, SeededPlacer>;
 
 /// How many buckets a table has at first.
 const BUCKETS: u32 = 16;
@@ -40,36 +40,38 @@ pub fn table(alloc: Global, seed: u64) -> Result<Table, OutOfMemory>
     }
 }
 
-/// A table without rows, and an index that shows it. Contracts see the index's name.
+/// A table without rows, and an index that shows it. Contracts see the index's name, and the seed.
 #[derive(Drop)]
-pub(crate) struct BlankTable {
+pub struct BlankTable {
     table: Table,
     words: Unnamed<SeededPlacer>,
 }
 
 impl Model for BlankTable {
-    ghost use Rattle.atomic_table.specs.Seated.{TableId};
-    ghost use Rattle.jc_shared.specs.Opening.{IsBlank};
+    ghost use Rattle.jc_locked.specs.Opening.{Blank, IsBlank};
 
-    ghost Value = { TableId };
+    ghost Value = { Blank };
 
-    ghost view = { λ b. b.words.name };
+    ghost view = { λ b. record { index = b.words.name; seed = b.table.placer } };
 
     ghost invariant = { λ b. IsBlank b.table.placer b.table.buckets b.table.cells b.words };
 }
 
 impl BlankTable {
     /// The seed picks the places of the rows.
-    pub(crate) fn new(alloc: Global, seed: u64) -> Result<BlankTable, OutOfMemory> {
+    pub fn new(alloc: Global, seed: u64) -> Result<BlankTable, OutOfMemory>
+        ensures { IfOk result (λ b. b.seed ≡ seed) }
+    {
         let table = table(alloc, seed)?;
         let words = Unnamed::new(alloc, SeededPlacer::new(seed), BUCKETS)?;
         Ok(BlankTable { table, words })
     }
 
     /// The table, whose index has a name now.
-    pub(crate) fn named<N: Name>(self) -> ShownTable<N>
-        requires { self ≡ N.index }
-        ensures { rows_in result.cells ≡ finite.empty }
+    pub fn named<N: Name>(self) -> ShownTable<N>
+        requires { self.index ≡ N.index }
+        ensures empty { rows_in result.cells ≡ finite.empty }
+        ensures seed { result.placer ≡ self.seed }
     {
         self.table.with_mirror(self.words.named::<IndexOf<N>>())
     }

@@ -1,6 +1,8 @@
 -- The entries of open calls, as a history grows.
 use Rattle.std.proofs.Common.{◌≡◌, ◌≢◌, ◌⊎◌, ◌+◌, ◌-◌, ℕ, zero, suc, false, List, [], ◌∷◌, ◌++◌, length, Option, Some, None, inl, inr, refl, sym, ap, subst, ◌∙◌, arith, slice_get, slice_set, length-set}
-use Rattle.jc_engine.proofs.Names.{cases_eq, length_push, Entry, History, Advance, Replied, Asked, Told, step_of, Stepped, at_same}
+use Rattle.jc_engine.proofs.Names.{cases_eq, length_push, Entry, History, step_of, Stepped, at_same}
+use Rattle.jc_engine.specs.declared.turn.Advance.{Advance}
+use Rattle.jc_engine.specs.declared.turn.Advance.TheVariants.{Replied, Asked, Told}
 use Rattle.jc_recorded.specs.Recording.{with_entries}
 use Rattle.jc_model.specs.declared.call.Reply.{Reply}
 use Rattle.jc_model.specs.declared.event.End.TheVariants.{Waiting}

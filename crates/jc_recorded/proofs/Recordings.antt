@@ -2,7 +2,9 @@
 use Rattle.std.proofs.Common.{◌≡◌, ◌⊎◌, inl, inr, IfSome, ℕ, zero, suc, Bool, true, false, List, [], ◌∷◌, ◌++◌, ◌+◌, length, take, Option, Some, None, Result, Ok, Err, refl, sym, ap, subst, ◌∙◌, arith, slice_get, slice_set, set-set, option_map, OnOk, OnErr, IsSome, is_some, is_err}
 use Rattle.jc_engine.proofs.Names.{Answer, Call, Notice, CacheConfig, Event, Begin, GiveUp, Create, Destroy, Outcome, Entry, Progress, Awaited, told_by, there, at_place, Status, CacheEvent, on_cache, answers, gives_up, idle}
 use Rattle.jc_engine.proofs.Names.{is_refused, reply_of, for_memory, answer_of, answer_in, answer_to, lives_after, Wait, one, many, telling, standing_by, History, Tells, recorded, numbered_lives, at_first, with_outcome, with_answer}
-use Rattle.jc_engine.proofs.Names.{on_open, Noted, Advance, Replied, Asked, Told, Cache, status_of, fresh_cache, fresh_from, lives_of, step_of, is_step, is_telling, tells, FitsTurn, LeavesNotices, of_abandon, FitsAt, ClosedAt, is_open_in}
+use Rattle.jc_engine.proofs.Names.{on_open, Noted, Cache, status_of, fresh_cache, fresh_from, lives_of, step_of, is_step, is_telling, tells, FitsTurn, LeavesNotices, of_abandon, FitsAt, ClosedAt, is_open_in}
+use Rattle.jc_engine.specs.declared.turn.Advance.{Advance}
+use Rattle.jc_engine.specs.declared.turn.Advance.TheVariants.{Replied, Asked, Told}
 use Rattle.jc_engine.proofs.Names.{ChangesOne, State, Answered, Created, Destroyed, GivenUp, Stepped, at_same, at_other, at_place_map, common_steps}
 use Rattle.jc_recorded.specs.Recording.{IsOpenAt, HasEntry, IsRecorded, CanTell, blank, left_in, with_entries, with_life}
 use Rattle.jc_model.specs.declared.event.Life.{Life}

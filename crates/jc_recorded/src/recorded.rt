@@ -19,10 +19,10 @@ ghost use Rattle.jc_model.specs.Limits.{most_ids};
 mod over;
 mod watched;
 
-use jc_engine::engine::Engine;
 use crate::journal::Journal;
 use crate::journal::all_calls::AllCalls;
 use crate::journal::change::{Begun, Origin};
+use jc_engine::engine::Engine;
 use jc_engine::open::{OpenRefusal, open_refusal_from};
 use jc_engine::turn::Advance;
 use jc_model::OutOfMemory;

@@ -3,13 +3,13 @@
 use crate::manager::{counts_of, make_journaled, make_plain};
 use crate::trouble::Trouble;
 use jc_engine::engine::Engine;
-use jc_recorded::recorded::Recorded;
 use jc_model::OutOfMemory;
 use jc_model::config::CacheConfig;
 use jc_model::event::{CacheId, Event, Outcome};
 use jc_model::key::Key;
 use jc_model::share::{Share, share_all};
 use jc_model::transcript::Transcript;
+use jc_recorded::recorded::Recorded;
 use jc_ring::list_ring::ListRing;
 use jc_ring::ring::Ring;
 use jc_rows::list_rows::ListRows;

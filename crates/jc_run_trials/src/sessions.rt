@@ -1,6 +1,6 @@
 //! Sessions of a shared manager that make the calls of a script.
 ghost use Rattle.std.specs.Prelude.{◌≡◌, map};
-ghost use Rattle.jc_shared.specs.Stated.{stated_by};
+ghost use Rattle.jc_locked.specs.Stated.{stated_by};
 
 use jc_hooks::{CacheHooks, Hearer, Loader, Processor, Writer};
 use jc_model::call::Reply;

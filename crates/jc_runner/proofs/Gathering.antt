@@ -16,17 +16,17 @@ use Rattle.jc_script.specs.declared.line.LineCall.{LineCall}
 use Rattle.jc_script.specs.declared.managed.Managed.{Managed}
 use Rattle.jc_script.specs.Calls.{calls_in_lines}
 use Rattle.jc_script.specs.Managing.{lives_of_script, managed_of}
-use Rattle.jc_shared.specs.declared.hooks.SharedHooks.{SharedHooks}
-use Rattle.jc_shared.specs.Stated.{Stated, stated_by, shared_of}
+use Rattle.jc_locked.specs.declared.hooks.SharedHooks.{SharedHooks}
+use Rattle.jc_locked.specs.Stated.{Stated, stated_by, shared_of}
 use Rattle.jc_threads.specs.Lines.{AreCallsMade}
 use Rattle.jc_threads.specs.Managing.{AreManaged}
 use mathlib.Core.Logic.{inl, inr}
 use Rattle.jc_engine.specs.Opening.{open_refusal}
 use Rattle.jc_engine.specs.declared.open.OpenRefusal.{OpenRefusal}
-use Rattle.jc_shared.specs.declared.fault.SharedRefusal.{SharedRefusal}
-use Rattle.jc_shared.specs.declared.fault.SharedRefusal.TheVariants.{Caches, HooksDiffer, OutOfMemory}
+use Rattle.jc_locked.specs.declared.fault.SharedRefusal.{SharedRefusal}
+use Rattle.jc_locked.specs.declared.fault.SharedRefusal.TheVariants.{Caches, HooksDiffer, OutOfMemory}
 use Rattle.jc_hooks.specs.Suits.{AllSuit}
-use Rattle.jc_shared.specs.Opening.{CanOpen, IsOpeningRefusal}
+use Rattle.jc_locked.specs.Opening.{CanOpen, IsOpeningRefusal}
 use Rattle.jc_runner.specs.Hooks.{AreSuited, CannotOpen}
 use Rattle.jc_runner.proofs.Suiting.{suited, each_suits}
 use Rattle.jc_runner.specs.Forms.{report_in}

@@ -12,7 +12,7 @@ use Rattle.jc_hooks.specs.declared.cache_hooks.CacheHooks.{CacheHooks}
 use Rattle.jc_hooks.specs.declared.loader.Loaded.{Loaded}
 use Rattle.jc_hooks.specs.Asking.{GivesAnswers, TellsAll}
 use Rattle.jc_hooks.proofs.Behind.{gives_more, tells_more}
-use Rattle.jc_shared.specs.Serving.{is_write}
+use Rattle.jc_locked.specs.Serving.{is_write}
 use Rattle.jc_runner.specs.Answering.{written_in, notices_told_in, AllStated, Heard, HeardAt}
 use Rattle.jc_runner.specs.Hooks.{HasNoHooks}
 

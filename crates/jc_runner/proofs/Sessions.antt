@@ -11,7 +11,7 @@ use Rattle.jc_script.specs.declared.line.Line.{Line}
 use Rattle.jc_script.specs.declared.line.Line.TheVariants as line
 use Rattle.jc_script.specs.declared.line.LineCall.{LineCall}
 use Rattle.jc_script.specs.Calls.{line_of_entry, calls_in_lines, calls_on}
-use Rattle.jc_shared.specs.Accounts.{calls_of}
+use Rattle.jc_locked.specs.Accounts.{calls_of}
 use Rattle.jc_threads.specs.Lines.{lines_by}
 use Rattle.jc_threads.proofs.Lists.{all_by_class}
 

@@ -6,7 +6,7 @@ use Rattle.jc_model.specs.declared.call.Notice.{Notice}
 use Rattle.jc_model.specs.declared.call.ProcessorFault.{ProcessorFault}
 use Rattle.jc_model.specs.declared.call.Request.{Request}
 use Rattle.jc_model.specs.declared.call.Verdict.{Verdict}
-use Rattle.jc_shared.specs.Serving.{is_write}
+use Rattle.jc_locked.specs.Serving.{is_write}
 use Rattle.jc_model.specs.Run.{told_by}
 use Rattle.jc_hooks.specs.Answering.{IsStatedAnswer}
 use Rattle.jc_hooks.specs.Asking.{GivesAnswers, TellsAll}

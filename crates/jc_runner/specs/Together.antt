@@ -11,7 +11,7 @@ use Rattle.jc_script.specs.declared.line.Line.{Line}
 use Rattle.jc_script.specs.declared.managed.Managed.{Managed}
 use Rattle.jc_script.specs.Calls.{calls_in_lines}
 use Rattle.jc_script.specs.Managing.{lives_of_script, managed_of}
-use Rattle.jc_shared.specs.Stated.{Stated, stated_by, shared_of}
+use Rattle.jc_locked.specs.Stated.{Stated, stated_by, shared_of}
 use Rattle.jc_threads.specs.Lines.{AreCallsMade}
 use Rattle.jc_threads.specs.Managing.{AreManaged}
 use Rattle.jc_runner.specs.Forms.{report_in}

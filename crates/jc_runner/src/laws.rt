@@ -7,7 +7,7 @@ ghost use Rattle.jc_model.specs.Legal.{History, entries_of};
 ghost use Rattle.jc_script.specs.declared.line.Line.{Line};
 ghost use Rattle.jc_script.specs.Managing.{managed_of};
 ghost use Rattle.jc_script.specs.Report as report;
-ghost use Rattle.jc_shared.specs.Stated.{Stated};
+ghost use Rattle.jc_locked.specs.Stated.{Stated};
 ghost use Rattle.jc_runner.specs.Apart.{HaveOneCallerEach, TellsAlone, AnswerAlike};
 ghost use Rattle.jc_runner.specs.Reports.{Reports};
 ghost use Rattle.jc_runner.specs.Together.{IsMade};

@@ -4,7 +4,7 @@ ghost use Rattle.jc_model.specs.Legal.{IsLegal};
 ghost use Rattle.jc_model.specs.Runs.{opened_from};
 ghost use Rattle.jc_script.specs.Calls.{calls_in_lines};
 ghost use Rattle.jc_script.specs.Named.{AllName};
-ghost use Rattle.jc_shared.specs.Stated.{stated_by, shared_of};
+ghost use Rattle.jc_locked.specs.Stated.{stated_by, shared_of};
 ghost use Rattle.jc_threads.specs.Lines.{AreCallsMade};
 ghost use Rattle.jc_threads.specs.Managing.{AreManaged};
 ghost use Rattle.jc_runner.specs.Streams.{IsOfThreads, HasRun};

@@ -17,13 +17,13 @@ use Rattle.jc_index.specs.declared.lookup.Lookup.TheVariants.{Sure, Unsure}
 use Rattle.jc_index.specs.Found.{found_in_image}
 use Rattle.jc_index.specs.Spelling.{buckets_of}
 use Rattle.jc_index.specs.Versions.{read_for}
-use Rattle.jc_shared.specs.declared.fault.CallFault.{CallFault}
-use Rattle.jc_shared.specs.declared.fault.CreateFault.{CreateFault}
-use Rattle.jc_shared.specs.declared.fault.DestroyFault.{DestroyFault}
-use Rattle.jc_shared.specs.Calls.{Adds, CallFails, LacksProcessor, TellsLack}
-use Rattle.jc_shared.specs.Living.{HasGone, IsCreated, IsCreateFault, IsSessionDestroyRefusal, TellsLiveRow, IsIdOfName, IsSeen}
-use Rattle.jc_shared.specs.Sessions.{Sitting, SeesSome, log_of}
-use Rattle.jc_shared.specs.Stated.{Stated}
+use Rattle.jc_locked.specs.declared.fault.CallFault.{CallFault}
+use Rattle.jc_locked.specs.declared.fault.CreateFault.{CreateFault}
+use Rattle.jc_locked.specs.declared.fault.DestroyFault.{DestroyFault}
+use Rattle.jc_locked.specs.Calls.{Adds, CallFails, LacksProcessor, TellsLack}
+use Rattle.jc_locked.specs.Living.{HasGone, IsCreated, IsCreateFault, IsSessionDestroyRefusal, TellsLiveRow, IsIdOfName, IsSeen}
+use Rattle.jc_locked.specs.Sessions.{Sitting, SeesSome, log_of}
+use Rattle.jc_locked.specs.Stated.{Stated}
 use Rattle.jc_recorded.specs.Recording.{blank}
 use Rattle.jc_shared.specs.Progress.{AddsCall, FailsBy}
 

@@ -19,9 +19,9 @@ pub trait Caches {
     ghost use Rattle.jc_model.specs.declared.config.CacheConfig.{CacheConfig as Configured};
     ghost use Rattle.jc_shards.specs.Sharding.{Hooks};
     ghost use Rattle.jc_index.specs.declared.lookup.Lookup.{Lookup as LookedUp};
-    ghost use Rattle.jc_shared.specs.declared.fault.CallFault.{CallFault as NotCalled};
-    ghost use Rattle.jc_shared.specs.declared.fault.CreateFault.{CreateFault as NotCreated};
-    ghost use Rattle.jc_shared.specs.declared.fault.DestroyFault.{DestroyFault as NotDestroyed};
+    ghost use Rattle.jc_locked.specs.declared.fault.CallFault.{CallFault as NotCalled};
+    ghost use Rattle.jc_locked.specs.declared.fault.CreateFault.{CreateFault as NotCreated};
+    ghost use Rattle.jc_locked.specs.declared.fault.DestroyFault.{DestroyFault as NotDestroyed};
 
     /// Names a cache among them.
     type Id: Copy;
@@ -93,7 +93,7 @@ pub trait LentCalls: Caches {
     ghost use Rattle.std.specs.Prelude.{ℕ, Result};
     ghost use Rattle.jc_model.specs.declared.call.Call.{Call as Called};
     ghost use Rattle.jc_model.specs.declared.call.Reply.{Reply as Replied};
-    ghost use Rattle.jc_shared.specs.declared.fault.CallFault.{CallFault as NotCalled};
+    ghost use Rattle.jc_locked.specs.declared.fault.CallFault.{CallFault as NotCalled};
 
     /// Of such a call: the caller before and after, the cache, the moment, the call, and what it came to.
     ghost CallsBy: { Self → Self → Self.Id → ℕ → Called → Result Replied NotCalled → Type 0 };

@@ -1,7 +1,7 @@
 //! One manager among several.
 ghost use Rattle.std.specs.Prelude.{◌≡◌, [], true, IfOk, IfErr, Ok, Err};
-ghost use Rattle.jc_shared.specs.Admitting.{IsAdmission};
-ghost use Rattle.jc_shared.specs.Sessions.{SeesSome};
+ghost use Rattle.jc_locked.specs.Admitting.{IsAdmission};
+ghost use Rattle.jc_locked.specs.Sessions.{SeesSome};
 ghost use Rattle.jc_shards.specs.Sharding.{IsCreation};
 
 use crate::caches::{Caches, LentCalls};

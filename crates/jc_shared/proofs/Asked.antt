@@ -5,8 +5,8 @@ use Rattle.jc_hooks.specs.declared.loader.Loaded.{Loaded}
 use Rattle.jc_model.specs.declared.call.ProcessorFault.{ProcessorFault}
 use Rattle.jc_model.specs.declared.call.Verdict.{Verdict}
 use Rattle.jc_model.specs.declared.config.CacheConfig.{CacheConfig}
-use Rattle.jc_shared.specs.declared.hooks.SharedHooks.{SharedHooks}
-use Rattle.jc_shared.specs.Stated.{Stated, stated_by, AreOf, processor_counts, wanted_counts}
+use Rattle.jc_locked.specs.declared.hooks.SharedHooks.{SharedHooks}
+use Rattle.jc_locked.specs.Stated.{Stated, stated_by, AreOf, processor_counts, wanted_counts}
 
 module _ {L P : Type 0} (load_of : L → List ℕ → Loaded) (verdict_of : P → Option (List ℕ) → List ℕ → Result Verdict ProcessorFault) where
   found : (shared : List (SharedHooks L P)) (i : ℕ) (s : SharedHooks L P) → slice_get shared i ≡ Some s → AreOf load_of verdict_of (map (stated_by load_of verdict_of) shared) i s

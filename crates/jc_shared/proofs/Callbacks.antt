@@ -11,8 +11,8 @@ use Rattle.jc_model.specs.declared.call.Answer.{Answer}
 use Rattle.jc_model.specs.declared.call.Notice.{Notice}
 use Rattle.jc_model.specs.declared.call.Request.{Request}
 use Rattle.jc_model.specs.declared.call.Request.TheVariants.{Load, Write, Delete, Process, Tell}
-use Rattle.jc_shared.specs.declared.hooks.LockedHooks.{LockedHooks}
-use Rattle.jc_shared.specs.Serving.{TellsListenersBy, ServesRequest}
+use Rattle.jc_locked.specs.declared.hooks.LockedHooks.{LockedHooks}
+use Rattle.jc_locked.specs.Serving.{TellsListenersBy, ServesRequest}
 
 -- it is what it was where its items are
 pub left_alone : {K : Type 0} (v : Vec K) (ws : List K) → ws ≡ v.items → with_items v ws ≡ v

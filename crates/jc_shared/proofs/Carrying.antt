@@ -20,18 +20,18 @@ use Rattle.jc_recorded.specs.Changed.{begun_entry, replied_at_once}
 use Rattle.jc_recorded.specs.Recording.{blank}
 use Rattle.jc_recorded.specs.Results.{reply_in}
 use Rattle.jc_recorded.specs.declared.journal.change.Begun.{Begun}
-use Rattle.jc_shared.specs.declared.fault.CallFault.{CallFault}
-use Rattle.jc_shared.specs.declared.fault.CallFault.TheVariants as faults
+use Rattle.jc_locked.specs.declared.fault.CallFault.{CallFault}
+use Rattle.jc_locked.specs.declared.fault.CallFault.TheVariants as faults
 use Rattle.jc_model.specs.Asking.{AsksOf}
 use Rattle.jc_hooks.specs.Asking.{states_after}
 use Rattle.jc_hooks.proofs.Behind.{tells_more}
-use Rattle.jc_shared.specs.declared.hooks.LockedHooks.{LockedHooks}
-use Rattle.jc_shared.specs.Serving.{told_behind, TellsOnce, TellsListeners, TellsListenersOn, ServesRequest}
-use Rattle.jc_shared.specs.Stated.{Stated, AreStated, IsStatedBy}
-use Rattle.jc_shared.specs.Finding.{ok_or_no_processor, entry_ended_by}
-use Rattle.jc_shared.specs.Sessions.{Sitting, Sight}
-use Rattle.jc_shared.specs.Living.{Refuses}
-use Rattle.jc_shared.specs.Calls.{EntryIsLast, call_entry, IsSameCall, HasEnded, CallStands, CallEndsFaulty, CallGoesOn, Adds, AddsWaiting, CallFails, MayLackProcessor}
+use Rattle.jc_locked.specs.declared.hooks.LockedHooks.{LockedHooks}
+use Rattle.jc_locked.specs.Serving.{told_behind, TellsOnce, TellsListeners, TellsListenersOn, ServesRequest}
+use Rattle.jc_locked.specs.Stated.{Stated, AreStated, IsStatedBy}
+use Rattle.jc_locked.specs.Finding.{ok_or_no_processor, entry_ended_by}
+use Rattle.jc_locked.specs.Sessions.{Sitting, Sight}
+use Rattle.jc_locked.specs.Living.{Refuses}
+use Rattle.jc_locked.specs.Calls.{EntryIsLast, call_entry, IsSameCall, HasEnded, CallStands, CallEndsFaulty, CallGoesOn, Adds, AddsWaiting, CallFails, MayLackProcessor}
 
 -- no answers are stated ones
 no_answers : (h : Option Stated) (call : Call) (answers : List Answer) → answers ≡ [] → AreStated h call answers

@@ -4,8 +4,8 @@ use Rattle.jc_model.specs.declared.call.Notice.{Notice}
 use Rattle.jc_model.specs.declared.call.Request.{Request}
 use Rattle.jc_model.specs.declared.event.End.TheVariants as ends
 use Rattle.jc_model.specs.declared.event.Entry.{Entry}
-use Rattle.jc_shared.specs.Pending.{Pending, given_up_entry}
-use Rattle.jc_shared.specs.Serving.{told_behind}
+use Rattle.jc_locked.specs.Pending.{Pending, given_up_entry}
+use Rattle.jc_locked.specs.Serving.{told_behind}
 
 -- What a call that is given up has told, and what is left.
 pub told_and_left : (told new left : List Notice) (untold : Bool) → untold ≡ (length told == 0) → left ≡ (if untold then new else []) → (told ≡ []) ⊎ (new ≡ told) → new ≡ told ++ left

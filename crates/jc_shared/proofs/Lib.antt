@@ -1,14 +1,5 @@
-pub mod Last
-pub mod Showing
-pub mod Tenures
-pub mod Livings
 pub mod Asked
-pub mod Comparing
-pub mod Walking
 pub mod Callbacks
 pub mod Carrying
 pub mod GivingUp
 pub mod Writing
-pub mod Opened
-pub mod Entered
-pub mod Missing

@@ -12,8 +12,8 @@ use Rattle.jc_model.specs.declared.call.Notice.{Notice}
 use Rattle.jc_model.specs.declared.call.Request.{Request}
 use Rattle.jc_model.specs.declared.call.Request.TheVariants.{Load, Write, Delete, Process, Tell}
 use Rattle.jc_model.specs.Run.{is_answer_to, for_load, for_write, for_process, for_tell, fits}
-use Rattle.jc_shared.specs.declared.hooks.LockedHooks.{LockedHooks}
-use Rattle.jc_shared.specs.Serving.{is_write, is_of_writer, AreWritten, ServesRequest, TakesIn, HasStated, HasWritten, WritesOn}
+use Rattle.jc_locked.specs.declared.hooks.LockedHooks.{LockedHooks}
+use Rattle.jc_locked.specs.Serving.{is_write, is_of_writer, AreWritten, ServesRequest, TakesIn, HasStated, HasWritten, WritesOn}
 
 one_more : (answers : List Answer) (a : Answer) → filter is_of_writer (answers ++ a ∷ []) ≡ filter is_of_writer answers ++ filter is_of_writer (a ∷ [])
 one_more answers a = filter-append is_of_writer answers (a ∷ [])

@@ -1,13 +1,2 @@
-pub mod Stated
-pub mod Sessions
-pub mod Calls
-pub mod Pending
 pub mod Progress
-pub mod Accounts
-pub mod Opening
-pub mod Tenures
-pub mod Living
-pub mod Finding
-pub mod Admitting
-pub mod Serving
-pub mod Lookups
+pub mod Unfound

@@ -12,14 +12,14 @@ use Rattle.jc_model.specs.declared.event.Step.{Step}
 use Rattle.jc_model.specs.declared.event.Step.TheVariants.{Done, Need}
 use Rattle.jc_model.specs.Asking.{AsksOf}
 use Rattle.jc_recorded.specs.Recording.{blank}
-use Rattle.jc_shared.specs.Calls.{IsBeginFault, call_entry}
-use Rattle.jc_shared.specs.Living.{IsMissing}
-use Rattle.jc_shared.specs.declared.fault.CallFault.{CallFault}
-use Rattle.jc_shared.specs.declared.fault.CallFault.TheVariants as faults
+use Rattle.jc_locked.specs.Calls.{IsBeginFault, call_entry}
+use Rattle.jc_locked.specs.Living.{IsMissing}
+use Rattle.jc_locked.specs.declared.fault.CallFault.{CallFault}
+use Rattle.jc_locked.specs.declared.fault.CallFault.TheVariants as faults
 use Rattle.jc_shared.specs.declared.pending.Progress.{Progress}
 use Rattle.jc_shared.specs.declared.pending.Progress.TheVariants as progress
-use Rattle.jc_shared.specs.Pending.{Pending, AddsEntry}
-use Rattle.jc_shared.specs.Sessions.{Sitting}
+use Rattle.jc_locked.specs.Pending.{Pending, AddsEntry}
+use Rattle.jc_locked.specs.Sessions.{Sitting}
 
 -- the call of this entry has its reply, and the session has it among its own calls; or it waits, for what it asks for
 -- itself, and the session is as it was

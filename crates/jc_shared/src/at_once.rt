@@ -3,20 +3,20 @@ ghost use Rattle.std.specs.Prelude.{◌≡◌, None, IfSome, IfOk, IfErr};
 ghost use mathlib.Core.List.{IsPrefix};
 ghost use Rattle.jc_model.specs.declared.call.Reply.TheVariants.{Found};
 ghost use Rattle.jc_model.specs.declared.event.End.TheVariants.{Replied};
-ghost use Rattle.jc_shared.specs.Calls.{Adds, CallFails, LacksProcessor, TellsLack};
-ghost use Rattle.jc_shared.specs.Stated.{AreCounted};
+ghost use Rattle.jc_locked.specs.Calls.{Adds, CallFails, LacksProcessor, TellsLack};
+ghost use Rattle.jc_locked.specs.Stated.{AreCounted};
 
-use crate::fault::CallFault;
-use crate::hooks::SharedHooks;
-use crate::keeping::{Keeping, OwnCalls};
-use crate::name::Name;
 use crate::session::Session;
-use jc_recorded::journal::change::Begun;
-use jc_recorded::recorded::found_in;
 use jc_hooks::{Hearer, Loader, Processor, Writer};
+use jc_locked::fault::CallFault;
+use jc_locked::hooks::SharedHooks;
+use jc_locked::keeping::{Keeping, OwnCalls};
+use jc_locked::name::Name;
 use jc_model::call::{Call, Reply};
 use jc_model::event::{CacheId, Step};
 use jc_model::value::Value;
+use jc_recorded::journal::change::Begun;
+use jc_recorded::recorded::found_in;
 use std::sync::Wait;
 
 impl<'a, N: Name, L: Loader, W: Writer, P: Processor, K: Hearer, J: Keeping> Session<

@@ -1,10 +1,10 @@
 //! The hooks locks of the live caches that sessions have created, by id.
 ghost use Rattle.std.specs.Prelude.{◌≡◌, ◌≤◌, ℕ, None, Some, IsSome, OnOk, IfErr, nat_eq};
 ghost use Rattle.std.specs.HashMap.{get, spare, Updates};
-ghost use Rattle.jc_shared.specs.Finding.{unfound_at};
+ghost use Rattle.jc_shared.specs.Unfound.{unfound_at};
 
-use crate::fault::Unfound;
-use crate::hooks::OwnHooks;
+use crate::unfound::Unfound;
+use jc_locked::hooks::OwnHooks;
 use jc_model::OutOfMemory;
 use jc_model::event::CacheId;
 use std::alloc::Global;

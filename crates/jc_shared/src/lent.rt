@@ -5,14 +5,14 @@ ghost use Rattle.jc_model.specs.declared.event.End.TheVariants.{Replied};
 ghost use Rattle.jc_recorded.specs.Recording.{blank};
 ghost use Rattle.jc_shared.specs.Progress.{AddsCall, EndsBy, FailsBy};
 
-use crate::fault::CallFault;
-use crate::name::Name;
 use crate::pending::{PendingCall, Progress};
 use crate::session::Session;
-use jc_recorded::journal::open_calls::OpenCalls;
 use jc_hooks::{Hearer, Loader, Processor, Responder, Writer};
+use jc_locked::fault::CallFault;
+use jc_locked::name::Name;
 use jc_model::call::{Call, Reply, Request};
 use jc_model::event::CacheId;
+use jc_recorded::journal::open_calls::OpenCalls;
 use std::sync::Wait;
 
 impl<'a, N: Name, L: Loader, W: Writer, P: Processor, K: Hearer> Session<

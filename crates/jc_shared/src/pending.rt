@@ -2,7 +2,7 @@
 ghost use Rattle.std.specs.Prelude.{◌≡◌};
 ghost use Rattle.jc_model.specs.declared.event.End.TheVariants.{Waiting};
 
-use crate::name::Name;
+use jc_locked::name::Name;
 use jc_model::call::{Reply, Request};
 use jc_model::event::{CacheId, Entry};
 use std::marker::{Model, PhantomData};
@@ -18,7 +18,7 @@ pub struct PendingCall<N: Name> {
 }
 
 impl<N: Name> Model for PendingCall<N> {
-    ghost use Rattle.jc_shared.specs.Pending.{Pending, EndsWaiting};
+    ghost use Rattle.jc_locked.specs.Pending.{Pending, EndsWaiting};
 
     ghost Value = { Pending };
 

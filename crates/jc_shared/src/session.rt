@@ -5,31 +5,31 @@ ghost use Rattle.jc_model.specs.declared.event.End.TheVariants.{Replied};
 ghost use Rattle.jc_hooks.specs.Suits.{Suits};
 ghost use Rattle.jc_stripes.specs.Stripes.{AreReadAtRest};
 ghost use Rattle.jc_index.specs.declared.lookup.Lookup.TheVariants.{Sure, Unsure};
-ghost use Rattle.jc_shared.specs.Accounts.{own_log};
-ghost use Rattle.jc_shared.specs.Calls.{Adds, CallFails, LacksProcessor, TellsLack};
-ghost use Rattle.jc_shared.specs.Living.{IsCreated, IsCreateFault, IsSessionDestroyRefusal, HasGone, TellsLiveRow, IsSeen};
-ghost use Rattle.jc_shared.specs.Lookups.{found_by, Agrees, MayBeUnsure, SessionReadsStripes};
-ghost use Rattle.jc_shared.specs.Sessions.{SeesSome, log_of};
-ghost use Rattle.jc_shared.specs.Stated.{AreOf, AreCounted};
+ghost use Rattle.jc_locked.specs.Accounts.{own_log};
+ghost use Rattle.jc_locked.specs.Calls.{Adds, CallFails, LacksProcessor, TellsLack};
+ghost use Rattle.jc_locked.specs.Living.{IsCreated, IsCreateFault, IsSessionDestroyRefusal, HasGone, TellsLiveRow, IsSeen};
+ghost use Rattle.jc_locked.specs.Lookups.{found_by, Agrees, MayBeUnsure, SessionReadsStripes};
+ghost use Rattle.jc_locked.specs.Sessions.{SeesSome, log_of};
+ghost use Rattle.jc_locked.specs.Stated.{AreOf, AreCounted};
 
-use crate::auditing::{Logged, SessionLog};
-use crate::fault::{CallFault, CreateFault, DestroyFault};
-use crate::hooks::{LockedHooks, OwnHooks, SharedHooks};
-use crate::keeping::{Keeping, OwnCalls};
 use crate::manager::Manager;
-use crate::name::Name;
-use crate::tables::TablePass;
-use jc_recorded::journal::all_calls::AllCalls;
-use jc_recorded::journal::blank;
-use jc_recorded::journal::change::Origin;
 use jc_hooks::{CacheHooks, Hearer, Loader, Processor, Writer, suits};
 use jc_index::lookup::Lookup;
+use jc_locked::auditing::{Logged, SessionLog};
+use jc_locked::fault::{CallFault, CreateFault, DestroyFault};
+use jc_locked::hooks::{LockedHooks, OwnHooks, SharedHooks};
+use jc_locked::keeping::{Keeping, OwnCalls};
+use jc_locked::name::Name;
+use jc_locked::tables::TablePass;
 use jc_model::OutOfMemory;
 use jc_model::call::{Call, Reply};
 use jc_model::config::CacheConfig;
 use jc_model::event::{CacheId, Entry, Step};
 use jc_model::key::Key;
 use jc_model::share::Share;
+use jc_recorded::journal::all_calls::AllCalls;
+use jc_recorded::journal::blank;
+use jc_recorded::journal::change::Origin;
 use std::marker::Model;
 use std::mem;
 use std::sync::Wait;
@@ -54,7 +54,7 @@ pub struct Session<
 
 impl<'a, N: Name, L: Loader, W: Writer, P: Processor, K: Hearer, J: Keeping> Model
     for Session<'a, N, L, W, P, K, J> {
-    ghost use Rattle.jc_shared.specs.Sessions.{Sitting};
+    ghost use Rattle.jc_locked.specs.Sessions.{Sitting};
 
     ghost Value = { Sitting };
 
@@ -63,7 +63,7 @@ impl<'a, N: Name, L: Loader, W: Writer, P: Processor, K: Hearer, J: Keeping> Mod
 
 impl<'a, N: Name, L: Loader, W: Writer, P: Processor, K: Hearer> Logged
     for Session<'a, N, L, W, P, K> {
-    ghost use Rattle.jc_shared.specs.Sessions.{log_of};
+    ghost use Rattle.jc_locked.specs.Sessions.{log_of};
 
     ghost log = { log_of };
 

@@ -5,33 +5,33 @@ ghost use Rattle.jc_model.specs.Runs.{opened_from};
 ghost use Rattle.jc_engine.specs.Caches.{lives_of};
 ghost use Rattle.jc_engine.specs.Opening.{open_refusal};
 ghost use Rattle.jc_hooks.specs.Suits.{AllSuit};
-ghost use Rattle.jc_shared.specs.Opening.{CanOpen, IsOpeningRefusal};
-ghost use Rattle.jc_shared.specs.Stated.{stated_by, shared_of};
+ghost use Rattle.jc_locked.specs.Opening.{CanOpen, IsOpeningRefusal};
+ghost use Rattle.jc_locked.specs.Stated.{stated_by, shared_of};
 
 use crate::brief_lock::BriefLock;
 use crate::directory::Directory;
-use crate::fault::SharedRefusal;
-use crate::hooks::{AllHooks, apart};
-use crate::keeping::Keeping;
-use crate::locked::Locked;
 use crate::manager::Manager;
-use crate::name::Name;
-use crate::tables::BlankTable;
-use jc_recorded::journal::all_calls::AllCalls;
 use jc_engine::open::open_refusal;
-use jc_recorded::recorded::Recorded;
 use jc_hooks::{CacheHooks, Hearer, Loader, Processor, Writer, first_unsuited};
+use jc_locked::fault::SharedRefusal;
+use jc_locked::hooks::{AllHooks, apart};
+use jc_locked::keeping::Keeping;
+use jc_locked::locked::Locked;
+use jc_locked::name::Name;
+use jc_locked::tables::BlankTable;
 use jc_model::OutOfMemory;
 use jc_model::config::CacheConfig;
 use jc_model::share::Share;
+use jc_recorded::journal::all_calls::AllCalls;
+use jc_recorded::recorded::Recorded;
 use jc_ring::link_ring::LinkRing;
 use jc_rows::list_rows::ListRows;
 use std::alloc::{AllocError, Global};
 use std::marker::Model;
 use std::sync::Mutex;
 
-/// What will be a manager once it has a name. Contracts see the configurations, and of each cache its loader and
-/// processors.
+/// What will be a manager once it has a name. Contracts see the configurations, of each cache its loader and processors,
+/// the index and the seed.
 #[derive(Drop)]
 pub struct Shared<L, W, P, K, J: Keeping = AllCalls> {
     alloc: Global,
@@ -43,14 +43,15 @@ pub struct Shared<L, W, P, K, J: Keeping = AllCalls> {
 }
 
 impl<L, W, P, K, J: Keeping> Model for Shared<L, W, P, K, J> {
-    ghost use Rattle.jc_shared.specs.Opening.{HandedIn, IsOpened};
+    ghost use Rattle.jc_locked.specs.Opening.{HandedIn, IsOpened};
 
     ghost Value = { HandedIn L P };
 
     ghost view = { λ s. record {
       configs = s.configs.items;
       shared = s.hooks.shared.items;
-      index = s.table;
+      index = s.table.index;
+      seed = s.table.seed;
     } };
 
     ghost invariant = { λ s. IsOpened s.configs.items s.recorded s.hooks.shared.items };
@@ -92,6 +93,7 @@ fn open_parts<L: Loader, W: Writer, P: Processor, K: Hearer, J: Keeping>(
     requires suit { AllSuit P.wants configs.items hooks.items }
     ensures configs { IfOk result (λ s. s.configs ≡ configs.items) }
     ensures shared { IfOk result (λ s. s.shared ≡ map shared_of hooks.items) }
+    ensures seed { IfOk result (λ s. s.seed ≡ seed) }
 {
     let hooks = apart(alloc, hooks)?;
     let table = BlankTable::new(alloc, seed)?;
@@ -118,6 +120,7 @@ impl<L: Loader, W: Writer, P: Processor, K: Hearer, J: Keeping> Shared<L, W, P, 
     ) -> Result<Shared<L, W, P, K, J>, SharedRefusal>
         ensures configs { IfOk result (λ s. s.configs ≡ configs.items) }
         ensures shared { IfOk result (λ s. s.shared ≡ map shared_of hooks.items) }
+        ensures seed { IfOk result (λ s. s.seed ≡ seed) }
         ensures opens { OnOk result (CanOpen P.wants configs.items hooks.items) }
         ensures refused { IfErr result (IsOpeningRefusal P.wants configs.items hooks.items) }
     {

@@ -5,8 +5,8 @@ use Rattle.std.proofs.lemmas.List.Elements.{All-nil, All-push}
 use Rattle.std.proofs.lemmas.Bool.Decides.{nat_tests}
 use Rattle.jc_model.proofs.Lives.{at_same, at_other}
 use Rattle.jc_script.specs.declared.line.LineCall.{LineCall}
-use Rattle.jc_shared.specs.Sessions.{Sitting, log_of}
-use Rattle.jc_shared.specs.Stated.{Stated}
+use Rattle.jc_locked.specs.Sessions.{Sitting, log_of}
+use Rattle.jc_locked.specs.Stated.{Stated}
 use Rattle.jc_threads.specs.Dealing.{Share, idle_share, AreSeated, HasSeat, IsWorkerIdle, AreWorkersIdle, IsUnderWay, AreUnderWay, HasRested, HaveRested, dealt_to}
 use Rattle.jc_threads.proofs.Lists.{kept_more, left_out, at_end, get_last, get_still}
 use Rattle.jc_threads.proofs.Making.{at_work_first, at_work_same}

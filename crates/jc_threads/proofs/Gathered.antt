@@ -10,9 +10,9 @@ use Rattle.std.proofs.lemmas.Option.{slice_get_within}
 use Rattle.jc_model.specs.declared.event.Entry.{Entry}
 use Rattle.jc_script.specs.declared.line.LineCall.{LineCall}
 use Rattle.jc_script.specs.Calls.{line_of_entry}
-use Rattle.jc_shared.specs.Accounts.{own_of, Accounts}
-use Rattle.jc_shared.specs.Sessions.{Sitting, log_of}
-use Rattle.jc_shared.specs.Stated.{Stated}
+use Rattle.jc_locked.specs.Accounts.{own_of, Accounts}
+use Rattle.jc_locked.specs.Sessions.{Sitting, log_of}
+use Rattle.jc_locked.specs.Stated.{Stated}
 use Rattle.jc_threads.specs.declared.fault.WorkFault.{WorkFault}
 use Rattle.jc_threads.specs.Dealing.{Share, IsAtWork, AreAtRest, AreUnderWay, HasRested, HaveRested, HasWorked, HaveWorked, dealt_to}
 use Rattle.jc_threads.specs.Lines.{lines_by, IsAnswered, HasMade, AreCallsMade, HasSessionNumbered}

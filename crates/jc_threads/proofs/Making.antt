@@ -12,10 +12,10 @@ use Rattle.jc_model.specs.declared.event.End.TheVariants.{Replied}
 use Rattle.jc_model.specs.declared.event.Entry.{Entry}
 use Rattle.jc_model.proofs.Lives.{at_same, at_other}
 use Rattle.jc_script.specs.declared.line.LineCall.{LineCall}
-use Rattle.jc_shared.specs.Calls.{Adds, call_entry}
-use Rattle.jc_shared.specs.Sessions.{Own, Sitting, log_of}
-use Rattle.jc_shared.specs.declared.fault.CallFault.{CallFault}
-use Rattle.jc_shared.specs.Stated.{Stated}
+use Rattle.jc_locked.specs.Calls.{Adds, call_entry}
+use Rattle.jc_locked.specs.Sessions.{Own, Sitting, log_of}
+use Rattle.jc_locked.specs.declared.fault.CallFault.{CallFault}
+use Rattle.jc_locked.specs.Stated.{Stated}
 use Rattle.jc_threads.specs.Dealing.{AreSeated, AreFresh, IsAtWork}
 use Rattle.jc_script.specs.Calls.{line_of_entry}
 use Rattle.jc_threads.specs.Lines.{lines_by, IsAnswered, HasMade, HasSessionNumbered}

@@ -2,7 +2,7 @@
 use Rattle.std.proofs.Common.{◌≡◌, ℕ, ◌/◌, ◌%◌, List, Some, ap, ◌∙◌, get_or}
 use Rattle.std.specs.Prelude.{slice_get}
 use Rattle.std.proofs.lemmas.Option.{get_or_from_slice_get}
-use Rattle.jc_shared.specs.Sessions.{Sitting}
+use Rattle.jc_locked.specs.Sessions.{Sitting}
 use Rattle.jc_threads.specs.Dealing.{Share, HasSeat}
 
 -- a session with this number is at its place

@@ -4,8 +4,8 @@ use Rattle.std.specs.List.{filter, fold, All}
 use Rattle.jc_script.specs.declared.line.Line.{Line}
 use Rattle.jc_script.specs.declared.line.Line.TheVariants.{Call, Create, Destroy}
 use Rattle.jc_script.specs.declared.line.LineCall.{LineCall}
-use Rattle.jc_shared.specs.Sessions.{Sitting}
-use Rattle.jc_shared.specs.Stated.{Stated}
+use Rattle.jc_locked.specs.Sessions.{Sitting}
+use Rattle.jc_locked.specs.Stated.{Stated}
 use Rattle.jc_threads.specs.declared.fault.WorkFault.{WorkFault}
 use Rattle.jc_threads.specs.Lines.{HasMade, HasSessionNumbered}
 

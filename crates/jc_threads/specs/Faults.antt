@@ -1,12 +1,12 @@
 -- How refusals are told: want of memory as that, and all else as `Close`.
-use Rattle.jc_shared.specs.declared.fault.CallFault.{CallFault}
-use Rattle.jc_shared.specs.declared.fault.CallFault.TheVariants as call
-use Rattle.jc_shared.specs.declared.fault.CloseFault.{CloseFault}
-use Rattle.jc_shared.specs.declared.fault.CloseFault.TheVariants as closing
-use Rattle.jc_shared.specs.declared.fault.DestroyFault.{DestroyFault}
-use Rattle.jc_shared.specs.declared.fault.DestroyFault.TheVariants as destroying
-use Rattle.jc_shared.specs.declared.fault.SessionRefusal.{SessionRefusal}
-use Rattle.jc_shared.specs.declared.fault.SessionRefusal.TheVariants as session
+use Rattle.jc_locked.specs.declared.fault.CallFault.{CallFault}
+use Rattle.jc_locked.specs.declared.fault.CallFault.TheVariants as call
+use Rattle.jc_locked.specs.declared.fault.CloseFault.{CloseFault}
+use Rattle.jc_locked.specs.declared.fault.CloseFault.TheVariants as closing
+use Rattle.jc_locked.specs.declared.fault.DestroyFault.{DestroyFault}
+use Rattle.jc_locked.specs.declared.fault.DestroyFault.TheVariants as destroying
+use Rattle.jc_locked.specs.declared.fault.SessionRefusal.{SessionRefusal}
+use Rattle.jc_locked.specs.declared.fault.SessionRefusal.TheVariants as session
 use Rattle.jc_threads.specs.declared.fault.WorkFault.{WorkFault}
 use Rattle.jc_threads.specs.declared.fault.WorkFault.TheVariants.{Close, OutOfMemory}
 

@@ -4,9 +4,9 @@ use Rattle.std.specs.List.{filter, All}
 use Rattle.jc_model.specs.declared.event.Entry.{Entry}
 use Rattle.jc_script.specs.Calls.{line_of_entry, IsReply}
 use Rattle.jc_script.specs.declared.line.LineCall.{LineCall}
-use Rattle.jc_shared.specs.Accounts.{Accounts, calls_of}
-use Rattle.jc_shared.specs.Sessions.{Own, Sitting}
-use Rattle.jc_shared.specs.Stated.{Stated, AreStated}
+use Rattle.jc_locked.specs.Accounts.{Accounts, calls_of}
+use Rattle.jc_locked.specs.Sessions.{Own, Sitting}
+use Rattle.jc_locked.specs.Stated.{Stated, AreStated}
 
 -- the calls of a session's lines
 abbrev pub lines_by : ℕ → List LineCall → List LineCall

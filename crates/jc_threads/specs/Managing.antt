@@ -4,8 +4,8 @@ use Rattle.jc_model.specs.declared.config.CacheConfig.{CacheConfig}
 use Rattle.jc_model.specs.declared.event.CreateRefusal.{CreateRefusal}
 use Rattle.jc_script.specs.declared.line.Line.{Line}
 use Rattle.jc_script.specs.declared.line.Line.TheVariants.{Call, Create, Destroy}
-use Rattle.jc_shared.specs.Living.{IsCreated, AnswersConfig, HasGone}
-use Rattle.jc_shared.specs.Sessions.{Sight}
+use Rattle.jc_locked.specs.Living.{IsCreated, AnswersConfig, HasGone}
+use Rattle.jc_locked.specs.Sessions.{Sight}
 
 -- a cache of this configuration was created, or the manager's rules refused it so
 abbrev pub IsCreating : List CacheConfig → CacheConfig → Option CreateRefusal → Type 0

@@ -1,7 +1,7 @@
 //! Caches created and destroyed by a worker's session.
 ghost use Rattle.std.specs.Prelude.{◌≡◌, ◌≢◌, ◌<◌, ◌≤◌, None, Some, Err, IsOk, IfOk, IfErr, OnOk, length, map, slice_get};
-ghost use Rattle.jc_shared.specs.Living.{AnswersConfig};
-ghost use Rattle.jc_shared.specs.Sessions.{Sitting, log_of};
+ghost use Rattle.jc_locked.specs.Living.{AnswersConfig};
+ghost use Rattle.jc_locked.specs.Sessions.{Sitting, log_of};
 ghost use Rattle.jc_threads.specs.Dealing.{HasSeat, AreAtRest, KeepRest};
 ghost use Rattle.jc_threads.specs.Managing.{IsCreating, IsDestroying};
 

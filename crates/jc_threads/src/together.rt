@@ -3,8 +3,8 @@ ghost use Rattle.std.specs.Prelude.{◌≡◌, ◌<◌, List, [], IfOk, OnOk, ma
 ghost use Rattle.std.specs.List.{flat_map};
 ghost use Rattle.jc_model.specs.Legal.{IsLegal};
 ghost use Rattle.jc_script.specs.Calls.{calls_in_lines};
-ghost use Rattle.jc_shared.specs.Accounts.{own_log};
-ghost use Rattle.jc_shared.specs.Sessions.{BeginsWith, log_of};
+ghost use Rattle.jc_locked.specs.Accounts.{own_log};
+ghost use Rattle.jc_locked.specs.Sessions.{BeginsWith, log_of};
 ghost use Rattle.jc_threads.specs.Lines.{AccountFor, AreCallsMade};
 ghost use Rattle.jc_threads.specs.Managing.{AreManaged};
 

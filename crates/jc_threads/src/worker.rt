@@ -1,6 +1,6 @@
 //! One worker: it makes the calls that it holds, by its sessions and in the script's order.
 ghost use Rattle.std.specs.Prelude.{◌≡◌, ◌≢◌, ◌↔◌, ◌<◌, ◌≤◌, ◌/◌, ◌∷◌, [], length, map, Err, IsTrue, IsOk, IfOk, IfErr, OnOk};
-ghost use Rattle.jc_shared.specs.Sessions.{log_of};
+ghost use Rattle.jc_locked.specs.Sessions.{log_of};
 ghost use Rattle.jc_threads.specs.Dealing.{HasWorked, WorkerMakes, with_line, with_session};
 ghost use Rattle.jc_threads.specs.Faults.{call_work_fault};
 ghost use Rattle.jc_threads.specs.Lines.{SessionMakes};

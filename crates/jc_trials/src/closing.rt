@@ -1,11 +1,10 @@
 //! How a shared manager opens, gives out sessions, refuses calls and closes, in which order, and what is handed back.
 ghost use Rattle.std.specs.Prelude.{◌≡◌, map};
-ghost use Rattle.jc_shared.specs.Stated.{stated_by};
+ghost use Rattle.jc_locked.specs.Stated.{stated_by};
 
 use crate::sessions::seated;
 use crate::trouble::{Trouble, done, is, key, no_hooks, plain_cache, value_of};
 use jc_engine::open::OpenRefusal;
-use jc_recorded::recorded::Recorded;
 use jc_hooks::program::{CheckWriter, EchoLoader, ProgramListener, ProgramProcessor};
 use jc_hooks::{CacheHooks, Hearer, ListenerHook, Loader, Processor, TallyListener, Writer};
 use jc_model::call::{Answer, Call, Reply};
@@ -14,6 +13,7 @@ use jc_model::event::{CacheId, End, Entry};
 use jc_model::list::Sequence;
 use jc_model::share::Share;
 use jc_model::transcript::Transcript;
+use jc_recorded::recorded::Recorded;
 use jc_ring::list_ring::ListRing;
 use jc_rows::list_rows::ListRows;
 use jc_shared::{

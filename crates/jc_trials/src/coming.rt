@@ -3,7 +3,7 @@
 ghost use Rattle.std.specs.Prelude.{◌≡◌, map};
 ghost use Rattle.jc_hooks.specs.Program.{echo_answer};
 ghost use Rattle.jc_hooks.specs.Processors.{program_verdict};
-ghost use Rattle.jc_shared.specs.Stated.{stated_by};
+ghost use Rattle.jc_locked.specs.Stated.{stated_by};
 
 use crate::fakes::{
     EVERY_KIND, NotedHook, NotedLoader, NotedProcessor, NotedWriter, noted_listeners,

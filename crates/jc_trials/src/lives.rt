@@ -2,12 +2,12 @@
 
 use crate::trouble::{Trouble, is, key, plain_cache};
 use jc_engine::open::OpenRefusal;
-use jc_recorded::recorded::Recorded;
 use jc_model::config::CacheConfig;
 use jc_model::event::CreateRefusal::{IdsSpent, TooManyCaches, TotalCapacity};
 use jc_model::event::{CacheId, CreateRefusal};
 use jc_model::list::Sequence;
 use jc_model::share::Share;
+use jc_recorded::recorded::Recorded;
 use jc_ring::list_ring::ListRing;
 use jc_rows::list_rows::ListRows;
 use std::alloc::Global;

@@ -1,6 +1,6 @@
 //! Lookups in sessions of a shared manager: what they tell beside the calls of others.
 ghost use Rattle.std.specs.Prelude.{◌≡◌, map};
-ghost use Rattle.jc_shared.specs.Stated.{stated_by};
+ghost use Rattle.jc_locked.specs.Stated.{stated_by};
 
 use crate::sessions::seated;
 use crate::trouble::{Trouble, done, no_hooks, plain_cache, value_of};

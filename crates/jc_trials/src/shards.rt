@@ -1,7 +1,7 @@
 //! Caches in two managers that are asked as one: where names go, and that no half learns of the other's caches.
 ghost use Rattle.std.specs.Prelude.{◌≡◌, Err, map};
 ghost use Rattle.jc_hooks.specs.declared.loader.Loaded.TheVariants.{Failed};
-ghost use Rattle.jc_shared.specs.Stated.{stated_by};
+ghost use Rattle.jc_locked.specs.Stated.{stated_by};
 
 use crate::trouble::{Trouble, is, key, plain_cache, value_of};
 use jc_hooks::{Unasked, hooks_by_hand};

@@ -6,21 +6,21 @@ ghost use Rattle.jc_model.specs.declared.event.Event.TheVariants.{Begin};
 ghost use Rattle.jc_model.specs.declared.event.Step.TheVariants.{Done};
 ghost use Rattle.jc_recorded.specs.Recording.{blank_of};
 ghost use Rattle.jc_engine.specs.Results.{of_found};
-ghost use Rattle.jc_shared.specs.Calls.{CallGoesOnTo};
-ghost use Rattle.jc_shared.specs.Tenures.{IsTenure};
+ghost use Rattle.jc_locked.specs.Calls.{CallGoesOnTo};
+ghost use Rattle.jc_locked.specs.Tenures.{IsTenure};
 
 use super::Locked;
 use crate::keeping::Keeping;
 use crate::name::Name;
 use crate::tables::TablePass;
-use jc_recorded::journal::change::Origin;
 use jc_model::call::Call;
 use jc_model::value::Value;
+use jc_recorded::journal::change::Origin;
 
 impl<N: Name, J: Keeping> Locked<N, J> {
     /// Makes a get that has its reply at once, and of which nothing is kept: the value that was found. The pass sees what
     /// the call has changed. Of any other call nothing, and nothing has changed.
-    pub(crate) fn get_at_once(
+    pub fn get_at_once(
         &mut self,
         origin: Origin,
         call: &Call,

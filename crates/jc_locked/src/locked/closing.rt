@@ -1,15 +1,15 @@
 //! The tenures in which a manager with its whole transcript is closed, and its end by its sessions' lists.
 ghost use Rattle.std.specs.Prelude.{◌≡◌, ◌≢◌, false, true, Err, IfOk, IfErr, OnOk, OnErr, map};
 ghost use Rattle.jc_model.specs.Legal.{IsLegal};
-ghost use Rattle.jc_shared.specs.Accounts.{Accounts, IsAuditFault, IsCloseFault, IsCloseRefusal};
-ghost use Rattle.jc_shared.specs.Sessions.{BeginsWith};
+ghost use Rattle.jc_locked.specs.Accounts.{Accounts, IsAuditFault, IsCloseFault, IsCloseRefusal};
+ghost use Rattle.jc_locked.specs.Sessions.{BeginsWith};
 
 use super::Locked;
 use crate::auditing::{Logged, audit};
 use crate::fault::CloseFault;
 use crate::name::Name;
-use jc_recorded::journal::all_calls::AllCalls;
 use jc_model::transcript::Transcript;
+use jc_recorded::journal::all_calls::AllCalls;
 
 impl<N: Name> Locked<N, AllCalls> {
     /// Whether the manager is open yet, and the logs account for the transcript.
@@ -33,7 +33,7 @@ impl<N: Name> Locked<N, AllCalls> {
     }
 
     /// Closes the manager, where the logs account for the transcript, and hands a copy of the transcript out.
-    pub(crate) fn finish<S: Logged>(&mut self, logs: &[S]) -> Result<Transcript, CloseFault>
+    pub fn finish<S: Logged>(&mut self, logs: &[S]) -> Result<Transcript, CloseFault>
         ensures legal { IfOk result (λ t. IsLegal t) }
         ensures begins { IfOk result (λ t. BeginsWith N.configs t) }
         ensures accounts { IfOk result (λ t.
@@ -56,7 +56,7 @@ impl<N: Name> Locked<N, AllCalls> {
     }
 
     /// Ends the manager, where the logs account for the transcript, and hands the transcript itself out.
-    pub(crate) fn into_transcript<S: Logged>(
+    pub fn into_transcript<S: Logged>(
         self,
         logs: &[S],
     ) -> Result<Transcript, (CloseFault, Locked<N, AllCalls>)>

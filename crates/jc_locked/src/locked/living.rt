@@ -5,8 +5,8 @@ ghost use Rattle.jc_model.specs.declared.event.Event.TheVariants.{Create, Destro
 ghost use Rattle.jc_model.specs.declared.event.Outcome.TheVariants.{Created, Destroyed};
 ghost use Rattle.jc_model.specs.Places.{named_from};
 ghost use Rattle.jc_engine.specs.Caches.{lives_of};
-ghost use Rattle.jc_shared.specs.Living.{IsIdOfName, IsCreated, IsCreateFault, IsDestroyFault, HasGone, IsRefusedConfig, IsRefusedDestroy};
-ghost use Rattle.jc_shared.specs.Tenures.{IsTenure};
+ghost use Rattle.jc_locked.specs.Living.{IsIdOfName, IsCreated, IsCreateFault, IsDestroyFault, HasGone, IsRefusedConfig, IsRefusedDestroy};
+ghost use Rattle.jc_locked.specs.Tenures.{IsTenure};
 
 use super::Locked;
 use crate::fault::{CreateFault, DestroyFault};
@@ -19,7 +19,7 @@ use jc_model::key::Key;
 
 impl<N: Name, J: Keeping> Locked<N, J> {
     /// The id of the live cache with this name.
-    pub(crate) fn cache(&self, name: &Key) -> Option<CacheId>
+    pub fn cache(&self, name: &Key) -> Option<CacheId>
         ensures exact { result ≡
             named_from (λ k. k.config.name) name.now 0 (lives_of self.now.recorded.caches) }
         ensures named { IsIdOfName N.configs name.now result }
@@ -28,7 +28,7 @@ impl<N: Name, J: Keeping> Locked<N, J> {
     }
 
     /// Creates a cache, where its callbacks suit it and there is room for them.
-    pub(crate) fn create(
+    pub fn create(
         &mut self,
         config: CacheConfig,
         suited: bool,
@@ -61,11 +61,7 @@ impl<N: Name, J: Keeping> Locked<N, J> {
     }
 
     /// Destroys a cache. The pass sees the table without its rows, where memory allows it.
-    pub(crate) fn destroy(
-        &mut self,
-        id: CacheId,
-        pass: &mut TablePass<N>,
-    ) -> Result<(), DestroyFault>
+    pub fn destroy(&mut self, id: CacheId, pass: &mut TablePass<N>) -> Result<(), DestroyFault>
         ensures gone { OnOk result (HasGone N.configs id pass.new) }
         ensures tenure { OnOk result ((session : ℕ) →
             IsTenure self.old.recorded self.new.recorded session (Destroy id) Destroyed) }

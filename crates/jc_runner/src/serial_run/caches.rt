@@ -7,10 +7,10 @@ ghost use Rattle.jc_runner.specs.Halfway.{lives_now, as_read, IsAtRest, refusal_
 ghost use Rattle.jc_runner.specs.declared.exit.fault.RunFault.TheVariants as faults;
 
 use crate::exit::fault::RunFault;
-use jc_recorded::recorded::Recorded;
 use jc_model::config::CacheConfig;
 use jc_model::event::{CacheId, CreateRefusal, Life};
 use jc_model::key::Key;
+use jc_recorded::recorded::Recorded;
 use jc_ring::ring::Ring;
 use jc_rows::rows::Rows;
 use jc_script::{ManageOp, Managed};

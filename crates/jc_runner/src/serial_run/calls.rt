@@ -7,10 +7,10 @@ ghost use Rattle.jc_runner.specs.declared.exit.fault.RunFault.TheVariants as fau
 
 use crate::callbacks::{answer, no_hooks};
 use crate::exit::fault::RunFault;
-use jc_recorded::recorded::Recorded;
 use jc_hooks::{CacheHooks, Hearer, Loader, Processor, Writer};
 use jc_model::call::Answer;
 use jc_model::event::{CacheId, Cause, Step};
+use jc_recorded::recorded::Recorded;
 use jc_ring::ring::Ring;
 use jc_rows::rows::Rows;
 use jc_script::LineCall;

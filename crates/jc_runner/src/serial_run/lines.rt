@@ -11,8 +11,8 @@ ghost use Rattle.jc_runner.specs.declared.exit.fault.RunFault.TheVariants as fau
 use crate::exit::fault::RunFault;
 use crate::serial_run::caches::{run_create, run_destroy};
 use crate::serial_run::calls::run_call;
-use jc_recorded::recorded::Recorded;
 use jc_hooks::{CacheHooks, Hearer, Loader, Processor, Writer};
+use jc_recorded::recorded::Recorded;
 use jc_ring::ring::Ring;
 use jc_rows::rows::Rows;
 use jc_script::{Line, Managed};

@@ -1,7 +1,7 @@
 use Rattle.std.specs.Prelude.{Err}
 use Rattle.std.proofs.Common.{map}
 use Rattle.jc_hooks.specs.declared.loader.Loaded.TheVariants.{Failed}
-use Rattle.jc_shared.specs.Stated.{stated_by}
+use Rattle.jc_locked.specs.Stated.{stated_by}
 use Rattle.jc_bench.proofs.managers.named_two.Given as goal
 
 abbrev pub ghosts-played_two-A-Name : goal.ghosts-played_two-A-Name

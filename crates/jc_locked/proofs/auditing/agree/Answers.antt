@@ -2,9 +2,9 @@ use Rattle.std.proofs.Common.{◌≡◌, ◌<◌, ◌∷◌, ℕ, List, [], map,
 use Rattle.std.proofs.lemmas.List.{length-set, nil_from_length}
 use Rattle.std.proofs.lemmas.Bool.Decides.{nat_tests}
 use Rattle.jc_model.specs.declared.event.Entry.{Entry}
-use Rattle.jc_shared.proofs.Comparing.{below_next}
-use Rattle.jc_shared.proofs.Walking.{rest_of, AgreeBy, rest_read, whole_next, agree_next, agree_whole, agree_all}
-use Rattle.jc_shared.proofs.auditing.agree.Goals as goal
+use Rattle.jc_locked.proofs.Comparing.{below_next}
+use Rattle.jc_locked.proofs.Walking.{rest_of, AgreeBy, rest_read, whole_next, agree_next, agree_whole, agree_all}
+use Rattle.jc_locked.proofs.auditing.agree.Goals as goal
 
 pub loop-number-init : goal.loop-number-init
 loop-number-init g c = (refl, λ n lt. absurd (omega (arith, lt)))

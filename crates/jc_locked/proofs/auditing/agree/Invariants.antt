@@ -1,6 +1,6 @@
 use Rattle.std.proofs.Common.{◌≡◌, ◌<◌, ℕ, [], map, length}
-use Rattle.jc_shared.proofs.Walking.{rest_of, AreWhole, AgreeBy}
-use Rattle.jc_shared.proofs.auditing.agree.Given as goal
+use Rattle.jc_locked.proofs.Walking.{rest_of, AreWhole, AgreeBy}
+use Rattle.jc_locked.proofs.auditing.agree.Given as goal
 
 -- the lists of the sessions so far are in their places
 abbrev pub invariant-loop-number : goal.invariant-loop-number

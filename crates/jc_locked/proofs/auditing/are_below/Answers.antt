@@ -1,7 +1,7 @@
 use Rattle.std.proofs.Common.{◌≡◌, ◌<◌, ◌∷◌, map, ap, arith}
-use Rattle.jc_shared.specs.Sessions.{Own}
-use Rattle.jc_shared.proofs.Comparing.{all_rest, all_with}
-use Rattle.jc_shared.proofs.auditing.are_below.Goals as goal
+use Rattle.jc_locked.specs.Sessions.{Own}
+use Rattle.jc_locked.proofs.Comparing.{all_rest, all_with}
+use Rattle.jc_locked.proofs.auditing.are_below.Goals as goal
 
 pub loop-log-preserved : goal.loop-log-preserved
 loop-log-preserved g c =

@@ -1,7 +1,7 @@
 use Rattle.std.proofs.Common.{◌≡◌, ℕ, map, sym, ◌∙◌, arith}
-use Rattle.jc_shared.specs.Accounts.{times}
-use Rattle.jc_shared.proofs.Comparing.{below_next}
-use Rattle.jc_shared.proofs.auditing.are_once.Goals as goal
+use Rattle.jc_locked.specs.Accounts.{times}
+use Rattle.jc_locked.proofs.Comparing.{below_next}
+use Rattle.jc_locked.proofs.auditing.are_once.Goals as goal
 
 pub loop-number-preserved : goal.loop-number-preserved
 loop-number-preserved g c =

@@ -1,8 +1,8 @@
 use Rattle.std.proofs.Common.{List, map, sym, ◌∙◌, subst}
 use Rattle.jc_model.specs.declared.event.Entry.{Entry}
 use Rattle.std.proofs.lemmas.Bool.{false≢true}
-use Rattle.jc_shared.specs.Accounts.{NoneWaits, AllAgree, DiffersFirst}
-use Rattle.jc_shared.proofs.auditing.audit.Goals as goal
+use Rattle.jc_locked.specs.Accounts.{NoneWaits, AllAgree, DiffersFirst}
+use Rattle.jc_locked.proofs.auditing.audit.Goals as goal
 
 pub returns-then-not-none_waits-clause-fault : goal.returns-then-not-none_waits-clause-fault
 returns-then-not-none_waits-clause-fault g c =

@@ -1,6 +1,6 @@
 use Rattle.std.proofs.Common.{◌≡◌, ◌+◌, map, length}
-use Rattle.jc_shared.specs.Accounts.{times}
-use Rattle.jc_shared.proofs.auditing.count_of.Given as goal
+use Rattle.jc_locked.specs.Accounts.{times}
+use Rattle.jc_locked.proofs.auditing.count_of.Given as goal
 
 abbrev pub invariant-loop-log : goal.invariant-loop-log
 invariant-loop-log g l = l.count + times l.number (map g.S.Logged.log l.left) ≡ times l.number (map g.S.Logged.log l.logs)

@@ -1,7 +1,7 @@
 use Rattle.std.proofs.Common.{map, arith}
-use Rattle.jc_shared.specs.Accounts.{calls_of, own_of}
-use Rattle.jc_shared.proofs.Comparing.{own_beyond, part_first, agree_from}
-use Rattle.jc_shared.proofs.auditing.first_difference.Goals as goal
+use Rattle.jc_locked.specs.Accounts.{calls_of, own_of}
+use Rattle.jc_locked.proofs.Comparing.{own_beyond, part_first, agree_from}
+use Rattle.jc_locked.proofs.auditing.first_difference.Goals as goal
 
 pub returns-in-Some-least_from : goal.returns-in-Some-least_from
 returns-in-Some-least_from g c =

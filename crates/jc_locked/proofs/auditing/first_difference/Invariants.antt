@@ -1,6 +1,6 @@
 use Rattle.std.proofs.Common.{◌≡◌, ◌<◌, ℕ, map}
-use Rattle.jc_shared.specs.Accounts.{calls_of, own_of}
-use Rattle.jc_shared.proofs.auditing.first_difference.Given as goal
+use Rattle.jc_locked.specs.Accounts.{calls_of, own_of}
+use Rattle.jc_locked.proofs.auditing.first_difference.Given as goal
 
 -- the sessions so far agree
 abbrev pub invariant-loop-session : goal.invariant-loop-session

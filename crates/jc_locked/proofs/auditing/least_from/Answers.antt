@@ -1,8 +1,8 @@
 use Rattle.std.proofs.Common.{◌≡◌, ◌+◌, ◌++◌, ◌∷◌, [], List, take, refl, sym, ◌∙◌, ap, subst, arith}
 use Rattle.std.proofs.lemmas.List.{take_more}
 use Rattle.jc_model.specs.declared.event.Entry.{Entry}
-use Rattle.jc_shared.specs.Accounts.{IsLeastFrom}
-use Rattle.jc_shared.proofs.auditing.least_from.Goals as goal
+use Rattle.jc_locked.specs.Accounts.{IsLeastFrom}
+use Rattle.jc_locked.proofs.auditing.least_from.Goals as goal
 
 pub loop-entry-preserved : goal.loop-entry-preserved
 loop-entry-preserved c =

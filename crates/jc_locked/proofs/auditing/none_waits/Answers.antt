@@ -2,8 +2,8 @@ use Rattle.std.proofs.Common.{◌≢◌, sym, ◌∙◌}
 use Rattle.std.proofs.lemmas.Bool.{false≢true}
 use Rattle.jc_model.specs.declared.event.End.TheVariants.{Waiting}
 use Rattle.jc_model.specs.declared.event.Entry.{Entry}
-use Rattle.jc_shared.proofs.Comparing.{all_rest, all_with}
-use Rattle.jc_shared.proofs.auditing.none_waits.Goals as goal
+use Rattle.jc_locked.proofs.Comparing.{all_rest, all_with}
+use Rattle.jc_locked.proofs.auditing.none_waits.Goals as goal
 
 pub loop-entry-preserved : goal.loop-entry-preserved
 loop-entry-preserved c =

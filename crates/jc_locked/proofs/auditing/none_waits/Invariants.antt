@@ -1,7 +1,7 @@
 use Rattle.std.proofs.Common.{length}
 use Rattle.std.specs.Prelude.{◌↔◌}
-use Rattle.jc_shared.specs.Accounts.{NoneWaits}
-use Rattle.jc_shared.proofs.auditing.none_waits.Given as goal
+use Rattle.jc_locked.specs.Accounts.{NoneWaits}
+use Rattle.jc_locked.proofs.auditing.none_waits.Given as goal
 
 abbrev pub invariant-loop-entry : goal.invariant-loop-entry
 invariant-loop-entry l = NoneWaits l.entries ↔ NoneWaits l.left

@@ -1,8 +1,8 @@
 use Rattle.std.proofs.Common.{◌≡◌, ◌∷◌, ◌++◌, List, [], refl, sym, ◌∙◌, ap}
 use Rattle.jc_model.specs.declared.event.Entry.{Entry}
-use Rattle.jc_shared.specs.Accounts.{calls_of}
-use Rattle.jc_shared.proofs.Comparing.{part_here, calls_own, no_calls, push_front, front_length, none_here}
-use Rattle.jc_shared.proofs.auditing.parting_place.Goals as goal
+use Rattle.jc_locked.specs.Accounts.{calls_of}
+use Rattle.jc_locked.proofs.Comparing.{part_here, calls_own, no_calls, push_front, front_length, none_here}
+use Rattle.jc_locked.proofs.auditing.parting_place.Goals as goal
 
 pub returns-in-None : goal.returns-in-None
 returns-in-None c =

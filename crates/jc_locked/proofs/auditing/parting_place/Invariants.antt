@@ -1,7 +1,7 @@
 use Rattle.std.proofs.Common.{◌≡◌, ◌++◌, List, length}
 use Rattle.jc_model.specs.declared.event.Entry.{Entry}
-use Rattle.jc_shared.specs.Accounts.{calls_of}
-use Rattle.jc_shared.proofs.auditing.parting_place.Given as goal
+use Rattle.jc_locked.specs.Accounts.{calls_of}
+use Rattle.jc_locked.proofs.auditing.parting_place.Given as goal
 
 -- so far the two are one list
 abbrev pub invariant-loop-entry : goal.invariant-loop-entry

@@ -2,9 +2,9 @@ use Rattle.std.proofs.Common.{rules, ◌≡◌, length, map, sym, ap, ◌∙◌}
 use Rattle.std.specs.Prelude.{is_some}
 use Rattle.std.proofs.lemmas.Iterator.Adapters.{YieldsList-from_vec}
 use Rattle.std.proofs.lemmas.Iterator.Consumers.{YieldsList-end}
-use Rattle.jc_shared.specs.Stated.{shared_of, wants_lock}
-use Rattle.jc_shared.proofs.Entered.{map_same, shared_more, told_more}
-use Rattle.jc_shared.proofs.hooks.apart.Goals as goal
+use Rattle.jc_locked.specs.Stated.{shared_of, wants_lock}
+use Rattle.jc_locked.proofs.Entered.{map_same, shared_more, told_more}
+use Rattle.jc_locked.proofs.hooks.apart.Goals as goal
 
 pub loop-own-init : goal.loop-own-init
 loop-own-init g c = (c.in_ok-shared.ensures.items, ap (map is_some) c.in_ok-locks.ensures.items)

@@ -1,5 +1,5 @@
 use Rattle.std.proofs.Common.{map}
-use Rattle.jc_shared.specs.Stated.{stated_by}
+use Rattle.jc_locked.specs.Stated.{stated_by}
 use Rattle.jc_run_trials.proofs.sessions.play.Given as goal
 
 abbrev pub ghosts-played : goal.ghosts-played

@@ -1,5 +1,5 @@
 use Rattle.std.proofs.Common.{map}
-use Rattle.jc_shared.specs.Stated.{stated_by}
+use Rattle.jc_locked.specs.Stated.{stated_by}
 use Rattle.jc_runner.proofs.threaded_run.make_lines.Given as goal
 
 abbrev pub ghosts-make_lines_under : goal.ghosts-make_lines_under

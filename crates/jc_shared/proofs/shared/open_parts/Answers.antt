@@ -2,9 +2,9 @@ use Rattle.std.proofs.Common.{List, map, ◌∙◌, ap}
 use Rattle.jc_model.specs.declared.config.CacheConfig.{CacheConfig}
 use Rattle.jc_model.specs.Runs.{opened_from}
 use Rattle.jc_model.specs.Legal.{at_first}
-use Rattle.jc_shared.specs.Stated.{shared_of, processor_counts}
-use Rattle.jc_shared.specs.declared.hooks.SharedHooks.{SharedHooks}
-use Rattle.jc_shared.proofs.Opened.{counted}
+use Rattle.jc_locked.specs.Stated.{shared_of, processor_counts}
+use Rattle.jc_locked.specs.declared.hooks.SharedHooks.{SharedHooks}
+use Rattle.jc_locked.proofs.Opened.{counted}
 use Rattle.jc_shared.proofs.shared.open_parts.Goals as goal
 
 pub invariant_of-result : goal.invariant_of-result

@@ -1,6 +1,6 @@
 use Rattle.std.proofs.Common.{get_or}
 use Rattle.std.proofs.lemmas.Option.{slice_get-get_or}
-use Rattle.jc_shared.specs.Sessions.{log_of}
+use Rattle.jc_locked.specs.Sessions.{log_of}
 use Rattle.jc_threads.proofs.Lists.{map_set_same}
 use Rattle.jc_threads.proofs.managing.destroy_by.Goals as goal
 

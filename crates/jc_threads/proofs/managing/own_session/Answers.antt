@@ -1,7 +1,7 @@
 use Rattle.std.proofs.Common.{◌≡◌, ◌/◌, length, true, ap, ◌∙◌, arith, nat_lt}
 use Rattle.std.proofs.lemmas.Bool.Decides.{nat_tests}
 use Rattle.std.proofs.lemmas.Option.{get_or_from_slice_get, slice_get_within}
-use Rattle.jc_shared.specs.Sessions.{Sitting}
+use Rattle.jc_locked.specs.Sessions.{Sitting}
 use Rattle.jc_threads.proofs.Seats.{found_by}
 use Rattle.jc_threads.proofs.managing.own_session.Goals as goal
 

@@ -1,6 +1,6 @@
 use Rattle.std.proofs.Common.{◌≡◌, map}
-use Rattle.jc_shared.specs.Accounts.{own_log}
-use Rattle.jc_shared.specs.Sessions.{log_of}
+use Rattle.jc_locked.specs.Accounts.{own_log}
+use Rattle.jc_locked.specs.Sessions.{log_of}
 use Rattle.jc_threads.proofs.together.all_logs.Given as goal
 
 abbrev pub invariant-loop-session : goal.invariant-loop-session

@@ -1,8 +1,8 @@
 use Rattle.std.proofs.Common.{◌<◌, List, length, subst, arith}
 use Rattle.std.specs.List.{flat_map}
 use Rattle.jc_script.specs.Calls.{calls_in_lines}
-use Rattle.jc_shared.specs.Accounts.{Accounts}
-use Rattle.jc_shared.specs.Sessions.{Own}
+use Rattle.jc_locked.specs.Accounts.{Accounts}
+use Rattle.jc_locked.specs.Sessions.{Own}
 use Rattle.jc_threads.specs.Dealing.{Share}
 use Rattle.jc_threads.proofs.Gathered.{are_made, all_made, all_there}
 use Rattle.jc_threads.proofs.together.made_by_sessions.Goals as goal

@@ -1,6 +1,6 @@
 use Rattle.std.proofs.Common.{List, map, subst}
-use Rattle.jc_shared.specs.Accounts.{Accounts, own_log}
-use Rattle.jc_shared.specs.declared.auditing.SessionLog.{SessionLog}
+use Rattle.jc_locked.specs.Accounts.{Accounts, own_log}
+use Rattle.jc_locked.specs.declared.auditing.SessionLog.{SessionLog}
 use Rattle.jc_threads.proofs.together.transcribed.Goals as goal
 
 pub returns-in-Ok-into_transcript-clause-made : goal.returns-in-Ok-into_transcript-clause-made

@@ -1,6 +1,6 @@
 use Rattle.std.proofs.Common.{◌≡◌, ◌∙◌, ◌++◌, List, length, drop, sym, ap, subst, arith}
 use Rattle.jc_script.specs.declared.line.LineCall.{LineCall}
-use Rattle.jc_shared.specs.Sessions.{Sitting}
+use Rattle.jc_locked.specs.Sessions.{Sitting}
 use Rattle.jc_threads.specs.Dealing.{Share, IsAtWork}
 use Rattle.jc_threads.proofs.Lists.{written_back}
 use Rattle.jc_threads.proofs.worker.work.Goals as goal

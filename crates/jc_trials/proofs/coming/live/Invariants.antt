@@ -1,7 +1,7 @@
 use Rattle.std.proofs.Common.{map}
 use Rattle.jc_hooks.specs.Program.{echo_answer}
 use Rattle.jc_hooks.specs.Processors.{program_verdict}
-use Rattle.jc_shared.specs.Stated.{stated_by}
+use Rattle.jc_locked.specs.Stated.{stated_by}
 use Rattle.jc_trials.proofs.coming.live.Given as goal
 
 abbrev pub ghosts-named : goal.ghosts-named

@@ -1,5 +1,5 @@
 use Rattle.std.proofs.Common.{map}
-use Rattle.jc_shared.specs.Stated.{stated_by}
+use Rattle.jc_locked.specs.Stated.{stated_by}
 use Rattle.jc_trials.proofs.seeking.first_other_act.Given as goal
 
 abbrev pub ghosts-first_other_named : goal.ghosts-first_other_named

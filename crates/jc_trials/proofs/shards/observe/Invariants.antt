@@ -1,7 +1,7 @@
 use Rattle.std.specs.Prelude.{Err}
 use Rattle.std.proofs.Common.{map}
 use Rattle.jc_hooks.specs.declared.loader.Loaded.TheVariants.{Failed}
-use Rattle.jc_shared.specs.Stated.{stated_by}
+use Rattle.jc_locked.specs.Stated.{stated_by}
 use Rattle.jc_trials.proofs.shards.observe.Given as goal
 
 abbrev pub ghosts-named-A-Name : goal.ghosts-named-A-Name

@@ -1,6 +1,6 @@
 use Rattle.jc_recorded.specs.Recording.{blank}
-use Rattle.jc_shared.proofs.Tenures.{drafted}
-use Rattle.jc_shared.proofs.locked.Locked.begin.Goals as goal
+use Rattle.jc_locked.proofs.Tenures.{drafted}
+use Rattle.jc_locked.proofs.locked.Locked.begin.Goals as goal
 
 pub returns-in-Ok-clause-ok : goal.returns-in-Ok-clause-ok
 returns-in-Ok-clause-ok g c =

@@ -6,9 +6,9 @@ use Rattle.jc_engine.specs.Caches.{lives_of}
 use Rattle.jc_recorded.specs.Recording.{blank}
 use Rattle.jc_recorded.specs.Results.{of_recorded_begin}
 use Rattle.jc_model.specs.Runs.{begins}
-use Rattle.jc_shared.specs.Finding.{entry_ended_by}
-use Rattle.jc_shared.proofs.Tenures.{still_begins, begun_asks, begun_live, begin_faults, begun_goes_on, is_tenure}
-use Rattle.jc_shared.proofs.locked.Locked.begin_call.Goals as goal
+use Rattle.jc_locked.specs.Finding.{entry_ended_by}
+use Rattle.jc_locked.proofs.Tenures.{still_begins, begun_asks, begun_live, begin_faults, begun_goes_on, is_tenure}
+use Rattle.jc_locked.proofs.locked.Locked.begin_call.Goals as goal
 
 pub invariant_of-self : goal.invariant_of-self
 invariant_of-self g c =

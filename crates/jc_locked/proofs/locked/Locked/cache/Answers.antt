@@ -1,7 +1,7 @@
 use Rattle.std.proofs.Common.{◌∙◌}
 use Rattle.jc_engine.specs.Caches.{lives_of}
-use Rattle.jc_shared.proofs.Livings.{named_lives}
-use Rattle.jc_shared.proofs.locked.Locked.cache.Goals as goal
+use Rattle.jc_locked.proofs.Livings.{named_lives}
+use Rattle.jc_locked.proofs.locked.Locked.cache.Goals as goal
 
 pub returns-clause-exact : goal.returns-clause-exact
 returns-clause-exact g c = c.cache.ensures.exact ∙ named_lives c.args.name.now 0 c.args.self.now.recorded.caches

@@ -1,6 +1,6 @@
 use Rattle.jc_engine.specs.Results.{of_create}
-use Rattle.jc_shared.proofs.Livings.{created_begins, is_created}
-use Rattle.jc_shared.proofs.locked.Locked.create.Goals as goal
+use Rattle.jc_locked.proofs.Livings.{created_begins, is_created}
+use Rattle.jc_locked.proofs.locked.Locked.create.Goals as goal
 
 pub invariant_of-self : goal.invariant_of-self
 invariant_of-self g c = record { begins = created_begins g.N.Name.configs c.args.self.now.recorded.transcript c.create.new.self.transcript 0 c.args.config (of_create c.create.result) c.args.self.now.begins (c.create.ensures.transcript 0) }

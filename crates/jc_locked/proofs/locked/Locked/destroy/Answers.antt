@@ -2,10 +2,10 @@ use Rattle.std.proofs.Common.{sym, subst}
 use Rattle.jc_model.specs.declared.event.Event.TheVariants as event
 use Rattle.jc_model.specs.declared.event.Outcome.TheVariants.{Destroyed}
 use Rattle.jc_recorded.specs.Recording.{Recording}
-use Rattle.jc_shared.specs.Tenures.{IsTenure}
+use Rattle.jc_locked.specs.Tenures.{IsTenure}
 use Rattle.jc_engine.specs.Results.{of_destroy}
-use Rattle.jc_shared.proofs.Livings.{destroyed_begins, has_gone}
-use Rattle.jc_shared.proofs.locked.Locked.destroy.Goals as goal
+use Rattle.jc_locked.proofs.Livings.{destroyed_begins, has_gone}
+use Rattle.jc_locked.proofs.locked.Locked.destroy.Goals as goal
 
 pub invariant_of-self : goal.invariant_of-self
 invariant_of-self g c = record { begins = destroyed_begins g.N.Name.configs c.args.self.now.recorded.transcript c.destroy.new.self.transcript 0 c.args.id (of_destroy c.destroy.result) c.args.self.now.begins (c.destroy.ensures.transcript 0) }

@@ -1,5 +1,5 @@
 use Rattle.jc_engine.specs.Caches.{lives_of}
-use Rattle.jc_shared.proofs.locked.Locked.enter.Goals as goal
+use Rattle.jc_locked.proofs.locked.Locked.enter.Goals as goal
 
 pub returns-in-Ok-clause-sees : goal.returns-in-Ok-clause-sees
 returns-in-Ok-clause-sees g c =

@@ -7,9 +7,9 @@ use Rattle.jc_model.specs.Runs.{begins}
 use Rattle.jc_engine.specs.Caches.{lives_of}
 use Rattle.jc_recorded.specs.Recording.{blank_of}
 use Rattle.jc_engine.specs.Results.{of_found}
-use Rattle.jc_shared.specs.Finding.{entry_ended_by}
-use Rattle.jc_shared.proofs.Tenures.{still_begins, begun_asks, begun_live, begun_goes_on}
-use Rattle.jc_shared.proofs.locked.Locked.get_at_once.Goals as goal
+use Rattle.jc_locked.specs.Finding.{entry_ended_by}
+use Rattle.jc_locked.proofs.Tenures.{still_begins, begun_asks, begun_live, begun_goes_on}
+use Rattle.jc_locked.proofs.locked.Locked.get_at_once.Goals as goal
 
 pub returns-clause-some : goal.returns-clause-some
 returns-clause-some g c =

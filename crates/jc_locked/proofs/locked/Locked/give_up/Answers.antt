@@ -8,10 +8,10 @@ use Rattle.jc_model.specs.Runs.{gives_up}
 use Rattle.jc_engine.specs.Caches.{lives_of}
 use Rattle.jc_recorded.specs.Recording.{Recording}
 use Rattle.jc_engine.specs.Results.{of_give_up}
-use Rattle.jc_shared.specs.Tenures.{IsTenure}
-use Rattle.jc_shared.proofs.Tenures.{still_begins, told_or_left, given_up_stands}
-use Rattle.jc_shared.proofs.locked.Locked.give_up.Given as given
-use Rattle.jc_shared.proofs.locked.Locked.give_up.Goals as goal
+use Rattle.jc_locked.specs.Tenures.{IsTenure}
+use Rattle.jc_locked.proofs.Tenures.{still_begins, told_or_left, given_up_stands}
+use Rattle.jc_locked.proofs.locked.Locked.give_up.Given as given
+use Rattle.jc_locked.proofs.locked.Locked.give_up.Goals as goal
 
 pub invariant_of-self : goal.invariant_of-self
 invariant_of-self g c =

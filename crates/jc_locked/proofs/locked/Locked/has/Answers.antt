@@ -3,8 +3,8 @@ use Rattle.jc_model.specs.Places.{at_place}
 use Rattle.jc_engine.specs.Caches.{lives_of, holds_in}
 use Rattle.jc_recorded.specs.Recording.{Recording}
 use Rattle.jc_rows.specs.Images.{last_image}
-use Rattle.jc_shared.proofs.Showing.{has_agrees, row_told}
-use Rattle.jc_shared.proofs.locked.Locked.has.Goals as goal
+use Rattle.jc_locked.proofs.Showing.{has_agrees, row_told}
+use Rattle.jc_locked.proofs.locked.Locked.has.Goals as goal
 
 pub returns-clause-agrees : goal.returns-clause-agrees
 returns-clause-agrees g c = λ met b found.

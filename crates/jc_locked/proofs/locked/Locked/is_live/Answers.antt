@@ -1,6 +1,6 @@
 use Rattle.std.proofs.Common.{sym, ◌∙◌}
-use Rattle.jc_shared.proofs.Missing.{refuses_missing}
-use Rattle.jc_shared.proofs.locked.Locked.is_live.Goals as goal
+use Rattle.jc_locked.proofs.Missing.{refuses_missing}
+use Rattle.jc_locked.proofs.locked.Locked.is_live.Goals as goal
 
 pub returns-clause-missing : goal.returns-clause-missing
 returns-clause-missing g c = λ none.

@@ -1,4 +1,4 @@
-use Rattle.jc_shared.proofs.locked.Locked.is_open.Goals as goal
+use Rattle.jc_locked.proofs.locked.Locked.is_open.Goals as goal
 
 pub returns-in-Some : goal.returns-in-Some
 returns-in-Some g c = λ is.

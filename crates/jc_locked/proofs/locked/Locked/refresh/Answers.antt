@@ -1,6 +1,6 @@
 use Rattle.jc_engine.specs.Caches.{lives_of}
-use Rattle.jc_shared.proofs.Showing.{met_shows}
-use Rattle.jc_shared.proofs.locked.Locked.refresh.Goals as goal
+use Rattle.jc_locked.proofs.Showing.{met_shows}
+use Rattle.jc_locked.proofs.locked.Locked.refresh.Goals as goal
 
 pub returns-clause-shows : goal.returns-clause-shows
 returns-clause-shows g c = record { tells = c.meet.ensures.tells; shows = met_shows _ c.meet.result c.meet.new.watcher.met c.meet.ensures.met c.meet.ensures.refused }

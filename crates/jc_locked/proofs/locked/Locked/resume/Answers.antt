@@ -4,9 +4,9 @@ use Rattle.jc_model.specs.declared.event.Event.TheVariants as event
 use Rattle.jc_model.specs.Runs.{answers}
 use Rattle.jc_engine.specs.Caches.{lives_of}
 use Rattle.jc_recorded.specs.Results.{of_recorded_resume}
-use Rattle.jc_shared.specs.Finding.{entry_ended_by}
-use Rattle.jc_shared.proofs.Tenures.{still_begins, resumed_goes_on, is_tenure, refused_answer, last_given}
-use Rattle.jc_shared.proofs.locked.Locked.resume.Goals as goal
+use Rattle.jc_locked.specs.Finding.{entry_ended_by}
+use Rattle.jc_locked.proofs.Tenures.{still_begins, resumed_goes_on, is_tenure, refused_answer, last_given}
+use Rattle.jc_locked.proofs.locked.Locked.resume.Goals as goal
 
 pub invariant_of-self : goal.invariant_of-self
 invariant_of-self g c =

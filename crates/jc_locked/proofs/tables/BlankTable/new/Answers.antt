@@ -1,6 +1,6 @@
 use Rattle.std.proofs.Common.{◌∷◌, [], sym, ◌∙◌}
 use Rattle.jc_cuckoo.specs.Images.{image_of}
-use Rattle.jc_shared.proofs.tables.BlankTable.new.Goals as goal
+use Rattle.jc_locked.proofs.tables.BlankTable.new.Goals as goal
 
 pub invariant_of-result : goal.invariant_of-result
 invariant_of-result c =

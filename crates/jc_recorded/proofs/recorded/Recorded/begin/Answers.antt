@@ -1,11 +1,13 @@
 use Rattle.std.proofs.Common.{◌≡◌, ◌++◌, ◌∷◌, [], refl}
 use Rattle.std.proofs.lemmas.Iterator.Adapters.{option_map_id}
-use Rattle.jc_engine.proofs.Names.{Advance, Entry, Replied, at_place, History, with_outcome, step_of, Stepped}
+use Rattle.jc_engine.proofs.Names.{Entry, at_place, History, with_outcome, step_of, Stepped}
+use Rattle.jc_engine.specs.declared.turn.Advance.{Advance}
+use Rattle.jc_engine.specs.declared.turn.Advance.TheVariants.{Replied}
 use Rattle.jc_recorded.specs.Recording.{blank, with_entries}
 use Rattle.jc_recorded.specs.Recording.{CanTell}
 use Rattle.jc_recorded.proofs.Recordings.{begun, can_tell_by, keeps_over}
-use Rattle.jc_engine.proofs.recorded.Recorded.begin.Given as given
-use Rattle.jc_engine.proofs.recorded.Recorded.begin.Goals as goal
+use Rattle.jc_recorded.proofs.recorded.Recorded.begin.Given as given
+use Rattle.jc_recorded.proofs.recorded.Recorded.begin.Goals as goal
 
 -- a call that was answered at once
 module _ (g : given.Over) (c : goal.After-begin g) where

@@ -3,7 +3,7 @@ use Rattle.jc_recorded.specs.Recording.{with_life}
 use Rattle.std.proofs.Common.{◌≡◌, false, refl, sym, ◌∙◌, option_map}
 use Rattle.jc_engine.proofs.Places.{length_map}
 use Rattle.jc_recorded.proofs.Recordings.{created, restored, on_ok}
-use Rattle.jc_engine.proofs.recorded.Recorded.create.Goals as goal
+use Rattle.jc_recorded.proofs.recorded.Recorded.create.Goals as goal
 
 pub invariant_of-self-in-Ok : goal.invariant_of-self-in-Ok
 invariant_of-self-in-Ok g c =

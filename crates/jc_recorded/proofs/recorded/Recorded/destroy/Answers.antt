@@ -1,5 +1,5 @@
 use Rattle.jc_recorded.proofs.Recordings.{destroyed}
-use Rattle.jc_engine.proofs.recorded.Recorded.destroy.Goals as goal
+use Rattle.jc_recorded.proofs.recorded.Recorded.destroy.Goals as goal
 
 pub invariant_of-self-2 : goal.invariant_of-self-2
 invariant_of-self-2 g c =

@@ -1,12 +1,13 @@
 use Rattle.std.proofs.Common.{◌≡◌, ◌++◌, ◌∷◌, [], ◌∙◌, ap}
 use Rattle.std.proofs.lemmas.Iterator.Adapters.{option_map_id}
 use Rattle.jc_model.specs.declared.call.Reply.TheVariants.{Found}
-use Rattle.jc_engine.proofs.Names.{Entry, Replied, History, with_outcome}
+use Rattle.jc_engine.proofs.Names.{Entry, History, with_outcome}
+use Rattle.jc_engine.specs.declared.turn.Advance.TheVariants.{Replied}
 use Rattle.jc_recorded.specs.Recording.{with_entries}
 use Rattle.jc_recorded.specs.Recording.{blank_of}
 use Rattle.jc_engine.specs.Results.{of_found}
 use Rattle.jc_recorded.proofs.Recordings.{begun, begun_is}
-use Rattle.jc_engine.proofs.recorded.Recorded.get_at_once.Goals as goal
+use Rattle.jc_recorded.proofs.recorded.Recorded.get_at_once.Goals as goal
 
 pub invariant_of-self-2 : goal.invariant_of-self-2
 invariant_of-self-2 g c =

@@ -2,8 +2,8 @@ use Rattle.std.proofs.Common.{◌≡◌, ℕ, slice_set}
 use Rattle.jc_engine.proofs.Names.{with_outcome, GivenUp}
 use Rattle.jc_recorded.specs.Recording.{left_in, with_entries}
 use Rattle.jc_recorded.proofs.Recordings.{FindsOpen, give_up_busy, found, kept_of, entry_of, told_or_left, given_up, written_at, of_left, untold_left}
-use Rattle.jc_engine.proofs.recorded.Recorded.give_up.Given as given
-use Rattle.jc_engine.proofs.recorded.Recorded.give_up.Goals as goal
+use Rattle.jc_recorded.proofs.recorded.Recorded.give_up.Given as given
+use Rattle.jc_recorded.proofs.recorded.Recorded.give_up.Goals as goal
 
 pub give_up-requires : goal.give_up-requires
 give_up-requires g c =

@@ -1,7 +1,7 @@
 use Rattle.std.proofs.Common.{sym, ◌∙◌, ap, Option, ℕ}
 use Rattle.jc_recorded.specs.Journals.{kept_at}
 use Rattle.jc_recorded.proofs.Recordings.{found, open_busy, entry_of, entry_found}
-use Rattle.jc_engine.proofs.recorded.Recorded.open_entry.Goals as goal
+use Rattle.jc_recorded.proofs.recorded.Recorded.open_entry.Goals as goal
 
 pub returns-then-is_open-clause-entry : goal.returns-then-is_open-clause-entry
 returns-then-is_open-clause-entry g c =

@@ -3,8 +3,8 @@ use Rattle.jc_engine.proofs.Names.{Entry, History, with_outcome, with_answer, st
 use Rattle.jc_recorded.specs.Recording.{with_entries}
 use Rattle.jc_recorded.specs.Journals.{IsKept}
 use Rattle.jc_recorded.proofs.Recordings.{FindsOpen, answer_busy, found, kept_of, resumed, written_at, can_tell, restored, on_ok, on_error, answered_kept, written_twice, written_back, keeps_over}
-use Rattle.jc_engine.proofs.recorded.Recorded.resume.Given as given
-use Rattle.jc_engine.proofs.recorded.Recorded.resume.Goals as goal
+use Rattle.jc_recorded.proofs.recorded.Recorded.resume.Given as given
+use Rattle.jc_recorded.proofs.recorded.Recorded.resume.Goals as goal
 
 pub answer-requires : goal.answer-requires
 answer-requires g c =

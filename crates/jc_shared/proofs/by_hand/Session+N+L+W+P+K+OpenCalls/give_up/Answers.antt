@@ -2,8 +2,8 @@ use Rattle.std.proofs.Common.{◌≡◌, ◌==◌, ◌++◌, ◌∷◌, [], List
 use Rattle.jc_model.specs.declared.call.Notice.{Notice}
 use Rattle.jc_model.specs.declared.event.Entry.{Entry}
 use Rattle.jc_model.specs.Legal.{History}
-use Rattle.jc_shared.specs.Calls.{EntryIsLast}
-use Rattle.jc_shared.specs.Pending.{given_up_entry}
+use Rattle.jc_locked.specs.Calls.{EntryIsLast}
+use Rattle.jc_locked.specs.Pending.{given_up_entry}
 use Rattle.jc_shared.proofs.GivingUp.{told_and_left, given_up_as}
 use Rattle.jc_shared.proofs.by_hand.Session+N+L+W+P+K+OpenCalls.give_up.Goals as goal
 

@@ -1,5 +1,5 @@
 use Rattle.std.proofs.Common.{◌≡◌}
-use Rattle.jc_shared.specs.Calls.{IsSameCall}
+use Rattle.jc_locked.specs.Calls.{IsSameCall}
 use Rattle.jc_shared.proofs.lent.Session+N+L+W+P+K+OpenCalls.carry.Given as goal
 
 -- it is the same call, and the session has noted nothing

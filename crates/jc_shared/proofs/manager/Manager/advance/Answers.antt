@@ -1,8 +1,8 @@
 use Rattle.std.proofs.Common.{◌≡◌, List, [], ◌∷◌, ◌++◌, refl, sym, ◌∙◌, ap, subst}
 use Rattle.jc_model.specs.declared.call.Notice.{Notice}
 use Rattle.jc_model.specs.declared.event.Entry.{Entry}
-use Rattle.jc_shared.specs.Calls.{IsSameCall}
-use Rattle.jc_shared.specs.Serving.{told_behind, TellsListeners}
+use Rattle.jc_locked.specs.Calls.{IsSameCall}
+use Rattle.jc_locked.specs.Serving.{told_behind, TellsListeners}
 use Rattle.jc_recorded.proofs.Recordings.{on_ok}
 use Rattle.jc_shared.proofs.Carrying.{second_on_err, on_err, served_on, noted_waits, goes_stays, goes_untold, goes_unanswered}
 use Rattle.jc_shared.proofs.manager.Manager.advance.Goals as goal

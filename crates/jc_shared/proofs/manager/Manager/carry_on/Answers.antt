@@ -1,7 +1,7 @@
 use Rattle.std.proofs.Common.{sym, subst}
 use Rattle.std.proofs.lemmas.Result.{err_from_is_err_and}
 use Rattle.jc_stripes.proofs.Lists.{prefix_trans}
-use Rattle.jc_shared.specs.Serving.{HasStated}
+use Rattle.jc_locked.specs.Serving.{HasStated}
 use Rattle.jc_shared.proofs.Carrying.{same_call}
 use Rattle.jc_shared.proofs.Writing.{has_stated, takes_in}
 use Rattle.jc_shared.proofs.manager.Manager.carry_on.Goals as goal

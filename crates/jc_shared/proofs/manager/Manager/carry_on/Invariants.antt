@@ -1,6 +1,6 @@
 use mathlib.Core.List.{IsPrefix}
-use Rattle.jc_shared.specs.Calls.{IsSameCall, CallStands}
-use Rattle.jc_shared.specs.Serving.{TellsListenersOn, WritesOn}
+use Rattle.jc_locked.specs.Calls.{IsSameCall, CallStands}
+use Rattle.jc_locked.specs.Serving.{TellsListenersOn, WritesOn}
 use Rattle.jc_shared.proofs.manager.Manager.carry_on.Given as goal
 
 -- it is the same call, and stands as it was brought to

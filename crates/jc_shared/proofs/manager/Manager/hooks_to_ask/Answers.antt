@@ -1,6 +1,6 @@
 use Rattle.std.proofs.Common.{List, sym, ◌∙◌, ap}
 use Rattle.std.specs.Prelude.{slice_get}
-use Rattle.jc_shared.specs.declared.hooks.SharedHooks.{SharedHooks}
+use Rattle.jc_locked.specs.declared.hooks.SharedHooks.{SharedHooks}
 use Rattle.jc_shared.proofs.Asked.{stated_at, unstated_at, count_at, none_at}
 use Rattle.jc_shared.proofs.manager.Manager.hooks_to_ask.Goals as goal
 

@@ -1,6 +1,6 @@
 use Rattle.std.proofs.Common.{List, sym, ◌∙◌, ap}
 use Rattle.std.specs.Prelude.{slice_get}
-use Rattle.jc_shared.specs.declared.hooks.SharedHooks.{SharedHooks}
+use Rattle.jc_locked.specs.declared.hooks.SharedHooks.{SharedHooks}
 use Rattle.jc_shared.proofs.Asked.{stated_at, count_at}
 use Rattle.jc_shared.proofs.manager.Manager.opening_hooks.Goals as goal
 

@@ -1,6 +1,6 @@
 use Rattle.std.proofs.Common.{Ok, sym, ap, subst}
-use Rattle.jc_shared.specs.Admitting.{IsAdmission}
-use Rattle.jc_shared.specs.Sessions.{Sitting}
+use Rattle.jc_locked.specs.Admitting.{IsAdmission}
+use Rattle.jc_locked.specs.Sessions.{Sitting}
 use Rattle.jc_shared.proofs.manager.Manager.session.Goals as goal
 
 pub returns-in-Ok-clause-admitted : goal.returns-in-Ok-clause-admitted

@@ -1,5 +1,5 @@
 use Rattle.std.proofs.Common.{inl}
-use Rattle.jc_shared.proofs.Showing.{surely_met}
+use Rattle.jc_locked.proofs.Showing.{surely_met}
 use Rattle.jc_shared.proofs.session.Session.contains.Goals as goal
 
 pub returns-in-Sure-clause-told : goal.returns-in-Sure-clause-told

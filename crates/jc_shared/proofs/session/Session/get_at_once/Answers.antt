@@ -4,8 +4,8 @@ use Rattle.jc_model.specs.declared.event.Step.TheVariants.{Done}
 use Rattle.jc_recorded.specs.declared.journal.change.Origin.{Origin}
 use Rattle.jc_recorded.specs.Recording.{blank_of}
 use Rattle.jc_recorded.proofs.Recordings.{begun_is}
-use Rattle.jc_shared.specs.Calls.{CallGoesOnTo}
-use Rattle.jc_shared.specs.Sessions.{Sitting}
+use Rattle.jc_locked.specs.Calls.{CallGoesOnTo}
+use Rattle.jc_locked.specs.Sessions.{Sitting}
 use Rattle.jc_shared.proofs.Carrying.{replied_adds}
 use Rattle.jc_shared.proofs.session.Session.get_at_once.Goals as goal
 

@@ -4,8 +4,8 @@ use Rattle.jc_stripes.proofs.Lists.{prefix_trans}
 use Rattle.jc_model.specs.Runs.{has_processor}
 use Rattle.jc_recorded.specs.declared.journal.change.Origin.{Origin}
 use Rattle.jc_recorded.specs.Recording.{blank, blank_of}
-use Rattle.jc_shared.specs.Calls.{IsSameCall}
-use Rattle.jc_shared.specs.Sessions.{Sitting}
+use Rattle.jc_locked.specs.Calls.{IsSameCall}
+use Rattle.jc_locked.specs.Sessions.{Sitting}
 use Rattle.jc_shared.proofs.Carrying.{begun_same, same_call, added_ok, added_err, not_accepted, told_or_gone, unaccepted_fails}
 use Rattle.jc_shared.proofs.session.Session.make.Goals as goal
 

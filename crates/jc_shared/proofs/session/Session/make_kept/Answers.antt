@@ -2,7 +2,7 @@ use Rattle.std.proofs.Common.{◌≡◌, ◌++◌, ◌∷◌, [], ◌∙◌, ap,
 use Rattle.jc_model.specs.declared.event.Entry.{Entry}
 use Rattle.jc_recorded.specs.Changed.{begun_entry, replied_at_once}
 use Rattle.jc_recorded.specs.Recording.{blank}
-use Rattle.jc_shared.specs.Sessions.{Sitting}
+use Rattle.jc_locked.specs.Sessions.{Sitting}
 use Rattle.jc_recorded.proofs.Recordings.{begun_is}
 use Rattle.jc_shared.proofs.Carrying.{replied_adds, waiting_adds}
 use Rattle.jc_shared.proofs.session.Session.make_kept.Goals as goal

@@ -1,9 +1,9 @@
 use Rattle.std.proofs.Common.{ap, ◌∙◌, subst, List}
 use Rattle.jc_model.specs.declared.config.CacheConfig.{CacheConfig}
 use Rattle.jc_recorded.specs.Recording.{Recording}
-use Rattle.jc_shared.specs.Opening.{HandedIn}
-use Rattle.jc_shared.specs.Sessions.{BeginsWith}
-use Rattle.jc_shared.proofs.Opened.{begins_opened}
+use Rattle.jc_locked.specs.Opening.{HandedIn}
+use Rattle.jc_locked.specs.Sessions.{BeginsWith}
+use Rattle.jc_locked.proofs.Opened.{begins_opened}
 use Rattle.jc_shared.proofs.shared.Shared.named.Goals as goal
 
 pub over-requires-clause-opened : goal.over-requires-clause-opened

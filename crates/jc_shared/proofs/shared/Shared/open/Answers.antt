@@ -1,6 +1,6 @@
 use Rattle.std.proofs.Common.{sym, ◌∙◌, ap}
 use Rattle.jc_engine.specs.Opening.{open_refusal}
-use Rattle.jc_shared.proofs.Opened.{suit_of}
+use Rattle.jc_locked.proofs.Opened.{suit_of}
 use Rattle.jc_shared.proofs.shared.Shared.open.Goals as goal
 
 pub returns-in-Ok-clause-opens : goal.returns-in-Ok-clause-opens

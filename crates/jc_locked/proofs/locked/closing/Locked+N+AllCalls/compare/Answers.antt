@@ -1,9 +1,9 @@
 use Rattle.std.proofs.Common.{sym, map, subst}
 use Rattle.jc_model.specs.Legal.{History, IsLegal}
-use Rattle.jc_shared.specs.Accounts.{IsAuditFault, IsCloseRefusal}
-use Rattle.jc_shared.specs.Sessions.{BeginsWith}
-use Rattle.jc_shared.proofs.Comparing.{cannot_close, fault_weaker}
-use Rattle.jc_shared.proofs.locked.closing.Locked+N+AllCalls.compare.Goals as goal
+use Rattle.jc_locked.specs.Accounts.{IsAuditFault, IsCloseRefusal}
+use Rattle.jc_locked.specs.Sessions.{BeginsWith}
+use Rattle.jc_locked.proofs.Comparing.{cannot_close, fault_weaker}
+use Rattle.jc_locked.proofs.locked.closing.Locked+N+AllCalls.compare.Goals as goal
 
 pub returns-clause-refused : goal.returns-clause-refused
 returns-clause-refused g c =

@@ -1,7 +1,7 @@
 use Rattle.std.proofs.Common.{◌≡◌, ◌++◌, List, Some, is_some, slice_get, sym, ap, ◌∙◌, length-set, set-set}
 use Rattle.jc_engine.proofs.Names.{Notice, Entry, at_same}
 use Rattle.jc_recorded.proofs.Entries.{some_at}
-use Rattle.jc_engine.proofs.journal.all_calls.AllCalls.note_given_up.Goals as goal
+use Rattle.jc_recorded.proofs.journal.all_calls.AllCalls.note_given_up.Goals as goal
 
 pub set_end-requires : goal.set_end-requires
 set_end-requires c = let e = some_at c.args.self.now.transcript.entries c.args.place c.requires in rw (c.set_told.ensures e.0 e.1, length-set) c.requires

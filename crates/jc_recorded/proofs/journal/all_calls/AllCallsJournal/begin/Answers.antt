@@ -2,7 +2,7 @@ use Rattle.std.proofs.Common.{◌≡◌, ◌-◌, length, Some, slice_get}
 use Rattle.jc_engine.proofs.Names.{with_outcome, step_of, Stepped}
 use Rattle.jc_recorded.proofs.Entries.{get_last, set_last}
 use Rattle.jc_recorded.proofs.Opens.{last_place}
-use Rattle.jc_engine.proofs.journal.all_calls.AllCallsJournal.begin.Goals as goal
+use Rattle.jc_recorded.proofs.journal.all_calls.AllCallsJournal.begin.Goals as goal
 
 pub returns-then-not-replied-clause-noted : goal.returns-then-not-replied-clause-noted
 returns-then-not-replied-clause-noted c = λ h e enters waits can.

@@ -3,7 +3,7 @@ use Rattle.jc_engine.proofs.Names.{get, Entry, with_outcome, step_of, Stepped}
 use Rattle.jc_recorded.specs.Recording.{CanTell}
 use Rattle.jc_engine.proofs.Numbered.{puts_for}
 use Rattle.jc_recorded.proofs.Opens.{kept_call, goes_open}
-use Rattle.jc_engine.proofs.journal.open_calls.OpenCalls.end.Goals as goal
+use Rattle.jc_recorded.proofs.journal.open_calls.OpenCalls.end.Goals as goal
 
 pub invariant_of-self : goal.invariant_of-self
 invariant_of-self c =

@@ -3,7 +3,7 @@ use Rattle.jc_engine.proofs.Names.{get, Entry, with_outcome, step_of, Stepped}
 use Rattle.jc_recorded.specs.Recording.{CanTell}
 use Rattle.jc_model.specs.declared.event.End.TheVariants.{Waiting}
 use Rattle.jc_recorded.proofs.Opens.{begun_open, waits_on}
-use Rattle.jc_engine.proofs.journal.open_calls.OpenCalls.open.Goals as goal
+use Rattle.jc_recorded.proofs.journal.open_calls.OpenCalls.open.Goals as goal
 
 pub invariant_of-self : goal.invariant_of-self
 invariant_of-self c =

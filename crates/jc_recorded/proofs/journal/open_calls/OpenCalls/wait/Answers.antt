@@ -4,7 +4,7 @@ use Rattle.jc_recorded.specs.Recording.{CanTell}
 use Rattle.jc_recorded.specs.declared.journal.open_call.OpenCall.{OpenCall}
 use Rattle.jc_engine.proofs.Numbered.{puts_for}
 use Rattle.jc_recorded.proofs.Opens.{kept_call, stays_open, waits_on}
-use Rattle.jc_engine.proofs.journal.open_calls.OpenCalls.wait.Goals as goal
+use Rattle.jc_recorded.proofs.journal.open_calls.OpenCalls.wait.Goals as goal
 
 pub invariant_of-self : goal.invariant_of-self
 invariant_of-self c =

@@ -3,7 +3,7 @@ use Rattle.jc_engine.proofs.Names.{get, Entry, with_answer}
 use Rattle.jc_recorded.specs.declared.journal.open_call.OpenCall.{OpenCall}
 use Rattle.jc_engine.proofs.Numbered.{puts_for}
 use Rattle.jc_recorded.proofs.Opens.{stays_open, unchanged_open}
-use Rattle.jc_engine.proofs.journal.open_calls.OpenCallsJournal.answer.Goals as goal
+use Rattle.jc_recorded.proofs.journal.open_calls.OpenCallsJournal.answer.Goals as goal
 
 pub invariant_of-self : goal.invariant_of-self
 invariant_of-self c =

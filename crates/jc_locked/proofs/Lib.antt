@@ -1,0 +1,9 @@
+pub mod Last
+pub mod Showing
+pub mod Tenures
+pub mod Livings
+pub mod Comparing
+pub mod Walking
+pub mod Opened
+pub mod Entered
+pub mod Missing

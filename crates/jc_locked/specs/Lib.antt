@@ -1,0 +1,12 @@
+pub mod Stated
+pub mod Sessions
+pub mod Calls
+pub mod Pending
+pub mod Accounts
+pub mod Opening
+pub mod Tenures
+pub mod Living
+pub mod Finding
+pub mod Admitting
+pub mod Serving
+pub mod Lookups

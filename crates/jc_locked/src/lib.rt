@@ -1,0 +1,11 @@
+//! What lies under the locks of a manager that threads share: the recorded engine, the callbacks of a cache, what a
+//! session keeps of its own calls, and the comparison at the close.
+#![tactic(auto)]
+
+pub mod auditing;
+pub mod fault;
+pub mod hooks;
+pub mod keeping;
+pub mod locked;
+pub mod name;
+pub mod tables;
