@@ -20,7 +20,7 @@ use std::alloc::Global;
 /// It tells of all lives and calls. It may keep all of their entries in memory, or only those of the calls that wait:
 /// the history is what the clauses see.
 pub trait Journal: Drop {
-    ghost use Rattle.std.specs.Prelude.{◌≡◌, ℕ, true, false, [], Option, OnOk, OnErr, IfOk, IfErr, option_map};
+    ghost use Rattle.std.specs.Prelude.{◌≡◌, ℕ, true, false, [], None, Option, OnOk, OnErr, IfOk, IfErr, option_map};
     ghost use Rattle.jc_model.specs.declared.event.Entry.{Entry};
     ghost use Rattle.jc_model.specs.Legal.{History};
     ghost use Rattle.jc_engine.specs.Managed.{step_of};
@@ -137,8 +137,9 @@ pub trait Journal: Drop {
         ensures back { TakesLife (history self.old) (history self.new) }
         ensures places { KeepsAll (places self.old) (places self.new) };
 
-    /// A cache has gone, in which no call is open. Its life and its calls stay in the history.
+    /// A cache has gone, in which no call is open. Its life and its calls stay in the history; no place is kept for it.
     fn destroy(&mut self, id: CacheId)
         ensures same { history self.new ≡ history self.old }
+        ensures gone { places self.new id ≡ None }
         ensures places { KeepsOthers (places self.old) id (places self.new) };
 }
