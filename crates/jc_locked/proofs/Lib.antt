@@ -1,3 +1,4 @@
+pub mod Overtaken
 pub mod Last
 pub mod Showing
 pub mod Tenures

@@ -43,6 +43,7 @@ use Rattle.jc_locked.specs.Living.{Refuses}
 use Rattle.jc_locked.specs.Pending.{IsRefusedAnswer}
 use Rattle.jc_locked.specs.Tenures.{IsTenure, IsRefusedEvent, StopsDraft}
 use Rattle.jc_model.proofs.Asking.{whole_asks}
+use Rattle.jc_locked.proofs.Overtaken.{none_open}
 use Rattle.jc_locked.proofs.Last.{open_last, open_stands, changed_there, open_same, changed_last, added_last}
 use Rattle.jc_model.specs.Places.{at_place}
 
@@ -131,10 +132,10 @@ is_tenure old mid new session event step same answered written after =
 
 -- why an answer was not taken
 pub stops : (old : Recording) (draft : Entry) (answers : List Answer) (a : Answer) (cause : Cause) → IsOpen (lives_of old.caches) old.transcript draft answers → IsRefusedEvent (lives_of old.caches) (event.Answer draft.id a) cause → StopsDraft old draft answers a (answer_fault_of cause)
-stops old draft answers a causes.NoSuchCache here refusal = tt
-stops old draft answers a causes.NoSuchProcessor here refusal = tt
-stops old draft answers a causes.Busy here refusal = tt
-stops old draft answers a causes.NoTurn here refusal = tt
+stops old draft answers a causes.NoSuchCache here refusal = inl (none_open old.caches draft.id a _ causes.NoSuchCache refusal (λ is. absurd cc) (λ is. absurd cc))
+stops old draft answers a causes.NoSuchProcessor here refusal = inl (none_open old.caches draft.id a _ causes.NoSuchProcessor refusal (λ is. absurd cc) (λ is. absurd cc))
+stops old draft answers a causes.Busy here refusal = inl (none_open old.caches draft.id a _ causes.Busy refusal (λ is. absurd cc) (λ is. absurd cc))
+stops old draft answers a causes.NoTurn here refusal = inl (none_open old.caches draft.id a _ causes.NoTurn refusal (λ is. absurd cc) (λ is. absurd cc))
 stops old draft answers a causes.WrongAnswer here refusal = (here, refusal)
 stops old draft answers a causes.OutOfMemory here refusal = (here, refusal)
 

@@ -1,5 +1,5 @@
 -- Where an open call stands in the transcript, and what it is told.
-use Rattle.std.specs.Prelude.{◌≡◌, ℕ, Bool, true, false, List, Option, Some, None, Result, Ok, Err, ⊤}
+use Rattle.std.specs.Prelude.{◌≡◌, ◌⊎◌, ℕ, Bool, true, false, List, Option, Some, None, Result, Ok, Err, ⊤}
 use Rattle.jc_model.specs.declared.call.Answer.{Answer}
 use Rattle.jc_model.specs.declared.call.Reply.{Reply}
 use Rattle.jc_model.specs.declared.event.Cause.{Cause}
@@ -15,7 +15,9 @@ use Rattle.jc_model.specs.declared.event.Step.TheVariants.{Done, Need}
 use Rattle.jc_model.specs.Runs.{Lives}
 use Rattle.jc_model.specs.Legal.{History, Tells}
 use Rattle.jc_engine.specs.Caches.{lives_of}
-use Rattle.jc_recorded.specs.Recording.{Recording, HasOpen}
+use Rattle.jc_model.specs.Places.{at_place}
+use Rattle.jc_engine.specs.Advances.{is_open_in}
+use Rattle.jc_recorded.specs.Recording.{Recording, HasOpen, HasOpenEntry}
 
 -- why a call has no reply, by why the engine refuses it
 abbrev pub fault_of : Cause → CallFault
@@ -59,6 +61,12 @@ pub record IsOpen (lives : Lives) (transcript : History) (draft : Entry) (answer
 -- so it is in a recorded engine
 abbrev pub IsOpenIn : Recording → Entry → List Answer → Type 0
 IsOpenIn r draft answers = IsOpen (lives_of r.caches) r.transcript draft answers
+
+-- the draft's call is not the one that is open on its cache: none is, or another
+abbrev pub IsOvertakenIn : Recording → Entry → List Answer → Type 0
+IsOvertakenIn r draft answers =
+    (is_open_in (at_place r.caches draft.id) ≡ false)
+    ⊎ ((e : Entry) × HasOpenEntry r.transcript.entries draft.id e × (IsOfCall e draft answers → ⊥))
 
 -- an entry with its call's reply, if it has one
 abbrev pub entry_ended_by : Option Reply → Entry → Entry

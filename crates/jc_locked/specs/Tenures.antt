@@ -1,5 +1,5 @@
 -- What one tenure of the lock does to the recorded engine under it.
-use Rattle.std.specs.Prelude.{◌≡◌, ◌++◌, ℕ, List, ⊤}
+use Rattle.std.specs.Prelude.{◌≡◌, ◌++◌, ℕ, List}
 use Rattle.jc_model.specs.declared.call.Answer.{Answer}
 use Rattle.jc_model.specs.declared.call.Notice.{Notice}
 use Rattle.jc_model.specs.declared.event.Cause.{Cause}
@@ -16,7 +16,7 @@ use Rattle.jc_recorded.specs.Recording.{Recording}
 use Rattle.jc_locked.specs.declared.fault.CallFault.{CallFault}
 use Rattle.jc_locked.specs.declared.fault.AnswerFault.{AnswerFault}
 use Rattle.jc_locked.specs.declared.fault.AnswerFault.TheVariants as answering
-use Rattle.jc_locked.specs.Finding.{fault_of, IsOpenIn}
+use Rattle.jc_locked.specs.Finding.{fault_of, IsOpenIn, IsOvertakenIn}
 
 -- the engine has taken this one event of a session, and answered it so
 pub record IsTenure (old new : Recording) (session : ℕ) (event : Event) (o : Outcome) : Type 0 where
@@ -40,7 +40,7 @@ StopsDraft old draft answers a answering.WrongAnswer =
     IsOpenIn old draft answers × IsRefusedEvent (lives_of old.caches) (event.Answer draft.id a) causes.WrongAnswer
 StopsDraft old draft answers a answering.OutOfMemory =
     IsOpenIn old draft answers × IsRefusedEvent (lives_of old.caches) (event.Answer draft.id a) causes.OutOfMemory
-StopsDraft old draft answers a answering.Overtaken = ⊤
+StopsDraft old draft answers a answering.Overtaken = IsOvertakenIn old draft answers
 
 -- the draft's call was given up, and has these notices then: those that were told, and those that are left
 pub record GivesUpDraft (old new : Recording) (draft : Entry) (told : List Notice) : Type 0 where

@@ -1,6 +1,6 @@
 //! What lies under the manager's lock: the recorded engine, and which sessions there are. Each tenure begins a call,
 //! brings it on or gives it up, or creates or destroys a cache, and no callback runs in it.
-ghost use Rattle.std.specs.Prelude.{◌≡◌, ◌⊎◌, ℕ, Bool, true, false, Ok, None, List, [], ◌∷◌, ◌++◌, IsTrue, IfOk, IfErr, IfSome, OnOk, OnErr, Err, Some, is_some};
+ghost use Rattle.std.specs.Prelude.{◌≡◌, ◌⊎◌, ◌↔◌, ℕ, Bool, true, false, Ok, None, List, [], ◌∷◌, ◌++◌, IsTrue, IfOk, IfErr, IfSome, OnOk, OnErr, Err, Some, is_some};
 ghost use mathlib.Core.List.{IsPrefix};
 ghost use Rattle.jc_model.specs.declared.call.Answer.{Answer as Given};
 ghost use Rattle.jc_model.specs.declared.call.Call.{Call as Called};
@@ -18,7 +18,7 @@ ghost use Rattle.jc_locked.specs.Living.{TellsLiveRow, HasNoOpenCall, HasOpenCal
 ghost use Rattle.jc_locked.specs.Lookups.{Agrees};
 ghost use Rattle.jc_locked.specs.Pending.{IsRefusedAnswer};
 ghost use Rattle.jc_locked.specs.Sessions.{BeginsWith, SeesEngine, SeesSome};
-ghost use Rattle.jc_locked.specs.Finding.{fault_of, answer_fault_of, entry_ended_by, IsOfCall, IsOpenIn, IsReplied};
+ghost use Rattle.jc_locked.specs.Finding.{fault_of, answer_fault_of, entry_ended_by, IsOfCall, IsOpenIn, IsOvertakenIn, IsReplied};
 ghost use Rattle.jc_locked.specs.Tenures.{IsTenure, IsRefusedCall, StopsDraft, GivesUpDraft};
 
 mod at_once;
@@ -75,7 +75,7 @@ fn answer_fault_of(cause: Cause) -> AnswerFault
 
 /// Whether two lists are the same.
 fn are_same<T: Exact>(left: &[T], right: &[T]) -> bool
-    ensures { IsTrue result → left.now ≡ right.now }
+    ensures { IsTrue result ↔ (left.now ≡ right.now) }
 {
     let mut ours = left;
     let mut theirs = right;
@@ -94,7 +94,7 @@ fn are_same<T: Exact>(left: &[T], right: &[T]) -> bool
 
 /// Whether an entry that waits is of the draft's call, which has been given these answers.
 fn is_of_call(entry: &Entry, draft: &Entry, answers: &[Answer]) -> bool
-    ensures { IsTrue result → IsOfCall entry.now draft.now answers.now }
+    ensures { IsTrue result ↔ IsOfCall entry.now draft.now answers.now }
 {
     entry.session == draft.session
         && entry.at == draft.at
@@ -144,7 +144,9 @@ impl<N: Name, J: Keeping> Locked<N, J> {
 
     /// Whether the open call of the draft's cache is the draft's, which has been given these answers.
     fn is_open(&self, draft: &Entry, answers: &[Answer]) -> bool
-        ensures { IsTrue result → IsOpenIn self.now.recorded draft.now answers.now }
+        ensures open { IsTrue result → IsOpenIn self.now.recorded draft.now answers.now }
+        ensures overtaken { result ≡ false →
+            IsOvertakenIn self.now.recorded draft.now answers.now }
     {
         match self.recorded.open_entry(draft.id) {
             Some(entry) => is_of_call(entry, draft, answers),
@@ -308,6 +310,8 @@ impl<N: Name, J: Keeping> Locked<N, J> {
             (GivesUpDraft self.old.recorded self.new.recorded draft.old draft.new.told) }
         ensures front { IsPrefix pass.old.images pass.new.images }
         ensures err { IfErr result (λ fault. fault ≡ CallFault.Overtaken) }
+        ensures overtaken { OnErr result
+            (IsOvertakenIn self.old.recorded draft.old draft.old.answers) }
         ensures same { OnErr result ((self.new.recorded ≡ self.old.recorded)
             × (draft.new ≡ draft.old) × (pass.new ≡ pass.old)) }
         ensures told { (draft.old.told ≡ []) ⊎ (draft.new.told ≡ draft.old.told) }

@@ -23,7 +23,7 @@ pub keep_left-requires : goal.keep_left-requires
 keep_left-requires g c =
     let old = c.args.self.now.recorded in
     let draft = c.args.draft.now in
-    told_or_left g.N.Name.configs (lives_of old.caches) (lives_of old.caches) old.transcript old.transcript draft draft c.items.result.now c.args.pass.now (c.is_open.ensures c.if-not-is_open.false) c.requires c.in-Ok.left c.in-Ok.ensures.outcome c.in-Ok.ensures.left
+    told_or_left g.N.Name.configs (lives_of old.caches) (lives_of old.caches) old.transcript old.transcript draft draft c.items.result.now c.args.pass.now (c.is_open.ensures.open c.if-not-is_open.false) c.requires c.in-Ok.left c.in-Ok.ensures.outcome c.in-Ok.ensures.left
 
 module _ (g : given.Over) (c : goal.After-show g) where
   ends_so : c.end_with.new.draft ≡ record c.args.draft.now { told = c.args.draft.now.told ++ c.in-Ok.left; end = ends.GivenUp }
@@ -38,7 +38,7 @@ returns-clause-ok g c =
     let new = c.give_up.new.self in
     let draft = c.args.draft.now in (
       ends_so g c ∙ ap (λ (ns : List Notice). record draft { told = ns; end = ends.GivenUp }) (sym (tells g c)),
-      given_up_stands g.N.Name.configs (lives_of old.caches) (lives_of new.caches) old.transcript new.transcript draft c.end_with.new.draft c.items.result.now c.show.new.pass (c.is_open.ensures c.if-not-is_open.false) c.requires
+      given_up_stands g.N.Name.configs (lives_of old.caches) (lives_of new.caches) old.transcript new.transcript draft c.end_with.new.draft c.items.result.now c.show.new.pass (c.is_open.ensures.open c.if-not-is_open.false) c.requires
           c.in-Ok.left (sym c.items.ensures) (ends_so g c) (c.in-Ok.ensures.transcript draft.session) c.in-Ok.ensures.outcome c.in-Ok.ensures.lives c.in-Ok.ensures.told.1.legal
           (still_begins g.N.Name.configs old.transcript new.transcript draft.session draft.id gives_up (of_give_up c.give_up.result) c.args.self.now.begins (c.give_up.ensures.transcript draft.session)) c.show.ensures.sees,
     )
@@ -58,7 +58,7 @@ pub returns-clause-told : goal.returns-clause-told
 returns-clause-told g c =
     let old = c.args.self.now.recorded in
     let draft = c.args.draft.now in
-    elim (told_or_left g.N.Name.configs (lives_of old.caches) (lives_of old.caches) old.transcript old.transcript draft draft c.items.result.now c.args.pass.now (c.is_open.ensures c.if-not-is_open.false) c.requires c.in-Ok.left c.in-Ok.ensures.outcome c.in-Ok.ensures.left) [
+    elim (told_or_left g.N.Name.configs (lives_of old.caches) (lives_of old.caches) old.transcript old.transcript draft draft c.items.result.now c.args.pass.now (c.is_open.ensures.open c.if-not-is_open.false) c.requires c.in-Ok.left c.in-Ok.ensures.outcome c.in-Ok.ensures.left) [
       | inl none ↦ inl none
       | inr none ↦ inr (tells g c ∙ (ap (λ (ns : List Notice). draft.told ++ ns) none ∙ append-nil draft.told))
     ]
