@@ -1,5 +1,5 @@
 -- A run on worker threads: its callbacks, and what its manager has refused.
-use Rattle.std.proofs.Common.{◌≡◌, ℕ, Bool, List, [], length, map, sym, ap, subst, ◌∙◌, Option, Some, None, Result, Err, true, refl}
+use Rattle.std.proofs.Common.{◌≡◌, ℕ, Bool, List, length, map, sym, ap, subst, ◌∙◌, Option, Some, None, Result, Err, true, refl}
 use Rattle.std.specs.Prelude.{is_some}
 use Rattle.std.specs.Result.{result_err}
 use Rattle.std.proofs.lemmas.Bool.{false≢true}

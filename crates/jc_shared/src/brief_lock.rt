@@ -5,7 +5,7 @@ use std::sync::{Mutex, MutexGuard, Wait};
 use std::time::Duration;
 
 /// How many more threads find the lock held than find it free before one of them stays away.
-const CROWD: u64 = 16;
+const CROWD: u64 = 32;
 
 /// How often it looks, while it stays away, whether the others have gone.
 const SLICES: u32 = 50;

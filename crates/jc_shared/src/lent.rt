@@ -10,8 +10,9 @@ use crate::session::Session;
 use jc_hooks::{Hearer, Loader, Processor, Responder, Writer};
 use jc_locked::fault::CallFault;
 use jc_locked::name::Name;
-use jc_model::call::{Call, Reply, Request};
+use jc_model::call::{Call, Notice, Reply, Request};
 use jc_model::event::CacheId;
+use jc_model::list::Sequence;
 use jc_recorded::journal::open_calls::OpenCalls;
 use std::sync::Wait;
 
@@ -127,7 +128,10 @@ impl<'a, N: Name, L: Loader, W: Writer, P: Processor, K: Hearer> Session<
             match self.resume(rt, pending, answer) {
                 Ok(Progress::Replied(reply)) => return Ok(reply),
                 Ok(Progress::Waits(next)) => pending = next,
-                Err((_, back, _)) => return Err(self.abandon(rt, back, responder)),
+                Err((_, back, answer)) => {
+                    drop(answer);
+                    return Err(self.abandon(rt, back, responder));
+                }
             }
         }
         unreachable!()
@@ -146,12 +150,21 @@ impl<'a, N: Name, L: Loader, W: Writer, P: Processor, K: Hearer> Session<
     {
         match self.give_up(rt, pending) {
             Ok(left) => {
-                if !left.items().is_empty() {
-                    let _ = responder.respond(&Request::Tell(left));
-                }
+                tell_left(responder, left);
                 CallFault::OutOfMemory
             }
             Err(fault) => fault,
         }
     }
+}
+
+/// Has the notices told that a give-up has left, if there are any.
+fn tell_left<A: Responder>(responder: &mut A, left: Sequence<Notice>) {
+    if left.items().is_empty() {
+        drop(left);
+        return;
+    }
+    let request = Request::Tell(left);
+    drop(responder.respond(&request));
+    drop(request);
 }

@@ -70,7 +70,7 @@ impl<N: Name, L: Loader, W: Writer, P: Processor, K: Hearer, J: Keeping> Manager
         let (number, pass) = self.locked.lock(rt).enter(own.is_ok())?;
         match own {
             Ok(own) => Ok(Session::new(self, number, own, pass)),
-            Err(_) => Err(SessionRefusal::OutOfMemory),
+            Err(_) => unreachable!(),
         }
     }
 
@@ -217,19 +217,20 @@ impl<N: Name, L: Loader, W: Writer, P: Processor, K: Hearer> Manager<N, L, W, P,
             locked,
         } = self;
         let locked = locked.into_inner();
-        match locked.open_call() {
-            None => Ok(()),
-            Some(id) => Err((
-                id,
-                Manager {
-                    alloc,
-                    shared,
-                    locks,
-                    directory,
-                    locked: BriefLock::new(locked),
-                },
-            )),
-        }
+        let Some(id) = locked.open_call() else {
+            drop((shared, locks, directory, locked));
+            return Ok(());
+        };
+        Err((
+            id,
+            Manager {
+                alloc,
+                shared,
+                locks,
+                directory,
+                locked: BriefLock::new(locked),
+            },
+        ))
     }
 }
 

@@ -310,10 +310,14 @@ impl<'a, N: Name, L: Loader, W: Writer, P: Processor, K: Hearer, J: Keeping> Ses
             return self.destroy_opened(rt, id);
         }
         let lock = manager.hooks_lock(rt, id)?;
-        let _hooks = lock.lock(rt);
-        manager.locked.lock(rt).destroy(id, &mut self.pass)?;
-        manager.directory.lock(rt).remove(id);
-        Ok(())
+        let hooks = lock.lock(rt);
+        let destroyed = manager.locked.lock(rt).destroy(id, &mut self.pass);
+        if destroyed.is_ok() {
+            manager.directory.lock(rt).remove(id);
+        }
+        drop(hooks);
+        drop(lock);
+        destroyed
     }
 
     /// The same for a cache of the opening. Its writer and listeners are let go.
@@ -329,9 +333,12 @@ impl<'a, N: Name, L: Loader, W: Writer, P: Processor, K: Hearer, J: Keeping> Ses
             return manager.locked.lock(rt).destroy(id, &mut self.pass);
         };
         let mut hooks = lock.lock(rt);
-        manager.locked.lock(rt).destroy(id, &mut self.pass)?;
-        drop(mem::replace(&mut *hooks, LockedHooks::none(manager.alloc)));
-        Ok(())
+        let destroyed = manager.locked.lock(rt).destroy(id, &mut self.pass);
+        if destroyed.is_ok() {
+            drop(mem::replace(&mut *hooks, LockedHooks::none(manager.alloc)));
+        }
+        drop(hooks);
+        destroyed
     }
 
     /// Sees the table as it is now without a call, for a session that only looks keys up: what others have put, and a

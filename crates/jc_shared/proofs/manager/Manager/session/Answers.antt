@@ -3,7 +3,7 @@ use Rattle.jc_locked.specs.Admitting.{IsAdmission}
 use Rattle.jc_locked.specs.Sessions.{Sitting}
 use Rattle.jc_shared.proofs.manager.Manager.session.Goals as goal
 
-pub returns-in-Ok-clause-admitted : goal.returns-in-Ok-clause-admitted
-returns-in-Ok-clause-admitted g c =
+pub returns-clause-admitted : goal.returns-clause-admitted
+returns-clause-admitted g c =
     subst (λ n. IsAdmission g.J.Keeping.after (Ok n)) (sym (ap (λ (s : Sitting). s.number) c.new.ensures))
     (record { closed = c.deref_mut.result.now.closed; given = c.deref_mut.result.now.given; room = c.is_ok.result; after = c.enter.new.self.given; admits = c.in_ok-number.ensures.admits })
