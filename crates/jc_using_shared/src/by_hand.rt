@@ -12,7 +12,6 @@ use jc_model::value::Value;
 use jc_script::reply_text;
 use jc_shared::{CallFault, Name, PendingCall, Progress};
 use std::alloc::Global;
-use std::io::Print;
 use std::sync::Wait;
 use std::thread::{Threads, join};
 
@@ -99,11 +98,12 @@ fn with_note(loaded: Result<Loaded, OutOfMemory>, note: Value) -> Answer {
 
 /// Gets eve, whom the database does not know. A call that has begun comes to its end: it is given up where the answer
 /// brings no reply.
-pub fn get_by_hand<N: Name + Send + Sync, R: Threads + Wait + Print + Sync>(
+pub fn get_by_hand<N: Name + Send + Sync, R: Threads + Wait + Sync>(
     rt: &R,
     alloc: Global,
     store: &Store<N>,
     queries: &Sender<Query>,
+    lines: &mut Vec<String>,
 ) -> Result<(), Fault> {
     let eve = Key::from_text("eve")?;
     let note = Value::from_text(alloc, "is not in the database")?;
@@ -118,9 +118,9 @@ pub fn get_by_hand<N: Name + Send + Sync, R: Threads + Wait + Print + Sync>(
         }
     };
     drop(seat);
-    println!(rt;
+    lines.push(format!(in alloc;
         "eve: {}, busy meanwhile: {busy}",
         reply_text(alloc, &reply)?
-    )?;
+    )?)?;
     Ok(())
 }

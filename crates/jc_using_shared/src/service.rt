@@ -17,47 +17,62 @@ use std::marker::Brand;
 use std::sync::Wait;
 use std::thread::{self, JoinHandle, Scope, Threads};
 
-/// What is done with the store, by threads that ask the database. When it ends nobody is left who may ask.
-fn work<N: Name + Send + Sync, R: Threads + Wait + Print + Sync>(
+/// What is done with the store, by threads that ask the database, and lines that tell of it. When it ends nobody is left
+/// who may ask.
+fn work<N: Name + Send + Sync, R: Threads + Wait + Sync>(
     rt: &R,
     alloc: Global,
     store: &Store<N>,
     queries: Sender<Query>,
-) -> Result<(), Fault> {
-    visit_all(rt, alloc, store, &queries)?;
-    refuse(rt, alloc, store, &queries)?;
-    get_by_hand(rt, alloc, store, &queries)
+) -> Result<Vec<String>, Fault> {
+    let mut lines = Vec::new(alloc);
+    visit_all(rt, alloc, store, &queries, &mut lines)?;
+    refuse(rt, alloc, store, &queries, &mut lines)?;
+    get_by_hand(rt, alloc, store, &queries, &mut lines)?;
+    Ok(lines)
 }
 
 /// Starts the work on a thread of its own.
-fn start<'s, E: 's, N: Name + Send + Sync + 's, R: Threads + Wait + Print + Sync + 's>(
+fn start<'s, E: 's, N: Name + Send + Sync + 's, R: Threads + Wait + Sync + 's>(
     scope: &Scope<'s, E>,
     rt: &'s R,
     alloc: Global,
     store: &'s Store<N>,
     queries: Sender<Query>,
-) -> Result<JoinHandle<Result<(), Fault>>, Fault> {
+) -> Result<JoinHandle<Result<Vec<String>, Fault>>, Fault> {
     match scope.spawn(move || work(rt, alloc, store, queries)) {
         Ok(worker) => Ok(worker),
         Err(_) => Err(Fault::NoThread),
     }
 }
 
-/// Answers on this thread, which has the database, while another does the work. The result is how many queries there
-/// were.
-fn work_and_serve<N: Name + Send + Sync, R: Threads + Wait + Print + Sync>(
+/// Answers on this thread, which has the database, while another does the work. The result is that one's lines, and how
+/// many queries there were.
+fn work_and_serve<N: Name + Send + Sync, R: Threads + Wait + Sync>(
     rt: &R,
     alloc: Global,
     users: &mut Users,
     store: &Store<N>,
-) -> Result<u32, Fault> {
+) -> Result<(Vec<String>, u32), Fault> {
     let (queries, asked) = unbounded(alloc)?;
-    thread::scope(thread::scope_env(), rt, |scope| -> Result<u32, Fault> {
-        let worker = start(scope, rt, alloc, store, queries)?;
-        let count = serve(rt, alloc, users, &asked);
-        worker.join(rt)?;
-        Ok(count)
-    })
+    thread::scope(
+        thread::scope_env(),
+        rt,
+        |scope| -> Result<(Vec<String>, u32), Fault> {
+            let worker = start(scope, rt, alloc, store, queries)?;
+            let count = serve(rt, alloc, users, &asked);
+            let lines = worker.join(rt)?;
+            Ok((lines, count))
+        },
+    )
+}
+
+/// Prints what the work came to.
+fn print_all<R: Print>(rt: &R, lines: &[String]) -> Result<(), Fault> {
+    for line in lines {
+        println!(rt; "{line}")?;
+    }
+    Ok(())
 }
 
 /// Gives the store its name, uses it, and ends it.
@@ -75,7 +90,9 @@ fn run_named<N: Name + Send + Sync, R: Threads + Wait + Print + Sync>(
     let store = unnamed.named::<N>();
     let served = work_and_serve(rt, alloc, users, &store);
     let ended = store.end().is_ok();
-    println!(rt; "queries of the database: {}, ended: {ended}", served?)?;
+    let (lines, count) = served?;
+    print_all(rt, lines.as_slice())?;
+    println!(rt; "queries of the database: {count}, ended: {ended}")?;
     Ok(())
 }
 

@@ -11,7 +11,6 @@ use jc_model::value::Value;
 use jc_script::reply_text;
 use jc_shared::Name;
 use std::alloc::Global;
-use std::io::Print;
 use std::sync::Wait;
 use std::thread::{Threads, map_indices};
 
@@ -34,12 +33,13 @@ fn visit<N: Name, R: Wait>(
     call(&mut seat, &mut client, 0, Call::Get(ann))
 }
 
-/// Four threads visit the store at once. What each of them got is printed.
-pub fn visit_all<N: Name + Send + Sync, R: Threads + Wait + Print + Sync>(
+/// Four threads visit the store at once. The lines tell what each of them got.
+pub fn visit_all<N: Name + Send + Sync, R: Threads + Wait + Sync>(
     rt: &R,
     alloc: Global,
     store: &Store<N>,
     queries: &Sender<Query>,
+    lines: &mut Vec<String>,
 ) -> Result<(), Fault> {
     let visits = map_indices(
         rt,
@@ -48,17 +48,18 @@ pub fn visit_all<N: Name + Send + Sync, R: Threads + Wait + Print + Sync>(
         &|number| visit(rt, alloc, store, queries, number),
     )?;
     for reply in visits {
-        println!(rt; "ann: {}", reply_text(alloc, &reply?)?)?;
+        lines.push(format!(in alloc; "ann: {}", reply_text(alloc, &reply?)?)?)?;
     }
     Ok(())
 }
 
 /// A note that the database refuses leaves the cache as it was. The last lookup takes no lock, so it waits for nobody.
-pub fn refuse<N: Name, R: Wait + Print>(
+pub fn refuse<N: Name, R: Wait>(
     rt: &R,
     alloc: Global,
     store: &Store<N>,
     queries: &Sender<Query>,
+    lines: &mut Vec<String>,
 ) -> Result<(), Fault> {
     let bob = Key::from_text("bob")?;
     let third = Key::from_text("user-3")?;
@@ -69,11 +70,11 @@ pub fn refuse<N: Name, R: Wait + Print>(
     let contains = call(&mut seat, &mut client, 1, Call::Contains(bob))?;
     let known = seat.contains_key(user_cache(), &third, 2);
     drop(seat);
-    println!(rt;
+    lines.push(format!(in alloc;
         "bob, without a note: {}, then {}",
         reply_text(alloc, &put)?,
         reply_text(alloc, &contains)?
-    )?;
-    println!(rt; "user-3, beside the lock: {}", known == Lookup::Sure(true))?;
+    )?)?;
+    lines.push(format!(in alloc; "user-3, beside the lock: {}", known == Lookup::Sure(true))?)?;
     Ok(())
 }
