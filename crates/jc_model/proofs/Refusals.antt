@@ -1,7 +1,5 @@
 -- What a configuration keeps to that is not refused.
-use Rattle.std.specs.Prelude.{ltb}
-use Rattle.jc_model.proofs.Names.{Bool, None, Option, Some, arith, false, length, refl, true, ◌||◌, ◌≡◌, ◌≤◌, nat_tests, common_steps, option_map, option_or, CacheConfig}
-use Rattle.jc_model.specs.declared.config.Limit.{Limit}
+use Rattle.jc_model.proofs.Names.{Bool, None, Option, Some, arith, false, length, refl, true, ◌≡◌, ◌≤◌, nat_tests, common_steps, option_map, option_or, CacheConfig}
 use Rattle.jc_model.specs.Limits.{most_rows, most_listeners, most_processors}
 use Rattle.jc_model.specs.Refusals.{broken_limit, refused_if}
 

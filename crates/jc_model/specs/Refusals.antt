@@ -1,5 +1,5 @@
 -- Why no cache is created: which limit its configuration breaks by itself, and what it comes to beside the live caches.
-use Rattle.std.specs.Prelude.{ℕ, ◌+◌, Bool, if◌then◌else◌, ◌||◌, ltb, List, [], ◌∷◌, length, map, sum}
+use Rattle.std.specs.Prelude.{ℕ, ◌+◌, Bool, if◌then◌else◌, ◌||◌, ltb, List, length, map, sum}
 use Rattle.std.specs.Prelude.{Option, Some, None}
 use Rattle.std.specs.List.{list_any}
 use Rattle.std.specs.Option.{option_map, option_or}
