@@ -42,24 +42,14 @@ fn any_tells(calls: &[KeyCall]) -> bool
     calls.iter().any(|call| 1 < most_notices(&call.op, false))
 }
 
-/// Places for the notices of so many steps, and for so many notices more, where there are listeners. A step that may
-/// store tells at most of its expired row, its victim and its own.
-fn make_places<R: Rows, G: Ring>(
-    visit: &mut Visit<R, G>,
-    needs: Needs,
-    steps: usize,
-    more: usize,
-) -> Result<(), OutOfMemory>
-    ensures same { visit.new ≡ record visit.old { noted = visit.new.noted } }
-    ensures told { visit.new.noted.told ≡ visit.old.noted.told }
-    ensures places { OnOk result (HasPlacesIn (places_for needs.tells steps + more) visit.new) }
+/// How many notices so many steps may tell, and so many more. A step that may store tells at most of its expired row, its
+/// victim and its own.
+fn places_for(needs: Needs, steps: usize, more: usize) -> Result<usize, OutOfMemory>
+    ensures { IfOk result (λ places. places ≡ places_for needs.tells steps + more) }
 {
     let each = if needs.tells { 3 } else { 1 };
     match steps.checked_mul(each) {
-        Some(places) => match places.checked_add(more) {
-            Some(places) => visit.reserve_notices(places),
-            None => Err(AllocError),
-        },
+        Some(places) => places.checked_add(more).ok_or(AllocError),
         None => Err(AllocError),
     }
 }
@@ -134,7 +124,7 @@ pub fn prepare<R: Rows, G: Ring>(visit: &mut Visit<R, G>, call: &Call) -> Result
         adds: any_creates(calls.as_slice()),
         tells: any_tells(calls.as_slice()),
     };
-    make_places(visit, needs, count, 0)?;
+    visit.reserve_notices(places_for(needs, count, 0)?)?;
     visit.reserve_rows(if needs.adds { count } else { 0 })?;
     let rest = with_values(visit, calls)?;
     let sum = tally_for(visit.alloc(), call, count)?;
@@ -156,7 +146,7 @@ fn reserve_ahead<R: Rows, G: Ring>(
     let steps = bulk.ahead.rest.len() + 1;
     let needs = bulk.ahead.needs;
     let own = most_notices(&bulk.step.call().op, false);
-    make_places(visit, needs, bulk.ahead.rest.len(), own)?;
+    visit.reserve_notices(places_for(needs, bulk.ahead.rest.len(), own)?)?;
     visit.reserve_rows(if needs.adds { steps } else { 0 })
 }
 

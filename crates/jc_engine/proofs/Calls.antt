@@ -2,7 +2,7 @@
 use Rattle.jc_engine.proofs.Names.{common_steps, Answer, Call, Notice, Request, CacheConfig, Cause, WrongAnswer, Outcome, Progress, begun, Run, ended, waiting, and_then, resume, for_tell, fits, plan, carried_out}
 use Rattle.jc_engine.proofs.Names.{told_first, Standing, Status, begins, answers, shown, standing_of, reply_of, Wait, one, many, telling, run_of, standing_by, Kept, progress_of, wait_run, WaitsOn, Advance}
 use Rattle.jc_engine.proofs.Names.{Asked, Idle, Waiting, Telling, Cache, turn_in, notices_in, is_step, WaitsThere, Settled, Moves, Refused}
-use Rattle.std.proofs.Common.{◌≡◌, ℕ, List, Bool, true, false, if◌then◌else◌, [], refl, sym, ap, subst, ◌∙◌, arith}
+use Rattle.std.proofs.Common.{◌≡◌, ℕ, List, Bool, true, false, if◌then◌else◌, refl, sym, ap, subst, ◌∙◌, arith}
 use Rattle.jc_model.specs.declared.call.Reply.{Reply}
 use Rattle.jc_state.specs.Kept.{state_of}
 use Rattle.jc_state.specs.Visited.{IsKeptIn}

@@ -1,11 +1,9 @@
 //! One cache under the manager: its configuration, its rows and counters, and its open call.
 mod calls;
 
-ghost use Rattle.std.specs.Prelude.{◌≡◌, ℕ, true, None, is_some, MatchOption, []};
+ghost use Rattle.std.specs.Prelude.{◌≡◌, ℕ, None, is_some, MatchOption, []};
 ghost use Rattle.jc_model.specs.declared.event.Outcome.TheVariants.{Refused, Destroyed};
-ghost use Rattle.jc_model.specs.Whole.{holds};
 ghost use Rattle.jc_model.specs.Runs.{begins, answers, destroyed_by};
-ghost use Rattle.jc_state.specs.Kept.{state_of, IsTied};
 ghost use Rattle.jc_state.specs.Tied.{SameElsewhere};
 ghost use Rattle.jc_engine.specs.Caches.{status_of};
 ghost use Rattle.jc_engine.specs.Sound.{IsAt};
@@ -17,7 +15,6 @@ use crate::turn::Turn;
 use jc_model::call::{Answer, Call};
 use jc_model::config::CacheConfig;
 use jc_model::event::Cause;
-use jc_model::key::Key;
 use jc_ring::ring::Ring;
 use jc_rows::rows::Rows;
 use jc_state::notices::Notices;
@@ -50,14 +47,6 @@ impl<G: Ring> Managed<G> {
             state,
             turn: Turn::Idle,
         }
-    }
-
-    /// Whether the key has a live row. This is no use of the row.
-    pub(crate) fn holds<R: Rows>(&self, rows: &R, key: &Key, now: u64) -> bool
-        requires tied { IsTied (R.contents rows.now) self.now.state }
-        ensures { result ≡ holds self.now.state.config now key.now (state_of self.now.state) }
-    {
-        self.state.holds(rows, key, now)
     }
 
     /// Whether a call is open.

@@ -92,7 +92,7 @@ impl<R: Rows, G: Ring> Engine<R, G> {
     {
         let number = id.number();
         match self.caches.get(&number) {
-            Some(cache) => cache.holds(self.visit.rows(), key, now),
+            Some(cache) => cache.state.holds(self.visit.rows(), key, now),
             None => false,
         }
     }

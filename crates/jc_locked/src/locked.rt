@@ -1,6 +1,6 @@
 //! What lies under the manager's lock: the recorded engine, and which sessions there are. Each tenure begins a call,
 //! brings it on or gives it up, or creates or destroys a cache, and no callback runs in it.
-ghost use Rattle.std.specs.Prelude.{◌≡◌, ◌⊎◌, ◌↔◌, ℕ, Bool, true, false, Ok, None, List, [], ◌∷◌, ◌++◌, IsTrue, IfOk, IfErr, IfSome, OnOk, OnErr, Err, Some, is_some};
+ghost use Rattle.std.specs.Prelude.{◌≡◌, ◌⊎◌, ℕ, Bool, true, false, Ok, None, List, [], ◌∷◌, ◌++◌, IsTrue, IfOk, IfErr, IfSome, OnOk, OnErr, Err, Some, is_some};
 ghost use mathlib.Core.List.{IsPrefix};
 ghost use Rattle.jc_model.specs.declared.call.Answer.{Answer as Given};
 ghost use Rattle.jc_model.specs.declared.call.Call.{Call as Called};
@@ -18,23 +18,23 @@ ghost use Rattle.jc_locked.specs.Living.{TellsLiveRow, HasNoOpenCall, HasOpenCal
 ghost use Rattle.jc_locked.specs.Lookups.{Agrees};
 ghost use Rattle.jc_locked.specs.Pending.{IsRefusedAnswer};
 ghost use Rattle.jc_locked.specs.Sessions.{BeginsWith, SeesEngine, SeesSome};
-ghost use Rattle.jc_locked.specs.Finding.{fault_of, answer_fault_of, entry_ended_by, IsOfCall, IsOpenIn, IsOvertakenIn, IsReplied};
+ghost use Rattle.jc_locked.specs.Finding.{fault_of, answer_fault_of, IsOpenIn, IsOvertakenIn, IsReplied};
 ghost use Rattle.jc_locked.specs.Tenures.{IsTenure, IsRefusedCall, StopsDraft, GivesUpDraft};
 
 mod at_once;
 mod closing;
+mod draft;
 mod living;
 
 use crate::fault::{AnswerFault, CallFault, SessionRefusal};
 use crate::keeping::Keeping;
+use crate::locked::draft::{end_by, end_with, is_of_call, keep_left};
 use crate::name::Name;
 use crate::tables::{ShownTable, TablePass};
 use jc_model::OutOfMemory;
-use jc_model::call::{Answer, Call, Notice, Reply};
+use jc_model::call::{Answer, Call, Reply};
 use jc_model::event::{CacheId, Cause, End, Entry, Step};
-use jc_model::exact::Exact;
 use jc_model::key::Key;
-use jc_model::list::Sequence;
 use jc_recorded::recorded::Recorded;
 use jc_ring::link_ring::LinkRing;
 use std::marker::PhantomData;
@@ -70,61 +70,6 @@ fn answer_fault_of(cause: Cause) -> AnswerFault
         Cause::OutOfMemory => AnswerFault::OutOfMemory,
         Cause::WrongAnswer => AnswerFault::WrongAnswer,
         _ => AnswerFault::Overtaken,
-    }
-}
-
-/// Whether two lists are the same.
-fn are_same<T: Exact>(left: &[T], right: &[T]) -> bool
-    ensures { IsTrue result ↔ (left.now ≡ right.now) }
-{
-    let mut ours = left;
-    let mut theirs = right;
-    while let Some((first, rest)) = ours.split_first() {
-        let Some((other, others)) = theirs.split_first() else {
-            return false;
-        };
-        if !first.same(other) {
-            return false;
-        }
-        ours = rest;
-        theirs = others;
-    }
-    theirs.is_empty()
-}
-
-/// Whether an entry that waits is of the draft's call, which has been given these answers.
-fn is_of_call(entry: &Entry, draft: &Entry, answers: &[Answer]) -> bool
-    ensures { IsTrue result ↔ IsOfCall entry.now draft.now answers.now }
-{
-    entry.session == draft.session
-        && entry.at == draft.at
-        && entry.call.same(&draft.call)
-        && are_same(entry.answers.items(), answers)
-        && are_same(entry.told.items(), draft.told.items())
-}
-
-fn end_with(draft: &mut Entry, end: End)
-    ensures { draft.new ≡ record draft.old { end = end } }
-{
-    draft.end = end;
-}
-
-/// Keeps the notices that a give-up hands out. Where the call has told its notices, none are left.
-fn keep_left(draft: &mut Entry, left: Sequence<Notice>)
-    requires { (draft.old.told ≡ []) ⊎ (left ≡ []) }
-    ensures { draft.new ≡ record draft.old { told = draft.old.told ++ left } }
-{
-    if draft.told.items().is_empty() {
-        draft.told = left;
-    }
-}
-
-/// An entry ends with its call's reply, if it has one.
-fn end_by(draft: &mut Entry, reply: Option<Reply>)
-    ensures { draft.new ≡ entry_ended_by reply draft.old }
-{
-    if let Some(reply) = reply {
-        end_with(draft, End::Replied(reply));
     }
 }
 

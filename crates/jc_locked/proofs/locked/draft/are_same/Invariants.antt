@@ -1,5 +1,5 @@
 use Rattle.std.proofs.Common.{◌≡◌, ◌↔◌, length}
-use Rattle.jc_locked.proofs.locked.are_same.Given as goal
+use Rattle.jc_locked.proofs.locked.draft.are_same.Given as goal
 
 -- the lists are the same where their rests are
 abbrev pub invariant-loop-first : goal.invariant-loop-first
