@@ -5,14 +5,14 @@ use std::sync::{Mutex, MutexGuard, Wait};
 use std::time::Duration;
 
 /// How many more threads find the lock held than find it free before one of them stays away.
-const CROWD: u64 = 32;
+const CROWD: u64 = 128;
 
 /// How often it looks, while it stays away, whether the others have gone.
 const SLICES: u32 = 50;
 
-/// How long it sleeps between two looks, in microseconds. All of them together are about a time slice of an operating
-/// system, in which those that are left make tens of thousands of calls.
-const SLICE: u64 = 200;
+/// How long it sleeps between two looks, in microseconds. In all of them together those that are left make hundreds of
+/// thousands of calls.
+const SLICE: u64 = 1000;
 
 /// How often in a row the lock is free where the others have gone.
 const LOOKS: u32 = 8;
