@@ -11,9 +11,10 @@ module _ (next : ℕ → Option ℕ) where
   Admits closed given room (Err TooManySessions) after = (closed ≡ false) × (next given ≡ None) × (after ≡ given)
   Admits closed given room (Err OutOfMemory) after = (closed ≡ false) × IsSome (next given) × (room ≡ false) × (after ≡ given)
 
-  -- what a manager says at some moment to one who asks for a session
-  pub record IsAdmission (answer : Result ℕ SessionRefusal) : Type 0 where
+  -- what a manager that can be closed, or cannot, says at some moment to one who asks for a session
+  pub record IsAdmission (closes : Bool) (answer : Result ℕ SessionRefusal) : Type 0 where
     pub closed : Bool
+    pub closing : closed ≡ true → closes ≡ true
     pub given : ℕ
     pub room : Bool
     pub after : ℕ

@@ -16,9 +16,9 @@ pub enum SharedRefusal {
 /// Why there is no further session.
 #[derive(Clone, Copy, Debug, PartialEq, Eq)]
 pub enum SessionRefusal {
-    /// The manager is closed.
+    /// The manager keeps all calls, and is closed.
     Closed,
-    /// There are 64 already.
+    /// It keeps all calls, and has had 64 sessions.
     TooManySessions,
     OutOfMemory,
 }

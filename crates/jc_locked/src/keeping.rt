@@ -196,9 +196,12 @@ impl OwnCalls for OwnPast {
 
 /// A journal under a manager that sessions share.
 pub trait Keeping: Journal {
-    ghost use Rattle.std.specs.Prelude.{◌≡◌, ℕ, Option};
+    ghost use Rattle.std.specs.Prelude.{◌≡◌, ℕ, Bool, Option};
 
     type Own: OwnCalls;
+
+    /// Whether a manager that keeps its calls so can be closed.
+    ghost closes: { Bool };
 
     /// The number of sessions behind this one, if there is one.
     ghost after: { ℕ → Option ℕ };
@@ -208,7 +211,11 @@ pub trait Keeping: Journal {
 }
 
 impl Keeping for AllCalls {
+    ghost use Rattle.std.specs.Prelude.{true};
+
     type Own = OwnList;
+
+    ghost closes = { true };
 
     ghost after = { after_of_64 };
 
@@ -225,7 +232,11 @@ impl Keeping for AllCalls {
 pub const MOST_SESSIONS: u32 = 64;
 
 impl Keeping for OpenCalls {
+    ghost use Rattle.std.specs.Prelude.{false};
+
     type Own = OwnPast;
+
+    ghost closes = { false };
 
     ghost after = { after_round };
 

@@ -49,6 +49,7 @@ pub struct Locked<N: Name, J: Keeping> {
     pub closed: bool,
     of: PhantomData<N>,
     ghost begins: { BeginsWith N.configs recorded.transcript },
+    ghost closes: { closed ≡ true → J.closes ≡ true },
 }
 
 fn fault_of(cause: Cause) -> CallFault

@@ -37,8 +37,8 @@ impl<'a, N: Name, J: Keeping> Shard<'a, N, J> {
         ensures calls { IfOk result (λ s. s.session.calls ≡ []) }
         ensures sees { IfOk result (λ s.
             SeesSome N.configs s.session.pass × (s.session.pass.met ≡ true)) }
-        ensures admitted { IfOk result (λ s. IsAdmission J.after (Ok s.session.number)) }
-        ensures refused { IfErr result (λ refusal. IsAdmission J.after (Err refusal)) }
+        ensures admitted { IfOk result (λ s. IsAdmission J.after J.closes (Ok s.session.number)) }
+        ensures refused { IfErr result (λ refusal. IsAdmission J.after J.closes (Err refusal)) }
     {
         let session = manager.session(rt)?;
         Ok(Shard { manager, session })

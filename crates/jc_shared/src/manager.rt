@@ -59,12 +59,13 @@ impl<N: Name, L: Loader, W: Writer, P: Processor, K: Hearer, J: Keeping> Manager
     /// A new session, which has made no call, and whose pass has seen the table as it is. Sessions have the numbers
     /// from 0 upward.
     ///
-    /// Refused as `Closed`, `TooManySessions`, `OutOfMemory`, in this order.
+    /// Refused as `Closed`, `TooManySessions`, `OutOfMemory`, in this order. The first two are told by a manager that keeps
+    /// all calls alone.
     pub fn session<R: Wait>(&self, rt: &R) -> Result<Session<'_, N, L, W, P, K, J>, SessionRefusal>
         ensures calls { IfOk result (λ s. s.calls ≡ []) }
         ensures sees { IfOk result (λ s. SeesSome N.configs s.pass × (s.pass.met ≡ true)) }
-        ensures admitted { IfOk result (λ s. IsAdmission J.after (Ok s.number)) }
-        ensures refused { IfErr result (λ refusal. IsAdmission J.after (Err refusal)) }
+        ensures admitted { IfOk result (λ s. IsAdmission J.after J.closes (Ok s.number)) }
+        ensures refused { IfErr result (λ refusal. IsAdmission J.after J.closes (Err refusal)) }
     {
         let own = J::Own::new(self.alloc);
         let (number, pass) = self.locked.lock(rt).enter(own.is_ok())?;

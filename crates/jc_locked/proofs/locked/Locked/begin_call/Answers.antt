@@ -14,7 +14,7 @@ pub invariant_of-self : goal.invariant_of-self
 invariant_of-self g c =
     let old = c.args.self.now.recorded in
     let new = c.begin.new.self in
-    record { begins = still_begins g.N.Name.configs old.transcript new.transcript c.args.session c.args.id (begins c.args.now c.args.call) (of_recorded_begin c.begin.result) c.args.self.now.begins c.begin.ensures.transcript }
+    record { begins = still_begins g.N.Name.configs old.transcript new.transcript c.args.session c.args.id (begins c.args.now c.args.call) (of_recorded_begin c.begin.result) c.args.self.now.begins c.begin.ensures.transcript; closes = c.args.self.now.closes }
 
 pub returns-in-Ok-clause-ok : goal.returns-in-Ok-clause-ok
 returns-in-Ok-clause-ok g c =

@@ -3,7 +3,7 @@ use Rattle.jc_locked.proofs.Livings.{created_begins, is_created}
 use Rattle.jc_locked.proofs.locked.Locked.create.Goals as goal
 
 pub invariant_of-self : goal.invariant_of-self
-invariant_of-self g c = record { begins = created_begins g.N.Name.configs c.args.self.now.recorded.transcript c.create.new.self.transcript 0 c.args.config (of_create c.create.result) c.args.self.now.begins (c.create.ensures.transcript 0) }
+invariant_of-self g c = record { begins = created_begins g.N.Name.configs c.args.self.now.recorded.transcript c.create.new.self.transcript 0 c.args.config (of_create c.create.result) c.args.self.now.begins (c.create.ensures.transcript 0); closes = c.args.self.now.closes }
 
 pub returns-in-Ok-clause-tenure : goal.returns-in-Ok-clause-tenure
 returns-in-Ok-clause-tenure g c = λ session. record { answered = c.in-Ok.ensures.outcome; transcript = c.in-Ok.ensures.transcript session; lives = c.in-Ok.ensures.lives }

@@ -8,7 +8,7 @@ use Rattle.jc_locked.proofs.Livings.{destroyed_begins, has_gone}
 use Rattle.jc_locked.proofs.locked.Locked.destroy.Goals as goal
 
 pub invariant_of-self : goal.invariant_of-self
-invariant_of-self g c = record { begins = destroyed_begins g.N.Name.configs c.args.self.now.recorded.transcript c.destroy.new.self.transcript 0 c.args.id (of_destroy c.destroy.result) c.args.self.now.begins (c.destroy.ensures.transcript 0) }
+invariant_of-self g c = record { begins = destroyed_begins g.N.Name.configs c.args.self.now.recorded.transcript c.destroy.new.self.transcript 0 c.args.id (of_destroy c.destroy.result) c.args.self.now.begins (c.destroy.ensures.transcript 0); closes = c.args.self.now.closes }
 
 pub returns-in-Ok-clause-tenure : goal.returns-in-Ok-clause-tenure
 returns-in-Ok-clause-tenure g c = λ session.

@@ -17,7 +17,7 @@ pub invariant_of-self : goal.invariant_of-self
 invariant_of-self g c =
     let old = c.args.self.now.recorded in
     let draft = c.args.draft.now in
-    record { begins = still_begins g.N.Name.configs old.transcript c.give_up.new.self.transcript draft.session draft.id gives_up (of_give_up c.give_up.result) c.args.self.now.begins (c.give_up.ensures.transcript draft.session) }
+    record { begins = still_begins g.N.Name.configs old.transcript c.give_up.new.self.transcript draft.session draft.id gives_up (of_give_up c.give_up.result) c.args.self.now.begins (c.give_up.ensures.transcript draft.session); closes = c.args.self.now.closes }
 
 pub keep_left-requires : goal.keep_left-requires
 keep_left-requires g c =

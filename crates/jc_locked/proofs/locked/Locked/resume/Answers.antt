@@ -15,7 +15,7 @@ invariant_of-self g c =
     let old = c.args.self.now.recorded in
     let new = c.resume.new.self in
     let draft = c.args.draft.now in
-    record { begins = still_begins g.N.Name.configs old.transcript new.transcript draft.session draft.id (answers c.args.answer) (of_recorded_resume c.resume.result) c.args.self.now.begins (c.resume.ensures.transcript draft.session) }
+    record { begins = still_begins g.N.Name.configs old.transcript new.transcript draft.session draft.id (answers c.args.answer) (of_recorded_resume c.resume.result) c.args.self.now.begins (c.resume.ensures.transcript draft.session); closes = c.args.self.now.closes }
 
 pub returns-in-Ok-clause-ok : goal.returns-in-Ok-clause-ok
 returns-in-Ok-clause-ok g c =
