@@ -4,7 +4,11 @@ use std::sync::atomic::{AtomicU64, Ordering};
 use std::sync::{Mutex, MutexGuard, Wait};
 use std::time::Duration;
 
-/// How many more threads find the lock held than find it free before one of them stays away.
+/// How much it counts that a thread finds the lock held, where that one finds it free counts one: threads are too many for
+/// it where more than a third find it held.
+const HELD: u64 = 2;
+
+/// At which count one of them stays away.
 const CROWD: u64 = 128;
 
 /// How often it looks, while it stays away, whether the others have gone.
@@ -15,7 +19,10 @@ const SLICES: u32 = 50;
 const SLICE: u64 = 1000;
 
 /// How often in a row the lock is free where the others have gone.
-const LOOKS: u32 = 8;
+const LOOKS: u32 = 12;
+
+/// The pauses between two of these looks. A thread that a look has kept from the lock has had it since.
+const PAUSES: u32 = 3;
 
 /// How often a thread that found the lock held tries again before it lets itself be put to sleep.
 const TRIES: u32 = 40;
@@ -33,7 +40,8 @@ const PAUSE: u32 = 8;
 #[derive(Drop)]
 pub(crate) struct BriefLock<T> {
     mutex: Mutex<T>,
-    /// How many more threads found the lock held than found it free, since one last stayed away; never less than 0.
+    /// By how much those that found the lock held outweigh those that found it free, since one last stayed away; never
+    /// less than 0.
     crowd: AtomicU64,
     /// Always zero: a thread that stays away sleeps on it, and no one wakes it.
     away: AtomicU64,
@@ -69,14 +77,34 @@ impl<T> BriefLock<T> {
     pub(crate) fn lock<R: Wait>(&self, rt: &R) -> MutexGuard<'_, T> {
         match self.try_lock() {
             Some(guard) => {
-                let crowd = self.crowd.load(Ordering::SeqCst);
-                if crowd != 0 {
-                    self.crowd.store(crowd - 1, Ordering::SeqCst);
-                }
+                self.note_free();
                 guard
             }
             None => self.lock_held(rt),
         }
+    }
+
+    /// Counts a thread that found the lock free. What others count meanwhile stands.
+    fn note_free(&self) {
+        let crowd = self.crowd.load(Ordering::SeqCst);
+        if crowd != 0 {
+            drop(self.crowd.compare_exchange(
+                crowd,
+                crowd - 1,
+                Ordering::SeqCst,
+                Ordering::SeqCst,
+            ));
+        }
+    }
+
+    /// Counts a thread that found it held; whether this one is to stay away.
+    fn note_held(&self) -> bool {
+        let crowd = self.crowd.fetch_add(HELD, Ordering::SeqCst);
+        if !(CROWD - HELD..CROWD).contains(&crowd) {
+            return false;
+        }
+        self.crowd.store(0, Ordering::SeqCst);
+        true
     }
 
     /// Whether the lock is free, and stays so for a moment.
@@ -86,17 +114,18 @@ impl<T> BriefLock<T> {
                 Some(guard) => drop(guard),
                 None => return false,
             }
-            pause();
+            for _ in 0..PAUSES {
+                pause();
+            }
         }
         true
     }
 
     /// Stays away for a while where threads find the lock held again and again.
     fn give_way<R: Wait>(&self, rt: &R) {
-        if self.crowd.fetch_add(1, Ordering::SeqCst) < CROWD - 1 {
+        if !self.note_held() {
             return;
         }
-        self.crowd.store(0, Ordering::SeqCst);
         for _ in 0..SLICES {
             self.away.park_timeout(rt, 0, Duration::from_micros(SLICE));
             if self.is_idle() {
