@@ -8,7 +8,7 @@ use Rattle.jc_model.specs.declared.event.Entry.{Entry}
 use Rattle.jc_model.specs.declared.event.Life.{Life}
 use Rattle.jc_script.specs.declared.managed.Managed.{Managed}
 use Rattle.jc_script.specs.Operation.{call_name}
-use Rattle.jc_script.specs.Report.{op_text}
+use Rattle.jc_report.specs.Report.{op_text}
 use Rattle.jc_json.specs.declared.line_numbers.Asked.{Asked}
 use Rattle.jc_json.specs.declared.line_numbers.Asked.TheVariants as asked
 use Rattle.jc_json.specs.declared.line_numbers.NumberedLine.{NumberedLine}

@@ -7,7 +7,7 @@ use Rattle.jc_model.specs.declared.call.Reply.{Reply}
 use Rattle.jc_model.specs.declared.call.Reply.TheVariants.{Done, Truth, Found, Listed, Results, Counted, Fault}
 use Rattle.jc_model.specs.declared.event.End.{End}
 use Rattle.jc_model.specs.declared.event.End.TheVariants.{Waiting, Replied, GivenUp}
-use Rattle.jc_script.specs.Report.{by_text, kind_text}
+use Rattle.jc_report.specs.Report.{by_text, kind_text}
 use Rattle.jc_json.specs.Values.{first_member, next_member, number_member, word_json, bytes_json, bytes_member, list_json, pair_json, result_json, truth_json}
 
 -- an object up to its kind

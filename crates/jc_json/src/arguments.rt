@@ -1,6 +1,6 @@
 //! What a call was made with, as members of its object.
 ghost use Rattle.std.specs.Prelude.{OnOk};
-ghost use Rattle.jc_script.specs.Report.{Appends};
+ghost use Rattle.jc_report.specs.Report.{Appends};
 ghost use Rattle.jc_json.specs.Arguments.{key_member, keys_member, entries_member, key_value_members, key_expect_members, processor_members, replace_member, of_one_json, of_many_json, arguments_json};
 
 use crate::values::{push_bytes_member, push_list, push_next, push_number_member, push_truth};

@@ -1,7 +1,7 @@
 //! The objects of a script's lines.
 ghost use Rattle.std.specs.Prelude.{◌≡◌, ◌≤◌, ◌<◌, ◌+◌, ◌-◌, ◌^◌, List, drop, length, slice_get, option_copied, OnOk};
 ghost use Rattle.jc_model.specs.declared.event.Entry.{Entry as Called};
-ghost use Rattle.jc_script.specs.Report.{Appends};
+ghost use Rattle.jc_report.specs.Report.{Appends};
 ghost use Rattle.jc_json.specs.Callers.{AreLeft};
 ghost use Rattle.jc_json.specs.Lines.{asked_json, answered_json, call_json, name_at, call_line, json_managed_line, id_after, next_after, entries_left_by, managed_after, line_json, lines_json};
 

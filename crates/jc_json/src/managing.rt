@@ -1,12 +1,13 @@
 //! The objects of lines that create and destroy caches.
 ghost use Rattle.std.specs.Prelude.{◌≡◌, OnOk};
-ghost use Rattle.jc_script.specs.Report.{Appends};
+ghost use Rattle.jc_report.specs.Report.{Appends};
 ghost use Rattle.jc_json.specs.Lines.{head_json, id_json, refusal_text, answer_json, managed_json};
 
 use crate::replies::{push_kind, push_kind_alone};
 use crate::values::{push_first, push_next, push_number_member, push_text, push_word};
 use jc_model::event::CreateRefusal;
-use jc_script::{Managed, name_of_op, push_number};
+use jc_report::{name_of_op, push_number};
+use jc_script::Managed;
 use std::alloc::{AllocError, Global};
 
 /// Adds the beginning of a line's object: its number, its session, and the name of its cache.

@@ -1,6 +1,6 @@
 //! What a call came to, as JSON.
 ghost use Rattle.std.specs.Prelude.{OnOk, codes};
-ghost use Rattle.jc_script.specs.Report.{Appends};
+ghost use Rattle.jc_report.specs.Report.{Appends};
 ghost use Rattle.jc_json.specs.Replies.{kind_member, kind_json, valued_json, found_json, other_counters, counters_json, after_json, fault_json, reply_json, end_json};
 ghost use Rattle.jc_json.specs.Values.{list_json, pair_json, result_json, truth_json};
 
@@ -12,7 +12,7 @@ use jc_model::call::{By, Counts, Notice, ProcessorFault, Reply};
 use jc_model::event::End;
 use jc_model::key::Key;
 use jc_model::value::Value;
-use jc_script::{name_of_hook, name_of_kind, push_number};
+use jc_report::{name_of_hook, name_of_kind, push_number};
 use std::alloc::{AllocError, Global};
 
 /// Begins an object with its kind.

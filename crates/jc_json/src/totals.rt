@@ -3,7 +3,7 @@ ghost use Rattle.std.specs.Prelude.{◌≡◌, ◌∷◌, [], ◌/◌, ◌*◌, 
 ghost use Rattle.jc_engine.specs.Opening.{open_refusal};
 ghost use Rattle.jc_model.specs.Legal.{IsLegalFrom};
 ghost use Rattle.jc_model.specs.Runs.{fresh};
-ghost use Rattle.jc_script.specs.Report.{Appends, group};
+ghost use Rattle.jc_report.specs.Report.{Appends, group};
 ghost use Rattle.jc_json.specs.Totals.{four_digits, fraction_json, ratio_json, life_json, total_json, lives_json, entries_lent, CanBeMadeAgain};
 
 use crate::counters::counts_after;
@@ -11,7 +11,7 @@ use crate::replies::push_other_counters;
 use crate::values::{push_first, push_next, push_number_member, push_text};
 use jc_model::call::Counts;
 use jc_model::event::{Entry, Life};
-use jc_script::{grouped, push_number};
+use jc_report::{grouped, push_number};
 use std::alloc::{AllocError, Global};
 
 fn push_digits(text: &mut String, number: u64) -> Result<(), AllocError>

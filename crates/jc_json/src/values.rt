@@ -1,19 +1,19 @@
 //! Members, words, keys, values and lists as JSON.
 ghost use Rattle.std.specs.Prelude.{◌≡◌, false, IfOk, OnOk, string_bytes};
 ghost use Rattle.json.specs.Print.{quoted};
-ghost use Rattle.jc_script.specs.Report.{Appends};
+ghost use Rattle.jc_report.specs.Report.{Appends};
 ghost use Rattle.jc_json.specs.Values.{first_member, next_member, word_json, number_member, bytes_json, bytes_member, comma_if, items_json, list_json, answered_member, truth_json};
 
 use jc_model::call::ProcessorFault;
 use jc_model::key::Key;
 use jc_model::value::Value;
-use jc_script::{push_number, quote_text};
+use jc_report::{push_number, quote_text};
 use std::alloc::{AllocError, Global};
 
 /// What is written as JSON.
 pub trait Shown: Sized {
     ghost use Rattle.std.specs.Prelude.{ℕ, List, OnOk};
-    ghost use Rattle.jc_script.specs.Report.{Appends};
+    ghost use Rattle.jc_report.specs.Report.{Appends};
 
     ghost json: { Self → List ℕ };
 

@@ -6,7 +6,8 @@ use crate::row::Row;
 use crate::scenes::Scene;
 use crate::trouble::Trouble;
 use jc_config::{Settings, read_config};
-use jc_script::{Line, read_script, report};
+use jc_report::report;
+use jc_script::{Line, read_script};
 use std::alloc::Global;
 
 /// The caches and the lines of a scene.

@@ -22,7 +22,7 @@ use Rattle.jc_script.specs.declared.line.Line.{Line}
 use Rattle.jc_script.specs.declared.line.LineCall.{LineCall}
 use Rattle.jc_script.specs.Calls.{line_of_entry, calls_on, IsReply}
 use Rattle.jc_script.specs.Managing.{lives_of_script, managed_of}
-use Rattle.jc_script.specs.Report.{header, entry_text, managed_text, text}
+use Rattle.jc_report.specs.Report.{header, entry_text, managed_text, text}
 use Rattle.jc_locked.specs.Stated.{Stated}
 use Rattle.jc_threads.specs.Lines.{IsAnswered}
 use Rattle.jc_runner.specs.Alone.{AllReplied, IsAlone, alone_from}

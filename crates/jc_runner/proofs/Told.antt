@@ -24,7 +24,7 @@ use Rattle.jc_script.specs.Managing.{lives_of_script, managed_of, lives_begun_fr
 use Rattle.jc_script.specs.Named.{AllName}
 use Rattle.jc_script.specs.Script.{lines}
 use Rattle.jc_strict.specs.Stray.{stray_line}
-use Rattle.jc_script.specs.Report.{header, entry_text, lives_text, managed_text}
+use Rattle.jc_report.specs.Report.{header, entry_text, lives_text, managed_text}
 use Rattle.jc_json.specs.Report.{json}
 use Rattle.jc_words.specs.declared.run.Format.{Format}
 use Rattle.jc_runner.specs.Alone.{line_of_entry, alone_from}

@@ -19,7 +19,7 @@ use Rattle.jc_script.specs.declared.line.Line.{Line}
 use Rattle.jc_script.specs.declared.line.LineCall.{LineCall}
 pub use Rattle.jc_script.specs.Calls.{calls_on, line_of_entry, IsReply}
 use Rattle.jc_script.specs.Managing.{lives_of_script, managed_of}
-use Rattle.jc_script.specs.Report.{header, entry_text, managed_text}
+use Rattle.jc_report.specs.Report.{header, entry_text, managed_text}
 
 abbrev pub AllReplied : List Entry → Type 0
 AllReplied [] = ⊤

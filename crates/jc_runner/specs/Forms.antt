@@ -9,7 +9,7 @@ use Rattle.jc_model.specs.Legal.{History, entries_of}
 use Rattle.jc_script.specs.declared.line.Line.{Line}
 use Rattle.jc_script.specs.declared.managed.Managed.{Managed}
 use Rattle.jc_script.specs.Managing.{lives_of_script, managed_of}
-use Rattle.jc_script.specs.Report as report
+use Rattle.jc_report.specs.Report as report
 use Rattle.jc_words.specs.declared.run.Format.{Format}
 use Rattle.jc_words.specs.declared.run.Format.TheVariants as format
 use Rattle.jc_runner.specs.Alone.{alone}

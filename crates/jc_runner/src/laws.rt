@@ -6,7 +6,7 @@ ghost use Rattle.jc_model.specs.declared.event.Entry.{Entry};
 ghost use Rattle.jc_model.specs.Legal.{History, entries_of};
 ghost use Rattle.jc_script.specs.declared.line.Line.{Line};
 ghost use Rattle.jc_script.specs.Managing.{managed_of};
-ghost use Rattle.jc_script.specs.Report as report;
+ghost use Rattle.jc_report.specs.Report as report;
 ghost use Rattle.jc_locked.specs.Stated.{Stated};
 ghost use Rattle.jc_runner.specs.Apart.{HaveOneCallerEach, TellsAlone, AnswerAlike};
 ghost use Rattle.jc_runner.specs.Reports.{Reports};

@@ -3,7 +3,6 @@ pub mod Trees
 pub mod Numerals
 pub mod Texts
 pub mod Lines
-pub mod Shown
 pub mod Existing
 pub mod KeptCaches
 pub mod SameLives

@@ -10,4 +10,3 @@ pub mod Operation
 pub mod Line
 pub mod Script
 pub mod Named
-pub mod Report

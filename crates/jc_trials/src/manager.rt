@@ -12,9 +12,9 @@ use jc_model::event::{CacheId, Cause, Event, Outcome, Step};
 use jc_model::key::Key;
 use jc_model::list::Sequence;
 use jc_model::value::Value;
+use jc_report::reply_text;
 use jc_ring::list_ring::ListRing;
 use jc_rows::list_rows::ListRows;
-use jc_script::reply_text;
 use std::alloc::Global;
 
 type Manager = Engine<ListRows, ListRing>;

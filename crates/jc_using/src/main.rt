@@ -10,9 +10,9 @@ use jc_model::config::CacheConfig;
 use jc_model::event::{CacheId, Step};
 use jc_model::key::Key;
 use jc_model::value::Value;
+use jc_report::reply_text;
 use jc_ring::list_ring::ListRing;
 use jc_rows::list_rows::ListRows;
-use jc_script::reply_text;
 use std::alloc::Global;
 use std::process::ExitCode;
 

@@ -9,7 +9,7 @@ use jc_model::OutOfMemory;
 use jc_model::call::{Answer, Call, Reply};
 use jc_model::key::Key;
 use jc_model::value::Value;
-use jc_script::reply_text;
+use jc_report::reply_text;
 use jc_shared::{CallFault, Name, PendingCall, Progress};
 use std::alloc::Global;
 use std::sync::Wait;

@@ -8,7 +8,7 @@ use jc_index::lookup::Lookup;
 use jc_model::call::{Call, Reply};
 use jc_model::key::Key;
 use jc_model::value::Value;
-use jc_script::reply_text;
+use jc_report::reply_text;
 use jc_shared::Name;
 use std::alloc::Global;
 use std::sync::Wait;

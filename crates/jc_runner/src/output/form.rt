@@ -7,7 +7,8 @@ ghost use Rattle.jc_runner.specs.Forms.{form_of, report_in};
 use jc_json::{NumberedLine, outline};
 use jc_model::list::Sequence;
 use jc_model::transcript::Transcript;
-use jc_script::{Line, Managed, report};
+use jc_report::report;
+use jc_script::{Line, Managed};
 use jc_words::Format;
 use std::alloc::{AllocError, Global};
 

@@ -5,7 +5,7 @@ use Rattle.std.specs.Str.{is_utf8}
 use Rattle.std.proofs.lemmas.Str.{IsUtf8-from_is_utf8, is_utf8-from_IsUtf8}
 use Rattle.json.specs.Print.{quoted}
 use Rattle.hex.specs.Hex.{encode_lower}
-use Rattle.jc_script.specs.Report.{bytes_text}
+use Rattle.jc_report.specs.Report.{bytes_text}
 
 pub of_text : (bytes : List ℕ) → IsUtf8 bytes → bytes_text bytes ≡ quoted bytes
 unfolding bytes_text

@@ -1,8 +1,8 @@
 use Rattle.std.proofs.Common.{rules, ap, ◌∙◌}
 use Rattle.std.proofs.lemmas.Result.{IfOk-weaker}
 use Rattle.json.specs.Print.{quoted}
-use Rattle.jc_script.proofs.Shown.{of_text, of_bytes}
-use Rattle.jc_script.proofs.quote.show.Goals as goal
+use Rattle.jc_report.proofs.Shown.{of_text, of_bytes}
+use Rattle.jc_report.proofs.quote.show.Goals as goal
 
 pub returns-in-Ok : goal.returns-in-Ok
 returns-in-Ok c = rw (of_text c.args.bytes.now c.in-Ok.ensures.cases.1) (IfOk-weaker c.quote_text.result _ _ (λ s h. h ∙ ap quoted c.in-Ok.ensures.cases.0) c.quote_text.ensures)

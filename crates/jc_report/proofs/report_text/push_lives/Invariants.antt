@@ -1,6 +1,6 @@
 use Rattle.std.proofs.Common.{◌≡◌, ◌++◌, drop, string_bytes}
-use Rattle.jc_script.specs.Report.{lives_text}
-use Rattle.jc_script.proofs.report_text.push_lives.Given as goal
+use Rattle.jc_report.specs.Report.{lives_text}
+use Rattle.jc_report.proofs.report_text.push_lives.Given as goal
 
 -- the lives so far, and then what is left, are all
 abbrev pub invariant-loop-life : goal.invariant-loop-life

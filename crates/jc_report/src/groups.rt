@@ -1,7 +1,7 @@
 //! Entries by cache.
 ghost use Rattle.std.specs.Prelude.{nat_eq, IfOk};
 ghost use Rattle.indexmap.specs.IndexMap.{get};
-ghost use Rattle.jc_script.specs.Report.{AreGrouped};
+ghost use Rattle.jc_report.specs.Report.{AreGrouped};
 
 use indexmap::IndexMap;
 use jc_model::event::Entry;

@@ -1,7 +1,7 @@
 //! Replies as text.
 ghost use Rattle.std.specs.Prelude.{◌≡◌, ◌++◌, IfOk, OnOk, string_bytes, decimal, codes};
 ghost use Rattle.std.specs.List.{flat_map};
-ghost use Rattle.jc_script.specs.Report.{found_text, key_label, pair_text, answered_text, result_text, spaced_number, counts_text, by_text, done_text, reply_text, Appends};
+ghost use Rattle.jc_report.specs.Report.{found_text, key_label, pair_text, answered_text, result_text, spaced_number, counts_text, by_text, done_text, reply_text, Appends};
 
 use crate::quote::push_bytes;
 use itoa::Buffer;

@@ -1,19 +1,18 @@
 //! The whole report.
 ghost use Rattle.std.specs.Prelude.{◌≡◌, IfOk, OnOk, map, nat_eq, string_bytes, option_copied};
 ghost use Rattle.std.specs.List.{flat_map};
-ghost use Rattle.jc_script.specs.Report.{kind_text, event_text, end_text, call_text, entry_text, group, header, life_text, lives_text, text, Appends};
+ghost use Rattle.jc_report.specs.Report.{kind_text, event_text, end_text, call_text, entry_text, group, header, life_text, lives_text, text, Appends};
 ghost use Rattle.indexmap.specs.IndexMap.{get};
 
 use crate::groups::grouped;
-use crate::managed::Managed;
 use crate::managed_text::push_managed;
-use crate::operation::name_of;
 use crate::quote::push_bytes;
 use crate::reply::{push_number, push_reply, push_spaced};
 use indexmap::IndexMap;
 use jc_model::call::{Kind, Notice};
 use jc_model::event::{End, Entry, Life};
 use jc_model::transcript::Transcript;
+use jc_script::{Managed, name_of};
 use std::alloc::{AllocError, Global};
 
 /// What a listener was told of an entry.

@@ -1,7 +1,7 @@
 //! Keys and values as text.
 ghost use Rattle.std.specs.Prelude.{◌≡◌, IfOk, OnOk, string_bytes};
 ghost use Rattle.json.specs.Print.{quoted};
-ghost use Rattle.jc_script.specs.Report.{bytes_text, Appends};
+ghost use Rattle.jc_report.specs.Report.{bytes_text, Appends};
 
 use serde_json::Value;
 use std::alloc::{AllocError, Global};

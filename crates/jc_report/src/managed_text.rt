@@ -1,11 +1,11 @@
 //! The manager's part of a report.
 ghost use Rattle.std.specs.Prelude.{◌≡◌, OnOk};
 ghost use Rattle.std.specs.List.{flat_map};
-ghost use Rattle.jc_script.specs.Report.{op_text, answer_text, managed_line, managed_text, Appends};
+ghost use Rattle.jc_report.specs.Report.{op_text, answer_text, managed_line, managed_text, Appends};
 
-use crate::managed::{ManageOp, Managed};
 use crate::reply::push_spaced;
 use jc_model::event::CreateRefusal;
+use jc_script::{ManageOp, Managed};
 use std::alloc::AllocError;
 
 /// The word of a line that creates or destroys.
