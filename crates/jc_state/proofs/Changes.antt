@@ -4,6 +4,8 @@ use Rattle.std.proofs.lemmas.Grind.{common_steps}
 use Rattle.std.proofs.lemmas.List.{length-map}
 use Rattle.std.proofs.lemmas.List.Sums.{length-filter, count_by-le-length}
 use Rattle.std.specs.FinMap as table
+use Rattle.jc_model.specs.contracts.config.ExpiryPartialEq.TheImpl as expiry_eq
+use Rattle.std.proofs.lemmas.Bool.Decides.{nat_tests}
 use Rattle.jc_rows.proofs.Laws.{get-put_same, get-put_other, with_expiry_is, same_rows}
 use Rattle.jc_rows.proofs.Places.{place_tells}
 use Rattle.jc_state.proofs.Names.{Expiry, RowMap, with_expiry, Record, Cell, seek, has_row, without_row, stored, stored_cell, Tied, Kept, IsKeptIn}
@@ -16,9 +18,12 @@ same_row m x row found = same_rows _ _ (λ y. elim (place_tells y x) [
   | inr other ↦ get-put_other m x row y other.1
 ])
 
+expiries_same : (e f : Expiry) → not (expiry_eq.ghosts.eq e f) ≡ false → e ≡ f
+expiries_same e f same = grind (arith, common_steps, nat_tests)
+
 -- an expiry that stays is none that is set
-pub same_expiry : (m : RowMap) (x : ℕ × List ℕ) (e : Expiry) → option_map (λ row. row.1) (table.get m x) ≡ Some e → m ≡ with_expiry m x e
-same_expiry m x e h = grind (arith, with_expiry_is, same_row)
+pub same_expiry : (m : RowMap) (x : ℕ × List ℕ) (e f : Expiry) → option_map (λ row. row.1) (table.get m x) ≡ Some e → not (expiry_eq.ghosts.eq e f) ≡ false → m ≡ with_expiry m x f
+same_expiry m x e f h same = grind (arith, with_expiry_is, same_row, expiries_same e f)
 
 module _ (m : RowMap) (k : Kept) (kept : IsKeptIn m k) (row : ℕ) where
   pub kept-removed : (it : Record) → seek row k.cells ≡ Some it → IsKeptIn (table.remove m (k.id, it.key)) (record k { cells = without_row row k.cells })
@@ -39,6 +44,3 @@ module _ (m : RowMap) (k : Kept) (kept : IsKeptIn m k) (row : ℕ) where
         tied = rw (with_expiry_is m (k.id, it.key) row before.expiry it.expiry placed) (Tied-stored m k.id k.cells kept.tied row before.expiry it placed);
         within = omega (arith, kept.within, length-map k.cells (stored_cell row it));
       }
-
-pub key_of : (o : Option Record) (it : Record) (k : List ℕ) → o ≡ Some it → option_map (λ h. h.key) o ≡ Some k → k ≡ it.key
-key_of o it k e h = grind (arith, common_steps)

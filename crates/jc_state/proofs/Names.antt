@@ -4,14 +4,14 @@ pub use Rattle.jc_model.specs.declared.call.Notice.{Notice}
 pub use Rattle.jc_model.specs.declared.config.CacheConfig.{CacheConfig}
 pub use Rattle.jc_model.specs.declared.config.Expiry.{Expiry}
 pub use Rattle.jc_model.specs.State.{Item, live, is_live, stops_at, passed, before_stop, from_stop, turned, row_of, without, with_row, one_more, after_access, after_update}
-pub use Rattle.jc_model.specs.Changes.{Progress, with_ring, notify, expire, purge, make_room, evicted, expired, updated}
+pub use Rattle.jc_model.specs.Changes.{Progress, with_ring, notify, expire, purge, make_room, with_room, evicted, expired, updated}
 pub use Rattle.jc_model.specs.Whole.{holds}
 pub use Rattle.jc_ring.specs.Ring.{first, on_ring, ring_touched}
 pub use Rattle.jc_rows.specs.Rows.{RowMap, with_expiry}
 pub use Rattle.jc_state.specs.declared.slots.Record.{Record}
 pub use Rattle.jc_state.specs.Shelf.{Cell, seek, has_row, row_after, without_row, cleared, turned_cells, stored_cell, stored, with_expiry_of, slot, renewed, held_of, cells_of, IsShelf}
-pub use Rattle.jc_state.specs.Slots.{listed, AreVacant, IsSlots}
+pub use Rattle.jc_state.specs.Slots.{ListsVacant, IsSlots}
 pub use Rattle.jc_state.specs.Tied.{Distinct, Placed, Tied, SameElsewhere}
 pub use Rattle.jc_state.specs.Noted.{told_after}
-pub use Rattle.jc_state.specs.Kept.{Kept, item_of, items_of, state_of, progress_of, record_of, IsTied, IsRow, FoundRow}
+pub use Rattle.jc_state.specs.Kept.{Kept, item_of, items_of, state_of, progress_of, record_of, IsTied, IsVictim, IsRow, FoundRow}
 pub use Rattle.jc_state.specs.Visited.{Visited, IsKeptIn, IsSameVisit, SpendsAtMost, progress_in}

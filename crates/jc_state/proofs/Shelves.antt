@@ -3,29 +3,10 @@ use Rattle.std.proofs.Common.{◌≡◌, ◌<◌, ◌+◌, ℕ, Bool, true, fals
 use Rattle.std.proofs.lemmas.Grind.{common_steps}
 use Rattle.std.proofs.lemmas.List.{get_or-set_same, get_or-set_other, length-map}
 use Rattle.std.proofs.lemmas.Bool.Decides.{nat_tests}
-use Rattle.jc_ring.specs.Ring.{ring_without, ring_turned, bit_set}
+use Rattle.jc_ring.specs.Ring.{ring_without, bit_set}
+use Rattle.jc_ring.proofs.Laws.{on_ring-append, on_ring-turned, on_ring-without, on_ring-touched, length-turned}
 use Rattle.jc_state.proofs.Names.{Expiry, on_ring, ring_touched, Record, slot, cells_of, held_of, has_row, seek, without_row, IsShelf, stored, renewed, with_expiry_of}
 use Rattle.jc_state.proofs.Vacancies.{within_filled}
-
-on_ring-append : (r : ℕ) (xs ys : List (ℕ × Bool)) → on_ring r (xs ++ ys) ≡ (on_ring r xs || on_ring r ys)
-on_ring-append r [] ys = refl
-on_ring-append r (x ∷ xs) ys = grind (arith, common_steps, on_ring-append r xs ys)
-
-pub on_ring-turned : (r : ℕ) (ps : List (ℕ × Bool)) → on_ring r (ring_turned ps) ≡ on_ring r ps
-on_ring-turned r [] = refl
-on_ring-turned r (p ∷ ps) = grind (arith, common_steps, on_ring-append r ps ((p.0, false) ∷ []))
-
-pub length-turned : (ps : List (ℕ × Bool)) → length (ring_turned ps) ≡ length ps
-length-turned [] = refl
-length-turned (p ∷ ps) = grind (arith, common_steps)
-
-on_ring-without : (r s : ℕ) (ps : List (ℕ × Bool)) → on_ring r (ring_without s ps) ≡ (not (eqb r s) && on_ring r ps)
-on_ring-without r s [] = grind (arith, common_steps)
-on_ring-without r s (p ∷ ps) = grind (arith, common_steps, on_ring-without r s ps)
-
-on_ring-touched : (r s : ℕ) (ps : List (ℕ × Bool)) → on_ring r (ring_touched s ps) ≡ on_ring r ps
-on_ring-touched r s [] = refl
-on_ring-touched r s (p ∷ ps) = rw (on_ring-touched r s ps)
 
 pub has_row-cells : (r : ℕ) (slots : List (Option Record)) (ring : List (ℕ × Bool)) → has_row r (cells_of slots ring) ≡ on_ring r ring
 has_row-cells r slots [] = refl
@@ -50,9 +31,9 @@ cells-touched r x slots (p ∷ ps) h = grind (arith, common_steps, nat_tests, ge
 
 pub ruleset shelf_laws = (on_ring-turned, length-turned, has_row-cells, seek-cells)
 
-module _ (slots : List (Option Record)) (ring : List (ℕ × Bool)) (limit r : ℕ) (is : IsShelf slots ring limit) where
+module _ (slots : List (Option Record)) (ring : List (ℕ × Bool)) (limit capacity r : ℕ) (is : IsShelf slots ring limit capacity) where
   -- a slot changes, and the ring with it
-  shelf-set : (after : List (ℕ × Bool)) (x : Option Record) → r < length slots → ((s : ℕ) → on_ring s after ≡ cond (eqb s r) (is_some x) (on_ring s ring)) → length after + cond (is_some (slot slots r)) 1 0 ≡ length ring + cond (is_some x) 1 0 → IsShelf (set slots r x) after limit
+  shelf-set : (after : List (ℕ × Bool)) (x : Option Record) → r < length slots → ((s : ℕ) → on_ring s after ≡ cond (eqb s r) (is_some x) (on_ring s ring)) → length after + cond (is_some (slot slots r)) 1 0 ≡ length ring + cond (is_some x) 1 0 → IsShelf (set slots r x) after limit capacity
   shelf-set after x h on many = grind (arith, common_steps)
 
   -- a row is added at a vacant slot
@@ -60,7 +41,7 @@ module _ (slots : List (Option Record)) (ring : List (ℕ × Bool)) (limit r : �
     vacant_off : on_ring r ring ≡ false
     vacant_off = rw (is.filled r, e)
 
-    pub push-shelf : IsShelf (set slots r (Some it)) (ring ++ (r, false) ∷ []) limit
+    pub push-shelf : IsShelf (set slots r (Some it)) (ring ++ (r, false) ∷ []) limit capacity
     push-shelf = shelf-set _ (Some it) h (λ s. grind (arith, common_steps, nat_tests, on_ring-append s ring ((r, false) ∷ []))) (rw e (omega (arith, length-append ring ((r, false) ∷ []))))
 
     pub push-cells : cells_of (set slots r (Some it)) (ring ++ (r, false) ∷ []) ≡ cells_of slots ring ++ record { row = r; held = it; bit = false } ∷ []
@@ -74,20 +55,20 @@ module _ (slots : List (Option Record)) (ring : List (ℕ × Bool)) (limit r : �
     within = within_filled slots r there
 
     -- a row is taken out
-    pub take-shelf : (rest : List (ℕ × Bool)) → rest ≡ ring_without r ring → length rest + 1 ≡ length ring → IsShelf (set slots r None) rest limit
+    pub take-shelf : (rest : List (ℕ × Bool)) → rest ≡ ring_without r ring → length rest + 1 ≡ length ring → IsShelf (set slots r None) rest limit capacity
     take-shelf rest e one = shelf-set rest None within (λ s. grind (arith, common_steps, on_ring-without s r ring)) (rw there (omega arith))
 
     pub take-cells : (rest : List (ℕ × Bool)) → rest ≡ ring_without r ring → cells_of (set slots r None) rest ≡ without_row r (cells_of slots ring)
     take-cells rest e = grind (arith, common_steps, nat_tests, on_ring-without r r ring, cells-off_ring r None slots (ring_without r ring) within, cells-without r slots ring)
 
     -- a row is stored anew
-    pub store-shelf : (x : Option Record) → is_some x ≡ true → IsShelf (set slots r x) (ring_touched r ring) limit
+    pub store-shelf : (x : Option Record) → is_some x ≡ true → IsShelf (set slots r x) (ring_touched r ring) limit capacity
     store-shelf x some = shelf-set _ x within (λ s. grind (arith, common_steps, nat_tests, is.filled s, there, on_ring-touched s r ring)) (rw (there, some, length-map ring (bit_set r)))
 
     pub store-cells : (x : Option Record) → cells_of (set slots r x) (ring_touched r ring) ≡ stored r (held_of x) (cells_of slots ring)
     store-cells x = cells-touched r x slots ring within
 
-    pub renew-shelf : (e : Expiry) → IsShelf (set slots r (renewed e (slot slots r))) (ring_touched r ring) limit
+    pub renew-shelf : (e : Expiry) → IsShelf (set slots r (renewed e (slot slots r))) (ring_touched r ring) limit capacity
     renew-shelf e = store-shelf _ (grind (arith, common_steps, there))
 
     pub renew-cells : (e : Expiry) (it : Record) → seek r (cells_of slots ring) ≡ Some it → cells_of (set slots r (renewed e (slot slots r))) (ring_touched r ring) ≡ stored r (with_expiry_of e it) (cells_of slots ring)

@@ -1,11 +1,12 @@
 -- What a cache keeps, and what it means.
-use Rattle.std.specs.Prelude.{◌≡◌, ℕ, Bool, List, map, Option, Some, None, true}
+use Rattle.std.specs.Prelude.{◌≡◌, ℕ, Bool, List, length, map, Option, Some, None, option_map, true}
 use Rattle.jc_model.specs.declared.call.Counts.{Counts}
 use Rattle.jc_model.specs.declared.call.Notice.{Notice}
 use Rattle.jc_model.specs.declared.config.CacheConfig.{CacheConfig}
-use Rattle.jc_model.specs.State.{Item, State, row_of, one_more}
+use Rattle.jc_model.specs.State.{Item, State, row_of, one_more, turned}
 use Rattle.jc_model.specs.Changes.{Progress}
 use Rattle.jc_model.specs.Whole.{holds}
+use Rattle.jc_ring.specs.Ring.{first}
 use Rattle.jc_rows.specs.Rows.{RowMap}
 use Rattle.jc_state.specs.declared.slots.Record.{Record}
 use Rattle.jc_state.specs.Shelf.{Cell, seek, has_row}
@@ -58,6 +59,14 @@ IsTied m k = Tied m k.id k.cells
 -- what the row of an item holds
 abbrev pub record_of : Item → Record
 record_of x = record { key = x.key; value = x.value; expiry = x.expiry }
+
+-- The hand has turned until it stopped, at the row of this number, which is now the first.
+pub record IsVictim (now : ℕ) (old new : Kept) (row : ℕ) : Type 0 where
+  pub hand : items_of new.cells ≡ turned now (items_of old.cells)
+  pub at : option_map (λ c. c.row) (first new.cells) ≡ Some row
+  pub tied : (m : RowMap) → IsTied m old → IsTied m new
+  pub many : length new.cells ≡ length old.cells
+  pub kept : new ≡ record old { cells = new.cells }
 
 -- the key's row is at this number, and x is its item
 pub record IsRow (key : List ℕ) (k : Kept) (row : ℕ) (x : Item) : Type 0 where

@@ -1,5 +1,5 @@
 -- The rows of one cache in the order of its ring, and where they are kept.
-use Rattle.std.specs.Prelude.{◌≡◌, ◌<◌, ◌^◌, ℕ, Bool, false, true, eqb, ◌||◌, not, cond, List, [], ◌∷◌, ◌++◌, length, Option, Some, None, option_map, is_some, count_by, map, filter, slice_index_or}
+use Rattle.std.specs.Prelude.{◌≡◌, ◌<◌, ◌≤◌, ◌^◌, ℕ, Bool, false, true, eqb, ◌||◌, not, cond, List, [], ◌∷◌, ◌++◌, length, Option, Some, None, option_map, is_some, count_by, map, filter, slice_index_or}
 use Rattle.jc_model.specs.declared.config.Expiry.{Expiry}
 use Rattle.jc_model.specs.declared.config.Expiry.TheVariants.{Never}
 use Rattle.jc_state.specs.declared.slots.Record.{Record}
@@ -14,11 +14,6 @@ pub record Cell : Type 0 where
 -- a new row: its bit is clear
 abbrev pub new_cell : ℕ → Record → Cell
 new_cell row held = record { row = row; held = held; bit = false }
-
--- the rows from the hand on, and how many there may be
-pub record Shelved : Type 0 where
-  pub cells : List Cell
-  pub limit : ℕ
 
 -- what the row of this number holds
 abbrev pub seek : ℕ → List Cell → Option Record
@@ -74,9 +69,11 @@ cell_at slots p = record { row = p.0; held = held_of (slot slots p.0); bit = p.1
 abbrev pub cells_of : List (Option Record) → List (ℕ × Bool) → List Cell
 cells_of slots ring = map (cell_at slots) ring
 
--- the filled slots are those on the ring
-pub record IsShelf (slots : List (Option Record)) (ring : List (ℕ × Bool)) (limit : ℕ) : Type 0 where
+-- the filled slots are those on the ring, and both have places for all rows that the cache may have
+pub record IsShelf (slots : List (Option Record)) (ring : List (ℕ × Bool)) (limit capacity : ℕ) : Type 0 where
   pub filled : (r : ℕ) → on_ring r ring ≡ is_some (slot slots r)
   pub count : count_by is_some slots ≡ length ring
-  pub places : length slots ≡ limit
-  pub fits : limit < 2 ^ 32
+  pub places : length slots ≡ capacity
+  pub numbers : limit ≡ capacity
+  pub some : 1 ≤ capacity
+  pub fits : capacity < 2 ^ 32

@@ -3,12 +3,14 @@ use Rattle.std.specs.Prelude.{◌≡◌, ◌+◌, ◌≤◌, ℕ, Bool, List, le
 use Rattle.std.specs.Coded.{Coded, coded_ℕ, coded_list, coded×}
 use Rattle.std.specs.FinMap as table
 use Rattle.jc_model.specs.contracts.config.Expiry as expiry
+use Rattle.jc_model.specs.State.{Item, without}
 use Rattle.jc_model.specs.Changes.{Progress}
 use Rattle.jc_rows.specs.Images.{Image, Shows, SeesLast}
 use Rattle.jc_rows.specs.Rows.{RowMap}
-use Rattle.jc_state.specs.Kept.{Kept, IsTied, has_live, progress_of}
+use Rattle.jc_state.specs.Kept.{Kept, IsTied, IsRow, items_of, has_live, progress_of}
 use Rattle.jc_state.specs.Noted.{Noted, HasPlaces}
-use Rattle.jc_state.specs.Tied.{SameElsewhere}
+use Rattle.jc_state.specs.Shelf.{without_row}
+use Rattle.jc_state.specs.Tied.{SameElsewhere, StaysAbsent}
 
 -- the cache, the table that all caches share and the rows for which it has room, the notices so far, and the moment
 pub record Visited : Type 0 where
@@ -51,6 +53,13 @@ pub record SpendsAtMost (rows notices : ℕ) (v w : Visited) : Type 0 where
   pub same : IsSameVisit v w
   pub room : v.spare ≤ w.spare + rows
   pub places : v.noted.spare ≤ w.noted.spare + notices
+
+-- A row has gone, from the cache and from the table.
+pub record IsWithout (row : ℕ) (v w : Visited) : Type 0 where
+  pub kept : w.cache ≡ record v.cache { cells = without_row row v.cache.cells }
+  pub one : length w.cache.cells + 1 ≡ length v.cache.cells
+  pub left : (key : List ℕ) (x : Item) → IsRow key v.cache row x → items_of w.cache.cells ≡ without x.key (items_of v.cache.cells)
+  pub still_absent : StaysAbsent v.cache.id v.table w.table
 
 -- Nothing has changed but the room and the places that are left.
 pub record IsUnchanged (v w : Visited) : Type 0 where

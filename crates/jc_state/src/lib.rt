@@ -3,7 +3,6 @@
 
 pub mod clock;
 pub mod notices;
-pub mod shelf;
 pub mod slots;
 pub mod state;
 pub mod stored;

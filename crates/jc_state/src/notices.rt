@@ -1,6 +1,6 @@
 //! The notices of one call, in places that were made before any change.
-ghost use Rattle.std.specs.Prelude.{◌≡◌, ◌+◌, ◌<◌, ◌≤◌, ◌∷◌, ◌++◌, [], length, eqb, OnOk, IsOk};
-ghost use Rattle.jc_state.specs.Noted.{HasPlaces, told_after};
+ghost use Rattle.std.specs.Prelude.{◌≡◌, ◌+◌, ◌≤◌, [], length, eqb, OnOk, IsOk};
+ghost use Rattle.jc_state.specs.Noted.{HasPlaces, notice_of, told_after};
 
 use jc_model::OutOfMemory;
 use jc_model::call::{Kind, Notice};
@@ -11,55 +11,6 @@ use jc_model::list::Sequence;
 use jc_model::value::Value;
 use std::alloc::Global;
 use std::marker::Model;
-
-/// What happened to a row, with its values after and before. Contracts see the notice of it.
-#[derive(Drop)]
-pub(crate) struct Happening {
-    pub(crate) kind: Kind,
-    pub(crate) key: Key,
-    pub(crate) value: Option<Copies<Value>>,
-    pub(crate) before: Option<Copies<Value>>,
-}
-
-impl Model for Happening {
-    ghost use Rattle.jc_model.specs.declared.call.Notice.{Notice};
-
-    ghost Value = { Notice };
-
-    ghost view = { λ h.
-        record { kind = h.kind; key = h.key; value = h.value; before = h.before } };
-}
-
-impl Happening {
-    /// Its notice, twice.
-    fn into_notices(self) -> (Notice, Notice)
-        ensures told { result.0 ≡ self }
-        ensures kept { result.1 ≡ self }
-    {
-        let Happening {
-            kind,
-            key,
-            value,
-            before,
-        } = self;
-        let (value, kept_value) = two(value);
-        let (before, kept_before) = two(before);
-        let (kind, kept_kind) = two_kinds(kind);
-        let told = Notice {
-            kind,
-            key,
-            value,
-            before,
-        };
-        let kept = Notice {
-            kind: kept_kind,
-            key,
-            value: kept_value,
-            before: kept_before,
-        };
-        (told, kept)
-    }
-}
 
 /// The notices so far, kept twice: one list is told to the listeners, the other goes into the transcript.
 #[derive(Drop)]
@@ -94,18 +45,8 @@ impl Notices {
         }
     }
 
-    /// Makes places for so many more. Where memory runs out, the notices and their places stay.
-    fn reserve(&mut self, more: usize) -> Result<(), OutOfMemory>
-        ensures told { self.new.told ≡ self.old.told }
-        ensures places { OnOk result (more ≤ self.new.spare) }
-        ensures succeeds { more ≤ self.old.spare → IsOk result }
-    {
-        self.told.reserve(more)?;
-        self.kept.reserve(more)?;
-        Ok(())
-    }
-
-    /// Makes places for so many more where the cache has listeners, as `reserve`.
+    /// Makes places for so many more where the cache has listeners. Where memory runs out, the notices and their places
+    /// stay.
     pub fn reserve_for(&mut self, config: &CacheConfig, more: usize) -> Result<(), OutOfMemory>
         ensures told { self.new.told ≡ self.old.told }
         ensures places { OnOk result (HasPlaces config.now more self.new) }
@@ -114,7 +55,9 @@ impl Notices {
         if config.listeners == 0 {
             return Ok(());
         }
-        self.reserve(more)
+        self.told.reserve(more)?;
+        self.kept.reserve(more)?;
+        Ok(())
     }
 
     /// Whether there are none.
@@ -124,25 +67,36 @@ impl Notices {
         self.told.is_empty()
     }
 
-    /// Adds the notice of what happened. It needs a place, and takes no memory.
-    fn note(&mut self, happening: Happening)
-        requires { 0 < self.old.spare }
-        ensures told { self.new.told ≡ self.old.told ++ happening ∷ [] }
-        ensures spare { self.new.spare + 1 ≡ self.old.spare }
-    {
-        let (told, kept) = happening.into_notices();
-        self.told.push_reserved(told);
-        self.kept.push_reserved(kept);
-    }
-
-    /// Adds it where the cache has listeners.
-    pub(crate) fn note_for(&mut self, config: &CacheConfig, happening: Happening)
+    /// Adds a notice, with the value after and before, where the cache has listeners. It needs a place, and takes no
+    /// memory.
+    pub(crate) fn note_for(
+        &mut self,
+        config: &CacheConfig,
+        kind: Kind,
+        key: Key,
+        value: Option<Copies<Value>>,
+        before: Option<Copies<Value>>,
+    )
         requires { HasPlaces config.now 1 self.old }
-        ensures told { self.new.told ≡ told_after config.now happening self.old.told }
+        ensures told { self.new.told
+            ≡ told_after config.now (notice_of kind key value before) self.old.told }
         ensures spare { self.old.spare ≤ self.new.spare + 1 }
     {
         if config.listeners > 0 {
-            self.note(happening);
+            let (value, kept_value) = two(value);
+            let (before, kept_before) = two(before);
+            self.told.push_reserved(Notice {
+                kind,
+                key,
+                value,
+                before,
+            });
+            self.kept.push_reserved(Notice {
+                kind,
+                key,
+                value: kept_value,
+                before: kept_before,
+            });
         }
     }
 
@@ -167,18 +121,5 @@ fn two(value: Option<Copies<Value>>) -> (Option<Value>, Option<Value>)
             (Some(first), Some(second))
         }
         None => (None, None),
-    }
-}
-
-/// A kind, twice.
-fn two_kinds(kind: Kind) -> (Kind, Kind)
-    ensures first { result.0 ≡ kind }
-    ensures second { result.1 ≡ kind }
-{
-    match kind {
-        Kind::Created => (Kind::Created, Kind::Created),
-        Kind::Updated => (Kind::Updated, Kind::Updated),
-        Kind::Removed => (Kind::Removed, Kind::Removed),
-        Kind::Expired => (Kind::Expired, Kind::Expired),
     }
 }

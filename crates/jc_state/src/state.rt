@@ -1,26 +1,22 @@
 //! The state of one cache: its configuration, its rows in the order of its ring, and its statistics.
 //!
 //! That the table which all caches share says the same of its rows is a visit's care (`visit`).
-ghost use Rattle.std.specs.Prelude.{◌≡◌, ℕ, ◌+◌, ◌<◌, ◌≤◌, List, [], ◌∷◌, ◌++◌, length, true, false};
+ghost use Rattle.std.specs.Prelude.{◌≡◌, ◌+◌, ◌<◌, ◌≤◌, [], ◌∷◌, ◌++◌, length, true, false};
 ghost use Rattle.std.specs.Prelude.{Some, IfOk, IfErr, option_map};
-ghost use Rattle.jc_model.specs.State.{zeros, live, turned};
+ghost use Rattle.jc_model.specs.State.{zeros};
 ghost use Rattle.jc_model.specs.Whole.{holds};
 ghost use Rattle.jc_ring.specs.Ring.{first};
-ghost use Rattle.jc_rows.specs.Rows.{RowMap};
 ghost use Rattle.jc_state.specs.declared.slots.Record.{Record};
-ghost use Rattle.jc_state.specs.Shelf.{seek, has_row, row_after, new_cell, without_row, stored, with_expiry_of};
-ghost use Rattle.jc_state.specs.Tied.{Tied};
-ghost use Rattle.jc_state.specs.Kept.{state_of, items_of, has_live, IsTied, FoundRow};
+ghost use Rattle.jc_state.specs.Shelf.{seek, has_row, row_after, without_row, turned_cells};
+ghost use Rattle.jc_state.specs.Shelf.{new_cell, stored, with_expiry_of};
+ghost use Rattle.jc_state.specs.Kept.{state_of, IsTied, FoundRow, IsVictim};
 
-use crate::shelf::Shelf;
-use crate::slots::Record;
+use crate::slots::{Record, Slots};
 use jc_expiry::expiry::live;
 use jc_model::call::Counts;
 use jc_model::config::{CacheConfig, Expiry};
-use jc_model::copies::Copies;
 use jc_model::event::CacheId;
 use jc_model::key::Key;
-use jc_model::value::Value;
 use jc_ring::ring::Ring;
 use jc_rows::rows::Rows;
 use std::alloc::Global;
@@ -31,12 +27,13 @@ use std::marker::Model;
 pub struct CacheState<G: Ring> {
     config: CacheConfig,
     id: CacheId,
-    shelf: Shelf<G>,
+    slots: Slots,
+    ring: G,
     counts: Counts,
 }
 
 impl<G: Ring> Model for CacheState<G> {
-    ghost use Rattle.std.specs.Prelude.{◌≡◌, ◌≤◌};
+    ghost use Rattle.jc_state.specs.Shelf.{cells_of, IsShelf};
     ghost use Rattle.jc_state.specs.Kept.{Kept};
 
     ghost Value = { Kept };
@@ -44,11 +41,11 @@ impl<G: Ring> Model for CacheState<G> {
     ghost view = { λ s. record {
       config = s.config;
       id = s.id;
-      cells = s.shelf.cells;
+      cells = cells_of s.slots (G.list s.ring);
       counts = s.counts;
     } };
 
-    ghost invariant = { λ s. (s.shelf.limit ≡ s.config.capacity) × (1 ≤ s.config.capacity) };
+    ghost invariant = { λ s. IsShelf s.slots (G.list s.ring) (G.limit s.ring) s.config.capacity };
 }
 
 /// All counters at zero.
@@ -64,6 +61,7 @@ pub(crate) fn no_counts() -> Counts
     }
 }
 
+#[tactic(auto, using(crate::proofs::Shelves::shelf_laws))]
 impl<G: Ring> CacheState<G> {
     /// A cache with no rows, with place for all that it may have, and all counters at zero. Where memory is refused,
     /// the configuration comes back.
@@ -73,15 +71,19 @@ impl<G: Ring> CacheState<G> {
             s ≡ record { config = config; id = id; cells = []; counts = zeros }) }
         ensures back { IfErr result (λ back. back ≡ config) }
     {
-        match Shelf::with_capacity(alloc, config.capacity) {
-            Ok(shelf) => Ok(CacheState {
-                config,
-                id,
-                shelf,
-                counts: no_counts(),
-            }),
-            Err(_) => Err(config),
-        }
+        let Ok(slots) = Slots::with_capacity(alloc, config.capacity) else {
+            return Err(config);
+        };
+        let Ok(ring) = G::with_capacity(alloc, config.capacity) else {
+            return Err(config);
+        };
+        Ok(CacheState {
+            config,
+            id,
+            slots,
+            ring,
+            counts: no_counts(),
+        })
     }
 
     /// The configuration alone; the rest is let go.
@@ -95,7 +97,7 @@ impl<G: Ring> CacheState<G> {
     pub fn len(&self) -> u32
         ensures { result ≡ length self.now.cells }
     {
-        self.shelf.len()
+        self.slots.filled()
     }
 
     /// Its configuration.
@@ -125,35 +127,10 @@ impl<G: Ring> CacheState<G> {
         requires tied { IsTied (R.contents rows.now) self.now }
         ensures { result ≡ holds self.now.config now key.now (state_of self.now) }
     {
-        self.has_live(self.find(rows, key), now)
-    }
-
-    /// Whether a key that has this row, if any, has a live row.
-    pub(crate) fn has_live(&self, row: Option<u32>, now: u64) -> bool
-        requires there { (r : ℕ) → row ≡ Some r → has_row r self.now.cells ≡ true }
-        ensures { (key : List ℕ) → FoundRow key self.now row → result ≡ has_live now key self.now }
-    {
-        match row {
-            Some(row) => self.is_live(row, now),
+        match self.find(rows, key) {
+            Some(row) => live(now, self.record(row).expiry),
             None => false,
         }
-    }
-
-    /// Whether a row is live.
-    pub(crate) fn is_live(&self, row: u32, now: u64) -> bool
-        requires { has_row row self.now.cells ≡ true }
-        ensures { (held : Record) → seek row self.now.cells ≡ Some held →
-            result ≡ live now held.expiry }
-    {
-        live(now, self.record(row).expiry)
-    }
-
-    /// The value of a row.
-    pub(crate) fn value(&self, row: u32) -> &Copies<Value>
-        requires there { has_row row self.now.cells ≡ true }
-        ensures { (held : Record) → seek row self.now.cells ≡ Some held → result.now ≡ held.value }
-    {
-        &self.record(row).value
     }
 
     /// The statistics.
@@ -176,7 +153,7 @@ impl<G: Ring> CacheState<G> {
         ensures some { result ≡ true → 0 < length self.now.cells }
         ensures below { result ≡ false → length self.now.cells < self.now.config.capacity }
     {
-        self.shelf.is_full()
+        self.slots.is_full()
     }
 
     /// What a row holds.
@@ -184,14 +161,17 @@ impl<G: Ring> CacheState<G> {
         requires { has_row row self.now.cells ≡ true }
         ensures { seek row self.now.cells ≡ Some result.now }
     {
-        self.shelf.record(row)
+        self.slots.record(row)
     }
 
     /// The number of the first row.
     pub(crate) fn first(&self) -> Option<u32>
         ensures { result ≡ option_map (λ c. c.row) (first self.now.cells) }
     {
-        self.shelf.first()
+        match self.head() {
+            Some((row, _)) => Some(row),
+            None => None,
+        }
     }
 
     /// The number of the row after a row.
@@ -199,7 +179,7 @@ impl<G: Ring> CacheState<G> {
         requires { has_row row self.now.cells ≡ true }
         ensures { result ≡ row_after row self.now.cells }
     {
-        self.shelf.after(row)
+        self.ring.after(row)
     }
 
     /// Takes a row out, and returns what it held.
@@ -209,7 +189,8 @@ impl<G: Ring> CacheState<G> {
         ensures kept { self.new ≡ record self.old { cells = without_row row self.old.cells } }
         ensures one { length self.new.cells + 1 ≡ length self.old.cells }
     {
-        self.shelf.take(row)
+        self.ring.drop_one(row);
+        self.slots.take(row)
     }
 
     /// Adds a row, last in the ring and with a clear bit, and returns its number.
@@ -219,7 +200,9 @@ impl<G: Ring> CacheState<G> {
         ensures kept { self.new
             ≡ record self.old { cells = self.old.cells ++ new_cell result new ∷ [] } }
     {
-        self.shelf.push(new)
+        let row = self.slots.fill(new);
+        self.ring.push(row);
+        row
     }
 
     /// Replaces what a row holds, sets its bit, and returns what it held.
@@ -228,7 +211,8 @@ impl<G: Ring> CacheState<G> {
         ensures was { seek row self.old.cells ≡ Some result }
         ensures kept { self.new ≡ record self.old { cells = stored row new self.old.cells } }
     {
-        self.shelf.store(row, new)
+        self.ring.touch(row);
+        self.slots.replace(row, new)
     }
 
     /// Changes a row's expiry and sets its bit.
@@ -237,18 +221,37 @@ impl<G: Ring> CacheState<G> {
         ensures { (held : Record) → seek row self.old.cells ≡ Some held → self.new
             ≡ record self.old { cells = stored row (with_expiry_of expiry held) self.old.cells } }
     {
-        self.shelf.renew(row, expiry);
+        self.ring.touch(row);
+        self.slots.set_expiry(row, expiry);
     }
 
-    /// The hand turns until it stops. Returns the number of the row where it stops, which is then the first.
+    /// The number of the first row, and its bit.
+    fn head(&self) -> Option<(u32, bool)>
+        ensures { result ≡ option_map (λ c. (c.row, c.bit)) (first self.now.cells) }
+    {
+        self.ring.head()
+    }
+
+    /// The hand passes the first row: it goes last, its bit clear.
+    fn turn(&mut self)
+        requires { 0 < length self.old.cells }
+        ensures { self.new ≡ record self.old { cells = turned_cells self.old.cells } }
+    {
+        self.ring.turn();
+    }
+
+    /// The hand turns until it stops, at a row that is expired or was not used since it last passed. Returns that
+    /// row's number.
     pub(crate) fn turn_hand(&mut self, now: u64) -> u32
         requires { 0 < length self.old.cells }
-        ensures turned { items_of self.new.cells ≡ turned now (items_of self.old.cells) }
-        ensures first { option_map (λ c. c.row) (first self.new.cells) ≡ Some result }
-        ensures tied { (m : RowMap) (id : ℕ) → Tied m id self.old.cells → Tied m id self.new.cells }
-        ensures length { length self.new.cells ≡ length self.old.cells }
-        ensures kept { self.new ≡ record self.old { cells = self.new.cells } }
+        ensures { IsVictim now self.old self.new result }
     {
-        self.shelf.turn_to_victim(now)
+        while let Some((row, bit)) = self.head() {
+            if !bit || !live(now, self.record(row).expiry) {
+                return row;
+            }
+            self.turn();
+        }
+        unreachable!()
     }
 }

@@ -1,6 +1,6 @@
 //! A value with the copies that its storing takes.
-ghost use Rattle.std.specs.Prelude.{◌≡◌, ◌<◌, Some, None, IfOk, option_map};
-ghost use Rattle.jc_state.specs.Noted.{IsTold, StoredIsTold, stored_value};
+ghost use Rattle.std.specs.Prelude.{◌≡◌, IfOk, option_map};
+ghost use Rattle.jc_state.specs.Noted.{StoredIsTold, stored_value};
 
 use jc_model::OutOfMemory;
 use jc_model::config::CacheConfig;
@@ -15,26 +15,6 @@ pub struct Stored {
 }
 
 impl Stored {
-    /// Copies of a value to be stored.
-    fn of(config: &CacheConfig, value: &Value) -> Result<Stored, OutOfMemory>
-        ensures value { IfOk result (λ s. s.value ≡ value.now) }
-        ensures told { IfOk result (λ s. IsTold config.now s) }
-        ensures spared { IfOk result (λ s. config.now.listeners ≡ 0 → s.told ≡ None) }
-    {
-        let stored = Copies::of(value)?;
-        if config.listeners > 0 {
-            let told = Copies::of(value)?;
-            return Ok(Stored {
-                value: stored,
-                told: Some(told),
-            });
-        }
-        Ok(Stored {
-            value: stored,
-            told: None,
-        })
-    }
-
     /// Copies of what is stored, if anything is.
     pub fn of_any(
         config: &CacheConfig,
@@ -43,12 +23,20 @@ impl Stored {
         ensures value { IfOk result (λ s. stored_value s ≡ option_map (λ v. v.now) value.entry) }
         ensures told { IfOk result (λ s. StoredIsTold config.now s) }
     {
-        match value {
-            None => Ok(None),
-            Some(value) => {
-                let stored = Stored::of(config, value)?;
-                Ok(Some(stored))
-            }
+        let Some(value) = value else {
+            return Ok(None);
+        };
+        let stored = Copies::of(value)?;
+        if config.listeners == 0 {
+            return Ok(Some(Stored {
+                value: stored,
+                told: None,
+            }));
         }
+        let told = Copies::of(value)?;
+        Ok(Some(Stored {
+            value: stored,
+            told: Some(told),
+        }))
     }
 }

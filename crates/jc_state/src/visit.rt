@@ -6,8 +6,6 @@
 mod creation;
 mod removal;
 mod renewal;
-mod room;
-mod rows;
 mod supplies;
 mod walk;
 mod watched;
@@ -19,14 +17,15 @@ ghost use Rattle.jc_state.specs.declared.slots.Record.{Record};
 ghost use Rattle.jc_state.specs.Shelf.{seek, has_row};
 ghost use Rattle.jc_state.specs.Kept.{items_of, FoundRow, with_hit, with_miss, with_put, with_removal};
 ghost use Rattle.jc_state.specs.Kept.{with_eviction};
-ghost use Rattle.jc_state.specs.Noted.{told_after};
+ghost use Rattle.jc_state.specs.Noted.{notice_of, told_after};
 ghost use Rattle.jc_state.specs.Visited.{IsKeptIn, HasPlacesIn, has_live_in};
 
-use crate::notices::{Happening, Notices};
+use crate::notices::Notices;
 use crate::slots::Record;
 use crate::state::{CacheState, no_counts};
 use jc_expiry::counters::{with_eviction, with_hit, with_miss, with_put, with_removal};
-use jc_model::call::Counts;
+use jc_expiry::expiry::live;
+use jc_model::call::{Counts, Kind};
 use jc_model::config::CacheConfig;
 use jc_model::copies::Copies;
 use jc_model::key::Key;
@@ -192,7 +191,10 @@ impl<R: Rows, G: Ring> Visit<R, G> {
         ensures { (key : List ℕ) → FoundRow key self.now.cache row →
             result ≡ has_live_in self.now key }
     {
-        self.cache.has_live(row, self.moment)
+        match row {
+            Some(row) => self.is_live(row),
+            None => false,
+        }
     }
 
     /// Whether a row is live.
@@ -201,7 +203,15 @@ impl<R: Rows, G: Ring> Visit<R, G> {
         ensures { (held : Record) → seek row self.now.cache.cells ≡ Some held →
             result ≡ live self.now.moment held.expiry }
     {
-        self.cache.is_live(row, self.moment)
+        live(self.moment, self.record(row).expiry)
+    }
+
+    /// What a row holds.
+    fn record(&self, row: u32) -> &Record
+        requires { has_row row self.now.cache.cells ≡ true }
+        ensures { seek row self.now.cache.cells ≡ Some result.now }
+    {
+        self.cache.record(row)
     }
 
     /// The value of a row.
@@ -210,7 +220,7 @@ impl<R: Rows, G: Ring> Visit<R, G> {
         ensures { (held : Record) → seek row self.now.cache.cells ≡ Some held →
             result.now ≡ held.value }
     {
-        self.cache.value(row)
+        &self.record(row).value
     }
 
     /// The statistics.
@@ -260,15 +270,22 @@ impl<R: Rows, G: Ring> Visit<R, G> {
         self.cache.set_counts(counts);
     }
 
-    /// Adds the notice of what happened where the cache has listeners.
-    fn tell(&mut self, happening: Happening)
+    /// Adds a notice, with the value after and before, where the cache has listeners.
+    fn tell(
+        &mut self,
+        kind: Kind,
+        key: Key,
+        value: Option<Copies<Value>>,
+        before: Option<Copies<Value>>,
+    )
         requires { HasPlacesIn 1 self.old }
         ensures same { self.new ≡ record self.old { noted = self.new.noted } }
-        ensures told { self.new.noted.told
-            ≡ told_after self.old.cache.config happening self.old.noted.told }
+        ensures told { self.new.noted.told ≡ told_after self.old.cache.config
+            (notice_of kind key value before) self.old.noted.told }
         ensures spare { self.old.noted.spare ≤ self.new.noted.spare + 1 }
     {
-        self.notices.note_for(self.cache.config(), happening);
+        self.notices
+            .note_for(self.cache.config(), kind, key, value, before);
     }
 
     /// Counts an eviction.

@@ -1,13 +1,15 @@
-//! New rows.
-ghost use Rattle.std.specs.Prelude.{◌≡◌, ◌<◌, None, is_some};
+//! New rows, and room for them, by CLOCK.
+ghost use Rattle.std.specs.Prelude.{◌≡◌, ℕ, ◌<◌, [], ◌∷◌, ◌++◌, length, None, is_some};
+ghost use Rattle.std.specs.FinMap as map;
 ghost use Rattle.jc_model.specs.State.{after_create};
-ghost use Rattle.jc_model.specs.Changes.{create};
+ghost use Rattle.jc_model.specs.Changes.{create, with_room};
+ghost use Rattle.jc_state.specs.Shelf.{new_cell};
 ghost use Rattle.jc_state.specs.Noted.{IsTold};
 ghost use Rattle.jc_state.specs.Kept.{key_row};
+ghost use Rattle.jc_state.specs.Tied.{StaysAbsent};
 ghost use Rattle.jc_state.specs.Visited.{SpendsAtMost, HasPlacesIn, progress_in};
 
 use super::Visit;
-use crate::notices::Happening;
 use crate::slots::Record;
 use crate::stored::Stored;
 use jc_expiry::expiry::after_create;
@@ -36,13 +38,45 @@ impl<R: Rows, G: Ring> Visit<R, G> {
                 self.ensure_room();
                 let Stored { value, told } = stored;
                 self.add_row(Record { key, value, expiry });
-                self.tell(Happening {
-                    kind: Kind::Created,
-                    key,
-                    value: told,
-                    before: None,
-                });
+                self.tell(Kind::Created, key, told, None);
                 true
+            }
+        }
+    }
+
+    /// Adds a row to the cache and the table, last in the ring and with a clear bit.
+    fn add_row(&mut self, new: Record)
+        requires absent { map.get self.old.table (self.old.cache.id, new.key) ≡ None }
+        requires within { length self.old.cache.cells < self.old.cache.config.capacity }
+        requires room { 0 < self.old.spare }
+        ensures spends { SpendsAtMost 1 0 self.old self.new }
+        ensures kept { (row : ℕ) × (self.new.cache
+            ≡ record self.old.cache { cells = self.old.cache.cells ++ new_cell row new ∷ [] }) }
+        ensures noted { self.new.noted ≡ self.old.noted }
+    {
+        let key = new.key;
+        let expiry = new.expiry;
+        let row = self.cache.push(new);
+        self.rows.put(self.cache.id(), key, row, expiry);
+    }
+
+    /// Makes room for one row where the cache is full: the row where the hand stops goes, with its notice where it has
+    /// expired, and else counted as an eviction.
+    fn ensure_room(&mut self)
+        requires { HasPlacesIn 1 self.old }
+        ensures spends { SpendsAtMost 0 1 self.old self.new }
+        ensures still_absent { StaysAbsent self.old.cache.id self.old.table self.new.table }
+        ensures below { length self.new.cache.cells < self.new.cache.config.capacity }
+        ensures progress { progress_in self.new
+            ≡ with_room self.old.cache.config self.old.moment (progress_in self.old) }
+    {
+        if self.cache.is_full() {
+            let row = self.cache.turn_hand(self.moment);
+            if self.is_live(row) {
+                let _gone = self.take_row(row);
+                self.eviction();
+            } else {
+                self.remove_row(row, Kind::Expired);
             }
         }
     }

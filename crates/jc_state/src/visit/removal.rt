@@ -1,46 +1,45 @@
 //! Rows that go: expired ones as they are met, and removed ones.
-ghost use Rattle.std.specs.Prelude.{◌≡◌, ℕ, ◌+◌, if◌then◌else◌, List, length, true, false};
-ghost use Rattle.std.specs.Prelude.{Some, None, is_some};
-ghost use Rattle.jc_model.specs.State.{Item, live, without};
+ghost use Rattle.std.specs.Prelude.{◌≡◌, ℕ, if◌then◌else◌, List, true, false, Some, None, is_some};
+ghost use Rattle.jc_model.specs.State.{Item, live};
 ghost use Rattle.jc_model.specs.Changes.{purge, delete};
 ghost use Rattle.jc_state.specs.declared.slots.Record.{Record};
-ghost use Rattle.jc_state.specs.Shelf.{seek, has_row, without_row};
+ghost use Rattle.jc_state.specs.Shelf.{seek, has_row};
 ghost use Rattle.jc_state.specs.Noted.{notice_of, told_after};
-ghost use Rattle.jc_state.specs.Kept.{items_of, key_row, IsRow, FoundRow};
-ghost use Rattle.jc_state.specs.Tied.{StaysAbsent};
-ghost use Rattle.jc_state.specs.Visited.{SpendsAtMost, HasPlacesIn, progress_in, has_live_in};
+ghost use Rattle.jc_state.specs.Kept.{IsRow, FoundRow};
+ghost use Rattle.jc_state.specs.Visited.{SpendsAtMost, IsWithout, HasPlacesIn, progress_in, has_live_in};
 
 use super::Visit;
-use crate::notices::Happening;
+use crate::slots::Record;
 use jc_model::call::Kind;
 use jc_ring::ring::Ring;
 use jc_rows::rows::Rows;
 
 impl<R: Rows, G: Ring> Visit<R, G> {
+    /// Takes a row out of the cache and the table.
+    pub(super) fn take_row(&mut self, row: u32) -> Record
+        requires { has_row row self.old.cache.cells ≡ true }
+        ensures was { seek row self.old.cache.cells ≡ Some result }
+        ensures spends { SpendsAtMost 0 0 self.old self.new }
+        ensures gone { IsWithout row self.old self.new }
+        ensures noted { self.new.noted ≡ self.old.noted }
+    {
+        let gone = self.cache.take(row);
+        let _row = self.rows.remove(self.cache.id(), &gone.key);
+        gone
+    }
+
     /// Removes a row, with a notice of this kind.
     pub(super) fn remove_row(&mut self, row: u32, kind: Kind)
         requires there { has_row row self.old.cache.cells ≡ true }
         requires places { HasPlacesIn 1 self.old }
         ensures spends { SpendsAtMost 0 1 self.old self.new }
-        ensures gone { (held : Record) → seek row self.old.cache.cells ≡ Some held →
-            key_row self.new.cache held.key ≡ None }
-        ensures left { (key : List ℕ) (x : Item) → IsRow key self.old.cache row x →
-            items_of self.new.cache.cells ≡ without x.key (items_of self.old.cache.cells) }
-        ensures still_absent { StaysAbsent self.old.cache.id self.old.table self.new.table }
-        ensures kept { self.new.cache
-            ≡ record self.old.cache { cells = without_row row self.old.cache.cells } }
-        ensures one { length self.new.cache.cells + 1 ≡ length self.old.cache.cells }
+        ensures gone { IsWithout row self.old self.new }
         ensures told { (held : Record) → seek row self.old.cache.cells ≡ Some held →
             self.new.noted.told ≡ told_after self.old.cache.config
             (notice_of kind held.key None (Some held.value)) self.old.noted.told }
     {
         let gone = self.take_row(row);
-        self.tell(Happening {
-            kind,
-            key: gone.key,
-            value: None,
-            before: Some(gone.value),
-        });
+        self.tell(kind, gone.key, None, Some(gone.value));
     }
 
     /// Of a key's row, if it has one, the number where it is live. An expired row is removed here, with its notice; a

@@ -1,20 +1,35 @@
 //! Uses of a row that is there: access and update.
-ghost use Rattle.std.specs.Prelude.{◌≡◌, ℕ, List, true};
+ghost use Rattle.std.specs.Prelude.{◌≡◌, ◌≤◌, ℕ, List, true, Some, option_map};
+ghost use Rattle.std.specs.FinMap as map;
 ghost use Rattle.jc_model.specs.State.{Item};
 ghost use Rattle.jc_model.specs.Changes.{access, update};
+ghost use Rattle.jc_rows.specs.Rows.{with_expiry};
 ghost use Rattle.jc_state.specs.Shelf.{has_row};
 ghost use Rattle.jc_state.specs.Noted.{IsTold};
 ghost use Rattle.jc_state.specs.Kept.{IsRow};
 ghost use Rattle.jc_state.specs.Visited.{SpendsAtMost, HasPlacesIn, progress_in};
 
 use super::Visit;
-use crate::notices::Happening;
 use crate::slots::Record;
 use crate::stored::Stored;
 use jc_expiry::expiry::{after_access, after_update};
 use jc_model::call::Kind;
+use jc_model::config::Expiry;
+use jc_model::event::CacheId;
 use jc_ring::ring::Ring;
 use jc_rows::rows::Rows;
+
+/// Gives the table's row of what is held the expiry `to`; nothing is written where it has it already.
+fn renew<R: Rows>(rows: &mut R, id: CacheId, held: &Record, to: Expiry)
+    requires { option_map (λ row. row.1) (map.get (R.contents rows.old) (id, held.now.key))
+        ≡ Some held.now.expiry }
+    ensures set { R.contents rows.new ≡ with_expiry (R.contents rows.old) (id, held.now.key) to }
+    ensures room { R.spare rows.old ≤ R.spare rows.new }
+{
+    if held.expiry != to {
+        rows.set_expiry(id, &held.key, to);
+    }
+}
 
 impl<R: Rows, G: Ring> Visit<R, G> {
     /// Uses a row: its bit is set, and its expiry renewed as the policy says.
@@ -26,9 +41,10 @@ impl<R: Rows, G: Ring> Visit<R, G> {
             ≡ access self.old.cache.config self.old.moment x (progress_in self.old) }
         ensures noted { self.new.noted ≡ self.old.noted }
     {
-        let before = self.record(row).expiry;
-        let expiry = after_access(self.config().policy, before, self.moment);
-        self.renew_row(row, expiry);
+        let held = self.cache.record(row);
+        let expiry = after_access(self.cache.config().policy, held.expiry, self.moment);
+        renew(&mut self.rows, self.cache.id(), held, expiry);
+        self.cache.renew(row, expiry);
     }
 
     /// Gives a row another value: its bit is set, its expiry renewed as the policy says, and the change is told where
@@ -46,12 +62,8 @@ impl<R: Rows, G: Ring> Visit<R, G> {
         let held = self.record(row);
         let key = held.key;
         let expiry = after_update(self.config().policy, held.expiry, self.moment);
-        let before = self.store_row(row, Record { key, value, expiry });
-        self.tell(Happening {
-            kind: Kind::Updated,
-            key,
-            value: told,
-            before: Some(before.value),
-        });
+        let before = self.cache.store(row, Record { key, value, expiry });
+        renew(&mut self.rows, self.cache.id(), &before, expiry);
+        self.tell(Kind::Updated, key, told, Some(before.value));
     }
 }

@@ -1,6 +1,7 @@
 use Rattle.std.proofs.Common.{◌∙◌, sym, [], arith}
 use Rattle.std.proofs.lemmas.Grind.{common_steps}
 use Rattle.jc_state.proofs.Names.{expired, record_of}
+use Rattle.jc_model.proofs.Rings.{row_of-without}
 use Rattle.jc_state.proofs.Progress.{removed}
 use Rattle.jc_state.proofs.Purges.{held_there, held_is, purge-live, purge-expired}
 use Rattle.jc_state.proofs.visit.Visit.purge.Goals as goal
@@ -16,14 +17,14 @@ returns-then-is_live-clause-progress g c = λ key found.
 pub returns-else-is_live-clause-progress : goal.returns-else-is_live-clause-progress
 returns-else-is_live-clause-progress g c = λ key found.
     let x = rw c.in-Some.is at found in
-    rw (c.remove_row.ensures.kept, c.remove_row.ensures.told (record_of x.0) x.1.there)
-    (removed c.args.self.now.cache c.in-Some.row x.0 (rw c.remove_row.ensures.kept at (c.remove_row.ensures.left key x.0 x.1)) c.args.self.now.cache.config c.args.self.now.moment (expired x.0) c.args.self.now.noted.told
+    rw (c.remove_row.ensures.gone.kept, c.remove_row.ensures.told (record_of x.0) x.1.there)
+    (removed c.args.self.now.cache c.in-Some.row x.0 (rw c.remove_row.ensures.gone.kept at (c.remove_row.ensures.gone.left key x.0 x.1)) c.args.self.now.cache.config c.args.self.now.moment (expired x.0) c.args.self.now.noted.told
     ∙ purge-expired c.args.self.now.cache.config c.args.self.now.moment key c.args.self.now.cache _ x.0 x.1.found (sym (c.is_live.ensures (record_of x.0) x.1.there) ∙ c.if-is_live.false))
 
 pub returns-else-is_live-clause-found : goal.returns-else-is_live-clause-found
 returns-else-is_live-clause-found g c = λ key found.
     let x = rw c.in-Some.is at found in
-    rw (← x.1.key_is) (c.remove_row.ensures.gone (record_of x.0) x.1.there)
+    rw (← x.1.key_is, c.remove_row.ensures.gone.left key x.0 x.1) (row_of-without x.0.key _)
 
 pub returns-in-None-clause-live : goal.returns-in-None-clause-live
 returns-in-None-clause-live g c = λ key found. grind (arith, common_steps, rw c.in-None.is at found)

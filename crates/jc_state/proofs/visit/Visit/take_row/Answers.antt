@@ -1,8 +1,8 @@
 use Rattle.std.proofs.Common.{◌≡◌, refl, arith}
-use Rattle.jc_rows.proofs.Laws.{get-removed_same, get-removed_absent, get-removed_cache}
+use Rattle.jc_rows.proofs.Laws.{get-removed_absent, get-removed_cache}
 use Rattle.jc_state.proofs.Names.{IsRow}
 use Rattle.jc_state.proofs.Changes.{kept-removed}
-use Rattle.jc_state.proofs.Found.{row_of-absent, items_of-without, only_row}
+use Rattle.jc_state.proofs.Found.{items_of-without, only_row}
 use Rattle.jc_state.proofs.visit.Visit.take_row.Goals as goal
 
 pub invariant_of-self : goal.invariant_of-self
@@ -22,16 +22,12 @@ returns-clause-spends g c =
     }
 
 pub returns-clause-gone : goal.returns-clause-gone
-returns-clause-gone g c =
-    let was = rw c.deref_mut.ensures.value at c.take-gone.ensures.was in
-    let kept = kept-removed _ _ c.self.invariant c.args.row c.take-gone.result was in
-    rw (c.take-gone.ensures.kept, c.deref_mut.ensures.value) (row_of-absent _ _ c.take-gone.result.key _ kept.tied.placed (get-removed_same _ _))
-
-pub returns-clause-left : goal.returns-clause-left
-returns-clause-left g c = λ key x is.
-    let row : IsRow key c.self.inside.cache.value c.args.row x = rw (← c.self.view_is) at is in
-    rw (← c.self.view_is, c.take-gone.ensures.kept, c.deref_mut.ensures.value, row.key_is)
-    (items_of-without c.args.row key c.self.inside.cache.value.cells (only_row _ key _ c.args.row x c.self.invariant.tied row))
-
-pub returns-clause-still_absent : goal.returns-clause-still_absent
-returns-clause-still_absent g c = λ k h. rw (c.remove-row.ensures.removed, ← c.self.view_is) (get-removed_absent _ _ _ (rw (← c.self.view_is) at h))
+returns-clause-gone g c = record {
+  kept = rw (← c.self.view_is, c.take-gone.ensures.kept, c.deref_mut.ensures.value);
+  one = rw (← c.self.view_is, ← c.deref_mut.ensures.value) c.take-gone.ensures.one;
+  left = λ key x is.
+      let row : IsRow key c.self.inside.cache.value c.args.row x = rw (← c.self.view_is) at is in
+      rw (← c.self.view_is, c.take-gone.ensures.kept, c.deref_mut.ensures.value, row.key_is)
+      (items_of-without c.args.row key c.self.inside.cache.value.cells (only_row _ key _ c.args.row x c.self.invariant.tied row));
+  still_absent = λ k h. rw (c.remove-row.ensures.removed, ← c.self.view_is) (get-removed_absent _ _ _ (rw (← c.self.view_is) at h));
+}
