@@ -3,12 +3,8 @@ use Rattle.std.proofs.Common.{◌≡◌, ℕ, false, List, [], ◌∷◌, Some, 
 use Rattle.std.proofs.lemmas.Grind.{common_steps}
 use Rattle.std.proofs.lemmas.Bool.Decides.{nat_tests}
 use Rattle.std.specs.FinMap as table
-use Rattle.jc_model.specs.declared.config.Expiry.{Expiry}
-use Rattle.jc_rows.specs.Rows.{RowMap}
-use Rattle.jc_state.specs.Shelf.{Cell, has_row}
-use Rattle.jc_state.specs.Tied.{Distinct, Placed, Tied}
 use Rattle.jc_model.specs.Sound.{LacksKey, HasDistinctKeys}
-use Rattle.jc_state.specs.Kept.{items_of}
+use Rattle.jc_state.proofs.Names.{Expiry, RowMap, Cell, has_row, Distinct, Placed, Tied, items_of}
 
 lacks_key : (m : RowMap) (id row : ℕ) (k : List ℕ) (e : Expiry) (cs : List Cell) → table.get m (id, k) ≡ Some (row, e) → has_row row cs ≡ false → Placed m id cs → LacksKey k (items_of cs)
 lacks_key m id row k e [] at off p = tt

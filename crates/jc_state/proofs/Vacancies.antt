@@ -38,3 +38,5 @@ module _ (slots : List (Option Record)) (vacant : List ℕ) (room : ℕ) (is : I
 
     pub slots-refilled : (it : Record) → IsSlots (set slots r (Some it)) vacant room
     slots-refilled it = slots-set vacant r (Some it) (within_filled slots r e) (λ q. grind (arith, common_steps, nat_tests, is.vacancies q)) (grind (arith, common_steps))
+
+pub ruleset slot_laws = (popped, slots-filled, slots-vacated, slots-refilled)

@@ -40,6 +40,7 @@ impl Model for Slots {
     ghost invariant = { λ s. IsSlots s.records.items s.vacant.items (vec_capacity s.vacant) };
 }
 
+#[tactic(auto, using(crate::proofs::Vacancies::slot_laws))]
 impl Slots {
     /// So many vacant rows.
     pub fn with_capacity(alloc: Global, capacity: u32) -> Result<Slots, OutOfMemory>

@@ -10,6 +10,3 @@ invariant_of-self c = rw c.in-Some.ensures.capacity (slots-filled _ _ _ c.self.i
 
 pub returns-clause-below : goal.returns-clause-below
 returns-clause-below c = rw (← c.self.view_is) (popped _ _ _ c.self.invariant _ _ c.in-Some.ensures.items).0
-
-pub returns-clause-vacant : goal.returns-clause-vacant
-returns-clause-vacant c = rw (← c.self.view_is) (popped _ _ _ c.self.invariant _ _ c.in-Some.ensures.items).1
