@@ -3,9 +3,9 @@ use Rattle.std.proofs.Common.{◌≡◌, ◌<◌, ◌+◌, ℕ, Bool, true, fals
 use Rattle.std.proofs.lemmas.Grind.{common_steps}
 use Rattle.std.proofs.lemmas.List.{get_or-set_same, get_or-set_other, length-map}
 use Rattle.std.proofs.lemmas.Bool.Decides.{nat_tests}
-use Rattle.jc_ring.specs.Ring.{ring_without, bit_set}
+use Rattle.jc_ring.specs.Ring.{row_behind, ring_without, bit_set}
 use Rattle.jc_ring.proofs.Laws.{on_ring-append, on_ring-turned, on_ring-without, on_ring-touched, length-turned}
-use Rattle.jc_state.proofs.Names.{Expiry, on_ring, ring_touched, Record, slot, cells_of, held_of, has_row, seek, without_row, IsShelf, stored, renewed, with_expiry_of}
+use Rattle.jc_state.proofs.Names.{row_after, Expiry, on_ring, ring_touched, Record, slot, cells_of, held_of, has_row, seek, without_row, IsShelf, stored, renewed, with_expiry_of}
 use Rattle.jc_state.proofs.Vacancies.{within_filled}
 
 pub has_row-cells : (r : ℕ) (slots : List (Option Record)) (ring : List (ℕ × Bool)) → has_row r (cells_of slots ring) ≡ on_ring r ring
@@ -29,7 +29,12 @@ cells-touched : (r : ℕ) (x : Option Record) (slots : List (Option Record)) (ri
 cells-touched r x slots [] h = refl
 cells-touched r x slots (p ∷ ps) h = grind (arith, common_steps, nat_tests, get_or-set_same slots r x None h, get_or-set_other slots r p.0 x None, cells-touched r x slots ps h)
 
-pub ruleset shelf_laws = (on_ring-turned, length-turned, has_row-cells, seek-cells)
+pub row_after-cells : (slots : List (Option Record)) (r : ℕ) (ps : List (ℕ × Bool)) → row_behind r ps ≡ row_after r (cells_of slots ps)
+row_after-cells slots r [] = refl
+row_after-cells slots r (p ∷ []) = refl
+row_after-cells slots r (p ∷ q ∷ ps) = rw (row_after-cells slots r (q ∷ ps))
+
+pub ruleset shelf_laws = (on_ring-turned, length-turned, has_row-cells, seek-cells, row_after-cells)
 
 module _ (slots : List (Option Record)) (ring : List (ℕ × Bool)) (limit capacity r : ℕ) (is : IsShelf slots ring limit capacity) where
   -- a slot changes, and the ring with it

@@ -6,7 +6,7 @@ use Rattle.std.proofs.lemmas.Slice.Eq.{bytes_eq-Decides}
 use Rattle.std.specs.Str.{bytes_eq}
 use Rattle.std.specs.FinMap as table
 use Rattle.jc_rows.proofs.Laws.{get-put_same, get-put_key, get-removed_same, get-removed_key}
-use Rattle.jc_state.proofs.Names.{Expiry, RowMap, Record, Cell, seek, has_row, without_row, turned_cells, cleared, stored, Placed, Distinct, Tied}
+use Rattle.jc_state.proofs.Names.{Expiry, RowMap, Record, Cell, seek, has_row, without_row, turned_cells, cleared, stored, Each, IsThere, Placed, Distinct, Tied}
 use Rattle.jc_state.proofs.Cells.{has_row-seek, seek-append, Distinct-push, Distinct-without, Distinct-stored, seek-without, seek-turned, seek-stored}
 
 -- The table at a key, after a change at another or the same.
@@ -19,25 +19,12 @@ get-removed m id k q = grind (arith, common_steps, bytes_eq-Decides q k, get-rem
 
 -- What is true of each row that is found is true of all cells.
 
-abbrev pub Each : (ℕ → Record → Type 0) → List Cell → Type 0
-Each P [] = Unit {0}
-Each P (c ∷ cs) = P c.row c.held × Each P cs
-
 each : (P : ℕ → Record → Type 0) (cs : List Cell) → Distinct cs → ((r : ℕ) (it : Record) → seek r cs ≡ Some it → P r it) → Each P cs
 each P [] d h = tt
 each P (c ∷ cs) d h = (
   h c.row c.held (grind (arith, common_steps, nat_tests)),
   each P cs d.1 (λ r it e. h r it (grind (arith, common_steps, nat_tests, d.0, e, has_row-seek r cs))),
 )
-
--- A row is at its key's place in the table.
-
-abbrev IsThere : RowMap → ℕ → ℕ → Record → Type 0
-IsThere m id r it = table.get m (id, it.key) ≡ Some (r, it.expiry)
-
-all_there : (m : RowMap) (id : ℕ) (cs : List Cell) → Each (IsThere m id) cs → Placed m id cs
-all_there m id [] p = tt
-all_there m id (c ∷ cs) p = (p.0, all_there m id cs p.1)
 
 pub placed_at : (m : RowMap) (id : ℕ) (cs : List Cell) (r : ℕ) (it : Record) → Placed m id cs → seek r cs ≡ Some it → IsThere m id r it
 placed_at m id [] r it p e = cc
@@ -53,7 +40,7 @@ RowIsKey r k = Each (λ s it. eqb s r ≡ bytes_eq it.key k)
 -- a table and rows are tied if each says what the other does
 tied_by : (m : RowMap) (id : ℕ) (cs : List Cell) → Distinct cs → ((r : ℕ) (it : Record) → seek r cs ≡ Some it → IsThere m id r it)
     → ((k : List ℕ) (r : ℕ) (e : Expiry) → table.get m (id, k) ≡ Some (r, e) → option_map (λ it. it.key) (seek r cs) ≡ Some k) → Tied m id cs
-tied_by m id cs d there found = record { distinct = d; placed = all_there m id cs (each _ cs d there); found = found }
+tied_by m id cs d there found = record { distinct = d; placed = each _ cs d there; found = found }
 
 module _ (m : RowMap) (id : ℕ) (cs : List Cell) (t : Tied m id cs) where
   at_place : (r : ℕ) (it : Record) → seek r cs ≡ Some it → IsThere m id r it

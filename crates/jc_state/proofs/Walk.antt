@@ -3,13 +3,7 @@ use Rattle.std.proofs.Common.{◌≡◌, ◌<◌, ℕ, Bool, true, eqb, cond, Li
 use Rattle.std.proofs.lemmas.Grind.{common_steps}
 use Rattle.std.proofs.lemmas.Bool.Decides.{nat_tests}
 use Rattle.std.proofs.lemmas.List.{length-map}
-use Rattle.jc_ring.specs.Ring.{row_behind}
-use Rattle.jc_state.proofs.Names.{Item, Record, Cell, seek, has_row, row_after, cells_of, Distinct, item_of, items_of}
-
-pub row_after-cells : (slots : List (Option Record)) (r : ℕ) (ps : List (ℕ × Bool)) → row_behind r ps ≡ row_after r (cells_of slots ps)
-row_after-cells slots r [] = refl
-row_after-cells slots r (p ∷ []) = refl
-row_after-cells slots r (p ∷ q ∷ ps) = rw (row_after-cells slots r (q ∷ ps))
+use Rattle.jc_state.proofs.Names.{Item, Record, Cell, seek, has_row, row_after, Distinct, item_of, items_of}
 
 abbrev pub keys_of : List Cell → List (List ℕ)
 keys_of cells = map (λ x. x.key) (items_of cells)

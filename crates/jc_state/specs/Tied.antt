@@ -3,6 +3,7 @@ use Rattle.std.specs.Prelude.{◌≡◌, ℕ, false, eqb, List, [], ◌∷◌, S
 use Rattle.std.specs.FinMap as table
 use Rattle.jc_model.specs.declared.config.Expiry.{Expiry}
 use Rattle.jc_rows.specs.Rows.{RowMap}
+use Rattle.jc_state.specs.declared.slots.Record.{Record}
 use Rattle.jc_state.specs.Shelf.{Cell, seek, has_row}
 
 -- no two rows have one number
@@ -10,10 +11,17 @@ abbrev pub Distinct : List Cell → Type 0
 Distinct [] = Unit {0}
 Distinct (c ∷ cs) = (has_row c.row cs ≡ false) × Distinct cs
 
--- the table says of each row where it is and when it expires
+-- P is true of each row, by its number and what it holds
+abbrev pub Each : (ℕ → Record → Type 0) → List Cell → Type 0
+Each P [] = Unit {0}
+Each P (c ∷ cs) = P c.row c.held × Each P cs
+
+-- the table says of a row where it is and when it expires
+abbrev pub IsThere : RowMap → ℕ → ℕ → Record → Type 0
+IsThere m id r it = table.get m (id, it.key) ≡ Some (r, it.expiry)
+
 abbrev pub Placed : RowMap → ℕ → List Cell → Type 0
-Placed m id [] = Unit {0}
-Placed m id (c ∷ cs) = (table.get m (id, c.held.key) ≡ Some (c.row, c.held.expiry)) × Placed m id cs
+Placed m id cs = Each (IsThere m id) cs
 
 -- the table has each row of the cache, and no other of this cache
 pub record Tied (m : RowMap) (id : ℕ) (cs : List Cell) : Type 0 where
