@@ -1,7 +1,6 @@
 -- Rows in a list of cells: looking one up, taking one out, storing one anew.
 use Rattle.std.proofs.Common.{◌≡◌, ℕ, true, false, eqb, ◌||◌, ◌&&◌, not, cond, List, [], ◌∷◌, ◌++◌, length, None, option_map, is_some, refl, arith}
 use Rattle.std.proofs.lemmas.Grind.{common_steps}
-use Rattle.std.proofs.lemmas.Bool.Decides.{nat_tests}
 use Rattle.jc_state.proofs.Names.{Record, Cell, seek, has_row, without_row, cleared, turned_cells, stored, Distinct}
 
 pub has_row-seek : (r : ℕ) (cs : List Cell) → has_row r cs ≡ is_some (seek r cs)
@@ -18,7 +17,7 @@ seek-append r (x ∷ xs) ys = grind (arith, common_steps, seek-append r xs ys)
 
 pub Distinct-push : (xs : List Cell) (c : Cell) → Distinct xs → has_row c.row xs ≡ false → Distinct (xs ++ c ∷ [])
 Distinct-push [] c d e = (refl, tt)
-Distinct-push (x ∷ xs) c d e = (grind (arith, common_steps, nat_tests, has_row-append x.row xs (c ∷ []), d.0), Distinct-push xs c d.1 (grind (arith, common_steps, nat_tests)))
+Distinct-push (x ∷ xs) c d e = (grind (arith, common_steps, has_row-append x.row xs (c ∷ []), d.0), Distinct-push xs c d.1 (grind (arith, common_steps)))
 
 -- Without a row.
 
@@ -28,7 +27,7 @@ without_row-off r (x ∷ xs) e = grind (arith, common_steps, without_row-off r x
 
 has_row-without : (s r : ℕ) (cs : List Cell) → has_row s (without_row r cs) ≡ (not (eqb s r) && has_row s cs)
 has_row-without s r [] = grind (arith, common_steps)
-has_row-without s r (c ∷ cs) = grind (arith, common_steps, nat_tests, has_row-without s r cs)
+has_row-without s r (c ∷ cs) = grind (arith, common_steps, has_row-without s r cs)
 
 pub Distinct-without : (r : ℕ) (cs : List Cell) → Distinct cs → Distinct (without_row r cs)
 Distinct-without r [] d = tt
@@ -39,12 +38,12 @@ Distinct-without r (c ∷ cs) d = elim (eqb c.row r) as (λ b. Distinct (cond (n
 
 pub seek-without : (s r : ℕ) (cs : List Cell) → seek s (without_row r cs) ≡ cond (eqb s r) None (seek s cs)
 seek-without s r [] = grind (arith, common_steps)
-seek-without s r (c ∷ cs) = grind (arith, common_steps, nat_tests, seek-without s r cs)
+seek-without s r (c ∷ cs) = grind (arith, common_steps, seek-without s r cs)
 
 -- With the first row last.
 
 pub seek-turned : (r : ℕ) (c : Cell) (cs : List Cell) → has_row c.row cs ≡ false → seek r (cs ++ cleared c ∷ []) ≡ seek r (c ∷ cs)
-seek-turned r c cs d = grind (arith, common_steps, nat_tests, seek-append r cs (cleared c ∷ []), has_row-seek r cs)
+seek-turned r c cs d = grind (arith, common_steps, seek-append r cs (cleared c ∷ []), has_row-seek r cs)
 
 pub length-turned_cells : (cs : List Cell) → length (turned_cells cs) ≡ length cs
 length-turned_cells [] = refl
@@ -54,12 +53,12 @@ length-turned_cells (c ∷ cs) = grind (arith, common_steps)
 
 has_row-stored : (s r : ℕ) (it : Record) (cs : List Cell) → has_row s (stored r it cs) ≡ has_row s cs
 has_row-stored s r it [] = refl
-has_row-stored s r it (c ∷ cs) = grind (arith, common_steps, nat_tests, has_row-stored s r it cs)
+has_row-stored s r it (c ∷ cs) = grind (arith, common_steps, has_row-stored s r it cs)
 
 pub Distinct-stored : (r : ℕ) (it : Record) (cs : List Cell) → Distinct cs → Distinct (stored r it cs)
 Distinct-stored r it [] d = tt
-Distinct-stored r it (c ∷ cs) d = (grind (arith, common_steps, nat_tests, has_row-stored c.row r it cs, d.0), Distinct-stored r it cs d.1)
+Distinct-stored r it (c ∷ cs) d = (grind (arith, common_steps, has_row-stored c.row r it cs, d.0), Distinct-stored r it cs d.1)
 
 pub seek-stored : (s r : ℕ) (it : Record) (cs : List Cell) → seek s (stored r it cs) ≡ cond (eqb s r) (option_map (λ h. it) (seek s cs)) (seek s cs)
 seek-stored s r it [] = grind (arith, common_steps)
-seek-stored s r it (c ∷ cs) = grind (arith, common_steps, nat_tests, seek-stored s r it cs)
+seek-stored s r it (c ∷ cs) = grind (arith, common_steps, seek-stored s r it cs)

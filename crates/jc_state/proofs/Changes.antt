@@ -5,7 +5,6 @@ use Rattle.std.proofs.lemmas.List.{length-map}
 use Rattle.std.proofs.lemmas.List.Sums.{length-filter, count_by-le-length}
 use Rattle.std.specs.FinMap as table
 use Rattle.jc_model.specs.contracts.config.ExpiryPartialEq.TheImpl as expiry_eq
-use Rattle.std.proofs.lemmas.Bool.Decides.{nat_tests}
 use Rattle.jc_rows.proofs.Laws.{get-put_same, get-put_other, with_expiry_is, same_rows}
 use Rattle.jc_rows.proofs.Places.{place_tells}
 use Rattle.jc_state.proofs.Names.{Expiry, RowMap, with_expiry, Record, Cell, seek, has_row, without_row, stored, stored_cell, Tied, Kept, IsKeptIn}
@@ -19,7 +18,7 @@ same_row m x row found = same_rows _ _ (λ y. elim (place_tells y x) [
 ])
 
 expiries_same : (e f : Expiry) → not (expiry_eq.ghosts.eq e f) ≡ false → e ≡ f
-expiries_same e f same = grind (arith, common_steps, nat_tests)
+expiries_same e f same = grind (arith, common_steps)
 
 -- an expiry that stays is none that is set
 pub same_expiry : (m : RowMap) (x : ℕ × List ℕ) (e f : Expiry) → option_map (λ row. row.1) (table.get m x) ≡ Some e → not (expiry_eq.ghosts.eq e f) ≡ false → m ≡ with_expiry m x f

@@ -1,7 +1,6 @@
 -- What a change of rows and notices means for the progress of a call.
 use Rattle.std.proofs.Common.{◌≡◌, ◌<◌, ℕ, List, arith}
 use Rattle.std.proofs.lemmas.Grind.{common_steps}
-use Rattle.std.proofs.lemmas.Bool.Decides.{nat_tests}
 use Rattle.jc_state.proofs.Names.{Notice, CacheConfig, Item, without, with_row, with_ring, notify, RowMap, Record, without_row, stored, told_after, Kept, items_of, progress_of, IsTied, IsRow}
 use Rattle.jc_state.proofs.Found.{items_of-stored, only_row, used_item}
 
@@ -11,7 +10,7 @@ noted c now n s told = grind (arith, common_steps)
 
 -- without listeners it does not matter which notice it would be
 pub same_told : (c : CacheConfig) (n m : Notice) (told : List Notice) → (0 < c.listeners → n ≡ m) → told_after c n told ≡ told_after c m told
-same_told c n m told h = grind (arith, common_steps, nat_tests)
+same_told c n m told h = grind (arith, common_steps)
 
 -- a row that goes
 pub removed : (s : Kept) (r : ℕ) (x : Item) → items_of (without_row r s.cells) ≡ without x.key (items_of s.cells) → (c : CacheConfig) (now : ℕ) (n : Notice) (told : List Notice)

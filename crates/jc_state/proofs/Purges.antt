@@ -1,7 +1,6 @@
 -- What a key's row comes to where expired rows go.
 use Rattle.std.proofs.Common.{◌≡◌, ℕ, true, false, List, [], ◌∷◌, Some, option_map, arith}
 use Rattle.std.proofs.lemmas.Grind.{common_steps}
-use Rattle.std.proofs.lemmas.Bool.Decides.{nat_tests}
 use Rattle.jc_state.proofs.Names.{first, CacheConfig, Notice, Item, is_live, row_of, expire, purge, holds, Record, Cell, seek, has_row, Kept, items_of, state_of, progress_of}
 use Rattle.jc_state.proofs.Cells.{has_row-seek}
 
@@ -12,7 +11,7 @@ held_there row cells on = grind (arith, common_steps, has_row-seek)
 -- what the first row holds
 pub held_first : (row : ℕ) (cells : List Cell) → option_map (λ c. c.row) (first cells) ≡ Some row → (held : Record) × (seek row cells ≡ Some held)
 held_first row [] is = cc
-held_first row (c ∷ cs) is = (c.held, grind (arith, common_steps, nat_tests))
+held_first row (c ∷ cs) is = (c.held, grind (arith, common_steps))
 
 -- where the key has this row
 module _ (c : CacheConfig) (now : ℕ) (key : List ℕ) (k : Kept) (told : List Notice) (x : Item) (found : row_of key (items_of k.cells) ≡ Some x) where

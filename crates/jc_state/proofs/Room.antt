@@ -1,7 +1,6 @@
 -- Making room, by the row where the hand stops.
 use Rattle.std.proofs.Common.{◌≡◌, ℕ, Bool, true, false, List, [], ◌∷◌, length, Some, option_map, refl, sym, ap, ◌∙◌, arith}
 use Rattle.std.proofs.lemmas.Grind.{common_steps}
-use Rattle.std.proofs.lemmas.Bool.Decides.{nat_tests}
 use Rattle.jc_state.proofs.Names.{Notice, live, turned, one_more, expired, with_room, first, Record, Cell, seek, without_row, Distinct, told_after, Kept, item_of, items_of, progress_of, IsVictim}
 use Rattle.jc_state.proofs.Cells.{without_row-off}
 
@@ -9,7 +8,7 @@ use Rattle.jc_state.proofs.Cells.{without_row-off}
 first_goes : (row : ℕ) (held : Record) (cs : List Cell) → Distinct cs → option_map (λ c. c.row) (first cs) ≡ Some row → seek row cs ≡ Some held
     → (bit : Bool) × (items_of cs ≡ item_of (record { row = row; held = held; bit = bit }) ∷ items_of (without_row row cs))
 first_goes row held [] d e s = cc
-first_goes row held (c ∷ cs) d e s = (c.bit, grind (arith, common_steps, nat_tests, d.0, without_row-off row cs))
+first_goes row held (c ∷ cs) d e s = (c.bit, grind (arith, common_steps, d.0, without_row-off row cs))
 
 -- the cache was full, and the hand has stopped at this row
 module _ (now : ℕ) (old new : Kept) (row : ℕ) (held : Record) (told : List Notice) (full : length old.cells ≡ old.config.capacity) (is : IsVictim now old new row) (d : Distinct new.cells) (there : seek row new.cells ≡ Some held) where

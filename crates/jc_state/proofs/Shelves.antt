@@ -2,7 +2,6 @@
 use Rattle.std.proofs.Common.{◌≡◌, ◌<◌, ◌+◌, ℕ, Bool, true, false, eqb, ◌||◌, ◌&&◌, not, cond, List, [], ◌∷◌, ◌++◌, length, Option, Some, None, is_some, set, refl, sym, ◌∙◌, arith, length-append}
 use Rattle.std.proofs.lemmas.Grind.{common_steps}
 use Rattle.std.proofs.lemmas.List.{get_or-set_same, get_or-set_other, length-map}
-use Rattle.std.proofs.lemmas.Bool.Decides.{nat_tests}
 use Rattle.jc_ring.specs.Ring.{row_behind, ring_without, bit_set}
 use Rattle.jc_ring.proofs.Laws.{on_ring-append, on_ring-turned, on_ring-without, on_ring-touched, length-turned}
 use Rattle.jc_state.proofs.Names.{row_after, Expiry, on_ring, ring_touched, Record, slot, cells_of, held_of, has_row, seek, without_row, IsShelf, stored, renewed, with_expiry_of}
@@ -27,7 +26,7 @@ cells-without r slots (p ∷ ps) = grind (arith, common_steps, cells-without r s
 
 cells-touched : (r : ℕ) (x : Option Record) (slots : List (Option Record)) (ring : List (ℕ × Bool)) → r < length slots → cells_of (set slots r x) (ring_touched r ring) ≡ stored r (held_of x) (cells_of slots ring)
 cells-touched r x slots [] h = refl
-cells-touched r x slots (p ∷ ps) h = grind (arith, common_steps, nat_tests, get_or-set_same slots r x None h, get_or-set_other slots r p.0 x None, cells-touched r x slots ps h)
+cells-touched r x slots (p ∷ ps) h = grind (arith, common_steps, get_or-set_same slots r x None h, get_or-set_other slots r p.0 x None, cells-touched r x slots ps h)
 
 pub row_after-cells : (slots : List (Option Record)) (r : ℕ) (ps : List (ℕ × Bool)) → row_behind r ps ≡ row_after r (cells_of slots ps)
 row_after-cells slots r [] = refl
@@ -47,7 +46,7 @@ module _ (slots : List (Option Record)) (ring : List (ℕ × Bool)) (limit capac
     vacant_off = rw (is.filled r, e)
 
     pub push-shelf : IsShelf (set slots r (Some it)) (ring ++ (r, false) ∷ []) limit capacity
-    push-shelf = shelf-set _ (Some it) h (λ s. grind (arith, common_steps, nat_tests, on_ring-append s ring ((r, false) ∷ []))) (rw e (omega (arith, length-append ring ((r, false) ∷ []))))
+    push-shelf = shelf-set _ (Some it) h (λ s. grind (arith, common_steps, on_ring-append s ring ((r, false) ∷ []))) (rw e (omega (arith, length-append ring ((r, false) ∷ []))))
 
     pub push-cells : cells_of (set slots r (Some it)) (ring ++ (r, false) ∷ []) ≡ cells_of slots ring ++ record { row = r; held = it; bit = false } ∷ []
     push-cells = grind (arith, common_steps, cells-off_ring r (Some it) slots ring h vacant_off, get_or-set_same slots r (Some it) None h)
@@ -64,11 +63,11 @@ module _ (slots : List (Option Record)) (ring : List (ℕ × Bool)) (limit capac
     take-shelf rest e one = shelf-set rest None within (λ s. grind (arith, common_steps, on_ring-without s r ring)) (rw there (omega arith))
 
     pub take-cells : (rest : List (ℕ × Bool)) → rest ≡ ring_without r ring → cells_of (set slots r None) rest ≡ without_row r (cells_of slots ring)
-    take-cells rest e = grind (arith, common_steps, nat_tests, on_ring-without r r ring, cells-off_ring r None slots (ring_without r ring) within, cells-without r slots ring)
+    take-cells rest e = grind (arith, common_steps, on_ring-without r r ring, cells-off_ring r None slots (ring_without r ring) within, cells-without r slots ring)
 
     -- a row is stored anew
     pub store-shelf : (x : Option Record) → is_some x ≡ true → IsShelf (set slots r x) (ring_touched r ring) limit capacity
-    store-shelf x some = shelf-set _ x within (λ s. grind (arith, common_steps, nat_tests, is.filled s, there, on_ring-touched s r ring)) (rw (there, some, length-map ring (bit_set r)))
+    store-shelf x some = shelf-set _ x within (λ s. grind (arith, common_steps, is.filled s, there, on_ring-touched s r ring)) (rw (there, some, length-map ring (bit_set r)))
 
     pub store-cells : (x : Option Record) → cells_of (set slots r x) (ring_touched r ring) ≡ stored r (held_of x) (cells_of slots ring)
     store-cells x = cells-touched r x slots ring within

@@ -1,7 +1,6 @@
 -- The tie between the rows of a cache and the table, and what becomes of it with each change.
 use Rattle.std.proofs.Common.{◌≡◌, ℕ, true, false, eqb, cond, List, [], ◌∷◌, ◌++◌, Some, None, option_map, sym, ◌∙◌, arith}
 use Rattle.std.proofs.lemmas.Grind.{common_steps}
-use Rattle.std.proofs.lemmas.Bool.Decides.{nat_tests}
 use Rattle.std.proofs.lemmas.Slice.Eq.{bytes_eq-Decides}
 use Rattle.std.specs.Str.{bytes_eq}
 use Rattle.std.specs.FinMap as table
@@ -22,13 +21,13 @@ get-removed m id k q = grind (arith, common_steps, bytes_eq-Decides q k, get-rem
 each : (P : ℕ → Record → Type 0) (cs : List Cell) → Distinct cs → ((r : ℕ) (it : Record) → seek r cs ≡ Some it → P r it) → Each P cs
 each P [] d h = tt
 each P (c ∷ cs) d h = (
-  h c.row c.held (grind (arith, common_steps, nat_tests)),
-  each P cs d.1 (λ r it e. h r it (grind (arith, common_steps, nat_tests, d.0, e, has_row-seek r cs))),
+  h c.row c.held (grind (arith, common_steps)),
+  each P cs d.1 (λ r it e. h r it (grind (arith, common_steps, d.0, e, has_row-seek r cs))),
 )
 
 pub placed_at : (m : RowMap) (id : ℕ) (cs : List Cell) (r : ℕ) (it : Record) → Placed m id cs → seek r cs ≡ Some it → IsThere m id r it
 placed_at m id [] r it p e = cc
-placed_at m id (c ∷ cs) r it p e = grind (arith, common_steps, nat_tests, p.0, placed_at m id cs r it p.1)
+placed_at m id (c ∷ cs) r it p e = grind (arith, common_steps, p.0, placed_at m id cs r it p.1)
 
 pub row_there : (m : RowMap) (id : ℕ) (cs : List Cell) (k : List ℕ) (r : ℕ) (e : Expiry) → Tied m id cs → table.get m (id, k) ≡ Some (r, e) → has_row r cs ≡ true
 row_there m id cs k r e t g = grind (arith, common_steps, has_row-seek r cs, t.found k r e g)
@@ -47,7 +46,7 @@ module _ (m : RowMap) (id : ℕ) (cs : List Cell) (t : Tied m id cs) where
   at_place r it e = placed_at m id cs r it t.placed e
 
   same_as : (k : List ℕ) (r : ℕ) (e : Expiry) → table.get m (id, k) ≡ Some (r, e) → (s : ℕ) (it : Record) → seek s cs ≡ Some it → eqb s r ≡ bytes_eq it.key k
-  same_as k r e g s it h = grind (arith, common_steps, nat_tests, bytes_eq-Decides it.key k, at_place s it h, t.found k r e g)
+  same_as k r e g s it h = grind (arith, common_steps, bytes_eq-Decides it.key k, at_place s it h, t.found k r e g)
 
   pub row_is_key : (k : List ℕ) (r : ℕ) (e : Expiry) → table.get m (id, k) ≡ Some (r, e) → RowIsKey r k cs
   row_is_key k r e g = each _ cs t.distinct (same_as k r e g)
@@ -63,14 +62,14 @@ module _ (m : RowMap) (id : ℕ) (cs : List Cell) (t : Tied m id cs) where
   Tied-pushed r it off g =
       let c : Cell = record { row = r; held = it; bit = false } in
       tied_by _ id _ (Distinct-push cs c t.distinct off)
-      (λ s h e. grind (arith, common_steps, nat_tests, bytes_eq-Decides h.key it.key, seek-append s cs (c ∷ []), get-put m id it.key h.key (r, it.expiry), at_place s h))
-      (λ q s x h. grind (arith, common_steps, nat_tests, bytes_eq-Decides q it.key, seek-append s cs (c ∷ []), has_row-seek s cs, get-put m id it.key q (r, it.expiry), t.found q s x))
+      (λ s h e. grind (arith, common_steps, bytes_eq-Decides h.key it.key, seek-append s cs (c ∷ []), get-put m id it.key h.key (r, it.expiry), at_place s h))
+      (λ q s x h. grind (arith, common_steps, bytes_eq-Decides q it.key, seek-append s cs (c ∷ []), has_row-seek s cs, get-put m id it.key q (r, it.expiry), t.found q s x))
 
   -- A row is stored anew.
   pub Tied-stored : (r : ℕ) (e : Expiry) (it : Record) → table.get m (id, it.key) ≡ Some (r, e) → Tied (table.insert m (id, it.key) (r, it.expiry)) id (stored r it cs)
   Tied-stored r e it g = tied_by _ id _ (Distinct-stored r it cs t.distinct)
-      (λ s h b. grind (arith, common_steps, nat_tests, bytes_eq-Decides h.key it.key, seek-stored s r it cs, get-put m id it.key h.key (r, it.expiry), same_as it.key r e g s h, at_place s h))
-      (λ q s x h. grind (arith, common_steps, nat_tests, bytes_eq-Decides q it.key, seek-stored s r it cs, get-put m id it.key q (r, it.expiry), t.found q s x, t.found it.key r e g, same_as it.key r e g s))
+      (λ s h b. grind (arith, common_steps, bytes_eq-Decides h.key it.key, seek-stored s r it cs, get-put m id it.key h.key (r, it.expiry), same_as it.key r e g s h, at_place s h))
+      (λ q s x h. grind (arith, common_steps, bytes_eq-Decides q it.key, seek-stored s r it cs, get-put m id it.key q (r, it.expiry), t.found q s x, t.found it.key r e g, same_as it.key r e g s))
 
 -- The first row goes last.
 

@@ -1,7 +1,6 @@
 -- A walk along the ring, from one row to the row behind it.
 use Rattle.std.proofs.Common.{◌≡◌, ◌<◌, ℕ, Bool, true, eqb, cond, List, [], ◌∷◌, ◌++◌, length, map, Option, Some, None, refl, ap, arith, length-append, append_assoc}
 use Rattle.std.proofs.lemmas.Grind.{common_steps}
-use Rattle.std.proofs.lemmas.Bool.Decides.{nat_tests}
 use Rattle.std.proofs.lemmas.List.{length-map}
 use Rattle.jc_state.proofs.Names.{Item, Record, Cell, seek, has_row, row_after, Distinct, item_of, items_of}
 
@@ -21,19 +20,19 @@ pub record WalkedTo (cells : List Cell) (keys : List (List ℕ)) (next : Option 
 
 after_on : (r : ℕ) (cells : List Cell) (q : ℕ) → row_after r cells ≡ Some q → has_row q cells ≡ true
 after_on r [] q e = cc
-after_on r (c ∷ []) q e = grind (arith, common_steps, nat_tests)
-after_on r (c ∷ d ∷ cs) q e = grind (arith, common_steps, nat_tests, after_on r (d ∷ cs) q)
+after_on r (c ∷ []) q e = grind (arith, common_steps)
+after_on r (c ∷ d ∷ cs) q e = grind (arith, common_steps, after_on r (d ∷ cs) q)
 
 -- a row of another number before them makes no difference
 from_behind : (c : Cell) (cells : List Cell) (next : Option ℕ) → Distinct (c ∷ cells) → ((q : ℕ) → next ≡ Some q → has_row q cells ≡ true) → rows_from next (c ∷ cells) ≡ rows_from next cells
 from_behind c cells None d on = refl
-from_behind c cells (Some q) d on = grind (arith, common_steps, nat_tests, d.0, on q refl)
+from_behind c cells (Some q) d on = grind (arith, common_steps, d.0, on q refl)
 
 row_passed : (cells : List Cell) (r : ℕ) (it : Record) → Distinct cells → seek r cells ≡ Some it → keys_of (rows_from (Some r) cells) ≡ it.key ∷ keys_of (rows_from (row_after r cells) cells)
 row_passed [] r it d e = cc
-row_passed (c ∷ []) r it d e = grind (arith, common_steps, nat_tests)
+row_passed (c ∷ []) r it d e = grind (arith, common_steps)
 row_passed (c ∷ b ∷ cs) r it d e =
-    grind (arith, common_steps, nat_tests, from_behind c (b ∷ cs) (row_after r (b ∷ cs)) d (after_on r (b ∷ cs)), row_passed (b ∷ cs) r it d.1, d.0)
+    grind (arith, common_steps, from_behind c (b ∷ cs) (row_after r (b ∷ cs)) d (after_on r (b ∷ cs)), row_passed (b ∷ cs) r it d.1, d.0)
 
 module _ (cells : List Cell) (keys : List (List ℕ)) (r : ℕ) (it : Record) (d : Distinct cells) (w : WalkedTo cells keys (Some r)) (e : seek r cells ≡ Some it) where
   -- the walk passes the row
