@@ -1,5 +1,5 @@
 -- What stays while one row changes in both of its places.
-use Rattle.std.proofs.Common.{◌≡◌, ℕ, eqb, not, length, ◌<◌, false, [], ◌∷◌, ◌++◌, Option, Some, None, option_map, List, arith, length-append, inl, inr}
+use Rattle.std.proofs.Common.{◌≡◌, ℕ, eqb, not, length, ◌<◌, false, [], ◌∷◌, ◌++◌, Some, None, option_map, List, arith, length-append, inl, inr}
 use Rattle.std.proofs.lemmas.Grind.{common_steps}
 use Rattle.std.proofs.lemmas.List.{length-map}
 use Rattle.std.proofs.lemmas.List.Sums.{length-filter, count_by-le-length}
@@ -7,7 +7,7 @@ use Rattle.std.specs.FinMap as table
 use Rattle.jc_model.specs.contracts.config.ExpiryPartialEq.TheImpl as expiry_eq
 use Rattle.jc_rows.proofs.Laws.{get-put_same, get-put_other, with_expiry_is, same_rows}
 use Rattle.jc_rows.proofs.Places.{place_tells}
-use Rattle.jc_state.proofs.Names.{Expiry, RowMap, with_expiry, Record, Cell, seek, has_row, without_row, stored, stored_cell, Tied, Kept, IsKeptIn}
+use Rattle.jc_state.proofs.Names.{Expiry, RowMap, with_expiry, Record, Cell, seek, has_row, without_row, stored, stored_cell, Kept, IsKeptIn}
 use Rattle.jc_state.proofs.Ties.{Tied-removed, Tied-pushed, Tied-stored, placed_at}
 
 -- a row that is put where it stands changes nothing

@@ -2,7 +2,7 @@
 use Rattle.std.proofs.Common.{◌≡◌, ◌⊎◌, ℕ, true, false, List, [], ◌∷◌, ◌++◌, refl, arith}
 use Rattle.std.proofs.lemmas.Grind.{common_steps}
 use Rattle.jc_state.specs.Clock.{AreInUse, FirstUnusedGoes, ElseFirstGoes}
-use Rattle.jc_state.proofs.Names.{CacheConfig, Item, Progress, is_live, stops_at, passed, before_stop, from_stop, turned, with_ring, evicted, make_room}
+use Rattle.jc_state.proofs.Names.{CacheConfig, Item, Progress, is_live, stops_at, before_stop, from_stop, turned, with_ring, evicted, make_room}
 
 stops : (now : ℕ) (x : Item) → (is_live now x ≡ false) ⊎ (x.used ≡ false) → stops_at now x ≡ true
 stops now x h = grind (arith, common_steps)

@@ -1,5 +1,5 @@
 -- Making room, by the row where the hand stops.
-use Rattle.std.proofs.Common.{◌≡◌, ℕ, Bool, true, false, List, [], ◌∷◌, length, Some, option_map, refl, sym, ap, ◌∙◌, arith}
+use Rattle.std.proofs.Common.{◌≡◌, ℕ, Bool, true, false, List, [], ◌∷◌, length, Some, option_map, sym, ◌∙◌, arith}
 use Rattle.std.proofs.lemmas.Grind.{common_steps}
 use Rattle.jc_state.proofs.Names.{Notice, live, turned, one_more, expired, with_room, first, Record, Cell, seek, without_row, Distinct, told_after, Kept, item_of, items_of, progress_of, IsVictim}
 use Rattle.jc_state.proofs.Cells.{without_row-off}

@@ -1,5 +1,5 @@
 -- A walk along the ring, from one row to the row behind it.
-use Rattle.std.proofs.Common.{◌≡◌, ◌<◌, ℕ, Bool, true, eqb, cond, List, [], ◌∷◌, ◌++◌, length, map, Option, Some, None, refl, ap, arith, length-append, append_assoc}
+use Rattle.std.proofs.Common.{◌≡◌, ◌<◌, ℕ, true, eqb, cond, List, [], ◌∷◌, ◌++◌, length, map, Option, Some, None, refl, ap, arith, length-append, append_assoc}
 use Rattle.std.proofs.lemmas.Grind.{common_steps}
 use Rattle.std.proofs.lemmas.List.{length-map}
 use Rattle.jc_state.proofs.Names.{Item, Record, Cell, seek, has_row, row_after, Distinct, item_of, items_of}
