@@ -11,7 +11,8 @@ first_goes row held [] d e s = cc
 first_goes row held (c ∷ cs) d e s = (c.bit, grind (arith, common_steps, d.0, without_row-off row cs))
 
 -- the cache was full, and the hand has stopped at this row
-module _ (now : ℕ) (old new : Kept) (row : ℕ) (held : Record) (told : List Notice) (full : length old.cells ≡ old.config.capacity) (is : IsVictim now old new row) (d : Distinct new.cells) (there : seek row new.cells ≡ Some held) where
+module _ (now : ℕ) (old new : Kept) (row : ℕ) (held : Record) (told : List Notice)
+    (full : length old.cells ≡ old.config.capacity) (is : IsVictim now old new row) (d : Distinct new.cells) (there : seek row new.cells ≡ Some held) where
   victim : (bit : Bool) × (items_of new.cells ≡ item_of (record { row = row; held = held; bit = bit }) ∷ items_of (without_row row new.cells))
   victim = first_goes row held new.cells d is.at there
 
@@ -19,9 +20,12 @@ module _ (now : ℕ) (old new : Kept) (row : ℕ) (held : Record) (told : List N
   shape = sym is.hand ∙ victim.1
 
   -- a live row is evicted
-  pub made-evicted : live now held.expiry ≡ true → progress_of (record new { cells = without_row row new.cells; counts = record new.counts { evictions = one_more new.counts.evictions } }) told ≡ with_room old.config now (progress_of old told)
+  pub made-evicted : live now held.expiry ≡ true → progress_of (record new { cells = without_row row new.cells; counts = record new.counts { evictions = one_more new.counts.evictions } }) told
+      ≡ with_room old.config now (progress_of old told)
   made-evicted l = grind (arith, common_steps, is.kept, shape, full)
 
   -- an expired row is told
-  pub made-expired : live now held.expiry ≡ false → progress_of (record new { cells = without_row row new.cells }) (told_after new.config (expired (item_of record { row = row; held = held; bit = false })) told) ≡ with_room old.config now (progress_of old told)
+  pub made-expired : live now held.expiry ≡ false
+      → progress_of (record new { cells = without_row row new.cells }) (told_after new.config (expired (item_of record { row = row; held = held; bit = false })) told)
+      ≡ with_room old.config now (progress_of old told)
   made-expired l = grind (arith, common_steps, is.kept, shape, full)

@@ -37,7 +37,8 @@ pub ruleset shelf_laws = (on_ring-turned, length-turned, has_row-cells, seek-cel
 
 module _ (slots : List (Option Record)) (ring : List (ℕ × Bool)) (limit capacity r : ℕ) (is : IsShelf slots ring limit capacity) where
   -- a slot changes, and the ring with it
-  shelf-set : (after : List (ℕ × Bool)) (x : Option Record) → r < length slots → ((s : ℕ) → on_ring s after ≡ cond (eqb s r) (is_some x) (on_ring s ring)) → length after + cond (is_some (slot slots r)) 1 0 ≡ length ring + cond (is_some x) 1 0 → IsShelf (set slots r x) after limit capacity
+  shelf-set : (after : List (ℕ × Bool)) (x : Option Record) → r < length slots → ((s : ℕ) → on_ring s after ≡ cond (eqb s r) (is_some x) (on_ring s ring))
+      → length after + cond (is_some (slot slots r)) 1 0 ≡ length ring + cond (is_some x) 1 0 → IsShelf (set slots r x) after limit capacity
   shelf-set after x h on many = grind (arith, common_steps)
 
   -- a row is added at a vacant slot

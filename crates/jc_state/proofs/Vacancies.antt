@@ -16,7 +16,8 @@ vacant-more slots rs h r = grind (arith, common_steps, h r, sum_by_push (λ q. c
 -- A row is filled, vacated or filled anew.
 
 module _ (slots : List (Option Record)) (vacant : List ℕ) (room : ℕ) (is : IsSlots slots vacant room) where
-  slots-set : (after : List ℕ) (r : ℕ) (x : Option Record) → r < length slots → ((q : ℕ) → count_by (eqb q) after ≡ cond (eqb q r) (cond (is_some x) 0 1) (count_by (eqb q) vacant)) → length after + cond (is_some x) 1 0 ≡ length vacant + cond (is_some (slot slots r)) 1 0 → IsSlots (set slots r x) after room
+  slots-set : (after : List ℕ) (r : ℕ) (x : Option Record) → r < length slots → ((q : ℕ) → count_by (eqb q) after ≡ cond (eqb q r) (cond (is_some x) 0 1) (count_by (eqb q) vacant))
+      → length after + cond (is_some x) 1 0 ≡ length vacant + cond (is_some (slot slots r)) 1 0 → IsSlots (set slots r x) after room
   slots-set after r x within listed many = record {
     few = grind (arith, common_steps, is.few);
     vacancies = λ q. grind (arith, common_steps, is.vacancies q, listed q);

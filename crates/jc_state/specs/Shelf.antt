@@ -1,5 +1,6 @@
 -- The rows of one cache in the order of its ring, and where they are kept.
-use Rattle.std.specs.Prelude.{◌≡◌, ◌<◌, ◌≤◌, ◌^◌, ℕ, Bool, false, true, eqb, ◌||◌, not, cond, List, [], ◌∷◌, ◌++◌, length, Option, Some, None, option_map, is_some, count_by, map, filter, slice_index_or}
+use Rattle.std.specs.Prelude.{◌≡◌, ◌<◌, ◌≤◌, ◌^◌, ℕ, Bool, false, true, eqb, ◌||◌, not, cond, List, [], ◌∷◌, ◌++◌, length}
+use Rattle.std.specs.Prelude.{Option, Some, None, option_map, is_some, count_by, map, filter, slice_index_or}
 use Rattle.jc_model.specs.declared.config.Expiry.{Expiry}
 use Rattle.jc_model.specs.declared.config.Expiry.TheVariants.{Never}
 use Rattle.jc_state.specs.declared.slots.Record.{Record}

@@ -19,7 +19,8 @@ returns-then-is_live-clause-progress g c =
     let held = c.take_row-gone.result in
     let full = rw c.deref.ensures at (c.is_full.ensures.full c.if-is_full.true) in
     subst (λ (v : Visited). progress_in c.eviction.new.self ≡ with_room v.cache.config v.moment (progress_in v)) c.self.view_is
-    (rw (c.eviction.ensures, c.take_row-gone.ensures.gone.kept, c.take_row-gone.ensures.noted) (made-evicted c.self.inside.moment old new c.turn_hand-row.result held _ full turn (turn.tied _ c.self.invariant.tied).distinct c.take_row-gone.ensures.was
+    (rw (c.eviction.ensures, c.take_row-gone.ensures.gone.kept, c.take_row-gone.ensures.noted)
+    (made-evicted c.self.inside.moment old new c.turn_hand-row.result held _ full turn (turn.tied _ c.self.invariant.tied).distinct c.take_row-gone.ensures.was
     (sym (c.is_live.ensures held c.take_row-gone.ensures.was) ∙ c.if-is_live.true)))
 
 pub returns-else-is_live-clause-progress : goal.returns-else-is_live-clause-progress
@@ -30,5 +31,6 @@ returns-else-is_live-clause-progress g c =
     let h = held_first c.turn_hand-row.result new.cells turn.at in
     let full = rw c.deref.ensures at (c.is_full.ensures.full c.if-is_full.true) in
     subst (λ (v : Visited). progress_in c.remove_row.new.self ≡ with_room v.cache.config v.moment (progress_in v)) c.self.view_is
-    (rw (c.remove_row.ensures.gone.kept, c.remove_row.ensures.told h.0 h.1) (made-expired c.self.inside.moment old new c.turn_hand-row.result h.0 _ full turn (turn.tied _ c.self.invariant.tied).distinct h.1
+    (rw (c.remove_row.ensures.gone.kept, c.remove_row.ensures.told h.0 h.1)
+    (made-expired c.self.inside.moment old new c.turn_hand-row.result h.0 _ full turn (turn.tied _ c.self.invariant.tied).distinct h.1
     (sym (c.is_live.ensures h.0 h.1) ∙ c.if-is_live.false)))

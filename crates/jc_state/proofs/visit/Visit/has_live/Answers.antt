@@ -8,4 +8,6 @@ pub returns-in-None : goal.returns-in-None
 returns-in-None g c = λ key found. grind (arith, common_steps, rw c.in-None.is at found)
 
 pub returns-in-Some : goal.returns-in-Some
-returns-in-Some g c = λ key found. (let x = rw c.in-Some.is at found in c.is_live.ensures (record_of x.0) x.1.there ∙ held_is c.args.self.now.cache.config c.args.self.now.moment key c.args.self.now.cache [] x.0 x.1.found)
+returns-in-Some g c = λ key found.
+    let x = rw c.in-Some.is at found in
+    c.is_live.ensures (record_of x.0) x.1.there ∙ held_is c.args.self.now.cache.config c.args.self.now.moment key c.args.self.now.cache [] x.0 x.1.found

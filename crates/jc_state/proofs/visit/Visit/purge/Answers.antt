@@ -17,9 +17,10 @@ returns-then-is_live-clause-progress g c = λ key found.
 pub returns-else-is_live-clause-progress : goal.returns-else-is_live-clause-progress
 returns-else-is_live-clause-progress g c = λ key found.
     let x = rw c.in-Some.is at found in
+    let s = c.args.self.now.cache in
     rw (c.remove_row.ensures.gone.kept, c.remove_row.ensures.told (record_of x.0) x.1.there)
-    (removed c.args.self.now.cache c.in-Some.row x.0 (rw c.remove_row.ensures.gone.kept at (c.remove_row.ensures.gone.left key x.0 x.1)) c.args.self.now.cache.config c.args.self.now.moment (expired x.0) c.args.self.now.noted.told
-    ∙ purge-expired c.args.self.now.cache.config c.args.self.now.moment key c.args.self.now.cache _ x.0 x.1.found (sym (c.is_live.ensures (record_of x.0) x.1.there) ∙ c.if-is_live.false))
+    (removed s c.in-Some.row x.0 (rw c.remove_row.ensures.gone.kept at (c.remove_row.ensures.gone.left key x.0 x.1)) s.config c.args.self.now.moment (expired x.0) c.args.self.now.noted.told
+    ∙ purge-expired s.config c.args.self.now.moment key s _ x.0 x.1.found (sym (c.is_live.ensures (record_of x.0) x.1.there) ∙ c.if-is_live.false))
 
 pub returns-else-is_live-clause-found : goal.returns-else-is_live-clause-found
 returns-else-is_live-clause-found g c = λ key found.

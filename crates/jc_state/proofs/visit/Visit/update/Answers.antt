@@ -39,4 +39,7 @@ returns-clause-progress g c = λ key x at.
     let is_told : 0 < s.config.listeners → notice ≡ updated x c.args.stored.value = λ some. rw (rw (← c.self.view_is) at c.requires.told some) in
     rw (c.tell.ensures.told, c.tell.ensures.same, c.store-before.ensures.kept, c.deref_mut.ensures.value, held, c.after_update-expiry.ensures, c.config.ensures, same, ← c.self.view_is)
     (rw (same_told s.config notice (updated x c.args.stored.value) told is_told)
-    (rw (noted s.config c.self.inside.moment (updated x c.args.stored.value) (record s { cells = stored c.args.row new s.cells }) told, items-stored _ key s c.args.row x c.self.invariant.tied is new is.key_is)))
+    (rw (
+      noted s.config c.self.inside.moment (updated x c.args.stored.value) (record s { cells = stored c.args.row new s.cells }) told,
+      items-stored _ key s c.args.row x c.self.invariant.tied is new is.key_is,
+    )))
