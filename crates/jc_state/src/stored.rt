@@ -1,5 +1,5 @@
 //! A value with the copies that its storing takes.
-ghost use Rattle.std.specs.Prelude.{◌≡◌, IfOk, option_map};
+ghost use Rattle.std.specs.Prelude.{◌≡◌, None, IfOk, IfSome, option_map};
 ghost use Rattle.jc_state.specs.Noted.{StoredIsTold, stored_value};
 
 use jc_model::OutOfMemory;
@@ -22,6 +22,8 @@ impl Stored {
     ) -> Result<Option<Stored>, OutOfMemory>
         ensures value { IfOk result (λ s. stored_value s ≡ option_map (λ v. v.now) value.entry) }
         ensures told { IfOk result (λ s. StoredIsTold config.now s) }
+        ensures spared { config.now.listeners ≡ 0 →
+            IfOk result (λ s. IfSome s (λ s. s.told ≡ None)) }
     {
         let Some(value) = value else {
             return Ok(None);
