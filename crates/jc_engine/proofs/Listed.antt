@@ -1,8 +1,10 @@
 -- The live caches by name, and what creating one asks of them.
-use Rattle.std.proofs.Common.{◌≡◌, ◌<◌, ℕ, List, [], ◌∷◌, map, option_map, Option, Some, None, refl, sym, ap, subst, ◌∙◌}
+use Rattle.std.proofs.Common.{◌≡◌, ◌<◌, ℕ, false, List, [], ◌∷◌, map, length, get_or, option_map, Option, Some, None, refl, sym, ap, subst, ◌∙◌, arith}
 use Rattle.jc_engine.proofs.Names.{CacheConfig, most_ids, all_there, Status, create_refusal, Member, member_of, members_of, id_named, refusal_beside, Cache, status_of, lives_of, names_of, id_of, MayCome, named_map}
-use Rattle.jc_engine.proofs.Names.{allowed}
-use Rattle.jc_engine.proofs.Places.{length_map, Within, listed_seen}
+use Rattle.jc_engine.proofs.Names.{allowed, at_place, is_open_in, Slot}
+use Rattle.jc_roster.specs.Members.{numbers_from}
+use Rattle.jc_roster.proofs.Listing.{NumberThere, number_there}
+use Rattle.jc_engine.proofs.Places.{length_map, place_of, Within, listed_seen, seen_is, member_at}
 
 named_there : (caches : List (Option Cache)) → map (λ (m : Member). m.name) (all_there (members_of (lives_of caches))) ≡ names_of caches
 named_there [] = refl
@@ -32,3 +34,14 @@ module _ (w : Within) where
 
   pub refusal_listed : (c : CacheConfig) → refusal_beside w.members c ≡ create_refusal (lives_of w.seen) c
   refusal_listed c = ap (λ (ms : List (Option Member)). refusal_beside ms c) (listed_seen w)
+
+  -- where no call is open of the caches whose numbers are listed, none is of any
+  pub none_open : (numbers : List ℕ) → numbers ≡ numbers_from 0 w.members → ((k : ℕ) → k < length numbers → is_open_in (at_place w.seen (get_or numbers k 0)) ≡ false) → (id : ℕ) → is_open_in (at_place w.seen id) ≡ false
+  none_open numbers is none id = by (w.caches id) refl
+    where
+      by : (o : Option Slot) → w.caches id ≡ o → is_open_in (at_place w.seen id) ≡ false
+      by None at = ap is_open_in (seen_is w id at)
+      by (Some cache) at =
+          let t : NumberThere 0 w.members id = number_there 0 w.members id _ (place_of w.members id _ (member_at w id at)) in
+          let here : get_or numbers t.place 0 ≡ id = ap (λ ns. get_or ns t.place 0) is ∙ (t.is ∙ omega arith) in
+          rw here at (none t.place (subst (λ n. t.place < n) (sym (ap length is)) t.within))

@@ -40,8 +40,9 @@ impl<R: Rows, G: Ring> Engine<R, G> {
         ensures none { result ≡ None → (id : ℕ) → is_open_in (at_place self.now id) ≡ false }
         ensures some { IfSome result (λ id. is_open_in (at_place self.now id) ≡ true) }
     {
-        for number in 0..self.next_id().number() {
-            let id = CacheId::new(number);
+        let numbers = self.roster.numbers();
+        for number in numbers {
+            let id = CacheId::new(*number);
             if self.is_open(id) {
                 return Some(id);
             }

@@ -6,7 +6,7 @@ use Rattle.std.specs.Str.{bytes_eq}
 use Rattle.std.proofs.lemmas.List.Sums.{sum_by-cons}
 use Rattle.std.proofs.lemmas.Slice.Eq.{bytes_eq-Decides}
 use Rattle.jc_model.specs.Places.{all_there, LacksName, named_from, HaveNames}
-use Rattle.jc_roster.specs.Fields.{numbers_from}
+use Rattle.jc_roster.specs.Members.{numbers_from}
 
 -- Something more, behind all.
 

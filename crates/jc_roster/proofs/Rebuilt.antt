@@ -3,8 +3,8 @@ use Rattle.std.proofs.Common.{◌≡◌, ℕ, suc, ◌+◌, ◌≤◌, Bool, tru
 use Rattle.std.specs.Prelude.{◌==◌, slice_get}
 use Rattle.std.proofs.lemmas.Bool.Decides.{nat_tests}
 use Rattle.jc_model.specs.Places.{all_there}
-use Rattle.jc_roster.specs.Members.{members}
-use Rattle.jc_roster.specs.Fields.{spread, numbers_from}
+use Rattle.jc_roster.specs.Members.{members, numbers_from}
+use Rattle.jc_roster.specs.Fields.{spread}
 use Rattle.jc_roster.proofs.Listing.{at_least}
 use Rattle.jc_model.specs.Refusals.{Member}
 

@@ -10,8 +10,8 @@ use Rattle.std.proofs.lemmas.Bool.Decides.{nat_tests}
 use Rattle.std.proofs.lemmas.Option.{slice_get-map, get_or_from_slice_get}
 use Rattle.jc_model.specs.Limits.{most_ids, most_rows_together}
 use Rattle.jc_model.specs.Places.{there, at_place, all_there, none_before, named_from, HaveNames}
-use Rattle.jc_roster.specs.Members.{members, id_named}
-use Rattle.jc_roster.specs.Fields.{spread, numbers_from, IsRoster}
+use Rattle.jc_roster.specs.Members.{members, id_named, numbers_from}
+use Rattle.jc_roster.specs.Fields.{spread, IsRoster}
 use Rattle.jc_roster.proofs.Listing.{there_more, numbers_more, TakenAt, taken_at, sum_less, lacks_unnamed, named_more, named_less, names_more, names_less, numbers_rise, NumberThere, number_there}
 use Rattle.jc_roster.proofs.Rebuilt.{rebuilt, members-apart}
 use Rattle.jc_model.specs.Refusals.{Member, rows_of}

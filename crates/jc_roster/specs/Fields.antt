@@ -3,7 +3,7 @@ use Rattle.std.specs.Prelude.{◌≡◌, ◌≤◌, ℕ, zero, suc, ◌+◌, ◌
 use Rattle.std.specs.Prelude.{Option, Some, None}
 use Rattle.jc_model.specs.Limits.{most_ids, most_rows_together}
 use Rattle.jc_model.specs.Places.{all_there, HaveNames}
-use Rattle.jc_roster.specs.Members.{id_named}
+use Rattle.jc_roster.specs.Members.{id_named, numbers_from}
 use Rattle.jc_model.specs.Refusals.{Member, rows_of}
 
 -- so many numbers from i on; those in the list have the members, one after the other
@@ -13,12 +13,6 @@ spread (suc n) i [] xs = None ∷ spread n (i + 1) [] xs
 spread (suc n) i (k ∷ numbers) [] = None ∷ spread n (i + 1) (k ∷ numbers) []
 spread (suc n) i (k ∷ numbers) (x ∷ xs) =
     if k == i then Some x ∷ spread n (i + 1) numbers xs else None ∷ spread n (i + 1) (k ∷ numbers) (x ∷ xs)
-
--- the numbers of what is there, the first place having number i
-abbrev pub numbers_from : {A : Type 0} → ℕ → List (Option A) → List ℕ
-numbers_from i [] = []
-numbers_from i (None ∷ xs) = numbers_from (i + 1) xs
-numbers_from i (Some x ∷ xs) = i ∷ numbers_from (i + 1) xs
 
 pub record IsRoster (ms : List (Option Member)) (next : ℕ) (order : List ℕ) (names : List (List ℕ)) (capacities : List ℕ) (ids : List ℕ → Option ℕ) (total : ℕ) : Type 0 where
   pub counted : next ≡ length ms

@@ -5,7 +5,7 @@ ghost use Rattle.std.specs.Str.{bytes_eq};
 ghost use Rattle.jc_model.specs.Limits.{most_ids, most_rows_together};
 ghost use Rattle.jc_model.specs.Places.{at_place, all_there, none_before};
 ghost use Rattle.jc_model.specs.Refusals.{Member, rows_of, refusal_beside};
-ghost use Rattle.jc_roster.specs.Members.{AddsMember, id_named};
+ghost use Rattle.jc_roster.specs.Members.{AddsMember, id_named, numbers_from};
 
 use jc_model::OutOfMemory;
 use jc_model::config::CacheConfig;
@@ -95,6 +95,13 @@ impl Roster {
         ensures { result.now ≡ map (λ m. m.name) (all_there self.now) }
     {
         self.names.as_slice()
+    }
+
+    /// The numbers of the live caches, rising.
+    pub fn numbers(&self) -> &[u32]
+        ensures { result.now ≡ numbers_from 0 self.now }
+    {
+        self.order.as_slice()
     }
 
     /// The number of the live cache with this name.
