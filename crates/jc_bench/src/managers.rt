@@ -2,9 +2,8 @@
 //!
 //! What names one is generic in its journal: that a journal may go to another thread is a bound there, and for the
 //! prover nothing to search for.
-ghost use Rattle.std.specs.Prelude.{◌≡◌, Err, map};
-ghost use Rattle.jc_hooks.specs.declared.loader.Loaded.TheVariants.{Failed};
-ghost use Rattle.jc_locked.specs.Stated.{stated_by};
+ghost use Rattle.std.specs.Prelude.{◌≡◌};
+ghost use Rattle.jc_locked.specs.Stated.{stated_by_hand};
 
 use crate::caches::{Unnamed, Unnamed2, Unnamed4, opened, opened_four, opened_two};
 use crate::fault::Fault;
@@ -29,8 +28,7 @@ where
     J::Held: Send,
     <J::Own as OwnCalls>::Kept: Send,
     requires configs { unnamed.configs ≡ N.configs }
-    requires stated { map (stated_by (λ _ _. Failed) (λ _ _ _. Err (record {}))) unnamed.shared
-        ≡ N.stated }
+    requires stated { stated_by_hand unnamed.shared ≡ N.stated }
     requires index { unnamed.index ≡ N.index }
 {
     let manager = unnamed.named::<N>();
@@ -96,12 +94,10 @@ where
     J::Held: Send,
     <J::Own as OwnCalls>::Kept: Send,
     requires first { (unnamed.first.configs ≡ A.configs)
-        × (map (stated_by (λ _ _. Failed) (λ _ _ _. Err (record {}))) unnamed.first.shared
-        ≡ A.stated)
+        × (stated_by_hand unnamed.first.shared ≡ A.stated)
         × (unnamed.first.index ≡ A.index) }
     requires second { (unnamed.second.configs ≡ B.configs)
-        × (map (stated_by (λ _ _. Failed) (λ _ _ _. Err (record {}))) unnamed.second.shared
-        ≡ B.stated)
+        × (stated_by_hand unnamed.second.shared ≡ B.stated)
         × (unnamed.second.index ≡ B.index) }
 {
     let Unnamed2 { first, second } = unnamed;
@@ -185,12 +181,10 @@ where
     J::Held: Send,
     <J::Own as OwnCalls>::Kept: Send,
     requires first { (unnamed.first.configs ≡ A.configs)
-        × (map (stated_by (λ _ _. Failed) (λ _ _ _. Err (record {}))) unnamed.first.shared
-        ≡ A.stated)
+        × (stated_by_hand unnamed.first.shared ≡ A.stated)
         × (unnamed.first.index ≡ A.index) }
     requires second { (unnamed.second.configs ≡ B.configs)
-        × (map (stated_by (λ _ _. Failed) (λ _ _ _. Err (record {}))) unnamed.second.shared
-        ≡ B.stated)
+        × (stated_by_hand unnamed.second.shared ≡ B.stated)
         × (unnamed.second.index ≡ B.index) }
 {
     let Unnamed2 { first, second } = unnamed;

@@ -1,5 +1,5 @@
 -- What the callbacks that all sessions share state, and answers that they stated.
-use Rattle.std.specs.Prelude.{◌≡◌, ◌==◌, ◌||◌, not, ℕ, Bool, List, length, map, option_map, is_some, slice_get, Option, Some, None, Result, ⊤}
+use Rattle.std.specs.Prelude.{◌≡◌, ◌==◌, ◌||◌, not, ℕ, Bool, List, length, map, option_map, is_some, slice_get, Option, Some, None, Result, Err, ⊤}
 use Rattle.std.specs.List.{All}
 use Rattle.jc_model.specs.declared.call.Answer.{Answer}
 use Rattle.jc_model.specs.declared.call.Answer.TheVariants.{Loaded as LoadedValue, LoadFailed, Processed}
@@ -10,6 +10,7 @@ use Rattle.jc_model.specs.declared.config.CacheConfig.{CacheConfig}
 use Rattle.jc_hooks.specs.Answers.{load_answer_of}
 use Rattle.jc_hooks.specs.declared.cache_hooks.CacheHooks.{CacheHooks}
 use Rattle.jc_hooks.specs.declared.loader.Loaded.{Loaded}
+use Rattle.jc_hooks.specs.declared.loader.Loaded.TheVariants.{Failed}
 use Rattle.jc_locked.specs.declared.hooks.LockedHooks.{LockedHooks}
 use Rattle.jc_locked.specs.declared.hooks.SharedHooks.{SharedHooks}
 use Rattle.jc_model.specs.Asking.{IsKeyOf, processor_invoked}
@@ -26,6 +27,10 @@ module _ {L P : Type 0} (load_of : L → List ℕ → Loaded) (verdict_of : P �
   -- these are the loader and processors of a cache, where it is one of the opening
   abbrev pub AreOf : List Stated → ℕ → SharedHooks L P → Type 0
   AreOf stated id asked = (h : Stated) → slice_get stated id ≡ Some h → stated_by asked ≡ h
+
+-- what is stated where callbacks are asked by hand: no loader answers, and no processor decides
+abbrev pub stated_by_hand : {L P : Type 0} → List (SharedHooks L P) → List Stated
+stated_by_hand shared = map (stated_by (λ l key. Failed) (λ p value argument. Err (record {}))) shared
 
 -- a cache of the opening has as many processors as its configuration names
 abbrev pub AreCounted : {L P : Type 0} → List CacheConfig → ℕ → SharedHooks L P → Type 0

@@ -1,7 +1,6 @@
 //! Caches in two managers that are asked as one: where names go, and that no half learns of the other's caches.
-ghost use Rattle.std.specs.Prelude.{◌≡◌, Err, map};
-ghost use Rattle.jc_hooks.specs.declared.loader.Loaded.TheVariants.{Failed};
-ghost use Rattle.jc_locked.specs.Stated.{stated_by};
+ghost use Rattle.std.specs.Prelude.{◌≡◌};
+ghost use Rattle.jc_locked.specs.Stated.{stated_by_hand};
 
 use crate::trouble::{Trouble, is, key, plain_cache, value_of};
 use jc_hooks::{Unasked, hooks_by_hand};
@@ -102,10 +101,10 @@ struct Seen {
 
 fn named<A: Name, B: Name, R: Wait>(rt: &R, alloc: Global, halves: Halves) -> Result<Seen, Trouble>
     requires left { (halves.left.configs ≡ A.configs)
-        × (map (stated_by (λ _ _. Failed) (λ _ _ _. Err (record {}))) halves.left.shared ≡ A.stated)
+        × (stated_by_hand halves.left.shared ≡ A.stated)
         × (halves.left.index ≡ A.index) }
     requires right { (halves.right.configs ≡ B.configs)
-        × (map (stated_by (λ _ _. Failed) (λ _ _ _. Err (record {}))) halves.right.shared ≡ B.stated)
+        × (stated_by_hand halves.right.shared ≡ B.stated)
         × (halves.right.index ≡ B.index) }
 {
     let Halves { left, right } = halves;

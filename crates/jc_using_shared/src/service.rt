@@ -1,7 +1,6 @@
 //! The service, from the opening of its store to its end.
-ghost use Rattle.std.specs.Prelude.{◌≡◌, Err, map};
-ghost use Rattle.jc_hooks.specs.declared.loader.Loaded.TheVariants.{Failed};
-ghost use Rattle.jc_locked.specs.Stated.{stated_by};
+ghost use Rattle.std.specs.Prelude.{◌≡◌};
+ghost use Rattle.jc_locked.specs.Stated.{stated_by_hand};
 
 use crate::by_hand::get_by_hand;
 use crate::database::{Users, serve};
@@ -83,8 +82,7 @@ fn run_named<N: Name + Send + Sync, R: Threads + Wait + Print + Sync>(
     unnamed: Unnamed,
 ) -> Result<(), Fault>
     requires configs { unnamed.configs ≡ N.configs }
-    requires stated { map (stated_by (λ _ _. Failed) (λ _ _ _. Err (record {}))) unnamed.shared
-        ≡ N.stated }
+    requires stated { stated_by_hand unnamed.shared ≡ N.stated }
     requires index { unnamed.index ≡ N.index }
 {
     let store = unnamed.named::<N>();
