@@ -11,6 +11,9 @@ const HELD: u64 = 2;
 /// At which count one of them stays away.
 const CROWD: u64 = 128;
 
+/// How many find the lock free before it is forgotten that one has been away, and another is to be so in its place.
+const TURN: u64 = 32;
+
 /// How often it looks, while it stays away, whether the others have gone.
 const SLICES: u32 = 50;
 
@@ -36,7 +39,7 @@ const PAUSE: u32 = 8;
 ///
 /// Where threads find it held again and again they are too many for it, and each change of hands moves what the lock
 /// guards to another processor. Then one of them stays away for so long that this is next to nothing beside the calls
-/// which those that are left make meanwhile, unless they go.
+/// which those that are left make meanwhile, unless they go; and then another does. So they take turns.
 #[derive(Drop)]
 pub(crate) struct BriefLock<T> {
     mutex: Mutex<T>,
@@ -88,23 +91,17 @@ impl<T> BriefLock<T> {
     fn note_free(&self) {
         let crowd = self.crowd.load(Ordering::SeqCst);
         if crowd != 0 {
-            drop(self.crowd.compare_exchange(
-                crowd,
-                crowd - 1,
-                Ordering::SeqCst,
-                Ordering::SeqCst,
-            ));
+            drop(
+                self.crowd
+                    .compare_exchange(crowd, crowd - 1, Ordering::SeqCst, Ordering::SeqCst),
+            );
         }
     }
 
-    /// Counts a thread that found it held; whether this one is to stay away.
+    /// Counts a thread that found it held; whether this one is to stay away. Of several at once only one is.
     fn note_held(&self) -> bool {
-        let crowd = self.crowd.fetch_add(HELD, Ordering::SeqCst);
-        if !(CROWD - HELD..CROWD).contains(&crowd) {
-            return false;
-        }
-        self.crowd.store(0, Ordering::SeqCst);
-        true
+        self.crowd.fetch_add(HELD, Ordering::SeqCst) >= CROWD - HELD
+            && self.crowd.swap(0, Ordering::SeqCst) >= CROWD
     }
 
     /// Whether the lock is free, and stays so for a moment.
@@ -121,7 +118,8 @@ impl<T> BriefLock<T> {
         true
     }
 
-    /// Stays away for a while where threads find the lock held again and again.
+    /// Stays away for a while where threads find the lock held again and again. Where the others have not gone by then,
+    /// the next that finds it held stays away in its place.
     fn give_way<R: Wait>(&self, rt: &R) {
         if !self.note_held() {
             return;
@@ -132,6 +130,7 @@ impl<T> BriefLock<T> {
                 return;
             }
         }
+        self.crowd.store(CROWD + TURN, Ordering::SeqCst);
     }
 
     /// Takes the lock that another thread had a moment ago.
