@@ -4,15 +4,11 @@ use std::sync::atomic::{AtomicU64, Ordering};
 use std::sync::{Mutex, MutexGuard, Wait};
 use std::time::Duration;
 
-/// How much it counts that a thread finds the lock held, where that one finds it free counts one: threads are too many for
-/// it where more than a third find it held.
-const HELD: u64 = 2;
-
-/// At which count one of them stays away.
+/// How many more threads find the lock held than find it free before one of them stays away.
 const CROWD: u64 = 128;
 
-/// How many find the lock free before it is forgotten that one has been away, and another is to be so in its place.
-const TURN: u64 = 32;
+/// From where this is counted on when one has been away for its time, and the others have not gone.
+const AGAIN: u64 = 112;
 
 /// How often it looks, while it stays away, whether the others have gone.
 const SLICES: u32 = 50;
@@ -39,12 +35,11 @@ const PAUSE: u32 = 8;
 ///
 /// Where threads find it held again and again they are too many for it, and each change of hands moves what the lock
 /// guards to another processor. Then one of them stays away for so long that this is next to nothing beside the calls
-/// which those that are left make meanwhile, unless they go; and then another does. So they take turns.
+/// which those that are left make meanwhile, unless they go.
 #[derive(Drop)]
 pub(crate) struct BriefLock<T> {
     mutex: Mutex<T>,
-    /// By how much those that found the lock held outweigh those that found it free, since one last stayed away; never
-    /// less than 0.
+    /// How many more threads found the lock held than found it free, since one last stayed away; never less than 0.
     crowd: AtomicU64,
     /// Always zero: a thread that stays away sleeps on it, and no one wakes it.
     away: AtomicU64,
@@ -100,7 +95,7 @@ impl<T> BriefLock<T> {
 
     /// Counts a thread that found it held; whether this one is to stay away. Of several at once only one is.
     fn note_held(&self) -> bool {
-        self.crowd.fetch_add(HELD, Ordering::SeqCst) >= CROWD - HELD
+        self.crowd.fetch_add(1, Ordering::SeqCst) >= CROWD - 1
             && self.crowd.swap(0, Ordering::SeqCst) >= CROWD
     }
 
@@ -118,8 +113,8 @@ impl<T> BriefLock<T> {
         true
     }
 
-    /// Stays away for a while where threads find the lock held again and again. Where the others have not gone by then,
-    /// the next that finds it held stays away in its place.
+    /// Stays away for a while where threads find the lock held again and again. Where they still do so then, one of them
+    /// soon stays away in its place.
     fn give_way<R: Wait>(&self, rt: &R) {
         if !self.note_held() {
             return;
@@ -130,7 +125,7 @@ impl<T> BriefLock<T> {
                 return;
             }
         }
-        self.crowd.store(CROWD + TURN, Ordering::SeqCst);
+        self.crowd.store(AGAIN, Ordering::SeqCst);
     }
 
     /// Takes the lock that another thread had a moment ago.
