@@ -14,11 +14,6 @@ given_by (Some loaded) None = Loaded loaded ∷ []
 given_by (Some loaded) (Some v) = Loaded loaded ∷ Processed (Ok v) ∷ []
 
 -- the value that the loader gave, if it was asked and gave one
-abbrev pub value_in : Option (Option (List ℕ)) → Option (List ℕ)
-value_in None = None
-value_in (Some loaded) = loaded
-
--- the same, read from the answers
 abbrev pub loaded_in : List Answer → Option (List ℕ)
 loaded_in [] = None
 loaded_in (a ∷ rest) = loaded_value a

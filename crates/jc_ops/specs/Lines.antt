@@ -20,10 +20,6 @@ abbrev pub is_shown : Replied → Bool
 is_shown Shown = true
 is_shown _ = false
 
-abbrev pub is_load : Ask → Bool
-is_load ask.Load = true
-is_load _ = false
-
 -- whether a change stores a value
 abbrev pub stores : Change → Bool
 stores Store = true
@@ -65,11 +61,10 @@ creates o = creates_by (absent_line o).asks (absent_line o).change
 
 -- How many notices a change may tell: of a live row one, and of a new one its victim's too.
 abbrev pub told_of : Bool → Change → ℕ
-told_of there Keep = 0
-told_of there Access = 0
 told_of there Store = if there then 1 else 2
 told_of there Put = if there then 1 else 2
 told_of there Remove = if there then 1 else 0
+told_of there _ = 0
 
 -- a processor may decide for any change
 abbrev pub told_by : Bool → Ask → Change → ℕ
@@ -101,9 +96,6 @@ written_by k _ v = None
 abbrev pub asks_writer : CacheConfig → List ℕ → Ask → Option (List ℕ) → Option Request
 asks_writer c k asks v = if c.writer then written_by k asks v else None
 
-abbrev pub asks_loader : CacheConfig → List ℕ → Option Request
-asks_loader c k = if c.loader then Some (request.Load k) else None
-
 -- whether the loader is asked before this processor, where the key has no row
 abbrev pub loads_for : CacheConfig → ℕ → Bool
 loads_for c processor = if slice_index_or c.processors processor false then c.loader else false
@@ -114,7 +106,7 @@ asks_processor c k processor argument None =
     if loads_for c processor then request.Load k else request.Process k processor None argument
 
 abbrev pub asks_hook : CacheConfig → List ℕ → Ask → Option (List ℕ) → Option Request
-asks_hook c k ask.Load v = asks_loader c k
+asks_hook c k ask.Load v = if c.loader then Some (request.Load k) else None
 asks_hook c k asks v = asks_writer c k asks v
 
 -- with the live value, if there is one

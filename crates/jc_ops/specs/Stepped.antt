@@ -2,7 +2,7 @@
 use Rattle.std.specs.Prelude.{◌≡◌, ℕ, List, [], Option}
 use Rattle.jc_model.specs.declared.call.Answer.{Answer}
 use Rattle.jc_model.specs.declared.call.KeyCall.{KeyCall}
-use Rattle.jc_model.specs.declared.call.Op.TheVariants.{Get, Invoke}
+use Rattle.jc_model.specs.declared.call.Op.TheVariants.{Get}
 use Rattle.jc_model.specs.declared.call.Reply.{Reply}
 use Rattle.jc_model.specs.declared.call.Reply.TheVariants.{Found}
 use Rattle.jc_model.specs.declared.call.Request.{Request}
@@ -18,11 +18,6 @@ use Rattle.jc_ops.specs.declared.step.Next.TheVariants.{Ended, Waiting}
 -- a step that waits for its first answer
 abbrev pub waits_first : ℕ → KeyCall → KeyWait
 waits_first now call = record { now = now; call = call; given = [] }
-
--- a step of a processor, which was given this
-abbrev pub invoked : ℕ → List ℕ → ℕ → List ℕ → List Answer → KeyWait
-invoked now k processor argument given =
-    record { now = now; call = record { key = k; op = Invoke processor argument }; given = given }
 
 -- the run waits with this request, and the step that waits has it as its own
 pub record StepWaits (c : CacheConfig) (p : Progress) (request : Request) (w : KeyWait) (run : Run) : Type 0 where
@@ -52,13 +47,9 @@ StaysAt now call (Waiting request w) = (w.now ≡ now) × (w.call ≡ call)
 abbrev pub step_run : Visited → KeyCall → Run
 step_run v call = step v.cache.config v.moment call (progress_in v)
 
--- of a step that waits
-abbrev pub waiting_run : Visited → KeyWait → Run
-waiting_run v w = key_run v.cache.config (progress_in v) w
-
--- and of one that has its answer
+-- and of one that waits, and has its answer
 abbrev pub answer_run : Visited → KeyWait → Answer → Run
-answer_run v w a = resume (waiting_run v w) a
+answer_run v w a = resume (key_run v.cache.config (progress_in v) w) a
 
 -- the step of this visit waits
 pub record WaitsIn (v : Visited) (w : KeyWait) : Type 0 where

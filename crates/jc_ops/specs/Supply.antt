@@ -54,30 +54,19 @@ pub record CoversAnswer (c : CacheConfig) (w : KeyWait) (a : Answer) (items : Li
 abbrev pub adds : Bool → Bool → Op → Bool
 adds there writer o = if there then false else (if writer then false else creates o)
 
-abbrev pub adds_loaded : Bool → Op → Option (List ℕ) → Bool
-adds_loaded there o loaded = if there then false else (if is_invoke o then false else is_some loaded)
-
 abbrev pub adds_by : Bool → Bool → Option (List ℕ) → Verdict → Bool
 adds_by there writer loaded v = if there then false else is_some (stores_by writer loaded v.action)
 
 -- .. and at this answer
 abbrev pub adds_at : Bool → CacheConfig → KeyWait → Answer → Bool
 adds_at there c w Written = elim (verdict_in w.given) [ None ↦ adds there false w.call.op | Some v ↦ adds_by there false (loaded_in w.given) v ]
-adds_at there c w (Loaded loaded) = adds_loaded there w.call.op loaded
+adds_at there c w (Loaded loaded) = if there then false else (if is_invoke w.call.op then false else is_some loaded)
 adds_at there c w (Processed (Ok v)) = adds_by there c.writer (loaded_in w.given) v
 adds_at there c w _ = false
 
 -- the table has room where a row is added
 abbrev pub HasRoom : Bool → ℕ → Type 0
 HasRoom adding spare = adding ≡ true → 0 < spare
-
--- where the loader has answered and gave a value, or none, this holds of it
-abbrev pub OnLoaded : Answer → (Option (List ℕ) → Type 0) → Type 0
-OnLoaded a P = (loaded : Option (List ℕ)) → loaded_by a ≡ Some loaded → P loaded
-
--- where the processor has given a verdict
-abbrev pub OnVerdict : Answer → (Verdict → Type 0) → Type 0
-OnVerdict a P = (v : Verdict) → verdict_of a ≡ Some v → P v
 
 -- The same of a step on a visit.
 

@@ -16,12 +16,14 @@ ghost use Rattle.jc_ops.specs.Lines.{asks_no_one};
 ghost use Rattle.jc_ops.specs.Supply.{CoversIn, CoversAnswerIn, HasPlacesFor, HasRoomFor};
 ghost use Rattle.jc_ops.specs.Supply.{HasRoomAt, most_told_in};
 ghost use Rattle.jc_ops.specs.Stepped.{StepsFrom, StaysAt, WaitsIn};
-ghost use Rattle.jc_ops.specs.Stepped.{waits_first, step_run, answer_run};
+ghost use Rattle.jc_ops.specs.Stepped.{step_run, answer_run};
 
-use crate::step::change::KeyRow;
-use crate::step::invoke::{Invocation, answer_invoke};
-use crate::step::line::{answer_line, begin, end_at_once};
+use crate::step::change::end;
+use crate::step::invoke::answer_invoke;
+use crate::step::line::{answer_line, line_of, where_there};
+use crate::step::request::first_request;
 use crate::supply::Supply;
+use crate::supply::values::Values;
 use jc_model::call::{Answer, KeyCall, Op, Reply, Request, Verdict};
 use jc_model::copies::Copies;
 use jc_model::value::Value;
@@ -64,18 +66,6 @@ pub enum Next<W, E = Copies<Reply>> {
 }
 
 impl KeyStep {
-    /// A step that waits for its first answer.
-    fn begun(now: u64, call: KeyCall) -> KeyStep
-        ensures { result ≡ waits_first now call }
-    {
-        KeyStep {
-            now,
-            call,
-            loaded: None,
-            verdict: None,
-        }
-    }
-
     /// The moment of its call.
     pub fn now(&self) -> u64
         ensures { result ≡ self.entry.now.now }
@@ -104,10 +94,7 @@ impl KeyStep {
     pub fn verdict(&self) -> Option<&Verdict>
         ensures { option_map (λ v. v.now) result ≡ verdict_in self.entry.now.given }
     {
-        match &self.verdict {
-            Some(verdict) => Some(verdict),
-            None => None,
-        }
+        self.verdict.as_ref()
     }
 
     /// Begins a step. It takes no memory beside its supply, and so can't be refused.
@@ -125,8 +112,32 @@ impl KeyStep {
         ensures call_stays { StaysAt visit.old.moment call result }
     {
         let Supply { row, values } = supply;
+        let Values {
+            stored,
+            shown,
+            copy,
+            entry,
+        } = values;
         let row = visit.purge(row);
-        begin(visit, call, Supply { row, values })
+        let there = row.is_some();
+        let line = line_of(visit, row, &call);
+        let entry = where_there(there, entry);
+        match first_request(visit.config(), &call, line.asks, copy, entry) {
+            Some(request) => {
+                drop((stored, shown));
+                let step = KeyStep {
+                    now: visit.moment(),
+                    call,
+                    loaded: None,
+                    verdict: None,
+                };
+                Next::Waiting(request, step)
+            }
+            None => {
+                let shown = where_there(there, shown);
+                Next::Ended(end(visit, &call.key, row, line, stored, shown))
+            }
+        }
     }
 
     /// The same of a step that asks no one, and so ends: its reply.
@@ -144,8 +155,11 @@ impl KeyStep {
         ensures ended { step_run visit.old call ≡ ended (progress_in visit.new) result }
     {
         let Supply { row, values } = supply;
+        let Values { stored, shown, .. } = values;
         let row = visit.purge(row);
-        end_at_once(visit, &call, Supply { row, values })
+        let line = line_of(visit, row, &call);
+        let shown = where_there(row.is_some(), shown);
+        end(visit, &call.key, row, line, stored, shown)
     }
 
     /// Goes on with the answer to the request for which the step waits. It takes no memory beside its supply, and so
@@ -165,32 +179,16 @@ impl KeyStep {
         ensures next { StepsFrom visit.old (answer_run visit.old self answer) result visit.new }
         ensures call_stays { StaysAt visit.old.moment self.call result }
     {
-        let KeyStep {
-            now: _,
-            call,
-            loaded,
-            verdict,
-        } = self;
-        let KeyCall { key, op } = call;
         let Supply { row, values } = supply;
         let row = visit.purge(row);
-        let at = KeyRow { key, row };
-        match op {
-            Op::Invoke {
-                processor,
-                argument,
-            } => {
-                let invocation = Invocation {
-                    at,
-                    processor,
-                    argument,
-                    loaded,
-                };
-                answer_invoke(visit, invocation, verdict, answer, values)
+        match &self.call.op {
+            Op::Invoke { processor, .. } => {
+                let processor = *processor;
+                answer_invoke(visit, self, processor, row, answer, values)
             }
-            op => {
-                let next = answer_line(visit, &at, &op, &answer, values);
-                drop((op, answer, loaded, verdict));
+            _ => {
+                let next = answer_line(visit, &self.call, row, &answer, values);
+                drop((self, answer));
                 next
             }
         }

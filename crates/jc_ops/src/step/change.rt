@@ -1,15 +1,13 @@
 //! A line of the case table carried out.
-ghost use Rattle.std.specs.Prelude.{◌≡◌, ℕ, ◌<◌, true, false, List, Option, Some, None, is_some};
+ghost use Rattle.std.specs.Prelude.{◌≡◌, Option, is_some};
 ghost use Rattle.jc_model.specs.State.{Item};
-ghost use Rattle.jc_model.specs.Changes.{create_by_put};
 ghost use Rattle.jc_model.specs.Run.{ended};
 ghost use Rattle.jc_model.specs.Step.{counted};
-ghost use Rattle.jc_state.specs.Shelf.{has_row};
-ghost use Rattle.jc_state.specs.Noted.{IsTold, StoredIsTold};
-ghost use Rattle.jc_state.specs.Kept.{key_row, IsRow, FoundRow};
+ghost use Rattle.jc_state.specs.Noted.{StoredIsTold};
+ghost use Rattle.jc_state.specs.Kept.{FoundRow};
 ghost use Rattle.jc_state.specs.Visited.{SpendsAtMost, HasPlacesIn, progress_in};
-ghost use Rattle.jc_ops.specs.KeyRows.{HasRoomToStore, told_at, changed_in, changed_at, line_run};
-ghost use Rattle.jc_ops.specs.Lines.{stores, told_of};
+ghost use Rattle.jc_ops.specs.Carried.{HasRoomToStore, changed_in, line_run};
+ghost use Rattle.jc_ops.specs.Lines.{told_of};
 
 use crate::step::reply::reply_of;
 use jc_model::call::Reply;
@@ -22,22 +20,8 @@ use jc_rows::rows::Rows;
 use jc_state::stored::Stored;
 use jc_state::visit::Visit;
 
-/// A step's key, and the number of its row, if it has one.
-#[derive(Drop)]
-pub(crate) struct KeyRow {
-    pub(crate) key: Key,
-    pub(crate) row: Option<u32>,
-}
-
-/// A change of a row, and the value that it stores, if it does.
-#[derive(Drop)]
-struct Effect {
-    change: Change,
-    stored: Option<Stored>,
-}
-
 /// Counts a hit where the key has a row, else a miss, if the line counts.
-pub(crate) fn count<R: Rows, G: Ring>(visit: &mut Visit<R, G>, counts: bool, there: bool)
+pub(super) fn count<R: Rows, G: Ring>(visit: &mut Visit<R, G>, counts: bool, there: bool)
     ensures same { visit.new ≡ record visit.old {
       cache = record visit.old.cache { counts = visit.new.cache.counts };
     } }
@@ -53,121 +37,80 @@ pub(crate) fn count<R: Rows, G: Ring>(visit: &mut Visit<R, G>, counts: bool, the
     }
 }
 
-/// What becomes of a live row.
-fn change_live<R: Rows, G: Ring>(visit: &mut Visit<R, G>, row: u32, effect: Effect)
-    requires there { has_row row visit.old.cache.cells ≡ true }
-    requires places { HasPlacesIn (told_of true effect.change) visit.old }
-    requires told { StoredIsTold visit.old.cache.config effect.stored }
-    ensures spends { SpendsAtMost 0 (told_of true effect.change) visit.old visit.new }
-    ensures progress { (key : List ℕ) (x : Item) → IsRow key visit.old.cache row x →
-        progress_in visit.new ≡ changed_in visit.old key effect.change (Some x) effect.stored }
+/// What becomes of the key's row, with the value that is stored, if any.
+fn change<R: Rows, G: Ring>(
+    visit: &mut Visit<R, G>,
+    key: &Key,
+    row: Option<u32>,
+    change: Change,
+    stored: Option<Stored>,
+)
+    requires row { FoundRow key.now visit.old.cache row }
+    requires places { HasPlacesIn (told_of (is_some row) change) visit.old }
+    requires told { StoredIsTold visit.old.cache.config stored }
+    requires room { HasRoomToStore row change stored visit.old.spare }
+    ensures spends { SpendsAtMost 1 (told_of (is_some row) change) visit.old visit.new }
+    ensures progress { progress_in visit.new ≡ changed_in visit.old key.now change stored }
 {
-    let Effect { change, stored } = effect;
     match change {
         Change::Keep => drop(stored),
         Change::Access => {
             drop(stored);
-            visit.access(row);
+            if let Some(row) = row {
+                visit.access(row);
+            }
         }
         Change::Store => {
             if let Some(stored) = stored {
-                visit.update(row, stored);
+                match row {
+                    Some(row) => visit.update(row, stored),
+                    None => _ = visit.create(*key, stored),
+                }
             }
         }
         Change::Put => {
             if let Some(stored) = stored {
-                visit.update(row, stored);
-                visit.put();
+                match row {
+                    Some(row) => {
+                        visit.update(row, stored);
+                        visit.put();
+                    }
+                    None => {
+                        if visit.create(*key, stored) {
+                            visit.put();
+                        }
+                    }
+                }
             }
         }
         Change::Remove => {
             drop(stored);
-            visit.delete(row);
-            visit.removal();
-        }
-    }
-}
-
-/// A key without a row is put, and counted where it stores.
-fn put_absent<R: Rows, G: Ring>(visit: &mut Visit<R, G>, key: Key, stored: Stored)
-    requires absent { key_row visit.old.cache key ≡ None }
-    requires places { HasPlacesIn 2 visit.old }
-    requires told { IsTold visit.old.cache.config stored }
-    requires room { 0 < visit.old.spare }
-    ensures spends { SpendsAtMost 1 2 visit.old visit.new }
-    ensures progress { progress_in visit.new
-        ≡ create_by_put visit.old.cache.config visit.old.moment key stored.value
-        (progress_in visit.old) }
-{
-    if visit.create(key, stored) {
-        visit.put();
-    }
-}
-
-/// What becomes of a key without a row.
-fn change_absent<R: Rows, G: Ring>(visit: &mut Visit<R, G>, key: Key, effect: Effect)
-    requires absent { key_row visit.old.cache key ≡ None }
-    requires places { HasPlacesIn (told_of false effect.change) visit.old }
-    requires told { StoredIsTold visit.old.cache.config effect.stored }
-    requires room { stores effect.change ≡ true → is_some effect.stored ≡ true →
-        0 < visit.old.spare }
-    ensures spends { SpendsAtMost 1 (told_of false effect.change) visit.old visit.new }
-    ensures progress { progress_in visit.new
-        ≡ changed_in visit.old key effect.change None effect.stored }
-{
-    let Effect { change, stored } = effect;
-    match change {
-        Change::Keep | Change::Access | Change::Remove => drop(stored),
-        Change::Store => {
-            if let Some(stored) = stored {
-                let _stored = visit.create(key, stored);
+            if let Some(row) = row {
+                visit.delete(row);
+                visit.removal();
             }
         }
-        Change::Put => {
-            if let Some(stored) = stored {
-                put_absent(visit, key, stored);
-            }
-        }
-    }
-}
-
-/// What becomes of the key's row.
-fn change<R: Rows, G: Ring>(visit: &mut Visit<R, G>, at: &KeyRow, effect: Effect)
-    requires row { FoundRow at.now.key visit.old.cache at.now.row }
-    requires places { HasPlacesIn (told_at at.now effect.change) visit.old }
-    requires told { StoredIsTold visit.old.cache.config effect.stored }
-    requires room { HasRoomToStore at.now effect.change effect.stored visit.old.spare }
-    ensures spends { SpendsAtMost 1 (told_at at.now effect.change) visit.old visit.new }
-    ensures progress { progress_in visit.new
-        ≡ changed_at visit.old at.now effect.change effect.stored }
-{
-    match at.row {
-        Some(row) => change_live(visit, row, effect),
-        None => change_absent(visit, at.key, effect),
     }
 }
 
 /// Carries a line out, and gives its reply.
-pub(crate) fn end<R: Rows, G: Ring>(
+pub(super) fn end<R: Rows, G: Ring>(
     visit: &mut Visit<R, G>,
-    at: &KeyRow,
+    key: &Key,
+    row: Option<u32>,
     line: Line,
     stored: Option<Stored>,
     shown: Option<Copies<Value>>,
 ) -> Copies<Reply>
-    requires row { FoundRow at.now.key visit.old.cache at.now.row }
-    requires places { HasPlacesIn (told_at at.now line.change) visit.old }
+    requires row { FoundRow key.now visit.old.cache row }
+    requires places { HasPlacesIn (told_of (is_some row) line.change) visit.old }
     requires told { StoredIsTold visit.old.cache.config stored }
-    requires room { HasRoomToStore at.now line.change stored visit.old.spare }
-    ensures spends { SpendsAtMost 1 (told_at at.now line.change) visit.old visit.new }
-    ensures run { line_run visit.old at.now line stored shown
+    requires room { HasRoomToStore row line.change stored visit.old.spare }
+    ensures spends { SpendsAtMost 1 (told_of (is_some row) line.change) visit.old visit.new }
+    ensures run { line_run visit.old key.now line stored shown
         ≡ ended (progress_in visit.new) result }
 {
-    count(visit, line.counts, at.row.is_some());
-    let effect = Effect {
-        change: line.change,
-        stored,
-    };
-    change(visit, at, effect);
+    count(visit, line.counts, row.is_some());
+    change(visit, key, row, line.change, stored);
     reply_of(line.reply, shown)
 }

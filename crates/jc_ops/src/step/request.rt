@@ -1,7 +1,6 @@
 //! What a step asks its hooks.
 ghost use Rattle.std.specs.Prelude.{◌≡◌, ℕ, List, true, Some};
-ghost use Rattle.jc_ops.specs.Lines.{handed, loads_for, asks_writer, asks_loader, asks_hook};
-ghost use Rattle.jc_ops.specs.Lines.{asks_processor, first_request};
+ghost use Rattle.jc_ops.specs.Lines.{handed, loads_for, asks_writer, first_request};
 
 use jc_model::call::{KeyCall, Op, Request};
 use jc_model::config::CacheConfig;
@@ -28,17 +27,6 @@ pub(crate) fn ask_writer(
         },
         Ask::Delete => Some(Request::Delete(*key)),
         _ => None,
-    }
-}
-
-/// The loader is asked, where there is one.
-fn ask_loader(config: &CacheConfig, key: &Key) -> Option<Request>
-    ensures { result ≡ asks_loader config.now key.now }
-{
-    if config.loader {
-        Some(Request::Load(*key))
-    } else {
-        None
     }
 }
 
@@ -73,41 +61,8 @@ pub(crate) fn process(
     }
 }
 
-/// The processor is asked, with the key's live value; where it needs a loaded one, the loader is asked first.
-fn ask_processor(
-    config: &CacheConfig,
-    key: &Key,
-    processor: u8,
-    live: Option<Value>,
-    argument: Option<Value>,
-) -> Option<Request>
-    ensures { (v : List ℕ) → argument ≡ Some v →
-        result ≡ Some (asks_processor config.now key.now processor v live) }
-{
-    match live {
-        Some(live) => process(key, processor, Some(live), argument),
-        None => {
-            if loads_for(config, processor) {
-                Some(Request::Load(*key))
-            } else {
-                process(key, processor, None, argument)
-            }
-        }
-    }
-}
-
-/// The loader or the writer, as the line says.
-fn ask_hook(config: &CacheConfig, key: &Key, asks: Ask, copy: Option<Value>) -> Option<Request>
-    ensures { result ≡ asks_hook config.now key.now asks copy }
-{
-    match asks {
-        Ask::Load => ask_loader(config, key),
-        asks => ask_writer(config, key, asks, copy),
-    }
-}
-
-/// What a step asks first, by its line; `copy` is what that hook is given, and `live` the key's live value for a
-/// processor.
+/// What a step asks first: the loader or the writer, as its line says, or the processor. `copy` is what that hook is
+/// given, and `live` the key's live value for a processor; where it needs a loaded one, the loader is asked before.
 pub(crate) fn first_request(
     config: &CacheConfig,
     call: &KeyCall,
@@ -119,7 +74,21 @@ pub(crate) fn first_request(
     ensures { result ≡ first_request config.now call.now.key call.now.op asks live }
 {
     match &call.op {
-        Op::Invoke { processor, .. } => { ask_processor(config, &call.key, *processor, live, copy) }
-        _ => ask_hook(config, &call.key, asks, copy),
+        Op::Invoke { processor, .. } => {
+            if live.is_none() && loads_for(config, *processor) {
+                return Some(Request::Load(call.key));
+            }
+            process(&call.key, *processor, live, copy)
+        }
+        _ => match asks {
+            Ask::Load => {
+                if config.loader {
+                    Some(Request::Load(call.key))
+                } else {
+                    None
+                }
+            }
+            asks => ask_writer(config, &call.key, asks, copy),
+        },
     }
 }

@@ -1,23 +1,16 @@
 //! Which values an operation or a verdict stores, replies and hands to its hooks.
 ghost use Rattle.std.specs.Prelude.{◌≡◌, if◌then◌else◌, None, option_map};
 ghost use Rattle.jc_model.specs.Table.{value_of};
-ghost use Rattle.jc_ops.specs.Lines.{is_shown, stores, handed, shows, shows_loaded, takes_value};
+ghost use Rattle.jc_ops.specs.Lines.{handed, shows, shows_loaded, takes_value};
 ghost use Rattle.jc_ops.specs.Lines.{asks_no_one, creates, is_invoke, told_of, told_by, most_told};
 ghost use Rattle.jc_ops.specs.Verdicts.{stores_by, hands_by};
-ghost use Rattle.jc_ops.specs.Supply.{adds, adds_loaded, adds_by, adds_at};
+ghost use Rattle.jc_ops.specs.Supply.{adds, adds_by, adds_at};
 
 use crate::step::KeyStep;
 use jc_model::call::{Action, Answer, Op, Verdict};
 use jc_model::config::CacheConfig;
 use jc_model::table::{Ask, Change, Line, Replied, absent_line, live_line, value_of};
 use jc_model::value::Value;
-
-/// Whether a value is replied.
-fn is_shown(reply: Replied) -> bool
-    ensures { result ≡ is_shown reply }
-{
-    matches!(reply, Replied::Shown)
-}
 
 /// Whether an operation hands its entry to a processor.
 pub(super) fn is_invoke(op: &Op) -> bool
@@ -37,7 +30,7 @@ pub fn asks_no_one(config: &CacheConfig, op: &Op) -> bool
 pub(super) fn shows(op: &Op) -> bool
     ensures { result ≡ shows op.now }
 {
-    !is_invoke(op) && is_shown(live_line(op).reply)
+    !is_invoke(op) && matches!(live_line(op).reply, Replied::Shown)
 }
 
 /// Whether an operation's supply takes the value of the key's row: to reply it, or to hand it to a processor.
@@ -51,14 +44,7 @@ pub fn takes_value(op: &Op) -> bool
 pub(super) fn shows_loaded(op: &Op) -> bool
     ensures { result ≡ shows_loaded op.now }
 {
-    is_shown(absent_line(op).reply)
-}
-
-/// Whether a change stores a value.
-fn stores(change: Change) -> bool
-    ensures { result ≡ stores change }
-{
-    matches!(change, Change::Store | Change::Put)
+    matches!(absent_line(op).reply, Replied::Shown)
 }
 
 /// Whether an operation itself stores a key that is not there.
@@ -68,7 +54,7 @@ pub fn creates(op: &Op) -> bool
     let line = absent_line(op);
     match line.asks {
         Ask::Load => false,
-        _ => stores(line.change),
+        _ => matches!(line.change, Change::Store | Change::Put),
     }
 }
 
@@ -77,10 +63,8 @@ fn told_of(there: bool, change: Change) -> usize
     ensures { result ≡ told_of there change }
 {
     match change {
-        Change::Keep => 0,
-        Change::Access => 0,
-        Change::Store => if there { 1 } else { 2 },
-        Change::Put => if there { 1 } else { 2 },
+        Change::Keep | Change::Access => 0,
+        Change::Store | Change::Put => if there { 1 } else { 2 },
         Change::Remove => if there { 1 } else { 0 },
     }
 }
@@ -113,13 +97,6 @@ pub(super) fn adds(there: bool, writer: bool, op: &Op) -> bool
     !there && !writer && creates(op)
 }
 
-/// Whether a step adds a row at its loader's answer.
-fn adds_loaded(there: bool, op: &Op, loaded: Option<&Value>) -> bool
-    ensures { result ≡ adds_loaded there op.now (option_map (λ v. v.now) loaded.entry) }
-{
-    !there && !is_invoke(op) && loaded.is_some()
-}
-
 /// Whether a verdict adds a row, where the loader gave `loaded`; not yet where the writer is asked before.
 fn adds_by(there: bool, writer: bool, loaded: Option<&Value>, verdict: &Verdict) -> bool
     ensures { result ≡ adds_by there writer (option_map (λ v. v.now) loaded.entry) verdict.now }
@@ -136,11 +113,8 @@ pub(super) fn adds_at(there: bool, config: &CacheConfig, step: &KeyStep, answer:
             None => adds(there, false, &step.call().op),
             Some(verdict) => adds_by(there, false, step.loaded(), verdict),
         },
-        Answer::Loaded(loaded) => adds_loaded(there, &step.call().op, loaded.as_ref()),
-        Answer::Processed(judged) => match judged {
-            Ok(verdict) => adds_by(there, config.writer, step.loaded(), verdict),
-            Err(_) => false,
-        },
+        Answer::Loaded(loaded) => !there && !is_invoke(&step.call().op) && loaded.is_some(),
+        Answer::Processed(Ok(verdict)) => { adds_by(there, config.writer, step.loaded(), verdict) }
         _ => false,
     }
 }

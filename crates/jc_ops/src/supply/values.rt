@@ -1,5 +1,5 @@
 //! The values of one step, each an owner of its bytes, made before any change.
-ghost use Rattle.std.specs.Prelude.{◌≡◌, ℕ, List, true, Some, None, option_map, IfOk};
+ghost use Rattle.std.specs.Prelude.{◌≡◌, ℕ, List, true, Some, option_map, IfOk};
 ghost use Rattle.jc_model.specs.State.{Item};
 ghost use Rattle.jc_state.specs.Shelf.{has_row};
 ghost use Rattle.jc_state.specs.Kept.{key_row, FoundRow};
@@ -80,18 +80,6 @@ fn value_if<'a, R: Rows, G: Ring>(
 }
 
 impl Values {
-    /// Nothing.
-    fn nothing() -> Values
-        ensures { result ≡ record { stored = None; shown = None; copy = None; entry = None } }
-    {
-        Values {
-            stored: None,
-            shown: None,
-            copy: None,
-            entry: None,
-        }
-    }
-
     /// The values of a step that stores at once, or that asks its writer first: then the writer alone is given a copy.
     /// The key's row is wanted only where a value of it is taken.
     pub fn for_call<R: Rows, G: Ring>(
@@ -181,11 +169,15 @@ impl Values {
                 Some(verdict) => Values::judged(config, loaded, verdict, false),
             },
             Answer::Loaded(value) => Values::loaded(config, &step.call().op, value.as_ref()),
-            Answer::Processed(judged) => match judged {
-                Ok(verdict) => Values::judged(config, loaded, verdict, config.writer),
-                Err(_) => Ok(Values::nothing()),
-            },
-            _ => Ok(Values::nothing()),
+            Answer::Processed(Ok(verdict)) => {
+                Values::judged(config, loaded, verdict, config.writer)
+            }
+            _ => Ok(Values {
+                stored: None,
+                shown: None,
+                copy: None,
+                entry: None,
+            }),
         }
     }
 }

@@ -1,41 +1,53 @@
-use Rattle.jc_ops.proofs.Names.{sym, ◌∙◌, ap, refl, find_row, ended, progress_in, line_at}
+use Rattle.std.proofs.Common.{ap₂}
+use Rattle.jc_ops.proofs.Names.{refl, sym, ◌∙◌, ap, arith, find_row, ended, loaded_by, is_written, progress_in}
+use Rattle.jc_state.proofs.VisitLaws.{same_visit}
+use Rattle.jc_ops.proofs.Goes.{counts_alone}
 use Rattle.jc_ops.proofs.Judged.{row_is_there}
-use Rattle.jc_ops.proofs.Lined.{spends_fit, writer_failed, writer_agreed, loader_answered}
+use Rattle.jc_ops.proofs.Lined.{room_loaded, spends_fit, writer_failed, writer_agreed, loader_failed, loader_gave}
 use Rattle.jc_ops.proofs.step.line.answer_line.Goals as goal
 
-pub answer_loaded-requires-clause-stored : goal.answer_loaded-requires-clause-stored
-answer_loaded-requires-clause-stored g c = λ v is. (c.requires.covered.loaded v is).stored c.requires.invoke
+pub end-requires-clause-room : goal.end-requires-clause-room
+end-requires-clause-room g c = λ absent stores some.
+    let gave = (c.requires.ready.covered.loaded c.in-Loaded.field-0 (ap loaded_by c.in-Loaded.is)).stored c.requires.invoke in
+    room_loaded _ c.args.call.now.op c.in-Loaded.field-0 c.args.values.stored c.args.visit.now.spare (rw c.in-Loaded.is at c.requires.ready.room) c.requires.invoke gave absent some
 
-pub returns-then-is_load-clause-next : goal.returns-then-is_load-clause-next
-returns-then-is_load-clause-next g c =
-    let s = c.args.visit.now.cache in
-    let line = c.line_at-line.ensures ∙ ap (line_at c.args.op.now) c.live_at.ensures in
-    rw (loader_answered s.config c.args.visit.now.moment c.args.at.now.key c.args.op.now (progress_in c.args.visit.now) c.line_at-line.result line c.args.answer.now c.requires.invoke c.requires.waits.waits (sym c.is_load.ensures ∙ c.if-is_load.true))
-    c.answer_loaded.ensures.next
+pub returns-in-Loaded-clause-next : goal.returns-in-Loaded-clause-next
+returns-in-Loaded-clause-next g c =
+    let v = c.args.visit.now in
+    let call = c.args.call.now in
+    let gave = c.requires.ready.covered.loaded c.in-Loaded.field-0 (ap loaded_by c.in-Loaded.is) in
+    rw c.in-Loaded.is (loader_gave v.cache.config v.moment call.key call.op (progress_in v) c.line_of-line.result c.line_of-line.ensures c.requires.ready.waits.waits c.in-Loaded.field-0 _ c.args.values.shown c.in-Load.is (gave.stored c.requires.invoke) (gave.shown c.requires.invoke) ∙ c.end.ensures.run)
 
-pub returns-then-not-is_written-clause-next : goal.returns-then-not-is_written-clause-next
-returns-then-not-is_written-clause-next g c =
-    let s = c.args.visit.now.cache in
-    let line = c.line_at-line.ensures ∙ ap (line_at c.args.op.now) c.live_at.ensures in
-    writer_failed s.config c.args.visit.now.moment c.args.at.now.key c.args.op.now (progress_in c.args.visit.now) c.line_at-line.result line c.args.answer.now c.requires.invoke c.requires.waits.waits (sym c.is_load.ensures ∙ c.if-is_load.false)
-    (sym c.is_written.ensures ∙ c.if-not-is_written.true) ∙ ap (ended (progress_in c.args.visit.now)) (sym c.fault.ensures)
+pub returns-in_default-answer : goal.returns-in_default-answer
+returns-in_default-answer g c =
+    let v = c.args.visit.now in
+    let call = c.args.call.now in
+    let has = row_is_there call.key v.cache c.args.row c.requires.ready.row ∙ sym c.is_some.ensures in
+    record {
+      spends = counts_alone v c.count.new.visit _ c.count.ensures.same;
+      next = loader_failed v.cache.config v.moment call.key call.op (progress_in v) c.line_of-line.result c.line_of-line.ensures c.requires.ready.waits.waits c.args.answer.now c.in-Load.is c.in_default-answer.not-Loaded ∙ sym (ap₂ ended (c.count.ensures.progress (find_row call.key (progress_in v)) has) c.fault.ensures);
+      call_stays = tt;
+    }
 
-pub returns-clause-next : goal.returns-clause-next
-returns-clause-next g c =
-    let s = c.args.visit.now.cache in
-    let has = row_is_there c.args.at.now.key s c.args.at.now.row c.requires.row ∙ sym c.is_some.ensures in
-    let line = c.line_at-line.ensures ∙ ap (line_at c.args.op.now) c.live_at.ensures in
-    let written = sym c.is_written.ensures ∙ c.if-not-is_written.false in
-    let cov = c.requires.covered.written written refl in
-    writer_agreed s.config c.args.visit.now.moment c.args.at.now.key c.args.op.now (progress_in c.args.visit.now) c.line_at-line.result line c.is_some.result has c.args.values.shown c.where_there-shown.result
-    c.where_there-shown.ensures.there c.where_there-shown.ensures.absent c.args.answer.now _ c.requires.invoke c.requires.waits.waits (sym c.is_load.ensures ∙ c.if-is_load.false) written cov.stored cov.shown ∙ c.end.ensures.run
+pub returns-in-Written : goal.returns-in-Written
+returns-in-Written g c =
+    let v = c.args.visit.now in
+    let call = c.args.call.now in
+    let row = row_is_there call.key v.cache c.args.row c.requires.ready.row in
+    let gave = c.requires.ready.covered.written (ap is_written c.in-Written.is) refl in
+    record {
+      spends = spends_fit call.op (find_row call.key (progress_in v)) _ c.line_of-line.result row c.line_of-line.ensures c.end-in-Written.ensures.spends;
+      next = rw c.in-Written.is (writer_agreed v.cache.config v.moment call.key call.op (progress_in v) c.line_of-line.result c.line_of-line.ensures c.is_some-in-Written.result (row ∙ sym c.is_some-in-Written.ensures) c.args.values.shown c.where_there-shown.result
+          c.where_there-shown.ensures.there c.where_there-shown.ensures.absent _ c.requires.invoke c.requires.ready.waits.waits c.in_default.not-Load gave.stored gave.shown ∙ c.end-in-Written.ensures.run);
+      call_stays = tt;
+    }
 
-pub returns-clause-spends : goal.returns-clause-spends
-returns-clause-spends g c =
-    let s = c.args.visit.now.cache in
-    spends_fit c.args.op.now (find_row c.args.at.now.key (progress_in c.args.visit.now)) _ c.line_at-line.result (row_is_there c.args.at.now.key s c.args.at.now.row c.requires.row) (c.line_at-line.ensures ∙ ap (line_at c.args.op.now) c.live_at.ensures) c.end.ensures.spends
-
-pub returns-then-is_load-clause-spends : goal.returns-then-is_load-clause-spends
-returns-then-is_load-clause-spends g c =
-    let s = c.args.visit.now.cache in
-    spends_fit c.args.op.now (find_row c.args.at.now.key (progress_in c.args.visit.now)) _ c.line_at-line.result (row_is_there c.args.at.now.key s c.args.at.now.row c.requires.row) (c.line_at-line.ensures ∙ ap (line_at c.args.op.now) c.live_at.ensures) c.answer_loaded.ensures.spends
+pub returns-in_default-answer-2 : goal.returns-in_default-answer-2
+returns-in_default-answer-2 g c =
+    let v = c.args.visit.now in
+    let call = c.args.call.now in
+    record {
+      spends = record { same = same_visit v; room = omega arith; places = omega arith };
+      next = writer_failed v.cache.config v.moment call.key call.op (progress_in v) c.line_of-line.result c.line_of-line.ensures c.requires.ready.waits.waits c.args.answer.now c.requires.invoke c.in_default.not-Load c.in_default-answer-2.not-Written ∙ ap (ended (progress_in v)) (sym c.fault-in_default-answer-2.ensures);
+      call_stays = tt;
+    }

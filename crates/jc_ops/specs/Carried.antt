@@ -1,0 +1,44 @@
+-- What a step does with its key's row on a visit.
+use Rattle.std.specs.Prelude.{◌≡◌, ◌<◌, ℕ, true, false, List, Option, is_some}
+use Rattle.jc_model.specs.declared.call.Answer.{Answer}
+use Rattle.jc_model.specs.declared.call.Verdict.{Verdict}
+use Rattle.jc_model.specs.declared.table.Change.{Change}
+use Rattle.jc_model.specs.declared.table.Line.{Line}
+use Rattle.jc_model.specs.Changes.{Progress}
+use Rattle.jc_model.specs.Run.{Run}
+use Rattle.jc_model.specs.Step.{changed, ended_by}
+use Rattle.jc_model.specs.Suspended.{KeyWait}
+use Rattle.jc_state.specs.declared.stored.Stored.{Stored}
+use Rattle.jc_state.specs.Kept.{key_row, FoundRow}
+use Rattle.jc_state.specs.Noted.{stored_value}
+use Rattle.jc_state.specs.Visited.{Visited, HasPlacesIn, progress_in}
+use Rattle.jc_ops.specs.declared.supply.values.Values.{Values}
+use Rattle.jc_ops.specs.Given.{loaded_in}
+use Rattle.jc_ops.specs.Lines.{stores}
+use Rattle.jc_ops.specs.Stepped.{WaitsIn}
+use Rattle.jc_ops.specs.Supply.{CoversAnswerIn, HasRoom, adds_at}
+use Rattle.jc_ops.specs.Verdicts.{judged_on}
+
+-- a change that stores a new row has room for it in the table
+abbrev pub HasRoomToStore : Option ℕ → Change → Option Stored → ℕ → Type 0
+HasRoomToStore row change stored spare = is_some row ≡ false → stores change ≡ true → is_some stored ≡ true → 0 < spare
+
+-- the step waits, and has all that it may need at this answer, with so many places for notices
+pub record IsReady (v : Visited) (notices : ℕ) (w : KeyWait) (found : Option ℕ) (a : Answer) (s : Values) : Type 0 where
+  pub row : FoundRow w.call.key v.cache found
+  pub places : HasPlacesIn notices v
+  pub covered : CoversAnswerIn v w a s
+  pub room : HasRoom (adds_at (is_some found) v.cache.config w a) v.spare
+  pub waits : WaitsIn v w
+
+-- what a change of the key's row makes of the cache
+abbrev pub changed_in : Visited → List ℕ → Change → Option Stored → Progress
+changed_in v key change stored = changed v.cache.config v.moment key change (key_row v.cache key) (stored_value stored) (progress_in v)
+
+-- the run of a line that is carried out
+abbrev pub line_run : Visited → List ℕ → Line → Option Stored → Option (List ℕ) → Run
+line_run v key line stored shown = ended_by v.cache.config v.moment key line (key_row v.cache key) (stored_value stored) shown (progress_in v)
+
+-- what the processor's answer leads to
+abbrev pub judged_run : Visited → KeyWait → Option Verdict → Run
+judged_run v w verdict = judged_on v.cache.config v.moment w.call.key (key_row v.cache w.call.key) (loaded_in w.given) (progress_in v) verdict
