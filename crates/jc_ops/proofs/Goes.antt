@@ -1,6 +1,8 @@
 -- A step that goes on over what its key's expired row left.
-use Rattle.jc_ops.proofs.Names.{◌≡◌, ℕ, ◌<◌, ◌≤◌, ◌+◌, arith, Bool, false, if◌then◌else◌, List, [], refl, sym, ◌∙◌, ap, subst, common_steps, Option, Some, is_some, Answer, KeyCall, Op, CacheConfig, Put}
-use Rattle.jc_ops.proofs.Names.{Item, row_of, Progress, find_row, purge, resume, step, KeyWait, key_run, items_of, FoundRow, HasPlaces, Visited, SpendsAtMost, progress_in, has_live_in, IsWaiting, WaitsIn}
+use Rattle.jc_ops.proofs.Names.{◌≡◌, ℕ, ◌<◌, ◌≤◌, ◌+◌, arith, Bool, false, if◌then◌else◌, List, [], refl, sym, ◌∙◌, ap, subst, common_steps, Option, Some, is_some, Answer, KeyCall, Op}
+use Rattle.jc_ops.proofs.Names.{CacheConfig, Put}
+use Rattle.jc_ops.proofs.Names.{Item, row_of, Progress, find_row, purge, resume, step, KeyWait, key_run, items_of, FoundRow, HasPlaces, Visited, SpendsAtMost, progress_in, has_live_in}
+use Rattle.jc_ops.proofs.Names.{IsWaiting, WaitsIn}
 use Rattle.jc_ops.proofs.Names.{waits_first, is_invoke, told_of, told_on, most_told, step_run, answer_run}
 use Rattle.jc_model.specs.declared.call.Op.TheVariants as op
 use Rattle.jc_model.proofs.Everywhere.{at_each-answered}
@@ -24,7 +26,8 @@ pub record Purged (v w : Visited) (key : List ℕ) (row : Option ℕ) : Type 0 w
 
 -- where only the counters have changed
 pub counts_alone : (v w : Visited) (n : ℕ) → w ≡ record v { cache = record v.cache { counts = w.cache.counts } } → SpendsAtMost 1 n v w
-counts_alone v w n is = subst (λ (x : Visited). SpendsAtMost 1 n v x) (sym is) (record { same = record { config = refl; id = refl; moment = refl; elsewhere = λ other key differ. refl }; room = omega arith; places = omega arith })
+counts_alone v w n is = subst (λ (x : Visited). SpendsAtMost 1 n v x) (sym is)
+    (record { same = record { config = refl; id = refl; moment = refl; elsewhere = λ other key differ. refl }; room = omega arith; places = omega arith })
 
 pub invoke_told : (there : Bool) (processor : ℕ) (argument : List ℕ) (o : Op) → o ≡ op.Invoke processor argument → told_on there o ≡ told_of there Put
 invoke_told there processor argument o is = rw is (grind (arith, common_steps))
@@ -86,17 +89,19 @@ module _ (v w : Visited) (call : KeyCall) (row : Option ℕ) (gone : Purged v w 
 
   pub begins : Covers v.cache.config.writer v.cache.config call (items_of v.cache.cells) y → HasRoom (adds (has_live_in v call.key) v.cache.config.writer call.op) v.spare →
       HasPlaces v.cache.config (most_told_in v call) v.noted → Begins v w w.cache.config w.moment call (is_some row) y
-  begins covered adding places = subst (λ (d : CacheConfig). Begins v w d w.moment call (is_some row) y) (sym gone.spends.same.config) (subst (λ (m : ℕ). Begins v w v.cache.config m call (is_some row) y) (sym gone.spends.same.moment) (record {
-    purged = ap (purge v.cache.config v.moment call.key) gone.is ∙ (purge-again v.cache.config v.moment call.key (progress_in v) ∙ sym gone.is);
-    same = ap (step v.cache.config v.moment call) gone.is ∙ step-purged v.cache.config v.moment call (progress_in v);
-    covered = covers_on v.cache.config.writer covered;
-    room = has_room _ (rw gone.live adding);
-    places = places_on places;
-    spends = spends_in_all;
-  }))
+  begins covered adding places = subst (λ (d : CacheConfig). Begins v w d w.moment call (is_some row) y) (sym gone.spends.same.config)
+      (subst (λ (m : ℕ). Begins v w v.cache.config m call (is_some row) y) (sym gone.spends.same.moment) (record {
+        purged = ap (purge v.cache.config v.moment call.key) gone.is ∙ (purge-again v.cache.config v.moment call.key (progress_in v) ∙ sym gone.is);
+        same = ap (step v.cache.config v.moment call) gone.is ∙ step-purged v.cache.config v.moment call (progress_in v);
+        covered = covers_on v.cache.config.writer covered;
+        room = has_room _ (rw gone.live adding);
+        places = places_on places;
+        spends = spends_in_all;
+      }))
 
 module _ (v w : Visited) (z : KeyWait) (row : Option ℕ) (gone : Purged v w z.call.key row) (y : Values) where
-  pub goes_on : (u : KeyWait) (a : Answer) → u ≡ z → WaitsIn v z → CoversAnswer v.cache.config z a (items_of v.cache.cells) y → HasRoom (adds_at (has_live_in v z.call.key) v.cache.config z a) v.spare →
+  pub goes_on : (u : KeyWait) (a : Answer) → u ≡ z → WaitsIn v z → CoversAnswer v.cache.config z a (items_of v.cache.cells) y →
+      HasRoom (adds_at (has_live_in v z.call.key) v.cache.config z a) v.spare →
       HasPlaces v.cache.config (most_told_in v z.call) v.noted → GoesOn v w w.cache.config z u a row y
   goes_on u a is waits covered adding places =
       let same : progress_in w ≡ progress_in v = gone.is ∙ rw waits.moment at (waits_purged v.cache.config (progress_in v) z waits.waits) in
@@ -122,9 +127,11 @@ module _ (v w : Visited) (z : KeyWait) (row : Option ℕ) (gone : Purged v w z.c
 pub not_invoke : (o : Op) → ((processor : ℕ) (argument : List ℕ) → o ≡ op.Invoke processor argument → ⊥) → is_invoke o ≡ false
 not_invoke o h = grind (arith, common_steps)
 
-pub line_view : (now : ℕ) (call : KeyCall) (given : List Answer) (w : KeyWait) (moment : ℕ) → w.now ≡ moment → given ≡ [] → ◌≡◌ {A = KeyWait} (record { now = now; call = call; given = given }) w → waits_first moment call ≡ w
+pub line_view : (now : ℕ) (call : KeyCall) (given : List Answer) (w : KeyWait) (moment : ℕ) → w.now ≡ moment → given ≡ [] →
+    ◌≡◌ {A = KeyWait} (record { now = now; call = call; given = given }) w → waits_first moment call ≡ w
 line_view now call given w moment at none view = rw (← at, ← view, none)
 
-pub invoke_view : (now : ℕ) (call : KeyCall) (given : List Answer) (w : KeyWait) (moment : ℕ) (processor : ℕ) (argument : List ℕ) → w.now ≡ moment → call.op ≡ op.Invoke processor argument → ◌≡◌ {A = KeyWait} (record { now = now; call = call; given = given }) w →
+pub invoke_view : (now : ℕ) (call : KeyCall) (given : List Answer) (w : KeyWait) (moment : ℕ) (processor : ℕ) (argument : List ℕ) → w.now ≡ moment → call.op ≡ op.Invoke processor argument →
+    ◌≡◌ {A = KeyWait} (record { now = now; call = call; given = given }) w →
     ◌≡◌ {A = KeyWait} (record { now = moment; call = record { key = call.key; op = op.Invoke processor argument }; given = given }) w
 invoke_view now call given w moment processor argument at is view = rw (← at, ← view, is)

@@ -8,7 +8,8 @@ use Rattle.jc_model.specs.Whole.{holds}
 use Rattle.jc_state.specs.Kept.{Kept, IsRow, has_live}
 
 -- it is counted, uses the row, and shows its value
-pub hits : (c : CacheConfig) (now : ℕ) (key : List ℕ) (x : Item) (p : Progress) → find_row key p ≡ Some x → holds c now key p.state ≡ true → step c now (record { key = key; op = Get }) p ≡ ended (access c now x (hit p)) (Found (Some x.value))
+pub hits : (c : CacheConfig) (now : ℕ) (key : List ℕ) (x : Item) (p : Progress) → find_row key p ≡ Some x → holds c now key p.state ≡ true →
+    step c now (record { key = key; op = Get }) p ≡ ended (access c now x (hit p)) (Found (Some x.value))
 hits c now key x p there live = grind (arith, common_steps)
 
 -- a get of no row is counted as a miss, and shows nothing

@@ -1,6 +1,6 @@
 -- A line of the table: what its step does as it begins, and at the answer of its writer or its loader.
-use Rattle.jc_ops.proofs.Names.{◌≡◌, ◌<◌, ◌≤◌, ◌+◌, arith, ℕ, Bool, true, false, if◌then◌else◌, List, common_steps, Option, Some, None, is_some, option_map, Answer, KeyCall, Op, Request, CacheConfig}
-use Rattle.jc_ops.proofs.Names.{Line, Item, Progress, purge, find_row, ended, resume, is_written, live_in, ended_by, step, waiting, Run, KeyWait, key_run, value_of, Visited, SpendsAtMost, is_shown}
+use Rattle.jc_ops.proofs.Names.{◌≡◌, ◌<◌, ◌≤◌, arith, ℕ, Bool, true, false, if◌then◌else◌, List, common_steps, Option, Some, None, is_some, Answer, KeyCall, Op, Request, CacheConfig}
+use Rattle.jc_ops.proofs.Names.{Line, Item, Progress, purge, find_row, ended, resume, is_written, live_in, ended_by, step, waiting, Run, key_run, value_of, Visited, SpendsAtMost, is_shown}
 use Rattle.jc_ops.proofs.Names.{line_at, is_invoke, shows, told_of, told_on, first_request, StepWaits, IsWaiting, waits_first}
 use Rattle.jc_model.specs.declared.call.Answer.TheVariants.{Loaded, Written}
 use Rattle.jc_model.specs.declared.call.By.TheVariants.{Loader, Writer}
@@ -9,13 +9,13 @@ use Rattle.jc_model.specs.declared.table.Ask.TheVariants.{Load}
 use Rattle.jc_model.specs.Step.{carried, counted}
 use Rattle.jc_state.specs.declared.stored.Stored.{Stored}
 use Rattle.jc_state.specs.Noted.{stored_value}
-use Rattle.jc_ops.specs.Carried.{HasRoomToStore}
 use Rattle.jc_ops.specs.Lines.{asks_no_one, takes_value, shows_loaded, stores}
 use Rattle.jc_ops.specs.Supply.{HasRoom, adds}
 use Rattle.jc_ops.proofs.Goes.{waits_purged}
 
 -- what is there where the key has a row
-where_is : (row : Option Item) (there : Bool) (given value : Option (List ℕ)) → is_some row ≡ there → (there ≡ true → given ≡ value) → (there ≡ false → given ≡ None) → ((x : Item) → row ≡ Some x → value ≡ Some x.value) → given ≡ live_in row
+where_is : (row : Option Item) (there : Bool) (given value : Option (List ℕ)) → is_some row ≡ there → (there ≡ true → given ≡ value) → (there ≡ false → given ≡ None) → ((x : Item) →
+    row ≡ Some x → value ≡ Some x.value) → given ≡ live_in row
 where_is row there given value is present absent at = grind (arith, common_steps)
 
 -- a line shows a live row only where its operation does
@@ -26,7 +26,8 @@ not_written : (a : Answer) → (a ≡ Written → ⊥) → is_written a ≡ fals
 not_written a failed = grind (arith, common_steps)
 
 -- what the loader gave is stored only where there is room
-pub room_loaded : (there : Bool) (o : Op) (f : Option (List ℕ)) (s : Option Stored) (n : ℕ) → HasRoom (if there then false else (if is_invoke o then false else is_some f)) n → is_invoke o ≡ false → stored_value s ≡ f → there ≡ false → is_some s ≡ true → 0 < n
+pub room_loaded : (there : Bool) (o : Op) (f : Option (List ℕ)) (s : Option Stored) (n : ℕ) → HasRoom (if there then false else (if is_invoke o then false else is_some f)) n →
+    is_invoke o ≡ false → stored_value s ≡ f → there ≡ false → is_some s ≡ true → 0 < n
 room_loaded there o f s n enough plain gave absent some = grind (arith, common_steps)
 
 -- By what the code has of an operation: whether its key has a row, and its line.
@@ -43,7 +44,8 @@ module _ (o : Op) (row : Option Item) (there : Bool) (l : Line) (is : is_some ro
   spends_fit h = let most : told_of there l.change ≤ told_on there o = fits in record { same = h.same; room = h.room; places = omega (arith, h.places, most) }
 
   -- what it stores of its own has room as it begins
-  pub room_fits : (writer : Bool) (s : Option Stored) (n : ℕ) → stored_value s ≡ (if writer then None else value_of o) → HasRoom (adds there writer o) n → there ≡ false → stores l.change ≡ true → is_some s ≡ true → 0 < n
+  pub room_fits : (writer : Bool) (s : Option Stored) (n : ℕ) → stored_value s ≡ (if writer then None else value_of o) → HasRoom (adds there writer o) n → there ≡ false → stores l.change ≡ true →
+      is_some s ≡ true → 0 < n
   room_fits writer s n keeps enough absent adds_row some = grind (arith, common_steps)
 
 -- An operation on a key.
@@ -59,14 +61,17 @@ module _ (c : CacheConfig) (now : ℕ) (k : List ℕ) (o : Op) (p : Progress) wh
       (is_invoke o ≡ false → is_shown line.reply ≡ true → shown ≡ live_in (find_row k p)) → step c now call p ≡ ended_by c now k line (find_row k p) stored shown p
   ends live stored shown purged asks store show = grind (arith, common_steps)
 
-  waits : (live : Option (List ℕ)) (q : Request) → purge c now k p ≡ p → first_request c k o line.asks live ≡ Some q → (is_invoke o ≡ true → live ≡ live_in (find_row k p)) → StepWaits c p q (waits_first now call) (step c now call p)
+  waits : (live : Option (List ℕ)) (q : Request) → purge c now k p ≡ p → first_request c k o line.asks live ≡ Some q → (is_invoke o ≡ true → live ≡ live_in (find_row k p)) →
+      StepWaits c p q (waits_first now call) (step c now call p)
   waits live q purged asks same = grind (arith, common_steps)
 
-  agrees : (stored shown : Option (List ℕ)) → purge c now k p ≡ p → is_invoke o ≡ false → IsWaiting c p (waits_first now call) → (line.asks ≡ Load → ⊥) → stored ≡ value_of o → (is_shown line.reply ≡ true → shown ≡ live_in (find_row k p)) →
+  agrees : (stored shown : Option (List ℕ)) → purge c now k p ≡ p → is_invoke o ≡ false → IsWaiting c p (waits_first now call) → (line.asks ≡ Load → ⊥) → stored ≡ value_of o →
+      (is_shown line.reply ≡ true → shown ≡ live_in (find_row k p)) →
       resume (key_run c p (waits_first now call)) Written ≡ ended_by c now k line (find_row k p) stored shown p
   agrees stored shown purged plain w writes store show = grind (arith, common_steps)
 
-  fails : (a : Answer) → purge c now k p ≡ p → is_invoke o ≡ false → IsWaiting c p (waits_first now call) → (line.asks ≡ Load → ⊥) → is_written a ≡ false → resume (key_run c p (waits_first now call)) a ≡ ended p (Fault Writer None)
+  fails : (a : Answer) → purge c now k p ≡ p → is_invoke o ≡ false → IsWaiting c p (waits_first now call) → (line.asks ≡ Load → ⊥) → is_written a ≡ false →
+      resume (key_run c p (waits_first now call)) a ≡ ended p (Fault Writer None)
   fails a purged plain w writes failed = grind (arith, common_steps)
 
   carries : purge c now k p ≡ p → step c now call p ≡ carried c now k o line (find_row k p) p
@@ -76,7 +81,8 @@ module _ (c : CacheConfig) (now : ℕ) (k : List ℕ) (o : Op) (p : Progress) wh
     load_failed : (a : Answer) → ((v : Option (List ℕ)) → a ≡ Loaded v → ⊥) → resume (carried c now k o l row p) a ≡ ended (counted l.counts row p) (Fault Loader None)
     load_failed a fails = grind (arith, common_steps)
 
-    load_gave : (loaded stored shown : Option (List ℕ)) → stored ≡ loaded → (is_shown l.reply ≡ true → shown ≡ loaded) → resume (carried c now k o l row p) (Loaded loaded) ≡ ended_by c now k l row stored shown p
+    load_gave : (loaded stored shown : Option (List ℕ)) → stored ≡ loaded → (is_shown l.reply ≡ true → shown ≡ loaded) →
+        resume (carried c now k o l row p) (Loaded loaded) ≡ ended_by c now k l row stored shown p
     load_gave loaded stored shown store show = grind (arith, common_steps)
 
   shown_loaded : line.asks ≡ Load → is_shown line.reply ≡ true → shows_loaded o ≡ true
@@ -95,10 +101,12 @@ module _ (c : CacheConfig) (now : ℕ) (k : List ℕ) (o : Op) (p : Progress) wh
       pub writer_failed : (a : Answer) → is_invoke o ≡ false → (l.asks ≡ Load → ⊥) → (a ≡ Written → ⊥) → resume (key_run c p (waits_first now call)) a ≡ ended p (Fault Writer None)
       writer_failed a plain writes failed = fails a purged plain w (rw is at writes) (not_written a failed)
 
-      pub loader_failed : (a : Answer) → l.asks ≡ Load → ((v : Option (List ℕ)) → a ≡ Loaded v → ⊥) → resume (key_run c p (waits_first now call)) a ≡ ended (counted l.counts (find_row k p) p) (Fault Loader None)
+      pub loader_failed : (a : Answer) → l.asks ≡ Load → ((v : Option (List ℕ)) → a ≡ Loaded v → ⊥) →
+          resume (key_run c p (waits_first now call)) a ≡ ended (counted l.counts (find_row k p) p) (Fault Loader None)
       loader_failed a load fails = rw same (load_failed l (find_row k p) load w.request p w.resumed (rw same at w.run_is) a fails)
 
-      pub loader_gave : (loaded stored shown : Option (List ℕ)) → l.asks ≡ Load → stored ≡ loaded → (shows_loaded o ≡ true → shown ≡ loaded) → resume (key_run c p (waits_first now call)) (Loaded loaded) ≡ ended_by c now k l (find_row k p) stored shown p
+      pub loader_gave : (loaded stored shown : Option (List ℕ)) → l.asks ≡ Load → stored ≡ loaded → (shows_loaded o ≡ true → shown ≡ loaded) →
+          resume (key_run c p (waits_first now call)) (Loaded loaded) ≡ ended_by c now k l (find_row k p) stored shown p
       loader_gave loaded stored shown load store show =
           rw same (load_gave l (find_row k p) load w.request p w.resumed (rw same at w.run_is) loaded stored shown store (λ shows. show (shown_loaded (rw is at load) (rw is at shows))))
 
@@ -110,7 +118,8 @@ module _ (c : CacheConfig) (now : ℕ) (k : List ℕ) (o : Op) (p : Progress) wh
           (shows o ≡ true → (x : Item) → find_row k p ≡ Some x → given ≡ Some x.value) → step c now call p ≡ ended_by c now k l (find_row k p) stored shown p
       ends_at_once f live stored purged same asks store at = rw is (ends live stored shown purged (rw (is, same) at asks) store (show at))
 
-      pub waits_first_for : (f : CacheConfig) (q : Request) → purge c now k p ≡ p → f ≡ c → first_request f k o l.asks shown ≡ Some q → (is_invoke o ≡ true → (x : Item) → find_row k p ≡ Some x → given ≡ Some x.value) → StepWaits c p q (waits_first now call) (step c now call p)
+      pub waits_first_for : (f : CacheConfig) (q : Request) → purge c now k p ≡ p → f ≡ c → first_request f k o l.asks shown ≡ Some q → (is_invoke o ≡ true → (x : Item) → find_row k p ≡ Some x →
+          given ≡ Some x.value) → StepWaits c p q (waits_first now call) (step c now call p)
       waits_first_for f q purged same asks at = waits shown q purged (rw (is, same) at asks) (λ invokes. where_is (find_row k p) there shown given has present absent (at invokes))
 
       pub writer_agreed : (stored : Option (List ℕ)) → is_invoke o ≡ false → IsWaiting c p (waits_first now call) → (l.asks ≡ Load → ⊥) → stored ≡ value_of o →

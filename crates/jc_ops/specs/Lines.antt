@@ -10,7 +10,7 @@ use Rattle.jc_model.specs.declared.config.CacheConfig.{CacheConfig}
 use Rattle.jc_model.specs.declared.table.Ask.{Ask}
 use Rattle.jc_model.specs.declared.table.Ask.TheVariants as ask
 use Rattle.jc_model.specs.declared.table.Change.{Change}
-use Rattle.jc_model.specs.declared.table.Change.TheVariants.{Keep, Access, Store, Put, Remove}
+use Rattle.jc_model.specs.declared.table.Change.TheVariants.{Store, Put, Remove}
 use Rattle.jc_model.specs.declared.table.Replied.{Replied}
 use Rattle.jc_model.specs.declared.table.Replied.TheVariants.{Shown}
 use Rattle.jc_model.specs.declared.table.Line.{Line}

@@ -1,5 +1,5 @@
 -- What a processor's verdict asks the writer, and what it does once the writer has agreed.
-use Rattle.std.specs.Prelude.{ℕ, Bool, true, false, if◌then◌else◌, List, Option, Some, None, is_some}
+use Rattle.std.specs.Prelude.{ℕ, Bool, true, false, if◌then◌else◌, List, Option, Some, None}
 use Rattle.jc_model.specs.declared.call.Action.{Action}
 use Rattle.jc_model.specs.declared.call.Action.TheVariants.{Keep, Set, Remove}
 use Rattle.jc_model.specs.declared.call.By.TheVariants as by
@@ -8,10 +8,10 @@ use Rattle.jc_model.specs.declared.call.Verdict.{Verdict}
 use Rattle.jc_model.specs.declared.config.CacheConfig.{CacheConfig}
 use Rattle.jc_model.specs.declared.table.Line.{Line}
 use Rattle.jc_model.specs.State.{Item}
-use Rattle.jc_model.specs.Changes.{Progress, miss}
-use Rattle.jc_model.specs.Run.{Run, ended, process}
-use Rattle.jc_model.specs.Step.{counted, act_live, act_absent, ended_by}
-use Rattle.jc_model.specs.Table.{live_verdict, absent_verdict, decided}
+use Rattle.jc_model.specs.Changes.{Progress}
+use Rattle.jc_model.specs.Run.{Run, ended}
+use Rattle.jc_model.specs.Step.{counted, act_live, act_absent}
+use Rattle.jc_model.specs.Table.{live_verdict, absent_verdict}
 use Rattle.jc_ops.specs.Lines.{loads_for}
 
 -- the value that is stored at once; where the writer is asked, it is stored when the writer has agreed

@@ -3,7 +3,7 @@ use Rattle.jc_ops.proofs.Names.{◌≡◌, ◌∙◌, sym, ap, List, ℕ, Some, 
 use Rattle.jc_model.specs.Changes.{access, hit}
 use Rattle.jc_model.specs.declared.call.Reply.TheVariants.{Found}
 use Rattle.jc_state.specs.Kept.{IsRow, record_of}
-use Rattle.jc_ops.proofs.Hits.{hits, misses, row_is_live}
+use Rattle.jc_ops.proofs.Hits.{hits, row_is_live}
 use Rattle.jc_ops.proofs.hit.get_at_once.Goals as goal
 
 pub returns-in-Ok-clause-found : goal.returns-in-Ok-clause-found
@@ -15,5 +15,6 @@ returns-in-Ok-clause-found g c =
     let live = row_is_live v.moment key v.cache c.in-Some.row x at (sym (c.is_live.ensures (record_of x) at.there) ∙ c.if-not-is_live.false) in
     let row : IsRow key c.hit.new.self.cache c.in-Some.row x = rw c.hit.ensures (record { found = at.found; key_is = at.key_is; there = at.there; on = at.on }) in
     let after : progress_in c.access.new.self ≡ access v.cache.config v.moment x (hit (progress_in v)) = rw c.hit.ensures at (c.access.ensures.progress key x row) in
-    let shown : Found (Some (g.V.Owned.value c.in-Ok.owned)) ≡ Found (Some x.value) = ap (λ (v : List ℕ). Found (Some v)) (c.in-Ok.ensures ∙ (c.first.ensures ∙ c.value.ensures (record_of x) at.there)) in
+    let shown : Found (Some (g.V.Owned.value c.in-Ok.owned)) ≡ Found (Some x.value) = ap (λ (v : List ℕ). Found (Some v)) (c.in-Ok.ensures ∙ (c.first.ensures ∙
+    c.value.ensures (record_of x) at.there)) in
     hits v.cache.config v.moment key x (progress_in v) at.found live ∙ sym (ap₂ ended after shown)

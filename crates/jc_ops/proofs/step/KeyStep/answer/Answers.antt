@@ -35,13 +35,15 @@ returns-in-Invoke g c =
 pub answer_line-next-requires : goal.answer_line-next-requires
 answer_line-next-requires g c =
     let plain = not_invoke c.self.inside.call.op c.in_default.not-Invoke in
-    let view = line_view c.self.inside.now c.self.inside.call (given_by c.self.inside.loaded c.self.inside.verdict) c.args.self c.purge-row.new.self.moment (rw c.purge-row.ensures.spends.same.moment c.requires.waits.moment) (c.self.invariant plain) c.self.view_is in
+    let view = line_view c.self.inside.now c.self.inside.call (given_by c.self.inside.loaded c.self.inside.verdict) c.args.self c.purge-row.new.self.moment
+    (rw c.purge-row.ensures.spends.same.moment c.requires.waits.moment) (c.self.invariant plain) c.self.view_is in
     record { invoke = plain; ready = ready _ _ _ _ _ _ _ (goes g (goal.at.answer_line-next-requires g c).After-purge-row _ view) }
 
 pub returns-in_default : goal.returns-in_default
 returns-in_default g c =
     let plain = not_invoke c.self.inside.call.op c.in_default.not-Invoke in
-    let view = line_view c.self.inside.now c.self.inside.call (given_by c.self.inside.loaded c.self.inside.verdict) c.args.self c.purge-row.new.self.moment (rw c.purge-row.ensures.spends.same.moment c.requires.waits.moment) (c.self.invariant plain) c.self.view_is in
+    let view = line_view c.self.inside.now c.self.inside.call (given_by c.self.inside.loaded c.self.inside.verdict) c.args.self c.purge-row.new.self.moment
+    (rw c.purge-row.ensures.spends.same.moment c.requires.waits.moment) (c.self.invariant plain) c.self.view_is in
     let on = goes g (goal.at.returns-in_default g c).After-purge-row _ view in
     record {
       spends = on.spends _ c.answer_line-next.ensures.spends;

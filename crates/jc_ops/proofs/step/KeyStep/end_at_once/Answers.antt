@@ -39,6 +39,7 @@ returns g c =
     let none = unasked w.cache.config c.args.call.key c.args.call.op c.line_of-line.result None (rw c.purge-row.ensures.spends.same.config c.requires.unasked) in
     record {
       spends = on.spends _ (spends_fit c.args.call.op (find_row c.args.call.key (progress_in w)) _ c.line_of-line.result row c.line_of-line.ensures c.end.ensures.spends);
-      ended = sym on.same ∙ (ends_at_once w.cache.config w.moment c.args.call.key c.args.call.op (progress_in w) c.line_of-line.result c.line_of-line.ensures c.is_some.result (row ∙ sym c.is_some.ensures) c.args.supply.values.shown c.where_there-shown.result
+      ended = sym on.same ∙ (ends_at_once w.cache.config w.moment c.args.call.key c.args.call.op (progress_in w) c.line_of-line.result c.line_of-line.ensures c.is_some.result (row ∙
+          sym c.is_some.ensures) c.args.supply.values.shown c.where_there-shown.result
           c.where_there-shown.ensures.there c.where_there-shown.ensures.absent w.cache.config None _ on.purged refl none on.covered.stored on.covered.shown ∙ c.end.ensures.run);
     }

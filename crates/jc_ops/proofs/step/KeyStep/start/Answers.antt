@@ -39,7 +39,9 @@ returns-in-Some g c =
     let has = row_is_there c.args.call.key w.cache c.purge-row.result (gone g at).found ∙ sym c.is_some-there.ensures in
     record {
       spends = on.spends w (record { same = same_visit w; room = omega arith; places = omega arith });
-      next = rw c.moment.ensures (rw (on.same, c.purge-row.ensures.spends.same.config) at (waits_first_for w.cache.config w.moment c.args.call.key c.args.call.op (progress_in w) c.line_of-line.result c.line_of-line.ensures c.is_some-there.result has c.args.supply.values.entry c.where_there-entry.result
+      next = rw c.moment.ensures (rw (on.same, c.purge-row.ensures.spends.same.config) at
+          (waits_first_for w.cache.config w.moment c.args.call.key c.args.call.op (progress_in w) c.line_of-line.result c.line_of-line.ensures c.is_some-there.result has
+          c.args.supply.values.entry c.where_there-entry.result
           c.where_there-entry.ensures.there c.where_there-entry.ensures.absent c.config.result.now c.in-Some.request on.purged c.config.ensures (sym c.in-Some.ensures) on.covered.entry));
       call_stays = search rules;
     }
@@ -52,7 +54,9 @@ returns-in-None g c =
     let row = row_is_there c.args.call.key w.cache c.purge-row.result (gone g at).found in
     record {
       spends = on.spends _ (spends_fit c.args.call.op (find_row c.args.call.key (progress_in w)) _ c.line_of-line.result row c.line_of-line.ensures c.end.ensures.spends);
-      next = sym on.same ∙ (ends_at_once w.cache.config w.moment c.args.call.key c.args.call.op (progress_in w) c.line_of-line.result c.line_of-line.ensures c.is_some-there.result (row ∙ sym c.is_some-there.ensures) c.args.supply.values.shown c.where_there-shown.result
-          c.where_there-shown.ensures.there c.where_there-shown.ensures.absent c.config.result.now c.where_there-entry.result _ on.purged c.config.ensures (sym c.in-None.ensures) on.covered.stored on.covered.shown ∙ c.end.ensures.run);
+      next = sym on.same ∙ (ends_at_once w.cache.config w.moment c.args.call.key c.args.call.op (progress_in w) c.line_of-line.result c.line_of-line.ensures c.is_some-there.result (row ∙
+          sym c.is_some-there.ensures) c.args.supply.values.shown c.where_there-shown.result
+          c.where_there-shown.ensures.there c.where_there-shown.ensures.absent c.config.result.now c.where_there-entry.result _ on.purged c.config.ensures (sym c.in-None.ensures)
+          on.covered.stored on.covered.shown ∙ c.end.ensures.run);
       call_stays = search rules;
     }

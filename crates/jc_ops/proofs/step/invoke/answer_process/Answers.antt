@@ -1,5 +1,4 @@
-use Rattle.std.specs.Prelude.{Ok}
-use Rattle.jc_ops.proofs.Names.{◌≡◌, true, sym, ◌∙◌, ap, subst, Some, Run, KeyWait, StepWaits, resume, key_run, find_row, verdict_of, given_by, loaded_in, is_invoke, progress_in, act_on}
+use Rattle.jc_ops.proofs.Names.{sym, ◌∙◌, ap, subst, Some, Run, KeyWait, StepWaits, find_row, verdict_of, given_by, loaded_in, is_invoke, progress_in}
 use Rattle.jc_model.specs.declared.call.Answer.TheVariants.{Processed}
 use Rattle.jc_ops.specs.Carried.{judged_run}
 use Rattle.jc_ops.proofs.Judged.{row_is_there, once_decided, acts_at_once, acts_waiting}
@@ -20,7 +19,8 @@ returns-in-Some-clause-next g c =
     let run = c.requires.means ∙ ap (judged_run v w) (ap verdict_of is) in
     let has = row_is_there w.call.key v.cache c.args.row c.requires.ready.row ∙ sym c.is_some-2.ensures in
     subst (λ (x : Run). StepWaits v.cache.config p c.in-Some.request asked x) same
-    (acts_waiting v.cache.config v.moment w.call.key (find_row w.call.key p) (loaded_in w.given) p verdict _ has _ c.verdict_line-line.ensures _ c.config.ensures _ (c.requires.ready.covered.judged verdict (ap verdict_of is)).copy c.in-Some.request asked (rw (ap (λ (x : KeyWait). x.call.key) c.step.view_is) at (sym c.in-Some.ensures)) (same ∙ run))
+    (acts_waiting v.cache.config v.moment w.call.key (find_row w.call.key p) (loaded_in w.given) p verdict _ has _ c.verdict_line-line.ensures _ c.config.ensures _
+    (c.requires.ready.covered.judged verdict (ap verdict_of is)).copy c.in-Some.request asked (rw (ap (λ (x : KeyWait). x.call.key) c.step.view_is) at (sym c.in-Some.ensures)) (same ∙ run))
 
 pub returns-in-None-clause-next : goal.returns-in-None-clause-next
 returns-in-None-clause-next g c =
@@ -33,4 +33,5 @@ returns-in-None-clause-next g c =
     let gave = c.requires.ready.covered.judged verdict (ap verdict_of is) in
     let has = row_is_there w.call.key v.cache c.args.row c.requires.ready.row ∙ sym c.is_some-2.ensures in
     let key = ap (λ (x : KeyWait). x.call.key) c.step.view_is in
-    run ∙ (acts_at_once v.cache.config v.moment w.call.key (find_row w.call.key p) (loaded_in w.given) p verdict _ has _ c.verdict_line-line.ensures _ c.config.ensures _ gave.copy _ (rw key at (sym c.in-None.ensures)) gave.stored ∙ rw (key, gave.shown) at c.end-reply.ensures.run)
+    run ∙ (acts_at_once v.cache.config v.moment w.call.key (find_row w.call.key p) (loaded_in w.given) p verdict _ has _ c.verdict_line-line.ensures _ c.config.ensures _ gave.copy _
+    (rw key at (sym c.in-None.ensures)) gave.stored ∙ rw (key, gave.shown) at c.end-reply.ensures.run)

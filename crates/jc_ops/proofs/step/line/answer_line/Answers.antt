@@ -16,7 +16,8 @@ returns-in-Loaded-clause-next g c =
     let v = c.args.visit.now in
     let call = c.args.call.now in
     let gave = c.requires.ready.covered.loaded c.in-Loaded.field-0 (ap loaded_by c.in-Loaded.is) in
-    rw c.in-Loaded.is (loader_gave v.cache.config v.moment call.key call.op (progress_in v) c.line_of-line.result c.line_of-line.ensures c.requires.ready.waits.waits c.in-Loaded.field-0 _ c.args.values.shown c.in-Load.is (gave.stored c.requires.invoke) (gave.shown c.requires.invoke) ∙ c.end.ensures.run)
+    rw c.in-Loaded.is (loader_gave v.cache.config v.moment call.key call.op (progress_in v) c.line_of-line.result c.line_of-line.ensures c.requires.ready.waits.waits c.in-Loaded.field-0 _
+    c.args.values.shown c.in-Load.is (gave.stored c.requires.invoke) (gave.shown c.requires.invoke) ∙ c.end.ensures.run)
 
 pub returns-in_default-answer : goal.returns-in_default-answer
 returns-in_default-answer g c =
@@ -25,7 +26,8 @@ returns-in_default-answer g c =
     let has = row_is_there call.key v.cache c.args.row c.requires.ready.row ∙ sym c.is_some.ensures in
     record {
       spends = counts_alone v c.count.new.visit _ c.count.ensures.same;
-      next = loader_failed v.cache.config v.moment call.key call.op (progress_in v) c.line_of-line.result c.line_of-line.ensures c.requires.ready.waits.waits c.args.answer.now c.in-Load.is c.in_default-answer.not-Loaded ∙ sym (ap₂ ended (c.count.ensures.progress (find_row call.key (progress_in v)) has) c.fault.ensures);
+      next = loader_failed v.cache.config v.moment call.key call.op (progress_in v) c.line_of-line.result c.line_of-line.ensures c.requires.ready.waits.waits c.args.answer.now c.in-Load.is
+          c.in_default-answer.not-Loaded ∙ sym (ap₂ ended (c.count.ensures.progress (find_row call.key (progress_in v)) has) c.fault.ensures);
       call_stays = tt;
     }
 
@@ -37,8 +39,10 @@ returns-in-Written g c =
     let gave = c.requires.ready.covered.written (ap is_written c.in-Written.is) refl in
     record {
       spends = spends_fit call.op (find_row call.key (progress_in v)) _ c.line_of-line.result row c.line_of-line.ensures c.end-in-Written.ensures.spends;
-      next = rw c.in-Written.is (writer_agreed v.cache.config v.moment call.key call.op (progress_in v) c.line_of-line.result c.line_of-line.ensures c.is_some-in-Written.result (row ∙ sym c.is_some-in-Written.ensures) c.args.values.shown c.where_there-shown.result
-          c.where_there-shown.ensures.there c.where_there-shown.ensures.absent _ c.requires.invoke c.requires.ready.waits.waits c.in_default.not-Load gave.stored gave.shown ∙ c.end-in-Written.ensures.run);
+      next = rw c.in-Written.is (writer_agreed v.cache.config v.moment call.key call.op (progress_in v) c.line_of-line.result c.line_of-line.ensures c.is_some-in-Written.result (row ∙
+          sym c.is_some-in-Written.ensures) c.args.values.shown c.where_there-shown.result
+          c.where_there-shown.ensures.there c.where_there-shown.ensures.absent _ c.requires.invoke c.requires.ready.waits.waits c.in_default.not-Load gave.stored gave.shown ∙
+          c.end-in-Written.ensures.run);
       call_stays = tt;
     }
 
@@ -48,6 +52,7 @@ returns-in_default-answer-2 g c =
     let call = c.args.call.now in
     record {
       spends = record { same = same_visit v; room = omega arith; places = omega arith };
-      next = writer_failed v.cache.config v.moment call.key call.op (progress_in v) c.line_of-line.result c.line_of-line.ensures c.requires.ready.waits.waits c.args.answer.now c.requires.invoke c.in_default.not-Load c.in_default-answer-2.not-Written ∙ ap (ended (progress_in v)) (sym c.fault-in_default-answer-2.ensures);
+      next = writer_failed v.cache.config v.moment call.key call.op (progress_in v) c.line_of-line.result c.line_of-line.ensures c.requires.ready.waits.waits c.args.answer.now c.requires.invoke
+          c.in_default.not-Load c.in_default-answer-2.not-Written ∙ ap (ended (progress_in v)) (sym c.fault-in_default-answer-2.ensures);
       call_stays = tt;
     }

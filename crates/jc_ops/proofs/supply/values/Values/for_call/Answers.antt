@@ -1,5 +1,4 @@
-use Rattle.jc_ops.proofs.Names.{◌≡◌, ◌∙◌, true, arith, common_steps}
-use Rattle.jc_ops.specs.Lines.{takes_value}
+use Rattle.jc_ops.proofs.Names.{◌∙◌}
 use Rattle.jc_ops.proofs.Lined.{takes_shown, takes_entry}
 use Rattle.jc_ops.proofs.supply.values.Values.for_call.Goals as goal
 
