@@ -1,10 +1,21 @@
 use Rattle.std.proofs.Common.{ap₂}
-use Rattle.jc_ops.proofs.Names.{◌≡◌, ◌∙◌, sym, ap, List, ℕ, Some, progress_in, ended}
-use Rattle.jc_model.specs.Changes.{access, hit}
+use Rattle.jc_ops.proofs.Names.{◌≡◌, ℕ, arith, true, false, List, Option, ◌∙◌, sym, ap, subst, common_steps, Some, None, CacheConfig, Item, Progress, find_row, ended, step, progress_in}
+use Rattle.jc_model.specs.declared.call.Op.TheVariants.{Get}
 use Rattle.jc_model.specs.declared.call.Reply.TheVariants.{Found}
-use Rattle.jc_state.specs.Kept.{IsRow, record_of}
-use Rattle.jc_ops.proofs.Hits.{hits, row_is_live}
+use Rattle.jc_model.specs.Changes.{access, hit}
+use Rattle.jc_model.specs.State.{live, is_live}
+use Rattle.jc_model.specs.Whole.{holds}
+use Rattle.jc_state.specs.Kept.{Kept, IsRow, has_live, record_of}
 use Rattle.jc_ops.proofs.hit.get_at_once.Goals as goal
+
+-- a get of a live row is counted, uses the row, and shows its value
+hits : (c : CacheConfig) (now : ℕ) (key : List ℕ) (x : Item) (p : Progress) → find_row key p ≡ Some x → holds c now key p.state ≡ true →
+    step c now (record { key = key; op = Get }) p ≡ ended (access c now x (hit p)) (Found (Some x.value))
+hits c now key x p there live = grind (arith, common_steps)
+
+-- the key's row is live
+row_is_live : (now : ℕ) (key : List ℕ) (k : Kept) (row : ℕ) (x : Item) → IsRow key k row x → live now x.expiry ≡ true → has_live now key k ≡ true
+row_is_live now key k row x at is = subst (λ (found : Option Item). (elim found [ None ↦ false | Some y ↦ is_live now y ]) ≡ true) (sym at.found) is
 
 pub returns-in-Ok-clause-found : goal.returns-in-Ok-clause-found
 returns-in-Ok-clause-found g c =
