@@ -1,5 +1,5 @@
 -- A step that goes on over what its key's expired row left.
-use Rattle.jc_ops.proofs.Names.{◌≡◌, ℕ, ◌<◌, ◌≤◌, ◌+◌, arith, Bool, false, if◌then◌else◌, List, [], refl, sym, ◌∙◌, ap, subst, common_steps, Option, Some, is_some, Answer, KeyCall, Op}
+use Rattle.jc_ops.proofs.Names.{◌≡◌, ℕ, ◌<◌, ◌≤◌, ◌+◌, arith, Bool, false, if◌then◌else◌, List, [], sym, ◌∙◌, ap, subst, common_steps, Option, Some, is_some, Answer, KeyCall, Op}
 use Rattle.jc_ops.proofs.Names.{CacheConfig, Put}
 use Rattle.jc_ops.proofs.Names.{Item, row_of, Progress, find_row, purge, resume, step, KeyWait, key_run, items_of, FoundRow, HasPlaces, Visited, SpendsAtMost, progress_in, has_live_in}
 use Rattle.jc_ops.proofs.Names.{IsWaiting, WaitsIn}
@@ -23,11 +23,6 @@ pub record Purged (v w : Visited) (key : List ℕ) (row : Option ℕ) : Type 0 w
   pub live : is_some row ≡ has_live_in v key
   pub is : progress_in w ≡ purge v.cache.config v.moment key (progress_in v)
   pub found : FoundRow key w.cache row
-
--- where only the counters have changed
-pub counts_alone : (v w : Visited) (n : ℕ) → w ≡ record v { cache = record v.cache { counts = w.cache.counts } } → SpendsAtMost 1 n v w
-counts_alone v w n is = subst (λ (x : Visited). SpendsAtMost 1 n v x) (sym is)
-    (record { same = record { config = refl; id = refl; moment = refl; elsewhere = λ other key differ. refl }; room = omega arith; places = omega arith })
 
 pub invoke_told : (there : Bool) (processor : ℕ) (argument : List ℕ) (o : Op) → o ≡ op.Invoke processor argument → told_on there o ≡ told_of there Put
 invoke_told there processor argument o is = rw is (grind (arith, common_steps))

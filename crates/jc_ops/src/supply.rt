@@ -72,9 +72,10 @@ impl Supply {
         ensures covers { IfOk result (λ s.
             CoversAnswerIn visit.old step.entry.now answer.now s.values) }
     {
-        let row = visit.find(&step.call().key);
+        let call = step.call();
+        let row = visit.find(&call.key);
         let there = visit.has_live(row);
-        visit.reserve_notices(most_notices(&step.call().op, there))?;
+        visit.reserve_notices(most_notices(&call.op, there))?;
         let adds = adds_at(there, visit.config(), step, answer);
         visit.reserve_rows(usize::from(adds))?;
         let values = Values::at(visit, row, step, answer)?;

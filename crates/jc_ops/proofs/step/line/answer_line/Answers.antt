@@ -1,7 +1,5 @@
 use Rattle.std.proofs.Common.{ap₂}
-use Rattle.jc_ops.proofs.Names.{refl, sym, ◌∙◌, ap, arith, find_row, ended, loaded_by, is_written, progress_in}
-use Rattle.jc_state.proofs.VisitLaws.{same_visit}
-use Rattle.jc_ops.proofs.Goes.{counts_alone}
+use Rattle.jc_ops.proofs.Names.{refl, sym, ◌∙◌, ap, find_row, ended, loaded_by, is_written, progress_in}
 use Rattle.jc_ops.proofs.Judged.{row_is_there}
 use Rattle.jc_ops.proofs.Lined.{room_loaded, spends_fit, writer_failed, writer_agreed, loader_failed, loader_gave}
 use Rattle.jc_ops.proofs.step.line.answer_line.Goals as goal
@@ -19,17 +17,13 @@ returns-in-Loaded-clause-next g c =
     rw c.in-Loaded.is (loader_gave v.cache.config v.moment call.key call.op (progress_in v) c.line_of-line.result c.line_of-line.ensures c.requires.ready.waits.waits c.in-Loaded.field-0 _
     c.args.values.shown c.in-Load.is (gave.stored c.requires.invoke) (gave.shown c.requires.invoke) ∙ c.end.ensures.run)
 
-pub returns-in_default-answer : goal.returns-in_default-answer
-returns-in_default-answer g c =
+pub returns-in_default-answer-clause-next : goal.returns-in_default-answer-clause-next
+returns-in_default-answer-clause-next g c =
     let v = c.args.visit.now in
     let call = c.args.call.now in
     let has = row_is_there call.key v.cache c.args.row c.requires.ready.row ∙ sym c.is_some.ensures in
-    record {
-      spends = counts_alone v c.count.new.visit _ c.count.ensures.same;
-      next = loader_failed v.cache.config v.moment call.key call.op (progress_in v) c.line_of-line.result c.line_of-line.ensures c.requires.ready.waits.waits c.args.answer.now c.in-Load.is
-          c.in_default-answer.not-Loaded ∙ sym (ap₂ ended (c.count.ensures.progress (find_row call.key (progress_in v)) has) c.fault.ensures);
-      call_stays = tt;
-    }
+    loader_failed v.cache.config v.moment call.key call.op (progress_in v) c.line_of-line.result c.line_of-line.ensures c.requires.ready.waits.waits c.args.answer.now c.in-Load.is
+    c.in_default-answer.not-Loaded ∙ sym (ap₂ ended (c.count.ensures.progress (find_row call.key (progress_in v)) has) c.fault.ensures)
 
 pub returns-in-Written : goal.returns-in-Written
 returns-in-Written g c =
@@ -46,13 +40,9 @@ returns-in-Written g c =
       call_stays = tt;
     }
 
-pub returns-in_default-answer-2 : goal.returns-in_default-answer-2
-returns-in_default-answer-2 g c =
+pub returns-in_default-answer-2-clause-next : goal.returns-in_default-answer-2-clause-next
+returns-in_default-answer-2-clause-next g c =
     let v = c.args.visit.now in
     let call = c.args.call.now in
-    record {
-      spends = record { same = same_visit v; room = omega arith; places = omega arith };
-      next = writer_failed v.cache.config v.moment call.key call.op (progress_in v) c.line_of-line.result c.line_of-line.ensures c.requires.ready.waits.waits c.args.answer.now c.requires.invoke
-          c.in_default.not-Load c.in_default-answer-2.not-Written ∙ ap (ended (progress_in v)) (sym c.fault-in_default-answer-2.ensures);
-      call_stays = tt;
-    }
+    writer_failed v.cache.config v.moment call.key call.op (progress_in v) c.line_of-line.result c.line_of-line.ensures c.requires.ready.waits.waits c.args.answer.now c.requires.invoke
+    c.in_default.not-Load c.in_default-answer-2.not-Written ∙ ap (ended (progress_in v)) (sym c.fault-in_default-answer-2.ensures)
