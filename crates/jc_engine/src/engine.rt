@@ -1,9 +1,10 @@
 //! The manager: many caches over one table of rows, each with at most one open call.
-ghost use Rattle.std.specs.Prelude.{◌≡◌, IfErr, OnErr, is_some};
+ghost use Rattle.std.specs.Prelude.{◌≡◌, IfErr, OnErr, is_some, option_map};
 ghost use Rattle.jc_model.specs.declared.event.Event.TheVariants.{Begin, Answer as Answered, GiveUp};
 ghost use Rattle.jc_model.specs.Places.{at_place};
 ghost use Rattle.jc_engine.specs.Caches.{AreSound, IsTableOf, names_of, id_of, holds_in};
 ghost use Rattle.jc_engine.specs.Heard.{IsAnswer, IsFreeAnswer, FreeIsAnswered, LeadsTo};
+ghost use Rattle.jc_engine.specs.Managed.{cache_in};
 ghost use Rattle.jc_engine.specs.Results.{of_begin, of_resume, of_give_up};
 
 use crate::cache::Managed;
@@ -59,15 +60,19 @@ impl<R: Rows, G: Ring> Engine<R, G> {
         }
     }
 
+    /// The live cache with this id.
+    pub(crate) fn find(&self, id: CacheId) -> Option<&Managed<G>>
+        ensures { at_place self.now id ≡ option_map cache_in (option_map (λ cache. cache.now) result) }
+    {
+        let number = id.number();
+        self.caches.get(&number)
+    }
+
     /// Whether a live cache has this id.
     pub fn is_live(&self, id: CacheId) -> bool
         ensures { result ≡ is_some (at_place self.now id) }
     {
-        let number = id.number();
-        match self.caches.get(&number) {
-            Some(_) => true,
-            None => false,
-        }
+        self.find(id).is_some()
     }
 
     /// The names of the live caches, in order of id.

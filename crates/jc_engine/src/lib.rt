@@ -6,7 +6,6 @@ pub mod engine;
 mod lives;
 mod moves;
 pub mod open;
-mod over;
 mod run;
 pub mod turn;
 mod watched;

@@ -28,8 +28,7 @@ impl<R: Rows, G: Ring> Engine<R, G> {
     pub fn is_open(&self, id: CacheId) -> bool
         ensures { result ≡ is_open_in (at_place self.now id) }
     {
-        let number = id.number();
-        match self.caches.get(&number) {
+        match self.find(id) {
             Some(cache) => cache.is_open(),
             None => false,
         }

@@ -4,9 +4,9 @@ ghost use Rattle.std.specs.FinMap as table;
 ghost use Rattle.std.specs.List.{list_any};
 ghost use Rattle.std.specs.Str.{bytes_eq};
 ghost use Rattle.jc_model.specs.Limits.{most_caches};
-ghost use Rattle.jc_engine.specs.Caches.{fresh_from};
+ghost use Rattle.jc_engine.specs.Caches.{AreJustOpened, fresh_from};
 ghost use Rattle.jc_engine.specs.Opening.{RefusesDue, RefusesNoOther, open_refusal, open_refusal_from};
-ghost use Rattle.jc_engine.specs.Opening.{open_refusal_for, refusal_from, is_taken, capacities, names_in};
+ghost use Rattle.jc_engine.specs.Opening.{refusal_from, is_taken, capacities, names_in};
 ghost use Rattle.jc_engine.specs.Fresh.{AreNames};
 ghost use Rattle.jc_engine.specs.Sound.{IsSpare};
 
@@ -91,7 +91,12 @@ impl<R: Rows, G: Ring> Engine<R, G> {
             drop((rows, configs));
             return Err(refusal);
         }
-        let mut engine = Engine::vacant(alloc, rows, first)?;
+        let mut engine = Engine {
+            alloc,
+            visit: Visit::new(alloc, spare_cache(alloc)?, rows),
+            caches: HashMap::new(alloc),
+            roster: Roster::new(alloc, first),
+        };
         for config in configs {
             if let Err(config) = engine.admit(config) {
                 drop((engine, config));
@@ -101,17 +106,18 @@ impl<R: Rows, G: Ring> Engine<R, G> {
         Ok(engine)
     }
 
-    /// A manager without caches, the first of which will get this id.
-    fn vacant(alloc: Global, rows: R, first: u32) -> Result<Engine<R, G>, OutOfMemory>
-        requires { R.contents rows ≡ table.empty }
-        ensures { IfOk result (λ engine. engine ≡ fresh_from first []) }
+    /// The same manager over another empty table. No call has changed a cache yet.
+    pub fn over<S: Rows>(self, rows: S) -> Engine<S, G>
+        requires empty { S.contents rows ≡ table.empty }
+        requires opened { AreJustOpened self }
+        ensures { result ≡ self }
     {
-        Ok(Engine {
-            alloc,
-            visit: Visit::new(alloc, spare_cache(alloc)?, rows),
-            caches: HashMap::new(alloc),
-            roster: Roster::new(alloc, first),
-        })
+        Engine {
+            alloc: self.alloc,
+            visit: self.visit.over(rows),
+            caches: self.caches,
+            roster: self.roster,
+        }
     }
 }
 
@@ -152,17 +158,6 @@ pub fn open_refusal_from(alloc: Global, configs: &[CacheConfig], first: u32) -> 
         return Some(OpenRefusal::IdsSpent);
     }
     refusal
-}
-
-/// Why the cache at a place is refused whose configuration breaks this limit.
-fn refusal_for(limit: Limit, cache: u32) -> OpenRefusal
-    ensures { result ≡ open_refusal_for cache limit }
-{
-    match limit {
-        Limit::Capacity => OpenRefusal::BadCapacity { cache },
-        Limit::Listeners => OpenRefusal::TooManyListeners { cache },
-        Limit::Processors => OpenRefusal::TooManyProcessors { cache },
-    }
 }
 
 /// Whether one of these caches has this name, by comparing it with each.
@@ -206,8 +201,11 @@ fn first_refusal(alloc: Global, configs: &[CacheConfig]) -> Option<OpenRefusal>
     let mut names = HashSet::with_capacity(alloc, configs.len()).ok();
     for (place, config) in configs.iter().enumerate() {
         let cache = place as u32;
-        if let Some(limit) = config.broken_limit() {
-            return Some(refusal_for(limit, cache));
+        match config.broken_limit() {
+            Some(Limit::Capacity) => return Some(OpenRefusal::BadCapacity { cache }),
+            Some(Limit::Listeners) => return Some(OpenRefusal::TooManyListeners { cache }),
+            Some(Limit::Processors) => return Some(OpenRefusal::TooManyProcessors { cache }),
+            None => {}
         }
         if is_taken(&names, &configs[..place], config.name) {
             return Some(OpenRefusal::DuplicateName { cache });
