@@ -1,7 +1,11 @@
 -- One event of the manager, by what it did to its cache.
-use Rattle.std.proofs.Common.{◌≡◌, ℕ, Bool, true, false, if◌then◌else◌, List, length, option_map, slice_set, OnOk, OnErr, IfOk, IfErr, Option, Some, None, Ok, Err, Result, refl, sym, ap, ◌∙◌}
-use Rattle.jc_engine.proofs.Names.{map-set, Cause, NoSuchCache, OutOfMemory, Outcome, there, at_place, Status, CacheEvent, on_cache, reply_of, refuse_last, is_refused, for_memory, answer_of, answer_in, moved, put_moved, lives_by}
+use Rattle.std.proofs.Common.{◌≡◌, ℕ, Bool, true, false, if◌then◌else◌, List, length, option_map, slice_set, OnOk, OnErr, IfOk, IfErr, is_some, Option, Some, None, Ok, Err, Result, refl, sym, ap, ◌∙◌}
+use Rattle.jc_engine.proofs.Names.{map-set, Cause, OutOfMemory, Outcome, there, at_place, Status, CacheEvent, on_cache, reply_of, refuse_last, is_refused, for_memory, answer_of, answer_in, moved, put_moved, lives_by, at_place_map}
 use Rattle.jc_engine.proofs.Names.{Advance, Slot, Cache, status_of, lives_of, cache_in, is_step, Moves, step_of, outcome_of, of_start, ChangesOne, caches_in, Refused, Stepped, at_same}
+use Rattle.jc_engine.proofs.Names.{answer_to_destroy, Destroyed, Awaited, Wait, standing_by}
+use Rattle.jc_model.specs.declared.event.Cause.TheVariants.{Busy}
+use Rattle.jc_model.specs.Runs.{destroyed_by}
+use Rattle.jc_engine.specs.Managed.{reply_to}
 use Rattle.jc_engine.proofs.Places.{same_set, place_of, Within, seen_is, live_is, Changes, seen_put}
 
 -- where memory suffices, a reply stays
@@ -25,16 +29,24 @@ refused_anyway found said cause memory is = ap (refuse_last memory) (sym is) ∙
 pub memory_last : (found : Option Status) (said : CacheEvent) → is_step (answer_of found said false) ≡ true → Refused OutOfMemory ≡ answer_of found said true
 memory_last found said is = memory_refused (answer_of found said false) is ∙ last_of found said true
 
--- what a cache replies is what its manager answers
-pub reply_here : (w : Within) (id : ℕ) (said : CacheEvent) {cache : Slot} → w.caches id ≡ Some cache → answer_in (lives_of w.seen) (on_cache id said) false ≡ reply_of cache.state.config (status_of (cache_in cache)).standing said
-reply_here w id said {cache} at = ap (λ (found : Option Status). answer_of found said false) (live_is w id at) ∙ plain (reply_of cache.state.config (status_of (cache_in cache)).standing said)
+-- What is at an id answers, as its cache replies, or as no cache.
+module _ (caches : List (Option Cache)) (id : ℕ) {o : Option Cache} (at : at_place caches id ≡ o) where
+  pub live_at : at_place (lives_of caches) id ≡ option_map status_of o
+  live_at = at_place_map status_of caches id ∙ ap (option_map status_of) at
 
-pub unknown : (w : Within) (id : ℕ) (said : CacheEvent) → w.caches id ≡ None → (memory : Bool) → answer_in (lives_of w.seen) (on_cache id said) memory ≡ Refused NoSuchCache
-unknown w id said none memory = ap (λ (found : Option Status). answer_of found said memory) (live_is w id none)
+  pub answer_at : (said : CacheEvent) (memory : Bool) → answer_in (lives_of caches) (on_cache id said) memory ≡ answer_of (option_map status_of o) said memory
+  answer_at said memory = ap (λ (found : Option Status). answer_of found said memory) live_at
 
--- where the answer is a step, there is a cache
-pub must_be : (w : Within) (id : ℕ) (said : CacheEvent) → w.caches id ≡ None → is_step (answer_in (lives_of w.seen) (on_cache id said) false) ≡ true → ⊥
-must_be w id said none allowed = let no = ap is_step (unknown w id said none false) in cc
+pub reply_at : (caches : List (Option Cache)) (id : ℕ) {k : Cache} (said : CacheEvent) → at_place caches id ≡ Some k → answer_in (lives_of caches) (on_cache id said) false ≡ reply_to k said
+reply_at caches id said at = answer_at caches id at said false ∙ plain _
+
+-- a cache is destroyed where no call is open
+pub destroyed_at : (caches : List (Option Cache)) (id : ℕ) {k : Cache} → at_place caches id ≡ Some k → answer_to_destroy (at_place (lives_of caches) id) ≡ (if is_some k.turn then Refused Busy else Destroyed)
+destroyed_at caches id {k} at = ap answer_to_destroy (live_at caches id at) ∙ by k.turn
+  where
+    by : (turn : Option (Awaited × Wait)) → destroyed_by (standing_by k.config k.progress turn) ≡ (if is_some turn then Refused Busy else Destroyed)
+    by None = refl
+    by (Some w) = refl
 
 -- what an event did to its cache; memory says whether memory was refused
 pub record Did (k k' : Cache) (said : CacheEvent) (memory : Bool) (o : Outcome) : Type 0 where

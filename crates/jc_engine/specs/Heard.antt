@@ -3,9 +3,9 @@ use Rattle.std.specs.Prelude.{◌≡◌, ℕ, true, false, List, Option, MatchOp
 use Rattle.jc_model.specs.declared.call.Call.{Call}
 use Rattle.jc_model.specs.declared.event.Cause.{Cause}
 use Rattle.jc_model.specs.declared.event.Event.{Event}
-use Rattle.jc_model.specs.declared.event.Event.TheVariants.{Begin, Destroy}
+use Rattle.jc_model.specs.declared.event.Event.TheVariants.{Begin}
 use Rattle.jc_model.specs.declared.event.Outcome.{Outcome}
-use Rattle.jc_model.specs.declared.event.Outcome.TheVariants.{Refused, Destroyed}
+use Rattle.jc_model.specs.declared.event.Outcome.TheVariants.{Refused}
 use Rattle.jc_model.specs.Runs.{answer_to, lives_after, for_memory, lives_in_end}
 use Rattle.jc_engine.specs.Caches.{Cache, lives_of}
 use Rattle.jc_engine.specs.Free.{takes_none}
@@ -32,11 +32,6 @@ FindsValue caches id now call value = IsFreeAnswer caches (Begin id now call) (o
 abbrev pub IsRefusal : List (Option Cache) → Event → Option Cause → Type 0
 IsRefusal caches event refusal =
     MatchOption refusal (is_step (answer_to (lives_of caches) event false) ≡ true) (λ cause. answer_to (lives_of caches) event false ≡ Refused cause)
-
--- why a cache is not destroyed: this cause, or none where it is
-abbrev pub IsDestroyRefusal : List (Option Cache) → ℕ → Option Cause → Type 0
-IsDestroyRefusal caches id refusal =
-    MatchOption refusal (answer_to (lives_of caches) (Destroy id) false ≡ Destroyed) (λ cause. answer_to (lives_of caches) (Destroy id) false ≡ Refused cause)
 
 -- an event with this outcome leads from these caches to those
 abbrev pub LeadsTo : List (Option Cache) → Event → Outcome → List (Option Cache) → Type 0

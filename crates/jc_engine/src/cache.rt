@@ -1,11 +1,9 @@
 //! One cache under the manager: its configuration, its rows and counters, and its open call.
 mod calls;
 
-ghost use Rattle.std.specs.Prelude.{◌≡◌, ℕ, None, is_some, MatchOption, []};
-ghost use Rattle.jc_model.specs.declared.event.Outcome.TheVariants.{Refused, Destroyed};
-ghost use Rattle.jc_model.specs.Runs.{begins, answers, destroyed_by};
+ghost use Rattle.std.specs.Prelude.{◌≡◌, ℕ, None, is_some};
+ghost use Rattle.jc_model.specs.Runs.{begins, answers};
 ghost use Rattle.jc_state.specs.Tied.{SameElsewhere};
-ghost use Rattle.jc_engine.specs.Caches.{status_of};
 ghost use Rattle.jc_engine.specs.Sound.{IsAt};
 ghost use Rattle.jc_engine.specs.declared.turn.Turn.TheVariants.{Idle};
 ghost use Rattle.jc_engine.specs.Managed.{cache_in, turn_in};
@@ -95,23 +93,10 @@ impl<G: Ring> Managed<G> {
         drop(mem::replace(&mut self.turn, turn));
     }
 
-    /// Why it can't be destroyed now.
-    pub(crate) fn destroy_refusal(&self) -> Option<Cause>
-        ensures { let reply = destroyed_by (status_of (cache_in self.now)).standing in
-            MatchOption result (reply ≡ Destroyed) (λ cause. reply ≡ Refused cause) }
-    {
-        match self.turn {
-            Turn::Idle => None,
-            _ => Some(Cause::Busy),
-        }
-    }
-
     /// Takes all its rows out of the table.
     pub(crate) fn leave<R: Rows>(&mut self, visit: &mut Visit<R, G>)
         requires managed { IsManaged visit.old.table self.old.state.id self.old }
         requires between { IsBetweenCalls self.old.state.id visit.old }
-        ensures cleared { self.new
-            ≡ record self.old { state = record self.old.state { cells = [] } } }
         ensures gone { IsAt visit.new.table self.old.state.id None }
         ensures elsewhere { SameElsewhere self.old.state.id visit.old.table visit.new.table }
         ensures rests { RestsAgain visit.old visit.new }

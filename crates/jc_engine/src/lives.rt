@@ -1,11 +1,10 @@
 //! Caches that are created and destroyed while the manager runs.
 ghost use Rattle.std.specs.Prelude.{◌≡◌, ◌≤◌, None, Some, [], ◌∷◌, ◌++◌, IfOk, IfErr, OnOk, OnErr, length, slice_set};
 ghost use Rattle.jc_model.specs.declared.event.Event.TheVariants.{Create, Destroy};
-ghost use Rattle.jc_model.specs.Places.{at_place};
 ghost use Rattle.jc_model.specs.Runs.{create_refusal};
-ghost use Rattle.jc_engine.specs.Caches.{Cache, lives_of, fresh_cache};
+ghost use Rattle.jc_engine.specs.Caches.{lives_of, fresh_cache};
 ghost use Rattle.jc_engine.specs.Fresh.{MayCome, fresh_slot};
-ghost use Rattle.jc_engine.specs.Heard.{IsAnswer, IsFreeAnswer, IsDestroyRefusal, LeadsTo};
+ghost use Rattle.jc_engine.specs.Heard.{IsAnswer, IsFreeAnswer, LeadsTo};
 ghost use Rattle.jc_engine.specs.Results.{of_create, of_destroy};
 
 use crate::cache::Managed;
@@ -49,11 +48,22 @@ impl<R: Rows, G: Ring> Engine<R, G> {
         ensures gone { OnOk result (self.new ≡ slice_set self.old id None) }
         ensures refused { OnErr result (self.new ≡ self.old) }
     {
-        if let Some(cause) = self.destroy_refusal(id) {
-            return Err(cause);
+        let Some(cache) = self.find(id) else {
+            return Err(Cause::NoSuchCache);
+        };
+        if cache.is_open() {
+            return Err(Cause::Busy);
         }
-        self.dismiss(id);
-        Ok(())
+        let number = id.number();
+        match self.caches.remove(&number) {
+            Some(mut cache) => {
+                cache.leave(&mut self.visit);
+                drop(cache);
+                self.roster.remove(number);
+                Ok(())
+            }
+            None => unreachable!(),
+        }
     }
 
     /// The id that the next cache gets.
@@ -93,33 +103,6 @@ impl<R: Rows, G: Ring> Engine<R, G> {
                 Ok(CacheId::new(number))
             }
             Err(_) => unreachable!(),
-        }
-    }
-
-    /// Why a cache can't be destroyed now.
-    pub(crate) fn destroy_refusal(&self, id: CacheId) -> Option<Cause>
-        ensures { IsDestroyRefusal self.now id result }
-    {
-        let number = id.number();
-        match self.caches.get(&number) {
-            Some(cache) => cache.destroy_refusal(),
-            None => Some(Cause::NoSuchCache),
-        }
-    }
-
-    /// Takes a cache and all its rows out.
-    fn dismiss(&mut self, id: CacheId)
-        requires { (k : Cache) × (at_place self.old id ≡ Some k) }
-        ensures { self.new ≡ slice_set self.old id None }
-    {
-        let number = id.number();
-        match self.caches.remove(&number) {
-            Some(mut cache) => {
-                cache.leave(&mut self.visit);
-                drop(cache);
-                self.roster.remove(number);
-            }
-            None => unreachable!(),
         }
     }
 }

@@ -53,8 +53,7 @@ impl<R: Rows, G: Ring> Engine<R, G> {
     pub fn begin_refusal(&self, id: CacheId, call: &Call) -> Option<Cause>
         ensures { (now : ℕ) → IsRefusal self.now (Begin id now call.now) result }
     {
-        let number = id.number();
-        match self.caches.get(&number) {
+        match self.find(id) {
             Some(cache) => cache.begin_refusal(call),
             None => Some(Cause::NoSuchCache),
         }
@@ -64,8 +63,7 @@ impl<R: Rows, G: Ring> Engine<R, G> {
     pub fn resume_refusal(&self, id: CacheId, answer: &Answer) -> Option<Cause>
         ensures { IsRefusal self.now (Answered id answer.now) result }
     {
-        let number = id.number();
-        match self.caches.get(&number) {
+        match self.find(id) {
             Some(cache) => cache.resume_refusal(answer),
             None => Some(Cause::NoSuchCache),
         }

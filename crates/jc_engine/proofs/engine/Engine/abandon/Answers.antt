@@ -2,7 +2,7 @@ use Rattle.std.proofs.Common.{Some, refl, sym, false, rules, nat_eq}
 use Rattle.jc_engine.proofs.Names.{get, gives_up, cache_in, of_abandon, IfOk-weaker, on_ok_weaker, on_err_weaker}
 use Rattle.jc_engine.proofs.Numbered.{puts_for}
 use Rattle.jc_engine.proofs.Places.{within, managed_own, seen_is, Changes, manager_moved}
-use Rattle.jc_engine.proofs.Moving.{Did, unknown, one_after, new_here, unchanged, outcome_after, lives_later}
+use Rattle.jc_engine.proofs.Moving.{answer_at, Did, one_after, new_here, unchanged, outcome_after, lives_later}
 use Rattle.jc_engine.proofs.GivingUp.{abandoned, ends, managed_after}
 use Rattle.jc_engine.proofs.engine.Engine.abandon.Given as given
 use Rattle.jc_engine.proofs.engine.Engine.abandon.Goals as goal
@@ -32,4 +32,4 @@ returns g c =
     }
 
 pub returns-in_default-clause-outcome : goal.returns-in_default-clause-outcome
-returns-in_default-clause-outcome g c = sym (unknown (within c.self.view_is c.self.invariant.sound) c.args.id gives_up (sym (rw c.number-number.ensures at c.in_default.ensures.value)) false)
+returns-in_default-clause-outcome g c = sym (answer_at c.args.self.now c.args.id (seen_is (within c.self.view_is c.self.invariant.sound) c.args.id (sym (rw c.number-number.ensures at c.in_default.ensures.value))) gives_up false)

@@ -1,14 +1,50 @@
-use Rattle.std.proofs.Common.{◌≡◌, option_map, Option, Some, None, refl, sym, ap, ◌∙◌}
-use Rattle.jc_engine.proofs.Names.{map-set, Destroyed, at_place, answer_to_destroy, Cache, status_of, lives_of, at_place_map}
+use Rattle.std.proofs.Common.{◌≡◌, Bool, None, ap, sym, ◌∙◌, length, option_map, slice_set, nat_eq, if◌then◌else◌}
+use Rattle.jc_model.specs.declared.event.Cause.TheVariants.{Busy}
+use Rattle.jc_engine.proofs.Names.{get, map-set, member_of, Destroyed, Refused, status_of, lives_of, caches_in}
+use Rattle.jc_engine.proofs.Numbered.{puts_for}
+use Rattle.jc_engine.proofs.Places.{within, seen_is, managed_own, member_at, Changes, seen_after, sound_after, between, unused_after}
+use Rattle.jc_engine.proofs.Moving.{destroyed_at}
+use Rattle.jc_engine.proofs.engine.Engine.destroy.Given as given
 use Rattle.jc_engine.proofs.engine.Engine.destroy.Goals as goal
 
--- where destroying is not refused, there is a cache
-live_there : (found : Option Cache) → answer_to_destroy (option_map status_of found) ≡ Destroyed → (k : Cache) × (found ≡ Some k)
-live_there None is = absurd cc
-live_there (Some k) is = (k, refl)
+pub unreachable-requires : goal.unreachable-requires
+unreachable-requires g c =
+    let none = seen_is (within c.self.view_is c.self.invariant.sound) c.args.id (sym (rw c.number-number.ensures at c.in-None.ensures.value)) in
+    let some = c.in-Some.ensures in
+    absurd cc
 
-pub dismiss-requires : goal.dismiss-requires
-dismiss-requires g c = live_there (at_place c.args.self.now c.args.id) (ap answer_to_destroy (sym (at_place_map status_of c.args.self.now c.args.id)) ∙ c.in_default.ensures)
+pub leave-requires : goal.leave-requires
+leave-requires g c =
+    let at = sym (rw c.number-number.ensures at c.in-Some-remove.ensures.value) in
+    record { managed = managed_own (within c.self.view_is c.self.invariant.sound) c.args.id at; between = between c.self.inside.visit c.self.invariant c.args.id _ at }
+
+pub remove-requires-in-Some-remove : goal.remove-requires-in-Some-remove
+remove-requires-in-Some-remove g c = (member_of c.in-Some-remove.cache.state.config, rw c.number-number.ensures (member_at (within c.self.view_is c.self.invariant.sound) c.args.id (sym (rw c.number-number.ensures at c.in-Some-remove.ensures.value))))
+
+module _ (g : given.Over) (c : goal.After-remove-in-Some-remove g) where
+  changes : Changes (within c.self.view_is c.self.invariant.sound) c.args.id c.in-Some-remove.cache None (get nat_eq c.remove.new.self)
+  changes = record { at = sym (rw c.number-number.ensures at c.in-Some-remove.ensures.value); puts = puts_for _ _ _ c.number-number.ensures c.remove.ensures.updates.0 }
+
+  removed : c.remove-in-Some-remove.new.self ≡ slice_set c.self.inside.roster c.args.id None
+  removed = rw c.number-number.ensures at c.remove-in-Some-remove.ensures
+
+  gone : caches_in (get nat_eq c.remove.new.self) (length c.remove-in-Some-remove.new.self) ≡ slice_set c.args.self.now c.args.id None
+  gone = rw removed (seen_after changes)
+
+pub invariant_of-self : goal.invariant_of-self
+invariant_of-self g c = rw (removed g c) (record {
+  sound = sound_after (changes g c) c.leave.new.visit.table c.leave.ensures.gone c.leave.ensures.elsewhere;
+  spare = rw c.leave.ensures.rests.cache c.self.invariant.spare;
+  unused = unused_after (changes g c) c.self.invariant.unused;
+  untold = c.leave.ensures.rests.untold;
+})
+
+pub returns-clause-outcome : goal.returns-clause-outcome
+returns-clause-outcome g c =
+    sym (destroyed_at c.args.self.now c.args.id c.in-Some.ensures ∙ ap (λ (b : Bool). if b then Refused Busy else Destroyed) (sym c.is_open.ensures ∙ c.if-is_open.false))
 
 pub returns-clause-lives : goal.returns-clause-lives
-returns-clause-lives g c = ap lives_of c.dismiss.ensures ∙ map-set (option_map status_of) c.args.self.now c.args.id None
+returns-clause-lives g c = ap lives_of (gone g c) ∙ map-set (option_map status_of) c.args.self.now c.args.id None
+
+pub returns-clause-gone : goal.returns-clause-gone
+returns-clause-gone g c = gone g c

@@ -2,8 +2,8 @@ use Rattle.std.proofs.Common.{◌≡◌, Some, false, sym, ap, rules, nat_eq, �
 use Rattle.jc_state.specs.Visited.{Visited}
 use Rattle.jc_engine.proofs.Names.{get, begins, for_memory, cache_in, of_start, IfOk-weaker, on_err_weaker}
 use Rattle.jc_engine.proofs.Numbered.{puts_for}
-use Rattle.jc_engine.proofs.Places.{within, managed_own, Changes, manager_moved, between, between_at}
-use Rattle.jc_engine.proofs.Moving.{reply_here, unknown, Did, started, ok_then, one_after, new_here, unchanged, outcome_after, lives_later}
+use Rattle.jc_engine.proofs.Places.{within, managed_own, seen_is, Changes, manager_moved, between, between_at}
+use Rattle.jc_engine.proofs.Moving.{answer_at, reply_at, Did, started, ok_then, one_after, new_here, unchanged, outcome_after, lives_later}
 use Rattle.jc_engine.proofs.engine.Engine.start.Given as given
 use Rattle.jc_engine.proofs.engine.Engine.start.Goals as goal
 
@@ -35,12 +35,12 @@ returns-in-Some g c = record {
   lives = lives_later (changes g c) (did g c);
   one = ok_then c.start.result (one_after (changes g c));
   fits = IfOk-weaker c.start.result _ _ (λ advance moves. rw (new_here (changes g c)) moves.fits) c.start.ensures.ok;
-  free = λ free. rw (moment g c) at (c.start.ensures.free free) ∙ sym (reply_here (within c.self.view_is c.self.invariant.sound) c.args.id (begins c.args.now c.args.call.now) (changes g c).at);
+  free = λ free. rw (moment g c) at (c.start.ensures.free free) ∙ sym (reply_at c.args.self.now c.args.id (begins c.args.now c.args.call.now) (seen_is (within c.self.view_is c.self.invariant.sound) c.args.id (changes g c).at));
   refused = on_err_weaker c.start.result (λ same. unchanged (changes g c) (ap cache_in same)) c.start.ensures.same;
 }
 
 pub returns-in-None-clause-outcome : goal.returns-in-None-clause-outcome
-returns-in-None-clause-outcome g c = sym (unknown (within c.self.view_is c.self.invariant.sound) c.args.id (begins c.args.now c.args.call.now) (sym (rw c.number-number.ensures at c.in-None.ensures.value)) false)
+returns-in-None-clause-outcome g c = sym (answer_at c.args.self.now c.args.id (seen_is (within c.self.view_is c.self.invariant.sound) c.args.id (sym (rw c.number-number.ensures at c.in-None.ensures.value))) (begins c.args.now c.args.call.now) false)
 
 pub returns-in-None-clause-free : goal.returns-in-None-clause-free
-returns-in-None-clause-free g c = λ _. sym (unknown (within c.self.view_is c.self.invariant.sound) c.args.id (begins c.args.now c.args.call.now) (sym (rw c.number-number.ensures at c.in-None.ensures.value)) false)
+returns-in-None-clause-free g c = λ _. sym (answer_at c.args.self.now c.args.id (seen_is (within c.self.view_is c.self.invariant.sound) c.args.id (sym (rw c.number-number.ensures at c.in-None.ensures.value))) (begins c.args.now c.args.call.now) false)
