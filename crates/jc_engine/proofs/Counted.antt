@@ -54,7 +54,8 @@ module _ (m : RowMap) (base : ℕ) (s : State) (x : Item) (xs : List Item) (stat
       there None true is e = absurd cc
       there None false is e = absurd cc
 
-  own_less : (id i : ℕ) (key : List ℕ) → id ≡ base + i → option_map (λ row. row.1) (table.get (table.remove m (base, x.key)) (id, key)) ≡ expiry_at key (at_place (Some (record s { ring = xs }) ∷ states) i)
+  own_less : (id i : ℕ) (key : List ℕ) → id ≡ base + i
+      → option_map (λ row. row.1) (table.get (table.remove m (base, x.key)) (id, key)) ≡ expiry_at key (at_place (Some (record s { ring = xs }) ∷ states) i)
   own_less id zero key is = go (bytes_eq x.key key) (bytes_eq-Decides x.key key) (has.own id 0 key is)
     where
       go : (b : Bool) → Decides b (x.key ≡ key) → option_map (λ row. row.1) (table.get m (id, key)) ≡ option_map (λ (y : Item). y.expiry) (cond b (Some x) (row_of key xs))
@@ -64,7 +65,8 @@ module _ (m : RowMap) (base : ℕ) (s : State) (x : Item) (xs : List Item) (stat
           rw (same, ← d.0 refl, get-removed_same m (base, x.key), lacking x.key xs keys.0) refl
       go false d was = ap (option_map (λ row. row.1)) (get-removed_other m (base, x.key) (id, key) (λ same. (let yes : false ≡ true = d.1 (sym (ap (λ (p : ℕ × List ℕ). p.1) same)) in cc))) ∙ was
   own_less id (suc i) key is =
-      ap (option_map (λ row. row.1)) (get-removed_other m (base, x.key) (id, key) (λ same. (let here : id ≡ base = ap (λ (p : ℕ × List ℕ). p.0) same in omega (arith, is, here)))) ∙ has.own id (suc i) key is
+      ap (option_map (λ row. row.1)) (get-removed_other m (base, x.key) (id, key) (λ same. (let here : id ≡ base = ap (λ (p : ℕ × List ℕ). p.0) same in omega (arith, is, here))))
+      ∙ has.own id (suc i) key is
 
   less : HasRows (table.remove m (base, x.key)) base (Some (record s { ring = xs }) ∷ states)
   less = record { own = own_less; before = λ id key below. get-removed_absent m (base, x.key) (id, key) (has.before id key below); distinct = distinct_less }
@@ -73,7 +75,8 @@ module _ (m : RowMap) (base : ℕ) (s : State) (x : Item) (xs : List Item) (stat
       distinct_less zero t at = let same : ◌≡◌ {A = State} (record s { ring = xs }) t = cc in subst (λ (u : State). HasDistinctKeys u.ring) same keys.1
       distinct_less (suc i) t at = has.distinct (suc i) t at
 
-count_ring : (base total : ℕ) (s : State) (states : List (Option State)) → ((m : RowMap) → HasRows m (suc base) states → table.len m ≡ total) → (xs : List Item) (m : RowMap) → HasRows m base (Some (record s { ring = xs }) ∷ states) → table.len m ≡ length xs + total
+count_ring : (base total : ℕ) (s : State) (states : List (Option State)) → ((m : RowMap) → HasRows m (suc base) states → table.len m ≡ total)
+    → (xs : List Item) (m : RowMap) → HasRows m base (Some (record s { ring = xs }) ∷ states) → table.len m ≡ length xs + total
 count_ring base total s states rest [] m has = rest m (past m base (Some (record s { ring = [] })) states has (λ key. refl)) ∙ omega arith
 count_ring base total s states rest (x ∷ xs) m has =
     let fewer = one_less m base s x xs states has in
@@ -84,7 +87,8 @@ count_from : (m : RowMap) (base : ℕ) (states : List (Option State)) → HasRow
 count_from m base [] has = ap table.len (no_rows m base has) ∙ len-empty
 count_from m base (None ∷ states) has = count_from m (suc base) states (past m base None states has (λ key. refl))
 count_from m base (Some s ∷ states) has =
-    count_ring base (sum_by (λ (t : State). length t.ring) (all_there states)) s states (λ n rows. count_from n (suc base) states rows) s.ring m has ∙ sym (sum_by-cons (λ (t : State). length t.ring) s (all_there states))
+    count_ring base (sum_by (λ (t : State). length t.ring) (all_there states)) s states (λ n rows. count_from n (suc base) states rows) s.ring m has
+    ∙ sym (sum_by-cons (λ (t : State). length t.ring) s (all_there states))
 
 pub count : (m : RowMap) (states : List (Option State)) → ((id : ℕ) (key : List ℕ) → option_map (λ row. row.1) (table.get m (id, key)) ≡ expiry_at key (at_place states id)) → ((id : ℕ) (s : State) → at_place states id ≡ Some s → HasDistinctKeys s.ring)
     → table.len m ≡ sum_by (λ s. length s.ring) (all_there states)

@@ -36,7 +36,8 @@ module _ (w : Within) where
   refusal_listed c = ap (λ (ms : List (Option Member)). refusal_beside ms c) (listed_seen w)
 
   -- where no call is open of the caches whose numbers are listed, none is of any
-  pub none_open : (numbers : List ℕ) → numbers ≡ numbers_from 0 w.members → ((k : ℕ) → k < length numbers → is_open_in (at_place w.seen (get_or numbers k 0)) ≡ false) → (id : ℕ) → is_open_in (at_place w.seen id) ≡ false
+  pub none_open : (numbers : List ℕ) → numbers ≡ numbers_from 0 w.members → ((k : ℕ) → k < length numbers → is_open_in (at_place w.seen (get_or numbers k 0)) ≡ false)
+      → (id : ℕ) → is_open_in (at_place w.seen id) ≡ false
   none_open numbers is none id = by (w.caches id) refl
     where
       by : (o : Option Slot) → w.caches id ≡ o → is_open_in (at_place w.seen id) ≡ false

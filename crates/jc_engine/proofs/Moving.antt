@@ -41,7 +41,8 @@ pub reply_at : (caches : List (Option Cache)) (id : ℕ) {k : Cache} (said : Cac
 reply_at caches id said at = answer_at caches id at said false ∙ plain _
 
 -- a cache is destroyed where no call is open
-pub destroyed_at : (caches : List (Option Cache)) (id : ℕ) {k : Cache} → at_place caches id ≡ Some k → answer_to_destroy (at_place (lives_of caches) id) ≡ (if is_some k.turn then Refused Busy else Destroyed)
+pub destroyed_at : (caches : List (Option Cache)) (id : ℕ) {k : Cache} → at_place caches id ≡ Some k
+    → answer_to_destroy (at_place (lives_of caches) id) ≡ (if is_some k.turn then Refused Busy else Destroyed)
 destroyed_at caches id {k} at = ap answer_to_destroy (live_at caches id at) ∙ by k.turn
   where
     by : (turn : Option (Awaited × Wait)) → destroyed_by (standing_by k.config k.progress turn) ≡ (if is_some turn then Refused Busy else Destroyed)

@@ -32,4 +32,5 @@ returns g c =
     }
 
 pub returns-in_default-clause-outcome : goal.returns-in_default-clause-outcome
-returns-in_default-clause-outcome g c = sym (answer_at c.args.self.now c.args.id (seen_is (within c.self.view_is c.self.invariant.sound) c.args.id (sym (rw c.number-number.ensures at c.in_default.ensures.value))) gives_up false)
+returns-in_default-clause-outcome g c =
+    sym (answer_at c.args.self.now c.args.id (seen_is (within c.self.view_is c.self.invariant.sound) c.args.id (sym (rw c.number-number.ensures at c.in_default.ensures.value))) gives_up false)

@@ -19,7 +19,9 @@ leave-requires g c =
     record { managed = managed_own (within c.self.view_is c.self.invariant.sound) c.args.id at; between = between c.self.inside.visit c.self.invariant c.args.id _ at }
 
 pub remove-requires-in-Some-remove : goal.remove-requires-in-Some-remove
-remove-requires-in-Some-remove g c = (member_of c.in-Some-remove.cache.state.config, rw c.number-number.ensures (member_at (within c.self.view_is c.self.invariant.sound) c.args.id (sym (rw c.number-number.ensures at c.in-Some-remove.ensures.value))))
+remove-requires-in-Some-remove g c =
+    let at = sym (rw c.number-number.ensures at c.in-Some-remove.ensures.value) in
+    (member_of c.in-Some-remove.cache.state.config, rw c.number-number.ensures (member_at (within c.self.view_is c.self.invariant.sound) c.args.id at))
 
 module _ (g : given.Over) (c : goal.After-remove-in-Some-remove g) where
   changes : Changes (within c.self.view_is c.self.invariant.sound) c.args.id c.in-Some-remove.cache None (get nat_eq c.remove.new.self)

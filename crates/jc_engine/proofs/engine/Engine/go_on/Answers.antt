@@ -26,7 +26,9 @@ module _ (g : given.Over) (c : goal.After-self-in-Some-1 g) where
   changes = record { at = sym (rw c.number-number.ensures at c.in-Some.ensures.value); puts = puts_for _ _ _ c.number-number.ensures ((c.get_mut.follows.holds c.go_on.new.self).3 (search rules)).0 }
 
   did : Did (cache_in c.in-Some.cache.now) (cache_in c.go_on.new.self) (answers c.args.answer) (for_memory (outcome_of c.go_on.result)) (outcome_of c.go_on.result)
-  did = advanced c.go_on.result (rw (reply_at c.args.self.now c.args.id (answers c.args.answer) (seen_is (within c.self.view_is c.self.invariant.sound) c.args.id changes.at)) at c.requires) c.go_on.ensures.ok (on_err_weaker c.go_on.result (ap cache_in) c.go_on.ensures.same)
+  did =
+      let allowed = rw (reply_at c.args.self.now c.args.id (answers c.args.answer) (seen_is (within c.self.view_is c.self.invariant.sound) c.args.id changes.at)) at c.requires in
+      advanced c.go_on.result allowed c.go_on.ensures.ok (on_err_weaker c.go_on.result (ap cache_in) c.go_on.ensures.same)
 
 pub invariant_of-self : goal.invariant_of-self
 invariant_of-self g c = manager_moved (changes g c) _ c.self.invariant c.go_on.ensures.rests.cache c.go_on.ensures.rests.untold c.go_on.ensures.managed_after c.go_on.ensures.config c.go_on.ensures.elsewhere

@@ -18,7 +18,9 @@ new-requires g c = record { kept = spare_empty (g.R.Rows.contents c.args.rows) c
 
 pub invariant_of-engine : goal.invariant_of-engine
 invariant_of-engine g c = record {
-  sound = rw c.new.ensures.table (vacant_sound (get nat_eq c.new-2.result) c.args.first (λ i. ap (lookup (nat_eq i)) c.new-2.ensures.empty) c.new-3.result c.new-3.ensures (g.R.Rows.contents c.args.rows) c.requires);
+  sound =
+      rw c.new.ensures.table
+      (vacant_sound (get nat_eq c.new-2.result) c.args.first (λ i. ap (lookup (nat_eq i)) c.new-2.ensures.empty) c.new-3.result c.new-3.ensures (g.R.Rows.contents c.args.rows) c.requires);
   spare = rw c.new.ensures.cache c.in_ok-spare_cache.ensures;
   unused = ap (lookup (nat_eq most_ids)) c.new-2.ensures.empty;
   untold = c.new.ensures.untold;

@@ -35,12 +35,17 @@ returns-in-Some g c = record {
   lives = lives_later (changes g c) (did g c);
   one = ok_then c.start.result (one_after (changes g c));
   fits = IfOk-weaker c.start.result _ _ (λ advance moves. rw (new_here (changes g c)) moves.fits) c.start.ensures.ok;
-  free = λ free. rw (moment g c) at (c.start.ensures.free free) ∙ sym (reply_at c.args.self.now c.args.id (begins c.args.now c.args.call.now) (seen_is (within c.self.view_is c.self.invariant.sound) c.args.id (changes g c).at));
+  free = λ free. rw (moment g c) at (c.start.ensures.free free)
+      ∙ sym (reply_at c.args.self.now c.args.id (begins c.args.now c.args.call.now) (seen_is (within c.self.view_is c.self.invariant.sound) c.args.id (changes g c).at));
   refused = on_err_weaker c.start.result (λ same. unchanged (changes g c) (ap cache_in same)) c.start.ensures.same;
 }
 
 pub returns-in-None-clause-outcome : goal.returns-in-None-clause-outcome
-returns-in-None-clause-outcome g c = sym (answer_at c.args.self.now c.args.id (seen_is (within c.self.view_is c.self.invariant.sound) c.args.id (sym (rw c.number-number.ensures at c.in-None.ensures.value))) (begins c.args.now c.args.call.now) false)
+returns-in-None-clause-outcome g c =
+    let none = seen_is (within c.self.view_is c.self.invariant.sound) c.args.id (sym (rw c.number-number.ensures at c.in-None.ensures.value)) in
+    sym (answer_at c.args.self.now c.args.id none (begins c.args.now c.args.call.now) false)
 
 pub returns-in-None-clause-free : goal.returns-in-None-clause-free
-returns-in-None-clause-free g c = λ _. sym (answer_at c.args.self.now c.args.id (seen_is (within c.self.view_is c.self.invariant.sound) c.args.id (sym (rw c.number-number.ensures at c.in-None.ensures.value))) (begins c.args.now c.args.call.now) false)
+returns-in-None-clause-free g c = λ _.
+    let none = seen_is (within c.self.view_is c.self.invariant.sound) c.args.id (sym (rw c.number-number.ensures at c.in-None.ensures.value)) in
+    sym (answer_at c.args.self.now c.args.id none (begins c.args.now c.args.call.now) false)
