@@ -26,6 +26,6 @@ pub use Rattle.jc_bulk.specs.declared.tally.Tally.{Tally}
 pub use Rattle.jc_bulk.specs.Entries.{live_value}
 pub use Rattle.jc_bulk.specs.Calls.{WaitsOn, IsSuspended, IsSuspendedIn, IsHeld, ComesTo, wait_run}
 pub use Rattle.jc_bulk.specs.Ahead.{AreReady, ahead_run}
-pub use Rattle.jc_bulk.specs.Provided.{calls_in, keys_in, IsNone, AreApart, AreCovered, places_for, IsAhead, IsReady}
+pub use Rattle.jc_bulk.specs.Provided.{calls_in, keys_in, AreCovered, places_for, IsAhead, IsReady}
 pub use Rattle.jc_bulk.specs.Tallied.{HasRoomFor, sum_of, pushed}
 pub use Rattle.jc_bulk.specs.Waits.{Bulk, Waits, bulk_wait, wait_of, waits_of, moment_of}

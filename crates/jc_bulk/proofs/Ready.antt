@@ -1,25 +1,20 @@
 -- What the next step needs, and what the steps after it still have when it is done.
-use Rattle.std.proofs.Common.{◌≡◌, ◌≤◌, ◌+◌, ℕ, Bool, List, ◌∷◌, ◌++◌, length, Option, Some, option_to_list, ◌∙◌, arith}
+use Rattle.std.proofs.Common.{◌≡◌, ◌≤◌, ◌+◌, ℕ, Bool, List, ◌∷◌, ◌++◌, length, Option, Some, option_to_list, add-one, arith}
 use Rattle.std.proofs.lemmas.Bool.Decides.{nat_tests}
 use Rattle.std.proofs.lemmas.Grind.{common_steps}
-use Rattle.std.proofs.lemmas.List.{length-map}
 use Rattle.jc_ops.proofs.Told.{most_three, most_absent}
 use Rattle.jc_bulk.proofs.Names.{CacheConfig, Item, Noted, HasPlaces, most_told, HasRoom, adds, Needs, Provided, Tally, calls_in, keys_in, AreCovered, places_for, IsAhead, IsReady, HasRoomFor}
-
-same_length : (rest : List Provided) → length (keys_in (calls_in rest)) ≡ length rest
-same_length rest = length-map (calls_in rest) (λ call. call.key) ∙ length-map rest (λ p. p.call)
 
 -- The key of a step and the keys of those after it: once the key is counted, those after it.
 pub ahead_next : (key : List ℕ) (rest : List Provided) (sum : Tally) (needs : Needs) → IsAhead (key ∷ keys_in (calls_in rest)) (calls_in rest) sum needs → (sum' : Tally) → sum'.done ≡ sum.done + 1
     → ((n : ℕ) → HasRoomFor (n + 1) sum.collected → HasRoomFor n sum'.collected) → IsAhead (keys_in (calls_in rest)) (calls_in rest) sum' needs
-ahead_next key rest sum needs a sum' done room =
-    let count : length (key ∷ keys_in (calls_in rest)) ≡ length rest + 1 = omega (arith, same_length rest) in record {
-      apart = a.apart.1;
-      lists = rw (same_length rest) (room (length rest) (rw count at a.lists));
-      few = omega (arith, a.few, count, same_length rest);
-      adding = a.adding;
-      telling = a.telling;
-    }
+ahead_next key rest sum needs a sum' done room = record {
+  apart = grind (arith, common_steps, a.apart);
+  lists = room (length (keys_in (calls_in rest))) (rw add-one a.lists);
+  few = omega (arith, a.few);
+  adding = a.adding;
+  telling = a.telling;
+}
 
 -- the first step that is left, and those after it
 pub first_ready : {c : CacheConfig} {items : List Item} {notices : Noted} {spare : ℕ} {rest : List Provided} {sum : Tally} {needs : Needs} {o : Option Provided} {p : Provided} (left : List Provided) → IsReady c items notices spare rest sum needs → rest ≡ option_to_list o ++ left → o ≡ Some p → IsReady c items notices spare (p ∷ left) sum needs

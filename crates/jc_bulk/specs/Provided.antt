@@ -1,8 +1,9 @@
 -- The steps that are left of a call, each with its values.
-use Rattle.std.specs.Prelude.{◌≡◌, ◌≢◌, ◌+◌, ◌*◌, ◌<◌, ◌≤◌, ◌^◌, ℕ, Bool, true, false, ltb, List, [], ◌∷◌, length, map}
+use Rattle.std.specs.Prelude.{◌≡◌, ◌+◌, ◌*◌, ◌<◌, ◌≤◌, ◌^◌, ℕ, Bool, true, false, ltb, List, [], ◌∷◌, length, map}
 use Rattle.std.specs.List.{list_any}
 use Rattle.jc_model.specs.declared.call.KeyCall.{KeyCall}
 use Rattle.jc_model.specs.declared.config.CacheConfig.{CacheConfig}
+use Rattle.jc_model.specs.Lists.{distinct}
 use Rattle.jc_model.specs.State.{Item}
 use Rattle.jc_ops.specs.Lines.{creates, most_told}
 use Rattle.jc_state.specs.Noted.{Noted, HasPlaces}
@@ -17,15 +18,6 @@ calls_in ps = map (λ p. p.call) ps
 
 abbrev pub keys_in : List KeyCall → List (List ℕ)
 keys_in calls = map (λ call. call.key) calls
-
--- the key is none of these
-abbrev pub IsNone : List ℕ → List (List ℕ) → Type 0
-IsNone k [] = Unit {0}
-IsNone k (q ∷ qs) = (k ≢ q) × IsNone k qs
-
-abbrev pub AreApart : List (List ℕ) → Type 0
-AreApart [] = Unit {0}
-AreApart (k ∷ ks) = IsNone k ks × AreApart ks
 
 -- each step has its values, in a cache with these items
 abbrev pub AreCovered : CacheConfig → List Item → List Provided → Type 0
@@ -47,7 +39,7 @@ places_for false steps = steps
 
 -- what needs no look at the cache: the keys are different, and lists and numbers have room for all
 pub record IsAhead (keys : List (List ℕ)) (rest : List KeyCall) (sum : Tally) (needs : Needs) : Type 0 where
-  pub apart : AreApart keys
+  pub apart : distinct keys ≡ true
   pub lists : HasRoomFor (length keys) sum.collected
   pub few : sum.done + length keys < 2 ^ 32
   pub adding : needs.adds ≡ false → any_creates rest ≡ false

@@ -10,7 +10,7 @@ ghost use Rattle.jc_bulk.specs.Calls.{ComesFrom};
 ghost use Rattle.jc_bulk.specs.Provided.{IsAhead};
 
 use crate::call::CallNext;
-use crate::tally::{Tally, ends_call};
+use crate::tally::{Collected, Tally, ends_call};
 use crate::waits::suspend;
 use jc_model::call::{KeyCall, Reply};
 use jc_model::copies::Copies;
@@ -68,7 +68,10 @@ impl Ahead {
     {
         Ahead {
             rest: VecDeque::new(alloc),
-            sum: Tally::nothing(),
+            sum: Tally {
+                done: 0,
+                collected: Collected::Nothing,
+            },
             needs: Needs {
                 adds: false,
                 tells: false,

@@ -15,10 +15,9 @@ ghost use Rattle.jc_bulk.specs.Calls.{many_run, call_run, answered_run};
 use crate::bulk::{Ahead, BulkStep, go_on, go_on_after};
 use crate::entries::entries;
 use crate::provide::{prepare, prepare_answer};
-use crate::tally::listed;
 use crate::waits::{Suspended, suspend};
 use jc_model::OutOfMemory;
-use jc_model::call::{Answer, Call, Counts, KeyCall, Reply, Request};
+use jc_model::call::{Answer, Call, KeyCall, Reply, Request};
 use jc_model::copies::Copies;
 use jc_model::table::key_step;
 use jc_ops::step::reply::{done, truth};
@@ -31,17 +30,6 @@ use std::alloc::Global;
 
 /// What a call has come to: its reply, or the next request.
 pub type CallNext = Next<Suspended>;
-
-/// The statistics as a reply.
-fn counted(counts: Counts) -> Copies<Reply>
-    ensures { result ≡ Reply.Counted counts }
-{
-    Copies::new(
-        Reply::Counted(counts),
-        Reply::Counted(counts),
-        Reply::Counted(counts),
-    )
-}
 
 /// A call on one key, by what its step has come to.
 fn on_one_key(alloc: Global, next: Next<KeyStep>) -> CallNext
@@ -182,7 +170,10 @@ pub fn start_call<R: Rows, G: Ring>(
 {
     match call {
         Call::Contains(key) => Ok(Next::Ended(truth(visit.holds(key)))),
-        Call::Stats => Ok(Next::Ended(counted(visit.counts()))),
+        Call::Stats => {
+            let counts = visit.counts();
+            Ok(Next::Ended(Copies::new(counts, counts, counts).map(Reply::Counted)))
+        }
         Call::ClearStats => {
             visit.clear_counts();
             Ok(Next::Ended(done()))
@@ -191,7 +182,7 @@ pub fn start_call<R: Rows, G: Ring>(
             visit.clear();
             Ok(Next::Ended(done()))
         }
-        Call::Entries => Ok(Next::Ended(listed(entries(visit)?))),
+        Call::Entries => Ok(Next::Ended(entries(visit)?.map(Reply::Listed))),
         _ => start_steps(visit, call),
     }
 }

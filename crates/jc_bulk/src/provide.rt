@@ -1,19 +1,15 @@
 //! What all steps of a call may need, made before the first of them.
-ghost use Rattle.std.specs.Prelude.{◌≡◌, ℕ, ◌+◌, ◌≤◌, true, IfOk, OnOk};
-ghost use Rattle.jc_model.specs.Bulk.{empty_sum};
-ghost use Rattle.jc_model.specs.declared.config.CacheConfig.{CacheConfig};
-ghost use Rattle.jc_model.specs.Changes.{Progress};
-ghost use Rattle.jc_model.specs.Whole.{plan, gathers};
+ghost use Rattle.std.specs.Prelude.{◌≡◌, ◌+◌, ◌≤◌, true, IfOk, OnOk};
 ghost use Rattle.jc_model.specs.Sound.{HasDistinctKeys};
 ghost use Rattle.jc_state.specs.Kept.{items_of, FoundRow};
-ghost use Rattle.jc_state.specs.Visited.{IsUnchanged, HasPlacesIn};
+ghost use Rattle.jc_state.specs.Visited.{IsUnchanged};
 ghost use Rattle.jc_ops.specs.Lines.{takes_value};
-ghost use Rattle.jc_ops.specs.Supply.{CoversIn, CoversAnswerIn, HasRoomAt};
+ghost use Rattle.jc_ops.specs.Supply.{CoversAnswerIn, HasRoomAt};
 ghost use Rattle.jc_bulk.specs.Ahead.{calls_ahead, AreCoveredIn, AreReady, HasRoomForSteps};
 ghost use Rattle.jc_bulk.specs.Ahead.{HasPlacesFrom, HasRoomFrom};
 ghost use Rattle.jc_bulk.specs.Calls.{steps_for, first_sum};
 ghost use Rattle.jc_bulk.specs.Provided.{calls_in, any_creates, any_tells, places_for};
-ghost use Rattle.jc_bulk.specs.Tallied.{HasRoomFor, sum_of};
+ghost use Rattle.jc_bulk.specs.Tallied.{sum_of};
 
 use crate::bulk::{Ahead, BulkStep, Needs, Provided};
 use crate::steps::steps_of;
@@ -65,22 +61,6 @@ fn row_for<R: Rows, G: Ring>(visit: &Visit<R, G>, call: &KeyCall) -> Option<u32>
     }
 }
 
-/// A step with its values.
-fn provided<R: Rows, G: Ring>(visit: &Visit<R, G>, call: KeyCall) -> Result<Provided, OutOfMemory>
-    ensures call { IfOk result (λ p. p.call ≡ call) }
-    ensures covered { IfOk result (λ p.
-        CoversIn visit.now.cache.config.writer visit.now call p.values) }
-{
-    let row = row_for(visit, &call);
-    match Values::for_call(visit, row, &call, visit.config().writer) {
-        Ok(values) => Ok(Provided { call, values }),
-        Err(refused) => {
-            drop(call);
-            Err(refused)
-        }
-    }
-}
-
 /// The steps with their values.
 fn with_values<R: Rows, G: Ring>(
     visit: &Visit<R, G>,
@@ -91,22 +71,11 @@ fn with_values<R: Rows, G: Ring>(
 {
     let mut rest = VecDeque::with_capacity(visit.alloc(), calls.len())?;
     for call in calls {
-        rest.push_back(provided(visit, call)?)?;
+        let row = row_for(visit, &call);
+        let values = Values::for_call(visit, row, &call, visit.config().writer)?;
+        rest.push_back(Provided { call, values })?;
     }
     Ok(rest)
-}
-
-/// Room for what a call on so many keys gathers.
-fn tally_for(alloc: Global, call: &Call, keys: usize) -> Result<Tally, OutOfMemory>
-    ensures sum { (c : CacheConfig) (now : ℕ) (p : Progress) →
-        IfOk result (λ t. sum_of t ≡ empty_sum (gathers (plan c now call.now p))) }
-    ensures room { IfOk result (λ t. HasRoomFor keys t.collected) }
-{
-    match call {
-        Call::GetAll(_) => Tally::pairs(alloc, keys),
-        Call::InvokeAll { .. } => Tally::results(alloc, keys),
-        _ => Ok(Tally::nothing()),
-    }
 }
 
 /// All that the steps of a call may need. Nothing has changed yet.
@@ -127,7 +96,7 @@ pub fn prepare<R: Rows, G: Ring>(visit: &mut Visit<R, G>, call: &Call) -> Result
     visit.reserve_notices(places_for(needs, count, 0)?)?;
     visit.reserve_rows(if needs.adds { count } else { 0 })?;
     let rest = with_values(visit, calls)?;
-    let sum = tally_for(visit.alloc(), call, count)?;
+    let sum = Tally::for_call(visit.alloc(), call, count)?;
     Ok(Ahead { rest, sum, needs })
 }
 

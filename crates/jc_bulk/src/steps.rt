@@ -1,10 +1,11 @@
 //! The steps of a call on many keys, in their order.
-ghost use Rattle.std.specs.Prelude.{◌≡◌, ◌<◌, ◌^◌, if◌then◌else◌, length, IfOk};
+ghost use Rattle.std.specs.Prelude.{◌≡◌, ◌<◌, ◌^◌, true, if◌then◌else◌, length, IfOk};
 ghost use Rattle.jc_model.specs.Bulk.{same_op, put_each, remove_each};
+ghost use Rattle.jc_model.specs.Lists.{distinct};
 ghost use Rattle.jc_state.specs.Kept.{items_of};
 ghost use Rattle.jc_bulk.specs.Calls.{steps_for};
 ghost use Rattle.jc_bulk.specs.Each.{op_on_each};
-ghost use Rattle.jc_bulk.specs.Provided.{keys_in, AreApart};
+ghost use Rattle.jc_bulk.specs.Provided.{keys_in};
 
 use jc_model::OutOfMemory;
 use jc_model::call::{Call, KeyCall, Op};
@@ -40,7 +41,7 @@ fn op_on_each(call: &Call) -> Result<Op, OutOfMemory>
 /// What the call does, on each of these keys.
 fn each_key(alloc: Global, keys: &Keys, call: &Call) -> Result<Vec<KeyCall>, OutOfMemory>
     ensures steps { IfOk result (λ calls. calls.items ≡ same_op (op_on_each call.now) keys.now) }
-    ensures apart { IfOk result (λ calls. AreApart (keys_in calls.items)) }
+    ensures apart { IfOk result (λ calls. distinct (keys_in calls.items) ≡ true) }
     ensures few { IfOk result (λ calls. length calls.items < 2 ^ 32) }
 {
     let keys = keys.keys();
@@ -55,7 +56,7 @@ fn each_key(alloc: Global, keys: &Keys, call: &Call) -> Result<Vec<KeyCall>, Out
 /// A put of each pair.
 fn each_put(alloc: Global, pairs: &Pairs) -> Result<Vec<KeyCall>, OutOfMemory>
     ensures steps { IfOk result (λ calls. calls.items ≡ put_each pairs.now) }
-    ensures apart { IfOk result (λ calls. AreApart (keys_in calls.items)) }
+    ensures apart { IfOk result (λ calls. distinct (keys_in calls.items) ≡ true) }
     ensures few { IfOk result (λ calls. length calls.items < 2 ^ 32) }
 {
     let pairs = pairs.pairs();
@@ -78,7 +79,7 @@ fn removal(live: bool) -> Op
 fn each_row<R: Rows, G: Ring>(visit: &Visit<R, G>) -> Result<Vec<KeyCall>, OutOfMemory>
     ensures steps { IfOk result (λ calls.
         calls.items ≡ remove_each visit.now.moment (items_of visit.now.cache.cells)) }
-    ensures apart { IfOk result (λ calls. AreApart (keys_in calls.items)) }
+    ensures apart { IfOk result (λ calls. distinct (keys_in calls.items) ≡ true) }
     ensures few { IfOk result (λ calls. length calls.items < 2 ^ 32) }
 {
     let keys = visit.keys()?;
@@ -96,7 +97,7 @@ pub fn steps_of<R: Rows, G: Ring>(
     call: &Call,
 ) -> Result<Vec<KeyCall>, OutOfMemory>
     ensures steps { IfOk result (λ calls. calls.items ≡ steps_for visit.now call.now) }
-    ensures apart { IfOk result (λ calls. AreApart (keys_in calls.items)) }
+    ensures apart { IfOk result (λ calls. distinct (keys_in calls.items) ≡ true) }
     ensures few { IfOk result (λ calls. length calls.items < 2 ^ 32) }
 {
     match call {

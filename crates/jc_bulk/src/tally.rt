@@ -1,16 +1,16 @@
 //! What a call on many keys gathers of its steps, in room that was made before the first of them.
-ghost use Rattle.std.specs.Prelude.{◌≡◌, ℕ, ◌+◌, ◌<◌, ◌≤◌, ◌^◌, [], IfOk};
-ghost use Rattle.jc_model.specs.Bulk.{nothing, pairs, results, empty_sum, gather, with_key};
-ghost use Rattle.jc_model.specs.Bulk.{gathered_reply, ends_call};
+ghost use Rattle.std.specs.Prelude.{◌≡◌, ℕ, ◌+◌, ◌<◌, ◌≤◌, ◌^◌, IfOk};
+ghost use Rattle.jc_model.specs.Bulk.{with_key, gathered_reply, ends_call};
+ghost use Rattle.jc_state.specs.Visited.{Visited};
+ghost use Rattle.jc_bulk.specs.Calls.{first_sum};
 ghost use Rattle.jc_bulk.specs.Tallied.{gathered_in, sum_of, found_in, result_in, pushed};
 ghost use Rattle.jc_bulk.specs.Tallied.{HasRoomFor, UsesRoomForOne};
 
 use crate::lists::Lists;
 use jc_model::OutOfMemory;
-use jc_model::call::{By, ProcessorFault, Reply};
+use jc_model::call::{By, Call, ProcessorFault, Reply};
 use jc_model::copies::Copies;
 use jc_model::key::Key;
-use jc_model::list::Sequence;
 use jc_model::value::Value;
 use jc_ops::step::reply::done;
 use std::alloc::Global;
@@ -74,73 +74,18 @@ fn push<T: Drop>(lists: &mut Lists<(Key, T)>, key: Key, part: Copies<Option<T>>)
     }
 }
 
-impl Collected {
-    /// Adds a key's reply.
-    fn add(&mut self, key: Key, reply: Copies<Reply>)
-        requires room { HasRoomFor 1 self.old }
-        ensures gathered { gathered_in self.new ≡ gather key reply (gathered_in self.old) }
-        ensures room { UsesRoomForOne self.old self.new }
-    {
-        match self {
-            Collected::Nothing => {}
-            Collected::Pairs(pairs) => push(pairs, key, reply.map(found)),
-            Collected::Results(results) => push(results, key, reply.map(processed)),
-        }
-    }
-
-    /// The reply after the last key.
-    fn into_reply(self) -> Copies<Reply>
-        ensures { result ≡ gathered_reply (gathered_in self) }
-    {
-        match self {
-            Collected::Nothing => done(),
-            Collected::Pairs(pairs) => listed(pairs.into_lists()),
-            Collected::Results(results) => results.into_lists().map(Reply::Results),
-        }
-    }
-}
-
-/// Pairs as a reply.
-pub fn listed(pairs: Copies<Sequence<(Key, Value)>>) -> Copies<Reply>
-    ensures { result ≡ Reply.Listed pairs }
-{
-    pairs.map(Reply::Listed)
-}
-
 impl Tally {
-    /// No keys are done, and nothing is to be gathered.
-    pub fn nothing() -> Tally
-        ensures sum { sum_of result ≡ empty_sum nothing }
-        ensures room { (n : ℕ) → HasRoomFor n result.collected }
-    {
-        Tally {
-            done: 0,
-            collected: Collected::Nothing,
-        }
-    }
-
-    /// No keys are done; the pairs of so many are to be gathered.
-    pub fn pairs(alloc: Global, keys: usize) -> Result<Tally, OutOfMemory>
-        ensures sum { IfOk result (λ t. sum_of t ≡ empty_sum (pairs [])) }
+    /// No keys are done, and there is room for what a call on so many gathers.
+    pub fn for_call(alloc: Global, call: &Call, keys: usize) -> Result<Tally, OutOfMemory>
+        ensures sum { (v : Visited) → IfOk result (λ t. sum_of t ≡ first_sum v call.now) }
         ensures room { IfOk result (λ t. HasRoomFor keys t.collected) }
     {
-        let pairs = Lists::with_room(alloc, keys)?;
-        Ok(Tally {
-            done: 0,
-            collected: Collected::Pairs(pairs),
-        })
-    }
-
-    /// No keys are done; the processors' results on so many are to be gathered.
-    pub fn results(alloc: Global, keys: usize) -> Result<Tally, OutOfMemory>
-        ensures sum { IfOk result (λ t. sum_of t ≡ empty_sum (results [])) }
-        ensures room { IfOk result (λ t. HasRoomFor keys t.collected) }
-    {
-        let results = Lists::with_room(alloc, keys)?;
-        Ok(Tally {
-            done: 0,
-            collected: Collected::Results(results),
-        })
+        let collected = match call {
+            Call::GetAll(_) => Collected::Pairs(Lists::with_room(alloc, keys)?),
+            Call::InvokeAll { .. } => Collected::Results(Lists::with_room(alloc, keys)?),
+            _ => Collected::Nothing,
+        };
+        Ok(Tally { done: 0, collected })
     }
 
     /// Adds a key that is done, with its reply.
@@ -152,13 +97,21 @@ impl Tally {
         ensures room { UsesRoomForOne self.old.collected self.new.collected }
     {
         self.done += 1;
-        self.collected.add(key, reply);
+        match &mut self.collected {
+            Collected::Nothing => {}
+            Collected::Pairs(pairs) => push(pairs, key, reply.map(found)),
+            Collected::Results(results) => push(results, key, reply.map(processed)),
+        }
     }
 
     /// The reply after the last key.
     pub fn into_reply(self) -> Copies<Reply>
         ensures { result ≡ gathered_reply (gathered_in self.collected) }
     {
-        self.collected.into_reply()
+        match self.collected {
+            Collected::Nothing => done(),
+            Collected::Pairs(pairs) => pairs.into_lists().map(Reply::Listed),
+            Collected::Results(results) => results.into_lists().map(Reply::Results),
+        }
     }
 }

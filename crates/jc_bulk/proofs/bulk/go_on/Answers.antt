@@ -25,7 +25,7 @@ returns-in-Waiting-clause-moved g c =
     let ready = first_ready c.pop_front.new.self.items c.steps.invariant.ready c.pop_front.ensures.items c.in-Some.is in
     rw (c.suspend.ensures, ← c.steps.invariant.run, ← c.steps.invariant.same.config, c.pop_front.ensures.items, c.in-Some.is)
     (step_waits v.cache.config v.moment p.call.key _ _ _ _ _ _ c.in-Waiting.ensures.call_stays.0 (ap (λ k. k.key) c.in-Waiting.ensures.call_stays.1) c.in-Waiting.ensures.next
-    (covered_at_start v.cache.config v.moment p.call _ _ (progress_in c.start.new.visit) _ c.start.ensures.next ready.ahead.apart.0 c.find-row.ensures.apart ready.covered.1))
+    (covered_at_start v.cache.config v.moment p.call _ _ (progress_in c.start.new.visit) _ c.start.ensures.next ready.ahead.apart c.find-row.ensures.apart ready.covered.1))
 
 pub steps-preserved : goal.steps-preserved
 steps-preserved g c =
@@ -39,7 +39,7 @@ steps-preserved g c =
       same = same_on _ _ _ c.steps.invariant.same spends.same;
       ready = rw spends.same.config
           (ready_next ready _ (items_of c.start.new.visit.cache.cells) c.start.new.visit.noted c.start.new.visit.spare c.add.new.self
-          (covered_at_start v.cache.config v.moment p.call before c.start.result (progress_in c.start.new.visit) left c.start.ensures.next ready.ahead.apart.0 c.find-row.ensures.apart ready.covered.1)
+          (covered_at_start v.cache.config v.moment p.call before c.start.result (progress_in c.start.new.visit) left c.start.ensures.next ready.ahead.apart c.find-row.ensures.apart ready.covered.1)
           spends.places spends.room c.add.ensures.done c.add.ensures.room);
       run = rw (spends.same.config, spends.same.moment)
           (step_ended v.cache.config v.moment p.call (calls_in left) (sum_of c.steps.ahead.sum) (sum_of c.add.new.self) before _ c.in-Ended.reply c.in-Ended.ensures.next

@@ -28,7 +28,7 @@ go_on_after-requires-clause-covered g c =
     let v = c.args.visit.now in
     let same = c.prepare_answer.ensures.same in
     rw (c.answer.ensures.spends.same.config, same.cache)
-    (covered_at_answer v.cache.config _ c.bulk.inside.step c.args.answer _ _ _ (steps_as_before v _ same c.bulk.inside.step c.args.answer _ _ c.answer.ensures.next) c.bulk.invariant.apart.0 c.prepare_answer.ensures.apart
+    (covered_at_answer v.cache.config _ c.bulk.inside.step c.args.answer _ _ _ (steps_as_before v _ same c.bulk.inside.step c.args.answer _ _ c.answer.ensures.next) c.bulk.invariant.apart c.prepare_answer.ensures.apart
     (rest_of_call v.cache.config (progress_in v) _ _ c.bulk.view_is c.suspended.view_is c.if-alone.false c.requires.waits.suspended))
 
 pub returns-in-Waiting-clause-ok : goal.returns-in-Waiting-clause-ok
@@ -41,5 +41,5 @@ returns-in-Waiting-clause-ok g c =
     (waits_again v.cache.config (progress_in v) (progress_in c.answer.new.visit) b.step c.in-Waiting.step b.ahead.rest.items b.ahead.needs _ b.alone c.in-Waiting.request c.args.answer
     (step_of_call v.cache.config (progress_in v) _ _ c.bulk.view_is c.suspended.view_is c.requires.waits.suspended)
     at (ap (λ k. k.key) c.in-Waiting.ensures.call_stays.1) (rw c.in-Waiting.is at (steps_as_before v _ same b.step c.args.answer c.answer.result (progress_in c.answer.new.visit) c.answer.ensures.next))
-    (λ many. covered_at_answer v.cache.config _ b.step c.args.answer _ _ _ (steps_as_before v _ same c.bulk.inside.step c.args.answer _ _ c.answer.ensures.next) c.bulk.invariant.apart.0 c.prepare_answer.ensures.apart
+    (λ many. covered_at_answer v.cache.config _ b.step c.args.answer _ _ _ (steps_as_before v _ same c.bulk.inside.step c.args.answer _ _ c.answer.ensures.next) c.bulk.invariant.apart c.prepare_answer.ensures.apart
     (rest_of_call v.cache.config (progress_in v) _ _ c.bulk.view_is c.suspended.view_is many c.requires.waits.suspended)))
