@@ -10,7 +10,7 @@ use Rattle.jc_model.specs.Bulk.{Sum, empty_sum}
 use Rattle.jc_model.specs.Changes.{Progress}
 use Rattle.jc_model.specs.Run.{Run, ended, waiting, resume, awaited_by}
 use Rattle.jc_model.specs.Suspended.{Wait, one, many, telling, key_run, bulk_run}
-use Rattle.jc_model.specs.Whole.{Plan, plan, steps_in, gathers, each, carried_out}
+use Rattle.jc_model.specs.Whole.{Plan, plan, steps_in, gathers, carried_out}
 use Rattle.jc_state.specs.Visited.{Visited, progress_in}
 use Rattle.jc_ops.specs.declared.step.Next.{Next}
 use Rattle.jc_ops.specs.declared.step.Next.TheVariants.{Ended, Waiting}
@@ -74,11 +74,7 @@ steps_for v call = steps_in (plan_in v call)
 abbrev pub first_sum : Visited → Call → Sum
 first_sum v call = empty_sum (gathers (plan_in v call))
 
--- the run of a call on many keys
-abbrev pub many_run : Visited → Call → Run
-many_run v call = each v.cache.config v.moment (steps_for v call) (first_sum v call) (progress_in v)
-
--- and of any
+-- its run
 abbrev pub call_run : Visited → Call → Run
 call_run v call = carried_out v.cache.config v.moment (plan_in v call) (progress_in v)
 

@@ -8,16 +8,16 @@ ghost use Rattle.jc_model.specs.Changes.{Progress};
 ghost use Rattle.jc_model.specs.Run.{Run, fits};
 ghost use Rattle.jc_model.specs.Whole.{is_at_once, is_free};
 ghost use Rattle.jc_state.specs.Visited.{IsSameVisit, IsUnchanged};
-ghost use Rattle.jc_ops.specs.Stepped.{StepsTo, step_run};
+ghost use Rattle.jc_ops.specs.Stepped.{StepsTo};
 ghost use Rattle.jc_bulk.specs.Calls.{ComesTo, ComesFrom, EndsFrom, IsSuspendedIn, plan_in};
-ghost use Rattle.jc_bulk.specs.Calls.{many_run, call_run, answered_run};
+ghost use Rattle.jc_bulk.specs.Calls.{call_run, answered_run};
 
 use crate::bulk::{Ahead, BulkStep, go_on, go_on_after};
 use crate::entries::entries;
 use crate::provide::{prepare, prepare_answer};
 use crate::waits::{Suspended, suspend};
 use jc_model::OutOfMemory;
-use jc_model::call::{Answer, Call, KeyCall, Reply, Request};
+use jc_model::call::{Answer, Call, Reply, Request};
 use jc_model::copies::Copies;
 use jc_model::table::key_step;
 use jc_ops::step::reply::{done, truth};
@@ -50,56 +50,6 @@ fn on_one_key(alloc: Global, next: Next<KeyStep>) -> CallNext
     }
 }
 
-/// Begins a call on one key, which is this step.
-fn start_key<R: Rows, G: Ring>(
-    visit: &mut Visit<R, G>,
-    step: KeyCall,
-) -> Result<CallNext, OutOfMemory>
-    ensures same_visit { IsSameVisit visit.old visit.new }
-    ensures ok { IfOk result (λ next.
-        ComesFrom visit.old (step_run visit.old step) next visit.new) }
-    ensures same { OnErr result (IsUnchanged visit.old visit.new) }
-{
-    match Supply::for_step(visit, &step) {
-        Ok(supply) => {
-            let next = KeyStep::start(visit, step, supply);
-            Ok(on_one_key(visit.alloc(), next))
-        }
-        Err(refused) => {
-            drop(step);
-            Err(refused)
-        }
-    }
-}
-
-/// What a call on one key or on many ends with where it is on one and asks no one: its reply.
-fn end_steps_at_once<R: Rows, G: Ring>(
-    visit: &mut Visit<R, G>,
-    call: &Call,
-) -> Result<Option<Copies<Reply>>, OutOfMemory>
-    requires steps { is_at_once (plan_in visit.old call.now) ≡ false }
-    ensures same_visit { IsSameVisit visit.old visit.new }
-    ensures ended { IfOk result (λ at_once. IfSome at_once
-        (EndsFrom (call_run visit.old call.now) visit.new)) }
-    ensures none { IfOk result (λ at_once. at_once ≡ None → IsUnchanged visit.old visit.new) }
-    ensures same { OnErr result (IsUnchanged visit.old visit.new) }
-{
-    let Some(step) = key_step(call)? else {
-        return Ok(None);
-    };
-    if !asks_no_one(visit.config(), &step.op) {
-        drop(step);
-        return Ok(None);
-    }
-    match Supply::for_step(visit, &step) {
-        Ok(supply) => Ok(Some(KeyStep::end_at_once(visit, step, supply))),
-        Err(refused) => {
-            drop(step);
-            Err(refused)
-        }
-    }
-}
-
 /// Makes a call on one key that asks no one, and so does not wait: its reply. Of any other call nothing, and nothing has
 /// changed; so also where memory is refused.
 ///
@@ -122,22 +72,23 @@ pub fn end_at_once<R: Rows, G: Ring>(
         Call::Contains(_) | Call::Stats | Call::ClearStats | Call::Clear | Call::Entries => {
             Ok(None)
         }
-        _ => end_steps_at_once(visit, call),
+        _ => {
+            let Some(step) = key_step(call)? else {
+                return Ok(None);
+            };
+            if !asks_no_one(visit.config(), &step.op) {
+                drop(step);
+                return Ok(None);
+            }
+            match Supply::for_step(visit, &step) {
+                Ok(supply) => Ok(Some(KeyStep::end_at_once(visit, step, supply))),
+                Err(refused) => {
+                    drop(step);
+                    Err(refused)
+                }
+            }
+        }
     }
-}
-
-/// Begins a call on many keys.
-fn start_many<R: Rows, G: Ring>(
-    visit: &mut Visit<R, G>,
-    call: &Call,
-) -> Result<CallNext, OutOfMemory>
-    ensures same_visit { IsSameVisit visit.old visit.new }
-    ensures ok { IfOk result (λ next.
-        ComesFrom visit.old (many_run visit.old call.now) next visit.new) }
-    ensures same { OnErr result (IsUnchanged visit.old visit.new) }
-{
-    let ahead = prepare(visit, call)?;
-    Ok(go_on(visit, ahead))
 }
 
 /// Begins a call that does a step on one key or on many.
@@ -152,8 +103,20 @@ fn start_steps<R: Rows, G: Ring>(
     ensures same { OnErr result (IsUnchanged visit.old visit.new) }
 {
     match key_step(call)? {
-        Some(step) => start_key(visit, step),
-        None => start_many(visit, call),
+        Some(step) => match Supply::for_step(visit, &step) {
+            Ok(supply) => {
+                let next = KeyStep::start(visit, step, supply);
+                Ok(on_one_key(visit.alloc(), next))
+            }
+            Err(refused) => {
+                drop(step);
+                Err(refused)
+            }
+        },
+        None => {
+            let ahead = prepare(visit, call)?;
+            Ok(go_on(visit, ahead))
+        }
     }
 }
 
