@@ -1,7 +1,7 @@
 -- A call on many keys, by what its next step comes to; and a call by its plan.
-use Rattle.std.proofs.Common.{◌≡◌, ℕ, Bool, true, false, if◌then◌else◌, List, ◌∷◌, None, refl, sym, ◌∙◌, Some}
+use Rattle.std.proofs.Common.{◌≡◌, ℕ, Bool, true, false, List, ◌∷◌, None, refl, ap, ◌∙◌, Some}
 use Rattle.jc_model.specs.Suspended as suspended
-use Rattle.jc_bulk.proofs.Names.{Answer, KeyCall, Reply, Request, CacheConfig, Progress, Run, ended, waiting, Awaited, and_then, resume, awaited_by, Sum, with_key, ends_call, step, after_key, each, KeyWait, key_run, bulk_run, StepWaits, IsWaiting, WaitsOn, IsSuspended, IsHeld, wait_run, bulk_wait, waits_of, Provided, Needs, calls_in, AreCovered, Bulk, wait_of, Waits, moment_of, empty_sum}
+use Rattle.jc_bulk.proofs.Names.{Answer, KeyCall, Reply, Request, CacheConfig, Progress, Run, ended, waiting, Awaited, and_then, resume, awaited_by, Sum, with_key, ends_call, step, after_key, each, KeyWait, key_run, StepWaits, IsWaiting, WaitsIn, WaitsOn, IsSuspendedIn, wait_run, Provided, calls_in, AreCovered, wait_of, empty_sum, items_of}
 use Rattle.jc_bulk.proofs.Names.{Visited, IsUnchanged}
 use Rattle.jc_ops.specs.Stepped.{step_run}
 use Rattle.jc_model.specs.Whole.{Plan, one, many, at_once, key_step, steps_in, gathers, is_at_once, carried_out}
@@ -25,47 +25,27 @@ step_waits c now key w rest sum run p request at same is covered = record {
 pub step_ended : (c : CacheConfig) (now : ℕ) (call : KeyCall) (calls : List KeyCall) (sum sum' : Sum) (p q : Progress) (r : Reply) → step c now call p ≡ ended q r → ends_call r ≡ None → sum' ≡ with_key call.key r sum → each c now calls sum' q ≡ each c now (call ∷ calls) sum p
 step_ended c now call calls sum sum' p q r run none added = rw (run, none, after_key, added)
 
--- what comes after the step that waits
-abbrev pub after_wait : CacheConfig → Bulk → Progress → Reply → Run
-after_wait c b = afterwards c b.key.now b.key.call.key (calls_in b.rest) b.sum
-
 -- the step that waits of a call does so itself, whether or not others are ahead
-waits-by : (c : CacheConfig) (p : Progress) (b : Bulk) (alone : Bool) (request : Request) (resumed : Answer → Run) → wait_run c p (if alone then suspended.one b.key else suspended.many (bulk_wait b)) ≡ waiting request p resumed
-    → IsHeld c p (if alone then suspended.one b.key else suspended.many (bulk_wait b)) b.rest → IsWaiting c p b.key
-waits-by c p b true request resumed run held = record { request = request; resumed = resumed; run_is = run }
-waits-by c p b false request resumed run held = held.0
-
-pub step_of_call : {awaits : Awaited} {s : Waits} (c : CacheConfig) (p : Progress) (b w : Bulk) → b ≡ w → waits_of awaits w ≡ s → IsSuspended c p s → IsWaiting c p b.key
-step_of_call c p b w same is h = let here = rw (← is) at h in rw same (waits-by c _ w w.alone here.request here.resumed here.run_is here.held)
-
--- and its moment is that of the call
-moment-by : (b : Bulk) (alone : Bool) → moment_of (if alone then suspended.one b.key else suspended.many (bulk_wait b)) ≡ b.key.now
-moment-by b true = refl
-moment-by b false = refl
-
-pub moment_of_call : {awaits : Awaited} {s : Waits} (b w : Bulk) → b ≡ w → waits_of awaits w ≡ s → b.key.now ≡ moment_of s.wait
-moment_of_call b w same is = rw (← is, same) (sym (moment-by w w.alone))
+pub step_of_call : {awaits : Awaited} (v : Visited) (alone : Bool) (w : KeyWait) (rest : List Provided) (sum : Sum) → IsSuspendedIn v (record { awaits = awaits; wait = wait_of alone w (calls_in rest) sum; stock = rest }) → WaitsIn v w
+step_of_call v true w rest sum h = record { waits = record { request = h.suspended.request; resumed = h.suspended.resumed; run_is = h.suspended.run_is }; moment = h.moment }
+step_of_call v false w rest sum h = record { waits = h.suspended.held.0; moment = h.moment }
 
 -- and the steps ahead have their values
-held-by : (c : CacheConfig) (p : Progress) (b : Bulk) (alone : Bool) → alone ≡ false → IsHeld c p (if alone then suspended.one b.key else suspended.many (bulk_wait b)) b.rest → AreCovered c p.state.ring b.rest
-held-by c p b true off held = absurd cc
-held-by c p b false off held = held.1
+pub rest_of_call : {awaits : Awaited} (v : Visited) (alone : Bool) (w : KeyWait) (rest : List Provided) (sum : Sum) → IsSuspendedIn v (record { awaits = awaits; wait = wait_of alone w (calls_in rest) sum; stock = rest }) → alone ≡ false → AreCovered v.cache.config (items_of v.cache.cells) rest
+rest_of_call v true w rest sum h off = absurd cc
+rest_of_call v false w rest sum h off = h.suspended.held.1
 
-pub rest_of_call : {awaits : Awaited} {s : Waits} (c : CacheConfig) (p : Progress) (b w : Bulk) → b ≡ w → waits_of awaits w ≡ s → b.alone ≡ false → IsSuspended c p s → AreCovered c p.state.ring b.rest
-rest_of_call c p b w same is off h = let here = rw (← is) at h in rw same (held-by c _ w w.alone (rw same at off) here.held)
-
--- An answer goes to the step that waits. The code has the call under another name.
-pub step_answered : {b w : Bulk} (c : CacheConfig) (p : Progress) (a : Answer) → b ≡ w → IsWaiting c p w.key → resume (bulk_run c p (bulk_wait w)) a ≡ and_then (resume (key_run c p b.key) a) (after_wait c b)
-step_answered {b} {w} c p a same waits = rw (same, waits.run_is)
+-- An answer goes to the step that waits.
+pub step_answered : (c : CacheConfig) (p : Progress) (w : KeyWait) (rest : List KeyCall) (sum : Sum) (a : Answer) → IsWaiting c p w → resume (wait_run c p (wait_of false w rest sum)) a ≡ and_then (resume (key_run c p w) a) (afterwards c w.now w.call.key rest sum)
+step_answered c p w rest sum a waits = rw waits.run_is
 
 -- and where it waits again, so does the call
-pub waits_again : (c : CacheConfig) (p q : Progress) (key step : KeyWait) (rest : List Provided) (needs : Needs) (sum : Sum) (alone : Bool) (request : Request) (a : Answer) → IsWaiting c p key → step.now ≡ key.now → step.call.key ≡ key.call.key
-    → StepWaits c q request step (resume (key_run c p key) a) → (alone ≡ false → AreCovered c q.state.ring rest)
-    → WaitsOn c q request (waits_of (awaited_by request) (record { key = step; rest = rest; needs = needs; sum = sum; alone = alone })) (resume (wait_run c p (wait_of (record { key = key; rest = rest; needs = needs; sum = sum; alone = alone }))) a)
-waits_again c p q key step rest needs sum true request a waits at same is covered = record { resumed = is.resumed; run_is = is.run_is; meaning = is.meaning; awaits = refl; held = tt }
-waits_again c p q key step rest needs sum false request a waits at same is covered =
-    let b : Bulk = record { key = key; rest = rest; needs = needs; sum = sum; alone = false } in
-    rw (step_answered {b = b} {w = b} c p a refl waits) (step_waits c key.now key.call.key step rest sum _ _ request at same is (covered refl))
+pub waits_again : (c : CacheConfig) (p q : Progress) (w step : KeyWait) (rest : List Provided) (sum : Sum) (alone : Bool) (request : Request) (a : Answer) → IsWaiting c p w → step.now ≡ w.now → step.call ≡ w.call
+    → StepWaits c q request step (resume (key_run c p w) a) → (alone ≡ false → AreCovered c q.state.ring rest)
+    → WaitsOn c q request (record { awaits = awaited_by request; wait = wait_of alone step (calls_in rest) sum; stock = rest }) (resume (wait_run c p (wait_of alone w (calls_in rest) sum)) a)
+waits_again c p q w step rest sum true request a waits at same is covered = record { resumed = is.resumed; run_is = is.run_is; meaning = is.meaning; awaits = refl; held = tt }
+waits_again c p q w step rest sum false request a waits at same is covered =
+    rw (step_answered c p w (calls_in rest) sum a waits) (step_waits c w.now w.call.key step rest sum _ _ request at (ap (λ k. k.key) same) is (covered refl))
 
 -- A call with steps, by its plan.
 

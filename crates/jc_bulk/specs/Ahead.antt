@@ -1,8 +1,9 @@
 -- The steps that are ahead of a call, on a visit.
-use Rattle.std.specs.Prelude.{◌≡◌, ◌+◌, ◌≤◌, ℕ, true, List, ◌∷◌, length}
+use Rattle.std.specs.Prelude.{◌≡◌, ◌+◌, ◌≤◌, ℕ, Bool, true, List, ◌∷◌, length}
 use Rattle.jc_model.specs.declared.call.KeyCall.{KeyCall}
 use Rattle.jc_model.specs.declared.call.Reply.{Reply}
-use Rattle.jc_model.specs.Run.{Run}
+use Rattle.jc_model.specs.Run.{Run, Awaited}
+use Rattle.jc_model.specs.Suspended.{KeyWait}
 use Rattle.jc_model.specs.Whole.{after_key, each}
 use Rattle.jc_state.specs.Kept.{items_of}
 use Rattle.jc_state.specs.Visited.{Visited, HasPlacesIn, progress_in}
@@ -11,7 +12,7 @@ use Rattle.jc_bulk.specs.declared.bulk.Ahead.{Ahead}
 use Rattle.jc_bulk.specs.declared.bulk.Provided.{Provided}
 use Rattle.jc_bulk.specs.Provided.{calls_in, keys_in, any_creates, places_for, AreCovered, IsAhead, IsReady}
 use Rattle.jc_bulk.specs.Tallied.{sum_of}
-use Rattle.jc_bulk.specs.Waits.{Bulk}
+use Rattle.jc_bulk.specs.Waits.{Waits, wait_of}
 
 -- their calls
 abbrev pub calls_ahead : Ahead → List KeyCall
@@ -48,10 +49,14 @@ HasRoomForSteps calls spare = any_creates calls ≡ true → length calls ≤ sp
 
 -- Of a call whose step waits, from that step on.
 
+-- the call, with what it awaits, whether or not it is on this one key
+abbrev pub waits_of : Awaited → KeyWait → Ahead → Bool → Waits
+waits_of awaits w a alone = record { awaits = awaits; wait = wait_of alone w (calls_ahead a) (sum_of a.sum); stock = a.rest.items }
+
 -- places for all notices
-abbrev pub HasPlacesFrom : Bulk → Visited → Type 0
-HasPlacesFrom b v = HasPlacesIn (places_for b.needs.tells (length b.rest) + most_told_in v b.key.call) v
+abbrev pub HasPlacesFrom : KeyWait → Ahead → Visited → Type 0
+HasPlacesFrom w a v = HasPlacesIn (places_ahead a + most_told_in v w.call) v
 
 -- the table has room for the rows that the steps may add
-abbrev pub HasRoomFrom : Bulk → ℕ → Type 0
-HasRoomFrom b spare = b.needs.adds ≡ true → length b.rest + 1 ≤ spare
+abbrev pub HasRoomFrom : Ahead → ℕ → Type 0
+HasRoomFrom a spare = a.needs.adds ≡ true → length a.rest.items + 1 ≤ spare

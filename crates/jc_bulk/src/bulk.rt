@@ -2,12 +2,11 @@
 //!
 //! All that they need was made before the first of them, so none is refused. Where one waits for an answer, those after
 //! it keep their values: no other step changes the value of its key.
-ghost use Rattle.std.specs.Prelude.{◌≡◌, ◌≤◌, ◌∷◌, ℕ, true, false, List, [], length};
+ghost use Rattle.std.specs.Prelude.{◌≡◌, ◌≤◌, ℕ, true, List, length};
 ghost use Rattle.jc_state.specs.Visited.{IsSameVisit, HasPlacesIn};
 ghost use Rattle.jc_bulk.specs.Ahead.{IsAheadOf, AreCoveredIn, AreReady};
 ghost use Rattle.jc_bulk.specs.Ahead.{places_ahead, ahead_run, behind_run};
 ghost use Rattle.jc_bulk.specs.Calls.{ComesFrom};
-ghost use Rattle.jc_bulk.specs.Provided.{IsAhead};
 
 use crate::call::CallNext;
 use crate::tally::{Collected, Tally, ends_call};
@@ -24,7 +23,6 @@ use jc_rows::rows::Rows;
 use jc_state::visit::Visit;
 use std::alloc::Global;
 use std::collections::VecDeque;
-use std::marker::Model;
 
 /// A step with its values.
 #[derive(Drop)]
@@ -50,21 +48,10 @@ pub struct Ahead {
     pub needs: Needs,
 }
 
-/// The steps of a call that waits: the one that waits, and those after it.
-#[derive(Drop)]
-pub struct BulkStep {
-    pub(crate) step: KeyStep,
-    pub(crate) ahead: Ahead,
-    /// The call is on this one key: no steps are ahead, and its reply is the step's own.
-    pub(crate) alone: bool,
-}
-
 impl Ahead {
     /// No steps are left, and nothing is gathered.
     pub(crate) fn none(alloc: Global) -> Ahead
-        ensures rest { result.rest.items ≡ [] }
-        ensures needs { result.needs ≡ record { adds = false; tells = false } }
-        ensures ahead { (key : List ℕ) → IsAhead (key ∷ []) [] result.sum result.needs }
+        ensures { (key : List ℕ) → IsAheadOf key result }
     {
         Ahead {
             rest: VecDeque::new(alloc),
@@ -80,24 +67,6 @@ impl Ahead {
     }
 }
 
-impl Model for BulkStep {
-    ghost use Rattle.jc_bulk.specs.Ahead.{IsAheadOf};
-    ghost use Rattle.jc_bulk.specs.Tallied.{sum_of};
-    ghost use Rattle.jc_bulk.specs.Waits.{Bulk};
-
-    ghost Value = { Bulk };
-
-    ghost view = { λ b. record {
-      key = b.step;
-      rest = b.ahead.rest.items;
-      needs = b.ahead.needs;
-      sum = sum_of b.ahead.sum;
-      alone = b.alone;
-    } };
-
-    ghost invariant = { λ b. IsAheadOf b.step.call.key b.ahead };
-}
-
 /// Goes on with the steps that are left, until one waits or fails.
 pub(crate) fn go_on<R: Rows, G: Ring>(visit: &mut Visit<R, G>, mut ahead: Ahead) -> CallNext
     requires ready { AreReady visit.old ahead }
@@ -108,14 +77,7 @@ pub(crate) fn go_on<R: Rows, G: Ring>(visit: &mut Visit<R, G>, mut ahead: Ahead)
         let key = call.key;
         let row = visit.find(&key);
         match KeyStep::start(visit, call, Supply { row, values }) {
-            Next::Waiting(request, step) => {
-                let bulk = BulkStep {
-                    step,
-                    ahead,
-                    alone: false,
-                };
-                return suspend(request, bulk);
-            }
+            Next::Waiting(request, step) => return suspend(request, step, ahead, false),
             Next::Ended(reply) => {
                 if let Some(by) = ends_call(reply.first()) {
                     let done = ahead.sum.done;

@@ -12,7 +12,7 @@ ghost use Rattle.jc_ops.specs.Stepped.{StepsTo};
 ghost use Rattle.jc_bulk.specs.Calls.{ComesTo, ComesFrom, EndsFrom, IsSuspendedIn, plan_in};
 ghost use Rattle.jc_bulk.specs.Calls.{call_run, answered_run};
 
-use crate::bulk::{Ahead, BulkStep, go_on, go_on_after};
+use crate::bulk::{Ahead, go_on, go_on_after};
 use crate::entries::entries;
 use crate::provide::{prepare, prepare_answer};
 use crate::waits::{Suspended, suspend};
@@ -39,13 +39,8 @@ fn on_one_key(alloc: Global, next: Next<KeyStep>) -> CallNext
     match next {
         Next::Ended(reply) => Next::Ended(reply),
         Next::Waiting(request, step) => {
-            let ahead = Ahead::none(alloc);
-            let bulk = BulkStep {
-                step,
-                ahead,
-                alone: true,
-            };
-            suspend(request, bulk)
+            let none = Ahead::none(alloc);
+            suspend(request, step, none, true)
         }
     }
 }
@@ -164,17 +159,26 @@ pub fn answer_call<R: Rows, G: Ring>(
     ensures back { IfErr result (λ back. back ≡ (suspended, answer)) }
     ensures same { OnErr result (IsUnchanged visit.old visit.new) }
 {
-    let Suspended { bulk, awaits } = suspended;
-    match prepare_answer(visit, &bulk, &answer) {
-        Err(_) => Err((Suspended { bulk, awaits }, answer)),
+    let Suspended {
+        step,
+        ahead,
+        alone,
+        awaits,
+    } = suspended;
+    match prepare_answer(visit, &step, &ahead, &answer) {
+        Err(_) => {
+            let suspended = Suspended {
+                step,
+                ahead,
+                alone,
+                awaits,
+            };
+            Err((suspended, answer))
+        }
         Ok(supply) => {
-            let BulkStep { step, ahead, alone } = bulk;
             let key = step.call().key;
             match step.answer(visit, answer, supply) {
-                Next::Waiting(request, step) => {
-                    let bulk = BulkStep { step, ahead, alone };
-                    Ok(suspend(request, bulk))
-                }
+                Next::Waiting(request, step) => Ok(suspend(request, step, ahead, alone)),
                 Next::Ended(reply) => {
                     if alone {
                         drop(ahead);

@@ -11,11 +11,12 @@ ghost use Rattle.jc_bulk.specs.Calls.{steps_for, first_sum};
 ghost use Rattle.jc_bulk.specs.Provided.{calls_in, any_creates, any_tells, places_for};
 ghost use Rattle.jc_bulk.specs.Tallied.{sum_of};
 
-use crate::bulk::{Ahead, BulkStep, Needs, Provided};
+use crate::bulk::{Ahead, Needs, Provided};
 use crate::steps::steps_of;
 use crate::tally::Tally;
 use jc_model::OutOfMemory;
 use jc_model::call::{Answer, Call, KeyCall};
+use jc_ops::step::KeyStep;
 use jc_ops::supply::values::Values;
 use jc_ops::supply::{Supply, creates, most_notices, takes_value};
 use jc_ring::ring::Ring;
@@ -103,19 +104,20 @@ pub fn prepare<R: Rows, G: Ring>(visit: &mut Visit<R, G>, call: &Call) -> Result
 /// Places for the notices of the step that waits and of those after it, and room for the rows that they may add.
 fn reserve_ahead<R: Rows, G: Ring>(
     visit: &mut Visit<R, G>,
-    bulk: &BulkStep,
+    step: &KeyStep,
+    ahead: &Ahead,
 ) -> Result<(), OutOfMemory>
     ensures same { IsUnchanged visit.old visit.new }
-    ensures places { OnOk result (HasPlacesFrom bulk.entry.now visit.new) }
+    ensures places { OnOk result (HasPlacesFrom step.entry.now ahead.now visit.new) }
     ensures kept { visit.old.spare ≤ visit.new.spare }
-    ensures asks { HasRoomFrom bulk.entry.now visit.old.spare →
+    ensures asks { HasRoomFrom ahead.now visit.old.spare →
         visit.new.spare ≡ visit.old.spare }
-    ensures room { OnOk result (HasRoomFrom bulk.entry.now visit.new.spare) }
+    ensures room { OnOk result (HasRoomFrom ahead.now visit.new.spare) }
 {
-    let steps = bulk.ahead.rest.len() + 1;
-    let needs = bulk.ahead.needs;
-    let own = most_notices(&bulk.step.call().op, false);
-    visit.reserve_notices(places_for(needs, bulk.ahead.rest.len(), own)?)?;
+    let steps = ahead.rest.len() + 1;
+    let needs = ahead.needs;
+    let own = most_notices(&step.call().op, false);
+    visit.reserve_notices(places_for(needs, ahead.rest.len(), own)?)?;
     visit.reserve_rows(if needs.adds { steps } else { 0 })
 }
 
@@ -123,23 +125,24 @@ fn reserve_ahead<R: Rows, G: Ring>(
 /// values were made when the call began.
 pub fn prepare_answer<R: Rows, G: Ring>(
     visit: &mut Visit<R, G>,
-    bulk: &BulkStep,
+    step: &KeyStep,
+    ahead: &Ahead,
     answer: &Answer,
 ) -> Result<Supply, OutOfMemory>
     ensures same { IsUnchanged visit.old visit.new }
     ensures row { IfOk result (λ s.
-        FoundRow bulk.entry.now.key.call.key visit.old.cache s.row) }
+        FoundRow step.entry.now.call.key visit.old.cache s.row) }
     ensures apart { HasDistinctKeys (items_of visit.old.cache.cells) }
-    ensures places { OnOk result (HasPlacesFrom bulk.entry.now visit.new) }
-    ensures room { OnOk result (HasRoomAt bulk.entry.now.key answer.now visit.new) }
-    ensures asks { HasRoomAt bulk.entry.now.key answer.now visit.old →
-        HasRoomFrom bulk.entry.now visit.old.spare → visit.new.spare ≡ visit.old.spare }
-    ensures rest_room { OnOk result (HasRoomFrom bulk.entry.now visit.new.spare) }
+    ensures places { OnOk result (HasPlacesFrom step.entry.now ahead.now visit.new) }
+    ensures room { OnOk result (HasRoomAt step.entry.now answer.now visit.new) }
+    ensures asks { HasRoomAt step.entry.now answer.now visit.old →
+        HasRoomFrom ahead.now visit.old.spare → visit.new.spare ≡ visit.old.spare }
+    ensures rest_room { OnOk result (HasRoomFrom ahead.now visit.new.spare) }
     ensures covers { IfOk result (λ s.
-        CoversAnswerIn visit.old bulk.entry.now.key answer.now s.values) }
+        CoversAnswerIn visit.old step.entry.now answer.now s.values) }
 {
-    let supply = Supply::for_answer(visit, &bulk.step, answer)?;
-    match reserve_ahead(visit, bulk) {
+    let supply = Supply::for_answer(visit, step, answer)?;
+    match reserve_ahead(visit, step, ahead) {
         Ok(()) => Ok(supply),
         Err(refused) => {
             drop(supply);

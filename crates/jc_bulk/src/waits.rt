@@ -1,12 +1,13 @@
 //! A call that waits for the answer to one request.
 ghost use Rattle.std.specs.Prelude.{◌≡◌};
 ghost use Rattle.jc_model.specs.Run.{awaited_by, fits};
-ghost use Rattle.jc_bulk.specs.Waits.{awaited, moment_of, waits_of};
+ghost use Rattle.jc_bulk.specs.Ahead.{IsAheadOf, waits_of};
+ghost use Rattle.jc_bulk.specs.Waits.{awaited, moment_of};
 
-use crate::bulk::BulkStep;
+use crate::bulk::Ahead;
 use crate::call::CallNext;
 use jc_model::call::{Answer, Request};
-use jc_ops::step::Next;
+use jc_ops::step::{KeyStep, Next};
 use std::marker::Model;
 
 /// What kind of answer a suspended call awaits.
@@ -18,19 +19,25 @@ pub enum Awaits {
     Tell,
 }
 
-/// A call that waits for the answer to one request.
+/// A call that waits for the answer to one request: the step that waits, and those after it.
 #[derive(Drop)]
 pub struct Suspended {
-    pub(crate) bulk: BulkStep,
+    pub(crate) step: KeyStep,
+    pub(crate) ahead: Ahead,
+    /// The call is on this one key: no steps are ahead, and its reply is the step's own.
+    pub(crate) alone: bool,
     pub(crate) awaits: Awaits,
 }
 
 impl Model for Suspended {
-    ghost use Rattle.jc_bulk.specs.Waits.{Waits, awaited, waits_of};
+    ghost use Rattle.jc_bulk.specs.Ahead.{IsAheadOf, waits_of};
+    ghost use Rattle.jc_bulk.specs.Waits.{Waits, awaited};
 
     ghost Value = { Waits };
 
-    ghost view = { λ s. waits_of (awaited s.awaits) s.bulk };
+    ghost view = { λ s. waits_of (awaited s.awaits) s.step s.ahead s.alone };
+
+    ghost invariant = { λ s. IsAheadOf s.step.call.key s.ahead };
 }
 
 /// What kind of answer a request awaits.
@@ -46,12 +53,19 @@ fn awaits_of(request: &Request) -> Awaits
     }
 }
 
-/// A call that waits with this request.
-pub(crate) fn suspend(request: Request, bulk: BulkStep) -> CallNext
-    ensures { result ≡ Next.Waiting request (waits_of (awaited_by request) bulk) }
+/// A call whose step waits with this request.
+pub(crate) fn suspend(request: Request, step: KeyStep, ahead: Ahead, alone: bool) -> CallNext
+    requires { IsAheadOf step.call.key ahead }
+    ensures { result ≡ Next.Waiting request (waits_of (awaited_by request) step ahead alone) }
 {
     let awaits = awaits_of(&request);
-    Next::Waiting(request, Suspended { bulk, awaits })
+    let suspended = Suspended {
+        step,
+        ahead,
+        alone,
+        awaits,
+    };
+    Next::Waiting(request, suspended)
 }
 
 impl Suspended {
@@ -71,6 +85,6 @@ impl Suspended {
     pub fn moment(&self) -> u64
         ensures { result ≡ moment_of self.now.wait }
     {
-        self.bulk.step.now()
+        self.step.now()
     }
 }
