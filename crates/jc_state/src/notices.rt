@@ -12,6 +12,15 @@ use jc_model::value::Value;
 use std::alloc::Global;
 use std::marker::Model;
 
+/// What happened to a row, with its value after and before.
+#[derive(Drop)]
+pub(crate) struct Happening {
+    pub(crate) kind: Kind,
+    pub(crate) key: Key,
+    pub(crate) value: Option<Copies<Value>>,
+    pub(crate) before: Option<Copies<Value>>,
+}
+
 /// The notices so far, kept twice: one list is told to the listeners, the other goes into the transcript.
 #[derive(Drop)]
 pub struct Notices {
@@ -67,22 +76,21 @@ impl Notices {
         self.told.is_empty()
     }
 
-    /// Adds a notice, with the value after and before, where the cache has listeners. It needs a place, and takes no
-    /// memory.
-    pub(crate) fn note_for(
-        &mut self,
-        config: &CacheConfig,
-        kind: Kind,
-        key: Key,
-        value: Option<Copies<Value>>,
-        before: Option<Copies<Value>>,
-    )
+    /// Adds the notice of what happened where the cache has listeners. It needs a place, and takes no memory.
+    pub(crate) fn note_for(&mut self, config: &CacheConfig, happening: Happening)
         requires { HasPlaces config.now 1 self.old }
-        ensures told { self.new.told
-            ≡ told_after config.now (notice_of kind key value before) self.old.told }
+        ensures told { self.new.told ≡ told_after config.now
+            (notice_of happening.kind happening.key happening.value happening.before)
+            self.old.told }
         ensures spare { self.old.spare ≤ self.new.spare + 1 }
     {
         if config.listeners > 0 {
+            let Happening {
+                kind,
+                key,
+                value,
+                before,
+            } = happening;
             let (value, kept_value) = two(value);
             let (before, kept_before) = two(before);
             self.told.push_reserved(Notice {

@@ -20,12 +20,12 @@ ghost use Rattle.jc_state.specs.Kept.{with_eviction};
 ghost use Rattle.jc_state.specs.Noted.{notice_of, told_after};
 ghost use Rattle.jc_state.specs.Visited.{IsKeptIn, HasPlacesIn, has_live_in};
 
-use crate::notices::Notices;
+use crate::notices::{Happening, Notices};
 use crate::slots::Record;
 use crate::state::{CacheState, no_counts};
 use jc_expiry::counters::{with_eviction, with_hit, with_miss, with_put, with_removal};
 use jc_expiry::expiry::live;
-use jc_model::call::{Counts, Kind};
+use jc_model::call::Counts;
 use jc_model::config::CacheConfig;
 use jc_model::copies::Copies;
 use jc_model::key::Key;
@@ -270,22 +270,16 @@ impl<R: Rows, G: Ring> Visit<R, G> {
         self.cache.set_counts(counts);
     }
 
-    /// Adds a notice, with the value after and before, where the cache has listeners.
-    fn tell(
-        &mut self,
-        kind: Kind,
-        key: Key,
-        value: Option<Copies<Value>>,
-        before: Option<Copies<Value>>,
-    )
+    /// Adds the notice of what happened where the cache has listeners.
+    fn tell(&mut self, happening: Happening)
         requires { HasPlacesIn 1 self.old }
         ensures same { self.new ≡ record self.old { noted = self.new.noted } }
         ensures told { self.new.noted.told ≡ told_after self.old.cache.config
-            (notice_of kind key value before) self.old.noted.told }
+            (notice_of happening.kind happening.key happening.value happening.before)
+            self.old.noted.told }
         ensures spare { self.old.noted.spare ≤ self.new.noted.spare + 1 }
     {
-        self.notices
-            .note_for(self.cache.config(), kind, key, value, before);
+        self.notices.note_for(self.cache.config(), happening);
     }
 
     /// Counts an eviction.

@@ -10,6 +10,7 @@ ghost use Rattle.jc_state.specs.Tied.{StaysAbsent};
 ghost use Rattle.jc_state.specs.Visited.{SpendsAtMost, HasPlacesIn, progress_in};
 
 use super::Visit;
+use crate::notices::Happening;
 use crate::slots::Record;
 use crate::stored::Stored;
 use jc_expiry::expiry::after_create;
@@ -38,7 +39,12 @@ impl<R: Rows, G: Ring> Visit<R, G> {
                 self.ensure_room();
                 let Stored { value, told } = stored;
                 self.add_row(Record { key, value, expiry });
-                self.tell(Kind::Created, key, told, None);
+                self.tell(Happening {
+                    kind: Kind::Created,
+                    key,
+                    value: told,
+                    before: None,
+                });
                 true
             }
         }

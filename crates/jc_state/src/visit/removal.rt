@@ -9,6 +9,7 @@ ghost use Rattle.jc_state.specs.Kept.{IsRow, FoundRow};
 ghost use Rattle.jc_state.specs.Visited.{SpendsAtMost, IsWithout, HasPlacesIn, progress_in, has_live_in};
 
 use super::Visit;
+use crate::notices::Happening;
 use crate::slots::Record;
 use jc_model::call::Kind;
 use jc_ring::ring::Ring;
@@ -39,7 +40,12 @@ impl<R: Rows, G: Ring> Visit<R, G> {
             (notice_of kind held.key None (Some held.value)) self.old.noted.told }
     {
         let gone = self.take_row(row);
-        self.tell(kind, gone.key, None, Some(gone.value));
+        self.tell(Happening {
+            kind,
+            key: gone.key,
+            value: None,
+            before: Some(gone.value),
+        });
     }
 
     /// Of a key's row, if it has one, the number where it is live. An expired row is removed here, with its notice; a

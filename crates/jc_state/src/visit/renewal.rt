@@ -10,6 +10,7 @@ ghost use Rattle.jc_state.specs.Kept.{IsRow};
 ghost use Rattle.jc_state.specs.Visited.{SpendsAtMost, HasPlacesIn, progress_in};
 
 use super::Visit;
+use crate::notices::Happening;
 use crate::slots::Record;
 use crate::stored::Stored;
 use jc_expiry::expiry::{after_access, after_update};
@@ -64,6 +65,11 @@ impl<R: Rows, G: Ring> Visit<R, G> {
         let expiry = after_update(self.config().policy, held.expiry, self.moment);
         let before = self.cache.store(row, Record { key, value, expiry });
         renew(&mut self.rows, self.cache.id(), &before, expiry);
-        self.tell(Kind::Updated, key, told, Some(before.value));
+        self.tell(Happening {
+            kind: Kind::Updated,
+            key,
+            value: told,
+            before: Some(before.value),
+        });
     }
 }
