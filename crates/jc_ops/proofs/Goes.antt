@@ -53,7 +53,7 @@ pub record GoesOn (v w : Visited) (f : CacheConfig) (z u : KeyWait) (a : Answer)
   pub places : HasPlaces f (told_on (is_some row) u.call.op) w.noted
   pub spends : (x : Visited) → SpendsAtMost 1 (told_on (is_some row) u.call.op) w x → SpendsAtMost 1 (most_told_in v z.call) v x
 
-pub ready : (v w : Visited) (z u : KeyWait) (a : Answer) (row : Option ℕ) (y : Values) → GoesOn v w w.cache.config z u a row y → IsReady w (told_on (is_some row) u.call.op) u row a y
+pub ready : (v w : Visited) (z u : KeyWait) (a : Answer) (row : Option ℕ) (y : Values) → GoesOn v w w.cache.config z u a row y → IsReady w (told_on (is_some row) u.call.op) u a (record { row = row; values = y })
 ready v w z u a row y on = record { row = on.found; places = on.places; covered = on.covered; room = on.room; waits = record { waits = on.waits; moment = on.moment } }
 
 module _ (v w : Visited) (call : KeyCall) (row : Option ℕ) (gone : Purged v w call.key row) (y : Values) where

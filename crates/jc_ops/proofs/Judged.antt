@@ -10,7 +10,7 @@ use Rattle.jc_model.specs.declared.call.Op.TheVariants.{Invoke}
 use Rattle.jc_model.specs.declared.call.Reply.TheVariants.{Fault}
 use Rattle.jc_model.specs.declared.call.Request.TheVariants.{Process}
 use Rattle.jc_model.specs.declared.call.Verdict.{Verdict}
-use Rattle.std.specs.Prelude.{Ok}
+use Rattle.std.specs.Prelude.{Ok, ◌||◌}
 use Rattle.jc_model.specs.Run.{answered}
 use Rattle.jc_model.specs.Changes.{miss}
 use Rattle.jc_ops.specs.Lines.{loads_for}
@@ -38,15 +38,20 @@ once_decided c p now call loaded verdict w v a view none is =
 
 -- whether the loader is awaited
 
-pub awaited : (c : CacheConfig) (processor : ℕ) (row : Option Item) (loaded : Option (Option (List ℕ))) → awaits_load c processor (is_some row) (is_some loaded) ≡ true →
+pub awaited : (c : CacheConfig) (processor : ℕ) (row : Option Item) (loaded : Option (Option (List ℕ))) → awaits_load c processor (is_some row || is_some loaded) ≡ true →
     (row ≡ None) × (loaded ≡ None) × (loads_for c processor ≡ true)
 awaited c processor None None h = (refl, refl, h)
 awaited c processor None (Some l) h = cc
 awaited c processor (Some x) loaded h = cc
 
-unawaited : (c : CacheConfig) (processor : ℕ) (row : Option Item) (loaded : Option (Option (List ℕ))) → awaits_load c processor (is_some row) (is_some loaded) ≡ false → row ≡ None →
+unawaited : (c : CacheConfig) (processor : ℕ) (row : Option Item) (loaded : Option (Option (List ℕ))) → awaits_load c processor (is_some row || is_some loaded) ≡ false → row ≡ None →
     loaded ≡ None → loads_for c processor ≡ false
 unawaited c processor row loaded h absent none = grind (arith, common_steps)
+
+-- by what the code has of the row and the answer
+pub awaits_by : (c f : CacheConfig) (processor : ℕ) (there answered x y r : Bool) → f ≡ c → there ≡ x → answered ≡ y → r ≡ awaits_load f processor (x || y) →
+    awaits_load c processor (there || answered) ≡ r
+awaits_by c f processor there answered x y r same a b is = cc
 
 module _ (c : CacheConfig) (now : ℕ) (k : List ℕ) where
   -- A verdict asks the writer, or ends at once. By what the code has: the line, whether the key has a row, and the copy for the writer.
@@ -82,7 +87,7 @@ module _ (c : CacheConfig) (now : ℕ) (k : List ℕ) where
       loader_gave loaded = let gone : purge c now k p ≡ p = waits_purged c p (wait None None) h in grind (arith, common_steps)
 
     module _ (loaded : Option (Option (List ℕ))) where
-      pub processor_answered : (a : Answer) → IsWaiting c p (wait loaded None) → awaits_load c processor (is_some (find_row k p)) (is_some loaded) ≡ false →
+      pub processor_answered : (a : Answer) → IsWaiting c p (wait loaded None) → awaits_load c processor (is_some (find_row k p) || is_some loaded) ≡ false →
           resume (key_run c p (wait loaded None)) a ≡ judged_on c now k (find_row k p) (loaded_in (given_by loaded None)) p (verdict_of a)
       processor_answered a h unasked = let asks = unawaited c processor (find_row k p) loaded unasked in let gone : purge c now k p ≡ p = waits_purged c p (wait loaded None) h in grind
           (arith, common_steps)

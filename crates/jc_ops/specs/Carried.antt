@@ -12,6 +12,7 @@ use Rattle.jc_state.specs.declared.stored.Stored.{Stored}
 use Rattle.jc_state.specs.Kept.{key_row, FoundRow}
 use Rattle.jc_state.specs.Noted.{stored_value}
 use Rattle.jc_state.specs.Visited.{Visited, HasPlacesIn, progress_in}
+use Rattle.jc_ops.specs.declared.supply.Supply.{Supply}
 use Rattle.jc_ops.specs.declared.supply.values.Values.{Values}
 use Rattle.jc_ops.specs.Given.{loaded_in}
 use Rattle.jc_ops.specs.Lines.{stores}
@@ -24,11 +25,11 @@ abbrev pub HasRoomToStore : Option ℕ → Change → Option Stored → ℕ → 
 HasRoomToStore row change stored spare = is_some row ≡ false → stores change ≡ true → is_some stored ≡ true → 0 < spare
 
 -- the step waits, and has all that it may need at this answer, with so many places for notices
-pub record IsReady (v : Visited) (notices : ℕ) (w : KeyWait) (found : Option ℕ) (a : Answer) (s : Values) : Type 0 where
-  pub row : FoundRow w.call.key v.cache found
+pub record IsReady (v : Visited) (notices : ℕ) (w : KeyWait) (a : Answer) (s : Supply) : Type 0 where
+  pub row : FoundRow w.call.key v.cache s.row
   pub places : HasPlacesIn notices v
-  pub covered : CoversAnswerIn v w a s
-  pub room : HasRoom (adds_at (is_some found) v.cache.config w a) v.spare
+  pub covered : CoversAnswerIn v w a s.values
+  pub room : HasRoom (adds_at (is_some s.row) v.cache.config w a) v.spare
   pub waits : WaitsIn v w
 
 -- what a change of the key's row makes of the cache
@@ -36,8 +37,8 @@ abbrev pub changed_in : Visited → List ℕ → Change → Option Stored → Pr
 changed_in v key change stored = changed v.cache.config v.moment key change (key_row v.cache key) (stored_value stored) (progress_in v)
 
 -- the run of a line that is carried out
-abbrev pub line_run : Visited → List ℕ → Line → Option Stored → Option (List ℕ) → Run
-line_run v key line stored shown = ended_by v.cache.config v.moment key line (key_row v.cache key) (stored_value stored) shown (progress_in v)
+abbrev pub line_run : Visited → List ℕ → Line → Values → Run
+line_run v key line s = ended_by v.cache.config v.moment key line (key_row v.cache key) (stored_value s.stored) s.shown (progress_in v)
 
 -- what the processor's answer leads to
 abbrev pub judged_run : Visited → KeyWait → Option Verdict → Run

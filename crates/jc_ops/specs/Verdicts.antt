@@ -31,9 +31,9 @@ abbrev pub verdict_line : Action → Bool → Line
 verdict_line action true = live_verdict action
 verdict_line action false = absent_verdict action
 
--- the loader is awaited: the key has no row, and it has not yet answered
-abbrev pub awaits_load : CacheConfig → ℕ → Bool → Bool → Bool
-awaits_load c processor there answered = if there then false else (if answered then false else loads_for c processor)
+-- the loader is awaited: the key has no row, and it has not yet answered, so that the entry is not known
+abbrev pub awaits_load : CacheConfig → ℕ → Bool → Bool
+awaits_load c processor known = if known then false else loads_for c processor
 
 module _ (c : CacheConfig) (now : ℕ) (k : List ℕ) where
   -- a verdict, where the key has this row, if any, and its loader gave this value, if any

@@ -135,7 +135,13 @@ impl KeyStep {
             }
             None => {
                 let shown = where_there(there, shown);
-                Next::Ended(end(visit, &call.key, row, line, stored, shown))
+                let values = Values {
+                    stored,
+                    shown,
+                    copy: None,
+                    entry: None,
+                };
+                Next::Ended(end(visit, &call.key, line, Supply { row, values }))
             }
         }
     }
@@ -155,11 +161,11 @@ impl KeyStep {
         ensures ended { step_run visit.old call ≡ ended (progress_in visit.new) result }
     {
         let Supply { row, values } = supply;
-        let Values { stored, shown, .. } = values;
         let row = visit.purge(row);
         let line = line_of(visit, row, &call);
-        let shown = where_there(row.is_some(), shown);
-        end(visit, &call.key, row, line, stored, shown)
+        let shown = where_there(row.is_some(), values.shown);
+        let values = Values { shown, ..values };
+        end(visit, &call.key, line, Supply { row, values })
     }
 
     /// Goes on with the answer to the request for which the step waits. It takes no memory beside its supply, and so
@@ -181,13 +187,14 @@ impl KeyStep {
     {
         let Supply { row, values } = supply;
         let row = visit.purge(row);
+        let supply = Supply { row, values };
         match &self.call.op {
             Op::Invoke { processor, .. } => {
                 let processor = *processor;
-                answer_invoke(visit, self, processor, row, answer, values)
+                answer_invoke(visit, self, processor, answer, supply)
             }
             _ => {
-                let next = answer_line(visit, &self.call, row, &answer, values);
+                let next = answer_line(visit, &self.call, &answer, supply);
                 drop((self, answer));
                 next
             }

@@ -10,11 +10,12 @@ ghost use Rattle.jc_ops.specs.Carried.{HasRoomToStore, changed_in, line_run};
 ghost use Rattle.jc_ops.specs.Lines.{told_of};
 
 use crate::step::reply::reply_of;
+use crate::supply::Supply;
+use crate::supply::values::Values;
 use jc_model::call::Reply;
 use jc_model::copies::Copies;
 use jc_model::key::Key;
 use jc_model::table::{Change, Line};
-use jc_model::value::Value;
 use jc_ring::ring::Ring;
 use jc_rows::rows::Rows;
 use jc_state::stored::Stored;
@@ -93,23 +94,24 @@ fn change<R: Rows, G: Ring>(
     }
 }
 
-/// Carries a line out, and gives its reply.
+/// Carries a line out, with what is stored and shown of the supply, and gives its reply.
 pub(super) fn end<R: Rows, G: Ring>(
     visit: &mut Visit<R, G>,
     key: &Key,
-    row: Option<u32>,
     line: Line,
-    stored: Option<Stored>,
-    shown: Option<Copies<Value>>,
+    supply: Supply,
 ) -> Copies<Reply>
-    requires row { FoundRow key.now visit.old.cache row }
-    requires places { HasPlacesIn (told_of (is_some row) line.change) visit.old }
-    requires told { StoredIsTold visit.old.cache.config stored }
-    requires room { HasRoomToStore row line.change stored visit.old.spare }
-    ensures spends { SpendsAtMost 1 (told_of (is_some row) line.change) visit.old visit.new }
-    ensures run { line_run visit.old key.now line stored shown
+    requires row { FoundRow key.now visit.old.cache supply.row }
+    requires places { HasPlacesIn (told_of (is_some supply.row) line.change) visit.old }
+    requires told { StoredIsTold visit.old.cache.config supply.values.stored }
+    requires room { HasRoomToStore supply.row line.change supply.values.stored visit.old.spare }
+    ensures spends { SpendsAtMost 1 (told_of (is_some supply.row) line.change)
+        visit.old visit.new }
+    ensures run { line_run visit.old key.now line supply.values
         ≡ ended (progress_in visit.new) result }
 {
+    let Supply { row, values } = supply;
+    let Values { stored, shown, .. } = values;
     count(visit, line.counts, row.is_some());
     change(visit, key, row, line.change, stored);
     reply_of(line.reply, shown)

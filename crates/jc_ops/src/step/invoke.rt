@@ -14,6 +14,7 @@ use crate::step::change::{count, end};
 use crate::step::reply::fault;
 use crate::step::request::{ask_writer, loads_for, process};
 use crate::step::{KeyStep, Next};
+use crate::supply::Supply;
 use crate::supply::values::Values;
 use jc_model::call::{Action, Answer, By};
 use jc_model::config::CacheConfig;
@@ -33,30 +34,31 @@ fn verdict_line(action: &Action, there: bool) -> Line
     }
 }
 
-/// Whether a processor's step waits for the loader: its key has no row, and the loader has not yet answered.
-fn awaits_load(config: &CacheConfig, processor: u8, there: bool, answered: bool) -> bool
-    ensures { result ≡ awaits_load config.now processor there answered }
+/// Whether a processor's step waits for the loader: its key has no row, and the loader has not answered, so its entry is
+/// not known.
+fn awaits_load(config: &CacheConfig, processor: u8, known: bool) -> bool
+    ensures { result ≡ awaits_load config.now processor known }
 {
-    !there && !answered && loads_for(config, processor)
+    !known && loads_for(config, processor)
 }
 
 /// The processor's answer: its verdict is carried out, where the writer is not asked before.
 fn answer_process<R: Rows, G: Ring>(
     visit: &mut Visit<R, G>,
     step: KeyStep,
-    row: Option<u32>,
     answer: Answer,
-    values: Values,
+    supply: Supply,
 ) -> Next<KeyStep>
     requires invoke { is_invoke step.call.op ≡ true }
     requires undecided { verdict_in step.given ≡ None }
-    requires ready { IsReady visit.old (told_of (is_some row) Put) step row answer values }
+    requires ready { IsReady visit.old (told_of (is_some supply.row) Put) step answer supply }
     requires means { answer_run visit.old step answer
         ≡ judged_run visit.old step (verdict_of answer) }
-    ensures spends { SpendsAtMost 1 (told_of (is_some row) Put) visit.old visit.new }
+    ensures spends { SpendsAtMost 1 (told_of (is_some supply.row) Put) visit.old visit.new }
     ensures next { StepsFrom visit.old (answer_run visit.old step answer) result visit.new }
     ensures call_stays { StaysAt step.now step.call result }
 {
+    let Supply { row, values } = supply;
     let verdict = match answer {
         Answer::Processed(Ok(verdict)) => verdict,
         _ => {
@@ -72,15 +74,20 @@ fn answer_process<R: Rows, G: Ring>(
         copy,
         entry,
     } = values;
-    drop(entry);
     match ask_writer(visit.config(), &step.call.key, line.asks, copy) {
         Some(request) => {
-            drop((stored, shown));
+            drop((stored, shown, entry));
             let verdict = Some(verdict);
             Next::Waiting(request, KeyStep { verdict, ..step })
         }
         None => {
-            let reply = end(visit, &step.call.key, row, line, stored, shown);
+            let values = Values {
+                stored,
+                shown,
+                copy: None,
+                entry,
+            };
+            let reply = end(visit, &step.call.key, line, Supply { row, values });
             drop((step, verdict));
             Next::Ended(reply)
         }
@@ -92,43 +99,43 @@ pub(super) fn answer_invoke<R: Rows, G: Ring>(
     visit: &mut Visit<R, G>,
     step: KeyStep,
     processor: u8,
-    row: Option<u32>,
     answer: Answer,
-    values: Values,
+    supply: Supply,
 ) -> Next<KeyStep>
     requires invoke { (argument : List ℕ) × (step.call.op ≡ Invoke processor argument) }
-    requires ready { IsReady visit.old (told_of (is_some row) Put) step row answer values }
-    ensures spends { SpendsAtMost 1 (told_of (is_some row) Put) visit.old visit.new }
+    requires ready { IsReady visit.old (told_of (is_some supply.row) Put) step answer supply }
+    ensures spends { SpendsAtMost 1 (told_of (is_some supply.row) Put) visit.old visit.new }
     ensures next { StepsFrom visit.old (answer_run visit.old step answer) result visit.new }
     ensures call_stays { StaysAt step.now step.call result }
 {
     match &step.verdict {
         Some(verdict) => match answer {
             Answer::Written => {
-                let line = verdict_line(&verdict.action, row.is_some());
-                let Values { stored, shown, .. } = values;
-                let reply = end(visit, &step.call.key, row, line, stored, shown);
+                let line = verdict_line(&verdict.action, supply.row.is_some());
+                let reply = end(visit, &step.call.key, line, supply);
                 drop((step, answer));
                 Next::Ended(reply)
             }
             _ => {
-                drop((step, answer, values));
+                drop((step, answer, supply));
                 Next::Ended(fault(By::Writer, None))
             }
         },
         None => {
-            let there = row.is_some();
-            if !awaits_load(visit.config(), processor, there, step.loaded.is_some()) {
-                return answer_process(visit, step, row, answer, values);
+            let there = supply.row.is_some();
+            let answered = step.loaded.is_some();
+            if !awaits_load(visit.config(), processor, there | answered) {
+                return answer_process(visit, step, answer, supply);
             }
             let loaded = match answer {
                 Answer::Loaded(loaded) => loaded,
                 _ => {
-                    drop((step, values));
+                    drop((step, supply));
                     visit.miss();
                     return Next::Ended(fault(By::Loader, None));
                 }
             };
+            let Supply { values, .. } = supply;
             let Values { copy, entry, .. } = values;
             match process(&step.call.key, processor, entry, copy) {
                 Some(request) => {

@@ -10,6 +10,7 @@ ghost use Rattle.jc_ops.specs.Stepped.{StepsFrom, StaysAt, answer_run, waits_fir
 use crate::step::change::{count, end};
 use crate::step::reply::fault;
 use crate::step::{KeyStep, Next};
+use crate::supply::Supply;
 use crate::supply::values::Values;
 use jc_model::call::{Answer, By, KeyCall};
 use jc_model::table::{Ask, Line, absent_line, expected, live_line, otherwise};
@@ -53,40 +54,38 @@ pub(super) fn where_there<T: Drop>(there: bool, value: Option<T>) -> Option<T>
 pub(super) fn answer_line<R: Rows, G: Ring>(
     visit: &mut Visit<R, G>,
     call: &KeyCall,
-    row: Option<u32>,
     answer: &Answer,
-    values: Values,
+    supply: Supply,
 ) -> Next<KeyStep>
     requires invoke { is_invoke call.now.op ≡ false }
-    requires ready { IsReady visit.old (told_on (is_some row) call.now.op)
-        (waits_first visit.old.moment call.now) row answer.now values }
-    ensures spends { SpendsAtMost 1 (told_on (is_some row) call.now.op) visit.old visit.new }
+    requires ready { IsReady visit.old (told_on (is_some supply.row) call.now.op)
+        (waits_first visit.old.moment call.now) answer.now supply }
+    ensures spends { SpendsAtMost 1 (told_on (is_some supply.row) call.now.op)
+        visit.old visit.new }
     ensures next { StepsFrom visit.old
         (answer_run visit.old (waits_first visit.old.moment call.now) answer.now)
         result visit.new }
     ensures call_stays { StaysAt visit.old.moment call.now result }
 {
-    let line = line_of(visit, row, call);
+    let line = line_of(visit, supply.row, call);
     match line.asks {
         Ask::Load => match answer {
-            Answer::Loaded(_) => {
-                let Values { stored, shown, .. } = values;
-                Next::Ended(end(visit, &call.key, row, line, stored, shown))
-            }
+            Answer::Loaded(_) => Next::Ended(end(visit, &call.key, line, supply)),
             _ => {
-                drop(values);
-                count(visit, line.counts, row.is_some());
+                count(visit, line.counts, supply.row.is_some());
+                drop(supply);
                 Next::Ended(fault(By::Loader, None))
             }
         },
         _ => match answer {
             Answer::Written => {
-                let Values { stored, shown, .. } = values;
-                let shown = where_there(row.is_some(), shown);
-                Next::Ended(end(visit, &call.key, row, line, stored, shown))
+                let Supply { row, values } = supply;
+                let shown = where_there(row.is_some(), values.shown);
+                let values = Values { shown, ..values };
+                Next::Ended(end(visit, &call.key, line, Supply { row, values }))
             }
             _ => {
-                drop(values);
+                drop(supply);
                 Next::Ended(fault(By::Writer, None))
             }
         },

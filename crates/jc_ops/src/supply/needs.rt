@@ -4,7 +4,7 @@ ghost use Rattle.jc_model.specs.Table.{value_of};
 ghost use Rattle.jc_ops.specs.Lines.{handed, shows, shows_loaded, takes_value};
 ghost use Rattle.jc_ops.specs.Lines.{asks_no_one, creates, is_invoke, told_of, told_by, most_told};
 ghost use Rattle.jc_ops.specs.Verdicts.{stores_by, hands_by};
-ghost use Rattle.jc_ops.specs.Supply.{adds, adds_by, adds_at};
+ghost use Rattle.jc_ops.specs.Supply.{adds, adds_at};
 
 use crate::step::KeyStep;
 use jc_model::call::{Action, Answer, Op, Verdict};
@@ -97,13 +97,6 @@ pub(super) fn adds(there: bool, writer: bool, op: &Op) -> bool
     !there && !writer && creates(op)
 }
 
-/// Whether a verdict adds a row, where the loader gave `loaded`; not yet where the writer is asked before.
-fn adds_by(there: bool, writer: bool, loaded: Option<&Value>, verdict: &Verdict) -> bool
-    ensures { result ≡ adds_by there writer (option_map (λ v. v.now) loaded.entry) verdict.now }
-{
-    !there && stored_by(&verdict.action, loaded, writer).is_some()
-}
-
 /// Whether a step that waits adds a row to the table at this answer.
 pub(super) fn adds_at(there: bool, config: &CacheConfig, step: &KeyStep, answer: &Answer) -> bool
     ensures { result ≡ adds_at there config.now step.entry.now answer.now }
@@ -111,10 +104,14 @@ pub(super) fn adds_at(there: bool, config: &CacheConfig, step: &KeyStep, answer:
     match answer {
         Answer::Written => match step.verdict() {
             None => adds(there, false, &step.call().op),
-            Some(verdict) => adds_by(there, false, step.loaded(), verdict),
+            Some(verdict) => {
+                !there && stored_by(&verdict.action, step.loaded(), false).is_some()
+            }
         },
         Answer::Loaded(loaded) => !there && !is_invoke(&step.call().op) && loaded.is_some(),
-        Answer::Processed(Ok(verdict)) => { adds_by(there, config.writer, step.loaded(), verdict) }
+        Answer::Processed(Ok(verdict)) => {
+            !there && stored_by(&verdict.action, step.loaded(), config.writer).is_some()
+        }
         _ => false,
     }
 }

@@ -19,7 +19,7 @@ answer_invoke-requires g c =
     let op = ap (λ (w : KeyWait). w.call.op) (sym c.self.view_is) ∙ c.in-Invoke.is in
     record {
       invoke = (c.in-Invoke.argument, op);
-      ready = subst (λ (n : ℕ). IsReady c.purge-row.new.self n c.args.self c.purge-row.result c.args.answer c.args.supply.values) (invoke_told _ _ _ _ op) (ready _ _ _ _ _ _ _ on);
+      ready = subst (λ (n : ℕ). IsReady c.purge-row.new.self n c.args.self c.args.answer (record { row = c.purge-row.result; values = c.args.supply.values })) (invoke_told _ _ _ _ op) (ready _ _ _ _ _ _ _ on);
     }
 
 pub returns-in-Invoke : goal.returns-in-Invoke

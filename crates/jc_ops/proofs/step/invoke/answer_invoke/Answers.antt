@@ -1,13 +1,12 @@
-use Rattle.jc_ops.proofs.Names.{◌≡◌, List, ℕ, true, false, ◌∙◌, ap, subst, sym, is_some, Some, None, ended, Request, KeyWait, IsWaiting, StepWaits, FoundRow, ended_by}
+use Rattle.jc_ops.proofs.Names.{◌≡◌, List, ℕ, false, ◌∙◌, ap, subst, sym, Some, None, ended, Request, KeyWait, IsWaiting, StepWaits, FoundRow, ended_by}
 use Rattle.jc_ops.proofs.Names.{find_row, given_by, loaded_in, verdict_in, is_invoke, is_written, loaded_by, progress_in, resume, key_run, verdict_of, judged_on, stores_by}
 use Rattle.jc_model.specs.declared.call.Answer.TheVariants.{Loaded, Written}
 use Rattle.jc_model.specs.declared.call.Op.TheVariants.{Invoke}
 use Rattle.jc_model.specs.declared.call.Request.TheVariants.{Process}
 use Rattle.jc_state.specs.Noted.{stored_value}
 use Rattle.jc_ops.specs.Lines.{handed}
-use Rattle.jc_ops.specs.Verdicts.{awaits_load}
 use Rattle.jc_ops.proofs.Goes.{invoke_view}
-use Rattle.jc_ops.proofs.Judged.{row_is_there, decided_by, awaited, loader_gave, processor_answered, writer_agreed, writer_failed}
+use Rattle.jc_ops.proofs.Judged.{row_is_there, awaits_by, decided_by, awaited, loader_gave, processor_answered, writer_agreed, writer_failed}
 use Rattle.jc_ops.proofs.step.invoke.answer_invoke.Goals as goal
 
 pub answer_process-requires-clause-invoke : goal.answer_process-requires-clause-invoke
@@ -23,8 +22,9 @@ answer_process-requires-clause-means g c =
     let view = invoke_view i.now i.call (given_by i.loaded None) w v.moment c.args.processor argument c.requires.ready.waits.moment (ap (λ (x : KeyWait). x.call.op) c.step.view_is ∙
     c.requires.invoke.1) (rw c.in-None.is at c.step.view_is) in
     let waits = subst (λ (x : KeyWait). IsWaiting v.cache.config p x) (sym view) c.requires.ready.waits.waits in
-    let unasked : awaits_load v.cache.config c.args.processor (is_some (find_row w.call.key p)) (is_some i.loaded) ≡ false = let has = row_is_there w.call.key v.cache c.args.row
-    c.requires.ready.row in cc in
+    let has = row_is_there w.call.key v.cache c.args.supply.row c.requires.ready.row in
+    let unasked = awaits_by v.cache.config _ c.args.processor _ _ _ _ _ c.config.ensures (has ∙ sym c.is_some-there.ensures) (sym c.is_some-answered.ensures) c.awaits_load.ensures
+    ∙ c.if-not-awaits_load.true in
     let key = ap (λ (x : KeyWait). x.call.key) c.step.view_is in
     subst (λ (x : KeyWait). resume (key_run v.cache.config p x) c.args.answer ≡ judged_on v.cache.config v.moment x.call.key (find_row x.call.key p) (loaded_in x.given) p
     (verdict_of c.args.answer)) view
@@ -47,8 +47,9 @@ returns-in-Some-process-clause-next g c =
     let invoke = c.requires.invoke.1 in
     let op = ap (λ (x : KeyWait). x.call.op) c.step.view_is ∙ invoke in
     let key = ap (λ (x : KeyWait). x.call.key) c.step.view_is in
-    let asks : awaits_load v.cache.config c.args.processor (is_some (find_row w.call.key p)) (is_some i.loaded) ≡ true = let has = row_is_there w.call.key v.cache c.args.row c.requires.ready.row
-    in cc in
+    let has = row_is_there w.call.key v.cache c.args.supply.row c.requires.ready.row in
+    let asks = awaits_by v.cache.config _ c.args.processor _ _ _ _ _ c.config.ensures (has ∙ sym c.is_some-there.ensures) (sym c.is_some-answered.ensures) c.awaits_load.ensures
+    ∙ c.if-not-awaits_load.false in
     let free = awaited v.cache.config c.args.processor (find_row i.call.key p) i.loaded (rw (← key) at asks) in
     let view = invoke_view i.now i.call (given_by None None) w v.moment c.args.processor argument c.requires.ready.waits.moment op (rw (free.1, c.in-None.is) at c.step.view_is) in
     let waits = subst (λ (x : KeyWait). IsWaiting v.cache.config p x) (sym view) c.requires.ready.waits.waits in
@@ -77,12 +78,12 @@ returns-in-Written-clause-next g c =
     let waits = subst (λ (x : KeyWait). IsWaiting v.cache.config p x) (sym view) c.requires.ready.waits.waits in
     let is : verdict_in w.given ≡ Some verdict = ap (λ (x : KeyWait). verdict_in x.given) (sym c.step.view_is) ∙ (decided_by i.loaded i.verdict ∙ c.in-Some.is) in
     let gave = c.requires.ready.covered.agreed (ap is_written c.in-Written.is) verdict is in
-    let found = subst (λ (k : List ℕ). FoundRow k v.cache c.args.row) (sym (ap (λ (x : KeyWait). x.call.key) c.step.view_is)) c.requires.ready.row in
+    let found = subst (λ (k : List ℕ). FoundRow k v.cache c.args.supply.row) (sym (ap (λ (x : KeyWait). x.call.key) c.step.view_is)) c.requires.ready.row in
     let stores = gave.stored ∙ ap (λ (x : KeyWait). stores_by false (loaded_in x.given) verdict.action) (sym view) in
     rw c.in-Written.is (subst (λ (x : KeyWait). resume (key_run v.cache.config p x) Written ≡ ended_by v.cache.config v.moment i.call.key c.verdict_line-line.result (find_row i.call.key p)
-    (stored_value c.args.values.stored) verdict.answer p) view
-    (writer_agreed v.cache.config v.moment i.call.key c.args.processor c.requires.invoke.0 p i.loaded verdict waits c.is_some.result c.verdict_line-line.result (stored_value c.args.values.stored)
-    (row_is_there i.call.key v.cache c.args.row found ∙ sym c.is_some.ensures) c.verdict_line-line.ensures stores)
+    (stored_value c.args.supply.values.stored) verdict.answer p) view
+    (writer_agreed v.cache.config v.moment i.call.key c.args.processor c.requires.invoke.0 p i.loaded verdict waits c.is_some.result c.verdict_line-line.result (stored_value c.args.supply.values.stored)
+    (row_is_there i.call.key v.cache c.args.supply.row found ∙ sym c.is_some.ensures) c.verdict_line-line.ensures stores)
     ∙ rw gave.shown at c.end-reply.ensures.run)
 
 pub returns-in_default-clause-next : goal.returns-in_default-clause-next
