@@ -76,8 +76,8 @@ impl Supply {
         let row = visit.find(&call.key);
         let there = visit.has_live(row);
         visit.reserve_notices(most_notices(&call.op, there))?;
-        let adds = adds_at(there, visit.config(), step, answer);
-        visit.reserve_rows(usize::from(adds))?;
+        let adds = adds_at(visit.config(), step, answer);
+        visit.reserve_rows(usize::from(!there & adds))?;
         let values = Values::at(visit, row, step, answer)?;
         Ok(Supply { row, values })
     }

@@ -1,5 +1,5 @@
 //! Which values an operation or a verdict stores, replies and hands to its hooks.
-ghost use Rattle.std.specs.Prelude.{◌≡◌, if◌then◌else◌, None, option_map};
+ghost use Rattle.std.specs.Prelude.{◌≡◌, ◌&&◌, not, Bool, if◌then◌else◌, None, option_map};
 ghost use Rattle.jc_model.specs.Table.{value_of};
 ghost use Rattle.jc_ops.specs.Lines.{handed, shows, shows_loaded, takes_value};
 ghost use Rattle.jc_ops.specs.Lines.{asks_no_one, creates, is_invoke, told_of, told_by, most_told};
@@ -97,20 +97,19 @@ pub(super) fn adds(there: bool, writer: bool, op: &Op) -> bool
     !there && !writer && creates(op)
 }
 
-/// Whether a step that waits adds a row to the table at this answer.
-pub(super) fn adds_at(there: bool, config: &CacheConfig, step: &KeyStep, answer: &Answer) -> bool
-    ensures { result ≡ adds_at there config.now step.entry.now answer.now }
+/// Whether a step that waits adds a row to the table at this answer, where its key has none.
+pub(super) fn adds_at(config: &CacheConfig, step: &KeyStep, answer: &Answer) -> bool
+    ensures { (there : Bool) → (not there && result)
+        ≡ adds_at there config.now step.entry.now answer.now }
 {
     match answer {
         Answer::Written => match step.verdict() {
-            None => adds(there, false, &step.call().op),
-            Some(verdict) => {
-                !there && stored_by(&verdict.action, step.loaded(), false).is_some()
-            }
+            None => creates(&step.call().op),
+            Some(verdict) => stored_by(&verdict.action, step.loaded(), false).is_some(),
         },
-        Answer::Loaded(loaded) => !there && !is_invoke(&step.call().op) && loaded.is_some(),
+        Answer::Loaded(loaded) => !is_invoke(&step.call().op) && loaded.is_some(),
         Answer::Processed(Ok(verdict)) => {
-            !there && stored_by(&verdict.action, step.loaded(), config.writer).is_some()
+            stored_by(&verdict.action, step.loaded(), config.writer).is_some()
         }
         _ => false,
     }
