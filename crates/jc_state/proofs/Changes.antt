@@ -1,11 +1,9 @@
 -- What stays while one row changes in both of its places.
-use Rattle.std.proofs.Common.{◌≡◌, ℕ, eqb, not, length, ◌<◌, false, [], ◌∷◌, ◌++◌, Some, None, option_map, List, arith, length-append, inl, inr}
-use Rattle.std.proofs.lemmas.Grind.{common_steps}
+use Rattle.std.proofs.Common.{◌≡◌, ℕ, eqb, not, length, ◌<◌, [], ◌∷◌, ◌++◌, Option, Some, None, option_map, refl, List, false, arith, length-append, inl, inr}
 use Rattle.std.proofs.lemmas.List.{length-map}
 use Rattle.std.proofs.lemmas.List.Sums.{length-filter, count_by-le-length}
 use Rattle.std.specs.FinMap as table
-use Rattle.jc_model.specs.contracts.config.ExpiryPartialEq.TheImpl as expiry_eq
-use Rattle.jc_rows.proofs.Laws.{get-put_same, get-put_other, with_expiry_is, same_rows}
+use Rattle.jc_rows.proofs.Laws.{get-put_same, get-put_other, get-put_cache, get-removed_cache, get-removed_absent, get-with_expiry_cache, with_expiry_is, same_rows}
 use Rattle.jc_rows.proofs.Places.{place_tells}
 use Rattle.jc_state.proofs.Names.{Expiry, RowMap, with_expiry, Record, Cell, seek, has_row, without_row, stored, stored_cell, Kept, IsKeptIn}
 use Rattle.jc_state.proofs.Ties.{Tied-removed, Tied-pushed, Tied-stored, placed_at}
@@ -17,12 +15,9 @@ same_row m x row found = same_rows _ _ (λ y. elim (place_tells y x) [
   | inr other ↦ get-put_other m x row y other.1
 ])
 
-expiries_same : (e f : Expiry) → not (expiry_eq.ghosts.eq e f) ≡ false → e ≡ f
-expiries_same e f same = grind (arith, common_steps)
-
 -- an expiry that stays is none that is set
-pub same_expiry : (m : RowMap) (x : ℕ × List ℕ) (e f : Expiry) → option_map (λ row. row.1) (table.get m x) ≡ Some e → not (expiry_eq.ghosts.eq e f) ≡ false → m ≡ with_expiry m x f
-same_expiry m x e f h same = grind (arith, with_expiry_is, same_row, expiries_same e f)
+pub same_expiry : (m : RowMap) (x : ℕ × List ℕ) (e : Expiry) → option_map (λ row. row.1) (table.get m x) ≡ Some e → with_expiry m x e ≡ m
+same_expiry m x e h = grind (arith, with_expiry_is, same_row)
 
 module _ (m : RowMap) (k : Kept) (kept : IsKeptIn m k) (row : ℕ) where
   pub kept-removed : (it : Record) → seek row k.cells ≡ Some it → IsKeptIn (table.remove m (k.id, it.key)) (record k { cells = without_row row k.cells })
@@ -37,9 +32,16 @@ module _ (m : RowMap) (k : Kept) (kept : IsKeptIn m k) (row : ℕ) where
     within = omega (arith, less, length-append {A = Cell});
   }
 
-  pub kept-stored : (before it : Record) → seek row k.cells ≡ Some before → it.key ≡ before.key → IsKeptIn (with_expiry m (k.id, it.key) it.expiry) (record k { cells = stored row it k.cells })
-  kept-stored before it there same =
-      let placed : table.get m (k.id, it.key) ≡ Some (row, before.expiry) = rw same (placed_at m k.id k.cells row before kept.tied.placed there) in record {
-        tied = rw (with_expiry_is m (k.id, it.key) row before.expiry it.expiry placed) (Tied-stored m k.id k.cells kept.tied row before.expiry it placed);
-        within = omega (arith, kept.within, length-map k.cells (stored_cell row it));
-      }
+  pub kept-stored : (it : Record) → option_map (λ held. held.key) (seek row k.cells) ≡ Some it.key → IsKeptIn (with_expiry m (k.id, it.key) it.expiry) (record k { cells = stored row it k.cells })
+  kept-stored it there = by (seek row k.cells) refl there
+    where
+      by : (o : Option Record) → seek row k.cells ≡ o → option_map (λ held. held.key) o ≡ Some it.key → IsKeptIn (with_expiry m (k.id, it.key) it.expiry) (record k { cells = stored row it k.cells })
+      by None there key = cc
+      by (Some before) there key =
+          let same : it.key ≡ before.key = cc in
+          let placed : table.get m (k.id, it.key) ≡ Some (row, before.expiry) = rw same (placed_at m k.id k.cells row before kept.tied.placed there) in record {
+            tied = rw (with_expiry_is m (k.id, it.key) row before.expiry it.expiry placed) (Tied-stored m k.id k.cells kept.tied row before.expiry it placed);
+            within = omega (arith, kept.within, length-map k.cells (stored_cell row it));
+          }
+
+pub ruleset change_laws = (kept-removed, kept-pushed, kept-stored, get-put_cache, get-removed_cache, get-with_expiry_cache)

@@ -1,5 +1,5 @@
 -- The rows of one cache in the order of its ring, and where they are kept.
-use Rattle.std.specs.Prelude.{◌≡◌, ◌<◌, ◌≤◌, ◌^◌, ℕ, Bool, false, true, eqb, ◌||◌, not, cond, List, [], ◌∷◌, ◌++◌, length}
+use Rattle.std.specs.Prelude.{◌≡◌, ◌≤◌, ℕ, Bool, false, true, eqb, ◌||◌, not, cond, List, [], ◌∷◌, ◌++◌, length}
 use Rattle.std.specs.Prelude.{Option, Some, None, option_map, is_some, count_by, map, filter, slice_index_or}
 use Rattle.jc_model.specs.declared.config.Expiry.{Expiry}
 use Rattle.jc_model.specs.declared.config.Expiry.TheVariants.{Never}
@@ -56,10 +56,6 @@ with_expiry_of e it = record { key = it.key; value = it.value; expiry = e }
 abbrev pub slot : List (Option Record) → ℕ → Option Record
 slot slots r = slice_index_or slots r None
 
-abbrev pub renewed : Expiry → Option Record → Option Record
-renewed e None = None
-renewed e (Some it) = Some (with_expiry_of e it)
-
 abbrev pub held_of : Option Record → Record
 held_of None = record { key = []; value = []; expiry = Never }
 held_of (Some it) = it
@@ -77,4 +73,3 @@ pub record IsShelf (slots : List (Option Record)) (ring : List (ℕ × Bool)) (l
   pub places : length slots ≡ capacity
   pub numbers : limit ≡ capacity
   pub some : 1 ≤ capacity
-  pub fits : capacity < 2 ^ 32

@@ -1,6 +1,6 @@
 //! Records by row number, in places that are made once.
-ghost use Rattle.jc_state.specs.Shelf.{renewed};
-ghost use Rattle.std.specs.Prelude.{◌≡◌, ◌==◌, ℕ, ◌+◌, ◌<◌, ◌≤◌, List, length, replicate};
+ghost use Rattle.jc_state.specs.Shelf.{held_of, with_expiry_of};
+ghost use Rattle.std.specs.Prelude.{◌≡◌, ℕ, ◌+◌, ◌<◌, ◌≤◌, List, length, replicate};
 ghost use Rattle.std.specs.Prelude.{Option, Some, None, IsSome, is_some, IfOk};
 ghost use Rattle.std.specs.Prelude.{count_by, slice_index_or, slice_set};
 
@@ -53,13 +53,6 @@ impl Slots {
             vacant.push_reserved(row);
         }
         Ok(Slots { records, vacant })
-    }
-
-    /// Whether no row is vacant.
-    pub fn is_full(&self) -> bool
-        ensures { result ≡ (count_by is_some self.now == length self.now) }
-    {
-        self.vacant.is_empty()
     }
 
     /// How many rows are filled.
@@ -126,8 +119,8 @@ impl Slots {
     /// Changes the expiry of a filled row.
     pub fn set_expiry(&mut self, row: u32, expiry: Expiry)
         requires { IsSome (slice_index_or self.old row None) }
-        ensures { self.new
-            ≡ slice_set self.old row (renewed expiry (slice_index_or self.old row None)) }
+        ensures { self.new ≡ slice_set self.old row
+            (Some (with_expiry_of expiry (held_of (slice_index_or self.old row None)))) }
     {
         match &mut self.records[row as usize] {
             Some(record) => record.expiry = expiry,

@@ -8,7 +8,7 @@ ghost use Rattle.jc_model.specs.Whole.{holds};
 ghost use Rattle.jc_ring.specs.Ring.{first};
 ghost use Rattle.jc_state.specs.declared.slots.Record.{Record};
 ghost use Rattle.jc_state.specs.Shelf.{seek, has_row, row_after, without_row, turned_cells};
-ghost use Rattle.jc_state.specs.Shelf.{new_cell, stored, with_expiry_of};
+ghost use Rattle.jc_state.specs.Shelf.{new_cell, stored, held_of, with_expiry_of};
 ghost use Rattle.jc_state.specs.Kept.{state_of, IsTied, FoundRow, IsVictim};
 
 use crate::slots::{Record, Slots};
@@ -29,7 +29,7 @@ pub struct CacheState<G: Ring> {
     id: CacheId,
     slots: Slots,
     ring: G,
-    counts: Counts,
+    pub(crate) counts: Counts,
 }
 
 impl<G: Ring> Model for CacheState<G> {
@@ -61,7 +61,7 @@ pub(crate) fn no_counts() -> Counts
     }
 }
 
-#[tactic(auto, using(crate::proofs::Shelves::shelf_laws))]
+#[tactic(auto, using(std::proofs::lemmas::Grind::common_steps, crate::proofs::Shelves::shelf_laws))]
 impl<G: Ring> CacheState<G> {
     /// A cache with no rows, with place for all that it may have, and all counters at zero. Where memory is refused,
     /// the configuration comes back.
@@ -133,27 +133,13 @@ impl<G: Ring> CacheState<G> {
         }
     }
 
-    /// The statistics.
-    pub(crate) fn counts(&self) -> Counts
-        ensures { result ≡ self.now.counts }
-    {
-        self.counts
-    }
-
-    /// Gives it other statistics.
-    pub(crate) fn set_counts(&mut self, counts: Counts)
-        ensures { self.new ≡ record self.old { counts = counts } }
-    {
-        self.counts = counts;
-    }
-
     /// Whether no more rows fit.
     pub(crate) fn is_full(&self) -> bool
         ensures full { result ≡ true → length self.now.cells ≡ self.now.config.capacity }
         ensures some { result ≡ true → 0 < length self.now.cells }
         ensures below { result ≡ false → length self.now.cells < self.now.config.capacity }
     {
-        self.slots.is_full()
+        self.len() == self.config.capacity
     }
 
     /// What a row holds.
@@ -168,10 +154,8 @@ impl<G: Ring> CacheState<G> {
     pub(crate) fn first(&self) -> Option<u32>
         ensures { result ≡ option_map (λ c. c.row) (first self.now.cells) }
     {
-        match self.head() {
-            Some((row, _)) => Some(row),
-            None => None,
-        }
+        let (row, _) = self.head()?;
+        Some(row)
     }
 
     /// The number of the row after a row.
@@ -218,8 +202,10 @@ impl<G: Ring> CacheState<G> {
     /// Changes a row's expiry and sets its bit.
     pub(crate) fn renew(&mut self, row: u32, expiry: Expiry)
         requires { has_row row self.old.cells ≡ true }
-        ensures { (held : Record) → seek row self.old.cells ≡ Some held → self.new
-            ≡ record self.old { cells = stored row (with_expiry_of expiry held) self.old.cells } }
+        ensures { self.new ≡ record self.old {
+          cells =
+              stored row (with_expiry_of expiry (held_of (seek row self.old.cells))) self.old.cells;
+        } }
     {
         self.ring.touch(row);
         self.slots.set_expiry(row, expiry);

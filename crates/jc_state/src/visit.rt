@@ -21,7 +21,6 @@ ghost use Rattle.jc_state.specs.Noted.{notice_of, told_after};
 ghost use Rattle.jc_state.specs.Visited.{IsKeptIn, HasPlacesIn, has_live_in};
 
 use crate::notices::{Happening, Notices};
-use crate::slots::Record;
 use crate::state::{CacheState, no_counts};
 use jc_expiry::counters::{with_eviction, with_hit, with_miss, with_put, with_removal};
 use jc_expiry::expiry::live;
@@ -203,15 +202,7 @@ impl<R: Rows, G: Ring> Visit<R, G> {
         ensures { (held : Record) → seek row self.now.cache.cells ≡ Some held →
             result ≡ live self.now.moment held.expiry }
     {
-        live(self.moment, self.record(row).expiry)
-    }
-
-    /// What a row holds.
-    fn record(&self, row: u32) -> &Record
-        requires { has_row row self.now.cache.cells ≡ true }
-        ensures { seek row self.now.cache.cells ≡ Some result.now }
-    {
-        self.cache.record(row)
+        live(self.moment, self.cache.record(row).expiry)
     }
 
     /// The value of a row.
@@ -220,14 +211,14 @@ impl<R: Rows, G: Ring> Visit<R, G> {
         ensures { (held : Record) → seek row self.now.cache.cells ≡ Some held →
             result.now ≡ held.value }
     {
-        &self.record(row).value
+        &self.cache.record(row).value
     }
 
     /// The statistics.
     pub fn counts(&self) -> Counts
         ensures { result ≡ self.now.cache.counts }
     {
-        self.cache.counts()
+        self.cache.counts
     }
 
     /// Sets all counters to zero.
@@ -235,39 +226,35 @@ impl<R: Rows, G: Ring> Visit<R, G> {
         ensures { self.new
             ≡ record self.old { cache = record self.old.cache { counts = zeros } } }
     {
-        self.cache.set_counts(no_counts());
+        self.cache.counts = no_counts();
     }
 
     /// Counts a hit.
     pub fn hit(&mut self)
         ensures { self.new ≡ record self.old { cache = with_hit self.old.cache } }
     {
-        let counts = with_hit(self.cache.counts());
-        self.cache.set_counts(counts);
+        self.cache.counts = with_hit(self.cache.counts);
     }
 
     /// Counts a miss.
     pub fn miss(&mut self)
         ensures { self.new ≡ record self.old { cache = with_miss self.old.cache } }
     {
-        let counts = with_miss(self.cache.counts());
-        self.cache.set_counts(counts);
+        self.cache.counts = with_miss(self.cache.counts);
     }
 
     /// Counts a put.
     pub fn put(&mut self)
         ensures { self.new ≡ record self.old { cache = with_put self.old.cache } }
     {
-        let counts = with_put(self.cache.counts());
-        self.cache.set_counts(counts);
+        self.cache.counts = with_put(self.cache.counts);
     }
 
     /// Counts a removal.
     pub fn removal(&mut self)
         ensures { self.new ≡ record self.old { cache = with_removal self.old.cache } }
     {
-        let counts = with_removal(self.cache.counts());
-        self.cache.set_counts(counts);
+        self.cache.counts = with_removal(self.cache.counts);
     }
 
     /// Adds the notice of what happened where the cache has listeners.
@@ -286,7 +273,6 @@ impl<R: Rows, G: Ring> Visit<R, G> {
     fn eviction(&mut self)
         ensures { self.new ≡ record self.old { cache = with_eviction self.old.cache } }
     {
-        let counts = with_eviction(self.cache.counts());
-        self.cache.set_counts(counts);
+        self.cache.counts = with_eviction(self.cache.counts);
     }
 }

@@ -17,6 +17,7 @@ use jc_rows::rows::Rows;
 
 impl<R: Rows, G: Ring> Visit<R, G> {
     /// Takes a row out of the cache and the table.
+    #[tactic(auto, using(std::proofs::lemmas::Grind::common_steps, crate::proofs::Changes::change_laws))]
     pub(super) fn take_row(&mut self, row: u32) -> Record
         requires { has_row row self.old.cache.cells ≡ true }
         ensures was { seek row self.old.cache.cells ≡ Some result }

@@ -12,6 +12,7 @@ ghost use Rattle.jc_state.specs.Visited.{SpendsAtMost, HasPlacesIn, progress_in}
 use super::Visit;
 use crate::notices::Happening;
 use crate::slots::Record;
+use crate::state::CacheState;
 use crate::stored::Stored;
 use jc_expiry::expiry::{after_access, after_update};
 use jc_model::call::Kind;
@@ -21,6 +22,7 @@ use jc_ring::ring::Ring;
 use jc_rows::rows::Rows;
 
 /// Gives the table's row of what is held the expiry `to`; nothing is written where it has it already.
+#[tactic(auto, using(std::proofs::lemmas::Grind::common_steps, crate::proofs::Changes::same_expiry))]
 fn renew<R: Rows>(rows: &mut R, id: CacheId, held: &Record, to: Expiry)
     requires { option_map (λ row. row.1) (map.get (R.contents rows.old) (id, held.now.key))
         ≡ Some held.now.expiry }
@@ -34,6 +36,7 @@ fn renew<R: Rows>(rows: &mut R, id: CacheId, held: &Record, to: Expiry)
 
 impl<R: Rows, G: Ring> Visit<R, G> {
     /// Uses a row: its bit is set, and its expiry renewed as the policy says.
+    #[tactic(auto, using(std::proofs::lemmas::Grind::common_steps, crate::proofs::Changes::change_laws))]
     pub fn access(&mut self, row: u32)
         requires there { has_row row self.old.cache.cells ≡ true }
         ensures spends { SpendsAtMost 0 0 self.old self.new }
@@ -42,14 +45,16 @@ impl<R: Rows, G: Ring> Visit<R, G> {
             ≡ access self.old.cache.config self.old.moment x (progress_in self.old) }
         ensures noted { self.new.noted ≡ self.old.noted }
     {
-        let held = self.cache.record(row);
-        let expiry = after_access(self.cache.config().policy, held.expiry, self.moment);
-        renew(&mut self.rows, self.cache.id(), held, expiry);
-        self.cache.renew(row, expiry);
+        let cache: &mut CacheState<G> = &mut self.cache;
+        let held = cache.record(row);
+        let expiry = after_access(cache.config().policy, held.expiry, self.moment);
+        renew(&mut self.rows, cache.id(), held, expiry);
+        cache.renew(row, expiry);
     }
 
     /// Gives a row another value: its bit is set, its expiry renewed as the policy says, and the change is told where
     /// the cache has listeners.
+    #[tactic(auto, using(std::proofs::lemmas::Grind::common_steps, crate::proofs::Changes::change_laws))]
     pub fn update(&mut self, row: u32, stored: Stored)
         requires there { has_row row self.old.cache.cells ≡ true }
         requires places { HasPlacesIn 1 self.old }
@@ -60,11 +65,12 @@ impl<R: Rows, G: Ring> Visit<R, G> {
             ≡ update self.old.cache.config self.old.moment x stored.value (progress_in self.old) }
     {
         let Stored { value, told } = stored;
-        let held = self.record(row);
+        let cache: &mut CacheState<G> = &mut self.cache;
+        let held = cache.record(row);
         let key = held.key;
-        let expiry = after_update(self.config().policy, held.expiry, self.moment);
-        let before = self.cache.store(row, Record { key, value, expiry });
-        renew(&mut self.rows, self.cache.id(), &before, expiry);
+        let expiry = after_update(cache.config().policy, held.expiry, self.moment);
+        let before = cache.store(row, Record { key, value, expiry });
+        renew(&mut self.rows, cache.id(), &before, expiry);
         self.tell(Happening {
             kind: Kind::Updated,
             key,

@@ -5,6 +5,7 @@ ghost use Rattle.jc_state.specs.Kept.{items_of};
 ghost use Rattle.jc_state.specs.Visited.{SpendsAtMost};
 
 use super::Visit;
+use crate::state::CacheState;
 use jc_model::OutOfMemory;
 use jc_model::key::Key;
 use jc_ring::ring::Ring;
@@ -18,11 +19,12 @@ impl<R: Rows, G: Ring> Visit<R, G> {
         ensures apart { OnOk result (HasDistinctKeys (items_of self.now.cache.cells)) }
         ensures few { IfOk result (λ keys. length keys.items < 2 ^ 32) }
     {
-        let mut keys = Vec::with_capacity(self.alloc, self.cache.len() as usize)?;
-        let mut next = self.cache.first();
+        let cache: &CacheState<G> = &self.cache;
+        let mut keys = Vec::with_capacity(self.alloc, cache.len() as usize)?;
+        let mut next = cache.first();
         'rows: while let Some(row) = next {
-            keys.push_reserved(self.record(row).key);
-            next = self.cache.after(row);
+            keys.push_reserved(cache.record(row).key);
+            next = cache.after(row);
         }
         Ok(keys)
     }

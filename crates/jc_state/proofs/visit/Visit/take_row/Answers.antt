@@ -1,5 +1,5 @@
-use Rattle.std.proofs.Common.{◌≡◌, refl, arith}
-use Rattle.jc_rows.proofs.Laws.{get-removed_absent, get-removed_cache}
+use Rattle.std.proofs.Common.{◌≡◌}
+use Rattle.jc_rows.proofs.Laws.{get-removed_absent}
 use Rattle.jc_state.proofs.Names.{IsRow}
 use Rattle.jc_state.proofs.Changes.{kept-removed}
 use Rattle.jc_state.proofs.Found.{items_of-without, only_row}
@@ -10,16 +10,6 @@ invariant_of-self g c =
     let id : c.id.result ≡ c.self.inside.cache.value.id = rw (c.id.ensures, c.deref.ensures, c.take-gone.ensures.kept, c.deref_mut.ensures.value) in
     rw (c.remove-row.ensures.removed, id, c.take-gone.ensures.kept, c.deref_mut.ensures.value)
     (kept-removed _ _ c.self.invariant c.args.row c.take-gone.result (rw c.deref_mut.ensures.value at c.take-gone.ensures.was))
-
-pub returns-clause-spends : goal.returns-clause-spends
-returns-clause-spends g c =
-    let id : c.id.result ≡ c.self.inside.cache.value.id = rw (c.id.ensures, c.deref.ensures, c.take-gone.ensures.kept, c.deref_mut.ensures.value) in
-    rw (← c.self.view_is, c.remove-row.ensures.removed, id, c.take-gone.ensures.kept, c.deref_mut.ensures.value)
-    record {
-      same = record { config = refl; id = refl; moment = refl; elsewhere = get-removed_cache _ _ _ };
-      room = omega (arith, c.remove-row.ensures.kept);
-      places = omega arith;
-    }
 
 pub returns-clause-gone : goal.returns-clause-gone
 returns-clause-gone g c = record {
