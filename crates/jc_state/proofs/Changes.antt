@@ -1,5 +1,6 @@
 -- What stays while one row changes in both of its places.
 use Rattle.std.proofs.Common.{◌≡◌, ℕ, eqb, not, length, ◌<◌, [], ◌∷◌, ◌++◌, Option, Some, None, option_map, refl, List, false, arith, length-append, inl, inr}
+use Rattle.std.proofs.lemmas.Grind.{common_steps}
 use Rattle.std.proofs.lemmas.List.{length-map}
 use Rattle.std.proofs.lemmas.List.Sums.{length-filter, count_by-le-length}
 use Rattle.std.specs.FinMap as table
@@ -44,4 +45,4 @@ module _ (m : RowMap) (k : Kept) (kept : IsKeptIn m k) (row : ℕ) where
             within = omega (arith, kept.within, length-map k.cells (stored_cell row it));
           }
 
-pub ruleset change_laws = (kept-removed, kept-pushed, kept-stored, get-put_cache, get-removed_cache, get-with_expiry_cache)
+pub ruleset change_laws = (common_steps, kept-removed, kept-pushed, kept-stored, get-put_cache, get-removed_cache, get-with_expiry_cache)

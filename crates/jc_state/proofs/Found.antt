@@ -16,7 +16,7 @@ pub row_of-absent : (m : RowMap) (id : ℕ) (k : List ℕ) (cs : List Cell) → 
 row_of-absent m id k [] p g = refl
 row_of-absent m id k (c ∷ cs) p g = grind (arith, common_steps, p.0, g, bytes_eq-Decides c.held.key k, row_of-absent m id k cs p.1 g)
 
-pub items_of-without : (r : ℕ) (k : List ℕ) (cs : List Cell) → RowIsKey r k cs → items_of (without_row r cs) ≡ without k (items_of cs)
+items_of-without : (r : ℕ) (k : List ℕ) (cs : List Cell) → RowIsKey r k cs → items_of (without_row r cs) ≡ without k (items_of cs)
 items_of-without r k [] s = refl
 items_of-without r k (c ∷ cs) s = grind (arith, common_steps, s.0, items_of-without r k cs s.1)
 
@@ -24,7 +24,7 @@ items_of-without r k (c ∷ cs) s = grind (arith, common_steps, s.0, items_of-wi
 abbrev pub used_item : Record → Item
 used_item it = record { key = it.key; value = it.value; expiry = it.expiry; used = true }
 
-pub items_of-stored : (r : ℕ) (it : Record) (cs : List Cell) → RowIsKey r it.key cs → items_of (stored r it cs) ≡ with_row (used_item it) (items_of cs)
+items_of-stored : (r : ℕ) (it : Record) (cs : List Cell) → RowIsKey r it.key cs → items_of (stored r it cs) ≡ with_row (used_item it) (items_of cs)
 items_of-stored r it [] s = refl
 items_of-stored r it (c ∷ cs) s = grind (arith, common_steps, s.0, items_of-stored r it cs s.1)
 
@@ -57,9 +57,17 @@ absent_there m k s t none = elim (table.get m (s.id, k)) as (λ o. table.get m (
 pub placed_there : (m : RowMap) (k : List ℕ) (s : Kept) (r : ℕ) (x : Item) → IsTied m s → IsRow k s r x → table.get m (s.id, k) ≡ Some (r, x.expiry)
 placed_there m k s r x t is = rw (← is.key_is) (placed_at m s.id s.cells r (record_of x) t.placed is.there)
 
-pub only_row : (m : RowMap) (k : List ℕ) (s : Kept) (r : ℕ) (x : Item) → IsTied m s → IsRow k s r x → RowIsKey r k s.cells
-only_row m k s r x t is = row_is_key m s.id s.cells t k r x.expiry (placed_there m k s r x t is)
-
 -- the item that the key has is that row's
 pub same_row : (k : List ℕ) (s : Kept) (r : ℕ) (x y : Item) → IsRow k s r x → row_of k (items_of s.cells) ≡ Some y → IsRow k s r y
 same_row k s r x y is e = let same : x ≡ y = cc in rw same at is
+
+-- What the items come to where a row changes.
+
+key_there : (m : RowMap) (s : Kept) (r : ℕ) (it : Record) → IsTied m s → seek r s.cells ≡ Some it → RowIsKey r it.key s.cells
+key_there m s r it t there = row_is_key m s.id s.cells t it.key r it.expiry (placed_at m s.id s.cells r it t.placed there)
+
+pub items-without : (m : RowMap) (s : Kept) (r : ℕ) (it : Record) → IsTied m s → seek r s.cells ≡ Some it → items_of (without_row r s.cells) ≡ without it.key (items_of s.cells)
+items-without m s r it t there = items_of-without r it.key s.cells (key_there m s r it t there)
+
+pub items-stored : (m : RowMap) (s : Kept) (r : ℕ) (before it : Record) → IsTied m s → seek r s.cells ≡ Some before → it.key ≡ before.key → items_of (stored r it s.cells) ≡ with_row (used_item it) (items_of s.cells)
+items-stored m s r before it t there same = items_of-stored r it s.cells (rw same (key_there m s r before t there))

@@ -5,7 +5,6 @@ mod Cells
 mod Hand
 pub mod Ties
 pub mod Found
-pub mod Progress
 pub mod Room
 mod ClockLaw
 pub mod VisitLaws

@@ -14,4 +14,4 @@ pub use Rattle.jc_state.specs.Slots.{ListsVacant, IsSlots}
 pub use Rattle.jc_state.specs.Tied.{Distinct, Each, IsThere, Placed, Tied, SameElsewhere}
 pub use Rattle.jc_state.specs.Noted.{told_after}
 pub use Rattle.jc_state.specs.Kept.{Kept, item_of, items_of, state_of, progress_of, record_of, IsTied, IsVictim, IsRow, FoundRow}
-pub use Rattle.jc_state.specs.Visited.{Visited, IsKeptIn, IsSameVisit, SpendsAtMost, progress_in}
+pub use Rattle.jc_state.specs.Visited.{Visited, IsKeptIn, IsSameVisit, SpendsAtMost, IsWithout, progress_in}

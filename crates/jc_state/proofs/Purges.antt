@@ -1,7 +1,7 @@
 -- What a key's row comes to where expired rows go.
-use Rattle.std.proofs.Common.{◌≡◌, ℕ, true, false, List, [], ◌∷◌, Some, option_map, arith}
+use Rattle.std.proofs.Common.{◌≡◌, ℕ, true, List, [], ◌∷◌, Some, option_map, arith}
 use Rattle.std.proofs.lemmas.Grind.{common_steps}
-use Rattle.jc_state.proofs.Names.{first, CacheConfig, Notice, Item, is_live, row_of, expire, purge, holds, Record, Cell, seek, has_row, Kept, items_of, state_of, progress_of}
+use Rattle.jc_state.proofs.Names.{first, Item, expire, expired, Record, Cell, seek, has_row, record_of, told_after, Visited, IsWithout, progress_in}
 use Rattle.jc_state.proofs.Cells.{has_row-seek}
 
 -- what a row holds that is there
@@ -13,13 +13,7 @@ pub held_first : (row : ℕ) (cells : List Cell) → option_map (λ c. c.row) (f
 held_first row [] is = cc
 held_first row (c ∷ cs) is = (c.held, grind (arith, common_steps))
 
--- where the key has this row
-module _ (c : CacheConfig) (now : ℕ) (key : List ℕ) (k : Kept) (told : List Notice) (x : Item) (found : row_of key (items_of k.cells) ≡ Some x) where
-  pub held_is : is_live now x ≡ holds c now key (state_of k)
-  held_is = rw (found, holds)
-
-  pub purge-live : is_live now x ≡ true → progress_of k told ≡ purge c now key (progress_of k told)
-  purge-live alive = rw (found, purge, alive)
-
-  pub purge-expired : is_live now x ≡ false → expire c now x (progress_of k told) ≡ purge c now key (progress_of k told)
-  purge-expired dead = rw (found, purge, dead)
+-- an expired row that has gone with its notice
+pub row_expired : (now row : ℕ) (v w : Visited) (x : Item) → IsWithout row v w → seek row v.cache.cells ≡ Some (record_of x) → w.noted.told ≡ told_after v.cache.config (expired x) v.noted.told
+    → progress_in w ≡ expire v.cache.config now x (progress_in v)
+row_expired now row v w x gone there told = grind (arith, common_steps, gone.kept, gone.left)

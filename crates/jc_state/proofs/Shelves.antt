@@ -50,4 +50,4 @@ module _ (slots : List (Option Record)) (ring : List (ℕ × Bool)) (limit capac
   pub store-shelf : (it : Record) → is_some (slot slots r) ≡ true → IsShelf (set slots r (Some it)) (ring_touched r ring) limit capacity
   store-shelf it there = shelf-set _ (Some it) (within_filled slots r there) (λ s. grind (arith, common_steps, is.filled s, there, on_ring-touched s r ring)) (rw (there, length-map ring (bit_set r)))
 
-pub ruleset shelf_laws = (on_ring-turned, on_ring-append, on_ring-without, on_ring-touched, length-turned, length-touched, has_row-cells, seek-cells, row_after-cells, push-cells, take-cells, store-cells, within_filled)
+pub ruleset shelf_laws = (common_steps, on_ring-turned, on_ring-append, on_ring-without, on_ring-touched, length-turned, length-touched, has_row-cells, seek-cells, row_after-cells, push-cells, take-cells, store-cells, within_filled)

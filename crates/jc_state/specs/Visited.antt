@@ -3,13 +3,13 @@ use Rattle.std.specs.Prelude.{◌≡◌, ◌+◌, ◌≤◌, ℕ, Bool, List, le
 use Rattle.std.specs.Coded.{Coded, coded_ℕ, coded_list, coded×}
 use Rattle.std.specs.FinMap as table
 use Rattle.jc_model.specs.contracts.config.Expiry as expiry
-use Rattle.jc_model.specs.State.{Item, without}
+use Rattle.jc_model.specs.State.{without}
 use Rattle.jc_model.specs.Changes.{Progress}
 use Rattle.jc_rows.specs.Images.{Image, Shows, SeesLast}
 use Rattle.jc_rows.specs.Rows.{RowMap}
-use Rattle.jc_state.specs.Kept.{Kept, IsTied, IsRow, items_of, has_live, progress_of}
+use Rattle.jc_state.specs.Kept.{Kept, IsTied, items_of, has_live, progress_of}
 use Rattle.jc_state.specs.Noted.{Noted, HasPlaces}
-use Rattle.jc_state.specs.Shelf.{without_row}
+use Rattle.jc_state.specs.Shelf.{seek, held_of, without_row}
 use Rattle.jc_state.specs.Tied.{SameElsewhere, StaysAbsent}
 
 -- the cache, the table that all caches share and the rows for which it has room, the notices so far, and the moment
@@ -58,7 +58,7 @@ pub record SpendsAtMost (rows notices : ℕ) (v w : Visited) : Type 0 where
 pub record IsWithout (row : ℕ) (v w : Visited) : Type 0 where
   pub kept : w.cache ≡ record v.cache { cells = without_row row v.cache.cells }
   pub one : length w.cache.cells + 1 ≡ length v.cache.cells
-  pub left : (key : List ℕ) (x : Item) → IsRow key v.cache row x → items_of w.cache.cells ≡ without x.key (items_of v.cache.cells)
+  pub left : items_of w.cache.cells ≡ without (held_of (seek row v.cache.cells)).key (items_of v.cache.cells)
   pub still_absent : StaysAbsent v.cache.id v.table w.table
 
 -- Nothing has changed but the room and the places that are left.

@@ -85,23 +85,17 @@ impl Notices {
         ensures spare { self.old.spare ≤ self.new.spare + 1 }
     {
         if config.listeners > 0 {
-            let Happening {
-                kind,
-                key,
-                value,
-                before,
-            } = happening;
-            let (value, kept_value) = two(value);
-            let (before, kept_before) = two(before);
+            let (value, kept_value) = two(happening.value);
+            let (before, kept_before) = two(happening.before);
             self.told.push_reserved(Notice {
-                kind,
-                key,
+                kind: happening.kind,
+                key: happening.key,
                 value,
                 before,
             });
             self.kept.push_reserved(Notice {
-                kind,
-                key,
+                kind: happening.kind,
+                key: happening.key,
                 value: kept_value,
                 before: kept_before,
             });

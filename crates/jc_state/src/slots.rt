@@ -43,6 +43,7 @@ impl Model for Slots {
 #[tactic(auto, using(crate::proofs::Vacancies::slot_laws))]
 impl Slots {
     /// So many vacant rows.
+    #[tactic(auto, using(crate::proofs::Vacancies::growth_laws))]
     pub fn with_capacity(alloc: Global, capacity: u32) -> Result<Slots, OutOfMemory>
         ensures { IfOk result (λ slots. slots ≡ replicate capacity None) }
     {

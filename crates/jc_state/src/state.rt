@@ -49,19 +49,15 @@ impl<G: Ring> Model for CacheState<G> {
 }
 
 /// All counters at zero.
-pub(crate) fn no_counts() -> Counts
-    ensures { result ≡ zeros }
-{
-    Counts {
-        hits: 0,
-        misses: 0,
-        puts: 0,
-        removals: 0,
-        evictions: 0,
-    }
-}
+pub(crate) const NO_COUNTS: Counts = Counts {
+    hits: 0,
+    misses: 0,
+    puts: 0,
+    removals: 0,
+    evictions: 0,
+};
 
-#[tactic(auto, using(std::proofs::lemmas::Grind::common_steps, crate::proofs::Shelves::shelf_laws))]
+#[tactic(auto, using(crate::proofs::Shelves::shelf_laws))]
 impl<G: Ring> CacheState<G> {
     /// A cache with no rows, with place for all that it may have, and all counters at zero. Where memory is refused,
     /// the configuration comes back.
@@ -82,7 +78,7 @@ impl<G: Ring> CacheState<G> {
             id,
             slots,
             ring,
-            counts: no_counts(),
+            counts: NO_COUNTS,
         })
     }
 

@@ -29,16 +29,13 @@ impl Stored {
             return Ok(None);
         };
         let stored = Copies::of(value)?;
-        if config.listeners == 0 {
-            return Ok(Some(Stored {
-                value: stored,
-                told: None,
-            }));
-        }
-        let told = Copies::of(value)?;
+        let told = match config.listeners {
+            0 => None,
+            _ => Some(Copies::of(value)?),
+        };
         Ok(Some(Stored {
             value: stored,
-            told: Some(told),
+            told,
         }))
     }
 }

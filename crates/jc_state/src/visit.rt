@@ -21,7 +21,7 @@ ghost use Rattle.jc_state.specs.Noted.{notice_of, told_after};
 ghost use Rattle.jc_state.specs.Visited.{IsKeptIn, HasPlacesIn, has_live_in};
 
 use crate::notices::{Happening, Notices};
-use crate::state::{CacheState, no_counts};
+use crate::state::{CacheState, NO_COUNTS};
 use jc_expiry::counters::{with_eviction, with_hit, with_miss, with_put, with_removal};
 use jc_expiry::expiry::live;
 use jc_model::call::Counts;
@@ -226,7 +226,7 @@ impl<R: Rows, G: Ring> Visit<R, G> {
         ensures { self.new
             ≡ record self.old { cache = record self.old.cache { counts = zeros } } }
     {
-        self.cache.counts = no_counts();
+        self.cache.counts = NO_COUNTS;
     }
 
     /// Counts a hit.

@@ -23,7 +23,7 @@ impl<R: Rows, G: Ring> Visit<R, G> {
     /// Gives the key a new row, with room made for it where the cache is full, and tells it where the cache has
     /// listeners. Where the policy's duration on creation is zero, this stores nothing, evicts nothing and tells
     /// nothing. Returns whether it stored.
-    #[tactic(auto, using(std::proofs::lemmas::Grind::common_steps, crate::proofs::Found::absent_there))]
+    #[tactic(auto, using(crate::proofs::Found::absent_there))]
     pub fn create(&mut self, key: Key, stored: Stored) -> bool
         requires absent { key_row self.old.cache key ≡ None }
         requires room { 0 < self.old.spare }
@@ -52,7 +52,7 @@ impl<R: Rows, G: Ring> Visit<R, G> {
     }
 
     /// Adds a row to the cache and the table, last in the ring and with a clear bit.
-    #[tactic(auto, using(std::proofs::lemmas::Grind::common_steps, crate::proofs::Changes::change_laws))]
+    #[tactic(auto, using(crate::proofs::Changes::change_laws))]
     fn add_row(&mut self, new: Record)
         requires absent { map.get self.old.table (self.old.cache.id, new.key) ≡ None }
         requires within { length self.old.cache.cells < self.old.cache.config.capacity }

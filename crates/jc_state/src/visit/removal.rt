@@ -3,7 +3,7 @@ ghost use Rattle.std.specs.Prelude.{◌≡◌, ℕ, if◌then◌else◌, List, t
 ghost use Rattle.jc_model.specs.State.{Item, live};
 ghost use Rattle.jc_model.specs.Changes.{purge, delete};
 ghost use Rattle.jc_state.specs.declared.slots.Record.{Record};
-ghost use Rattle.jc_state.specs.Shelf.{seek, has_row};
+ghost use Rattle.jc_state.specs.Shelf.{seek, has_row, held_of};
 ghost use Rattle.jc_state.specs.Noted.{notice_of, told_after};
 ghost use Rattle.jc_state.specs.Kept.{IsRow, FoundRow};
 ghost use Rattle.jc_state.specs.Visited.{SpendsAtMost, IsWithout, HasPlacesIn, progress_in, has_live_in};
@@ -17,7 +17,7 @@ use jc_rows::rows::Rows;
 
 impl<R: Rows, G: Ring> Visit<R, G> {
     /// Takes a row out of the cache and the table.
-    #[tactic(auto, using(std::proofs::lemmas::Grind::common_steps, crate::proofs::Changes::change_laws))]
+    #[tactic(auto, using(crate::proofs::Changes::change_laws))]
     pub(super) fn take_row(&mut self, row: u32) -> Record
         requires { has_row row self.old.cache.cells ≡ true }
         ensures was { seek row self.old.cache.cells ≡ Some result }
@@ -36,7 +36,7 @@ impl<R: Rows, G: Ring> Visit<R, G> {
         requires places { HasPlacesIn 1 self.old }
         ensures spends { SpendsAtMost 0 1 self.old self.new }
         ensures gone { IsWithout row self.old self.new }
-        ensures told { (held : Record) → seek row self.old.cache.cells ≡ Some held →
+        ensures told { let held : Record = held_of (seek row self.old.cache.cells) in
             self.new.noted.told ≡ told_after self.old.cache.config
             (notice_of kind held.key None (Some held.value)) self.old.noted.told }
     {

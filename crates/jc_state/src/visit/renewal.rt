@@ -22,7 +22,7 @@ use jc_ring::ring::Ring;
 use jc_rows::rows::Rows;
 
 /// Gives the table's row of what is held the expiry `to`; nothing is written where it has it already.
-#[tactic(auto, using(std::proofs::lemmas::Grind::common_steps, crate::proofs::Changes::same_expiry))]
+#[tactic(auto, using(crate::proofs::Changes::same_expiry))]
 fn renew<R: Rows>(rows: &mut R, id: CacheId, held: &Record, to: Expiry)
     requires { option_map (λ row. row.1) (map.get (R.contents rows.old) (id, held.now.key))
         ≡ Some held.now.expiry }
@@ -36,7 +36,7 @@ fn renew<R: Rows>(rows: &mut R, id: CacheId, held: &Record, to: Expiry)
 
 impl<R: Rows, G: Ring> Visit<R, G> {
     /// Uses a row: its bit is set, and its expiry renewed as the policy says.
-    #[tactic(auto, using(std::proofs::lemmas::Grind::common_steps, crate::proofs::Changes::change_laws))]
+    #[tactic(auto, using(crate::proofs::Changes::change_laws))]
     pub fn access(&mut self, row: u32)
         requires there { has_row row self.old.cache.cells ≡ true }
         ensures spends { SpendsAtMost 0 0 self.old self.new }
@@ -54,7 +54,7 @@ impl<R: Rows, G: Ring> Visit<R, G> {
 
     /// Gives a row another value: its bit is set, its expiry renewed as the policy says, and the change is told where
     /// the cache has listeners.
-    #[tactic(auto, using(std::proofs::lemmas::Grind::common_steps, crate::proofs::Changes::change_laws))]
+    #[tactic(auto, using(crate::proofs::Changes::change_laws))]
     pub fn update(&mut self, row: u32, stored: Stored)
         requires there { has_row row self.old.cache.cells ≡ true }
         requires places { HasPlacesIn 1 self.old }

@@ -1,7 +1,8 @@
-use Rattle.std.proofs.Common.{◌≡◌}
-use Rattle.jc_state.proofs.Names.{after_access, with_expiry_of, record_of, IsRow}
+use Rattle.std.proofs.Common.{refl, arith}
+use Rattle.std.proofs.lemmas.Grind.{common_steps}
+use Rattle.jc_state.proofs.Names.{Record, after_access, with_expiry_of, record_of, IsRow}
 use Rattle.jc_state.proofs.Changes.{kept-stored}
-use Rattle.jc_state.proofs.Progress.{items-stored}
+use Rattle.jc_state.proofs.Found.{items-stored}
 use Rattle.jc_state.proofs.Ties.{placed_at}
 use Rattle.jc_state.proofs.visit.Visit.access.Goals as goal
 
@@ -18,7 +19,5 @@ pub returns-clause-progress : goal.returns-clause-progress
 returns-clause-progress g c = λ key x at.
     let s = c.self.inside.cache.value in
     let is : IsRow key s c.args.row x = rw (← c.self.view_is) at at in
-    let same : c.record-held.result.now ≡ record_of x = cc (is.there, c.record-held.ensures, c.deref_mut-cache.ensures.value) in
-    let new = with_expiry_of (after_access s.config.policy x.expiry c.self.inside.moment) (record_of x) in
-    rw (← c.self.view_is, c.renew-2.ensures, c.deref_mut-cache.ensures.value, is.there, c.after_access-expiry.ensures, c.config.ensures, c.deref_mut-cache.ensures.value, same)
-    (rw (items-stored _ key s c.args.row x c.self.invariant.tied is new is.key_is))
+    let new : Record = with_expiry_of (after_access s.config.policy x.expiry c.self.inside.moment) (record_of x) in
+    grind (arith, common_steps, is.there, items-stored _ s c.args.row (record_of x) new c.self.invariant.tied is.there refl)

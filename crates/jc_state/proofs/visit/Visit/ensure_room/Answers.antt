@@ -1,5 +1,5 @@
 use Rattle.std.proofs.Common.{◌≡◌, ◌∙◌, sym, subst}
-use Rattle.jc_state.proofs.Names.{with_room, IsVictim, Visited, progress_in}
+use Rattle.jc_state.proofs.Names.{with_room, Visited, progress_in}
 use Rattle.jc_state.proofs.Purges.{held_first}
 use Rattle.jc_state.proofs.Room.{made-evicted, made-expired}
 use Rattle.jc_state.proofs.visit.Visit.ensure_room.Goals as goal
@@ -13,24 +13,18 @@ invariant_of-self g c =
 
 pub returns-then-is_live-clause-progress : goal.returns-then-is_live-clause-progress
 returns-then-is_live-clause-progress g c =
-    let old = c.self.inside.cache.value in
-    let new = c.turn_hand-row.new.self in
-    let turn : IsVictim c.self.inside.moment old new c.turn_hand-row.result = rw c.deref_mut.ensures.value at c.turn_hand-row.ensures in
-    let held = c.take_row-gone.result in
-    let full = rw c.deref.ensures at (c.is_full.ensures.full c.if-is_full.true) in
+    let turn = rw c.deref_mut.ensures.value at c.turn_hand-row.ensures in
+    let was = c.take_row-gone.ensures.was in
     subst (λ (v : Visited). progress_in c.eviction.new.self ≡ with_room v.cache.config v.moment (progress_in v)) c.self.view_is
     (rw (c.eviction.ensures, c.take_row-gone.ensures.gone.kept, c.take_row-gone.ensures.noted)
-    (made-evicted c.self.inside.moment old new c.turn_hand-row.result held _ full turn (turn.tied _ c.self.invariant.tied).distinct c.take_row-gone.ensures.was
-    (sym (c.is_live.ensures held c.take_row-gone.ensures.was) ∙ c.if-is_live.true)))
+    (made-evicted _ _ _ c.turn_hand-row.result _ (rw c.deref.ensures at (c.is_full.ensures.full c.if-is_full.true)) turn (turn.tied _ c.self.invariant.tied).distinct
+    (rw was (sym (c.is_live.ensures _ was) ∙ c.if-is_live.true))))
 
 pub returns-else-is_live-clause-progress : goal.returns-else-is_live-clause-progress
 returns-else-is_live-clause-progress g c =
-    let old = c.self.inside.cache.value in
-    let new = c.turn_hand-row.new.self in
-    let turn : IsVictim c.self.inside.moment old new c.turn_hand-row.result = rw c.deref_mut.ensures.value at c.turn_hand-row.ensures in
-    let h = held_first c.turn_hand-row.result new.cells turn.at in
-    let full = rw c.deref.ensures at (c.is_full.ensures.full c.if-is_full.true) in
+    let turn = rw c.deref_mut.ensures.value at c.turn_hand-row.ensures in
+    let h = held_first c.turn_hand-row.result c.turn_hand-row.new.self.cells turn.at in
     subst (λ (v : Visited). progress_in c.remove_row.new.self ≡ with_room v.cache.config v.moment (progress_in v)) c.self.view_is
-    (rw (c.remove_row.ensures.gone.kept, c.remove_row.ensures.told h.0 h.1)
-    (made-expired c.self.inside.moment old new c.turn_hand-row.result h.0 _ full turn (turn.tied _ c.self.invariant.tied).distinct h.1
-    (sym (c.is_live.ensures h.0 h.1) ∙ c.if-is_live.false)))
+    (rw (c.remove_row.ensures.gone.kept, c.remove_row.ensures.told)
+    (made-expired _ _ _ c.turn_hand-row.result _ (rw c.deref.ensures at (c.is_full.ensures.full c.if-is_full.true)) turn (turn.tied _ c.self.invariant.tied).distinct
+    (rw h.1 (sym (c.is_live.ensures h.0 h.1) ∙ c.if-is_live.false))))

@@ -1,44 +1,42 @@
-use Rattle.std.proofs.Common.{◌∙◌, sym, [], arith}
+use Rattle.std.proofs.Common.{◌≡◌, true, false, sym, ◌∙◌, arith}
 use Rattle.std.proofs.lemmas.Grind.{common_steps}
-use Rattle.jc_state.proofs.Names.{expired, record_of}
+use Rattle.jc_state.proofs.Names.{holds, purge, is_live, record_of}
 use Rattle.jc_model.proofs.Rings.{row_of-without}
-use Rattle.jc_state.proofs.Progress.{removed}
-use Rattle.jc_state.proofs.Purges.{held_there, held_is, purge-live, purge-expired}
+use Rattle.jc_state.proofs.Purges.{held_there, row_expired}
 use Rattle.jc_state.proofs.visit.Visit.purge.Goals as goal
-
-pub returns-in-None-clause-progress : goal.returns-in-None-clause-progress
-returns-in-None-clause-progress g c = λ key found. grind (arith, common_steps, rw c.in-None.is at found)
-
-pub returns-then-is_live-clause-progress : goal.returns-then-is_live-clause-progress
-returns-then-is_live-clause-progress g c = λ key found.
-    let x = rw c.in-Some.is at found in
-    purge-live c.args.self.now.cache.config c.args.self.now.moment key c.args.self.now.cache _ x.0 x.1.found (sym (c.is_live.ensures (record_of x.0) x.1.there) ∙ c.if-is_live.true)
-
-pub returns-else-is_live-clause-progress : goal.returns-else-is_live-clause-progress
-returns-else-is_live-clause-progress g c = λ key found.
-    let x = rw c.in-Some.is at found in
-    let s = c.args.self.now.cache in
-    rw (c.remove_row.ensures.gone.kept, c.remove_row.ensures.told (record_of x.0) x.1.there)
-    (removed s c.in-Some.row x.0 (rw c.remove_row.ensures.gone.kept at (c.remove_row.ensures.gone.left key x.0 x.1)) s.config c.args.self.now.moment (expired x.0) c.args.self.now.noted.told
-    ∙ purge-expired s.config c.args.self.now.moment key s _ x.0 x.1.found (sym (c.is_live.ensures (record_of x.0) x.1.there) ∙ c.if-is_live.false))
-
-pub returns-else-is_live-clause-found : goal.returns-else-is_live-clause-found
-returns-else-is_live-clause-found g c = λ key found.
-    let x = rw c.in-Some.is at found in
-    rw (← x.1.key_is, c.remove_row.ensures.gone.left key x.0 x.1) (row_of-without x.0.key _)
 
 pub returns-in-None-clause-live : goal.returns-in-None-clause-live
 returns-in-None-clause-live g c = λ key found. grind (arith, common_steps, rw c.in-None.is at found)
 
+pub returns-in-None-clause-progress : goal.returns-in-None-clause-progress
+returns-in-None-clause-progress g c = λ key found. grind (arith, common_steps, rw c.in-None.is at found)
+
 pub returns-then-is_live-clause-live : goal.returns-then-is_live-clause-live
 returns-then-is_live-clause-live g c = λ key found.
     let x = rw c.in-Some.is at found in
-    sym c.if-is_live.true ∙ c.is_live.ensures (record_of x.0) x.1.there ∙ held_is c.args.self.now.cache.config c.args.self.now.moment key c.args.self.now.cache [] x.0 x.1.found
+    rw (x.1.found, holds) (sym c.if-is_live.true ∙ c.is_live.ensures (record_of x.0) x.1.there)
+
+pub returns-then-is_live-clause-progress : goal.returns-then-is_live-clause-progress
+returns-then-is_live-clause-progress g c = λ key found.
+    let x = rw c.in-Some.is at found in
+    let alive : is_live c.args.self.now.moment x.0 ≡ true = sym (c.is_live.ensures (record_of x.0) x.1.there) ∙ c.if-is_live.true in
+    rw (x.1.found, purge, alive)
 
 pub returns-else-is_live-clause-live : goal.returns-else-is_live-clause-live
 returns-else-is_live-clause-live g c = λ key found.
     let x = rw c.in-Some.is at found in
-    sym c.if-is_live.false ∙ c.is_live.ensures (record_of x.0) x.1.there ∙ held_is c.args.self.now.cache.config c.args.self.now.moment key c.args.self.now.cache [] x.0 x.1.found
+    rw (x.1.found, holds) (sym c.if-is_live.false ∙ c.is_live.ensures (record_of x.0) x.1.there)
+
+pub returns-else-is_live-clause-progress : goal.returns-else-is_live-clause-progress
+returns-else-is_live-clause-progress g c = λ key found.
+    let x = rw c.in-Some.is at found in
+    let dead : is_live c.args.self.now.moment x.0 ≡ false = sym (c.is_live.ensures (record_of x.0) x.1.there) ∙ c.if-is_live.false in
+    rw (x.1.found, purge, dead) (row_expired c.args.self.now.moment c.in-Some.row c.args.self.now c.remove_row.new.self x.0 c.remove_row.ensures.gone x.1.there (rw x.1.there at c.remove_row.ensures.told))
+
+pub returns-else-is_live-clause-found : goal.returns-else-is_live-clause-found
+returns-else-is_live-clause-found g c = λ key found.
+    let x = rw c.in-Some.is at found in
+    rw (← x.1.key_is, c.remove_row.ensures.gone.left, x.1.there) (row_of-without x.0.key _)
 
 pub remove_row-requires-clause-places : goal.remove_row-requires-clause-places
 remove_row-requires-clause-places g c =

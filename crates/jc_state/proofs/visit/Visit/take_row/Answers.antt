@@ -1,8 +1,7 @@
 use Rattle.std.proofs.Common.{◌≡◌}
 use Rattle.jc_rows.proofs.Laws.{get-removed_absent}
-use Rattle.jc_state.proofs.Names.{IsRow}
 use Rattle.jc_state.proofs.Changes.{kept-removed}
-use Rattle.jc_state.proofs.Found.{items_of-without, only_row}
+use Rattle.jc_state.proofs.Found.{items-without}
 use Rattle.jc_state.proofs.visit.Visit.take_row.Goals as goal
 
 pub invariant_of-self : goal.invariant_of-self
@@ -15,9 +14,8 @@ pub returns-clause-gone : goal.returns-clause-gone
 returns-clause-gone g c = record {
   kept = rw (← c.self.view_is, c.take-gone.ensures.kept, c.deref_mut.ensures.value);
   one = rw (← c.self.view_is, ← c.deref_mut.ensures.value) c.take-gone.ensures.one;
-  left = λ key x is.
-      let row : IsRow key c.self.inside.cache.value c.args.row x = rw (← c.self.view_is) at is in
-      rw (← c.self.view_is, c.take-gone.ensures.kept, c.deref_mut.ensures.value, row.key_is)
-      (items_of-without c.args.row key c.self.inside.cache.value.cells (only_row _ key _ c.args.row x c.self.invariant.tied row));
+  left =
+      let was = rw c.deref_mut.ensures.value at c.take-gone.ensures.was in
+      rw (← c.self.view_is, c.take-gone.ensures.kept, c.deref_mut.ensures.value, was) (items-without _ c.self.inside.cache.value c.args.row _ c.self.invariant.tied was);
   still_absent = λ k h. rw (c.remove-row.ensures.removed, ← c.self.view_is) (get-removed_absent _ _ _ (rw (← c.self.view_is) at h));
 }
