@@ -1,5 +1,5 @@
 -- Rows in a list of cells: looking one up, taking one out, storing one anew.
-use Rattle.std.proofs.Common.{◌≡◌, ℕ, true, false, eqb, ◌||◌, ◌&&◌, not, cond, List, [], ◌∷◌, ◌++◌, length, None, option_map, is_some, refl, arith}
+use Rattle.std.proofs.Common.{◌≡◌, ℕ, true, false, eqb, ◌||◌, not, cond, List, [], ◌∷◌, ◌++◌, length, None, option_map, is_some, refl, arith}
 use Rattle.std.proofs.lemmas.Grind.{common_steps}
 use Rattle.jc_state.proofs.Names.{Record, Cell, seek, has_row, without_row, cleared, turned_cells, stored, Distinct}
 
@@ -25,20 +25,16 @@ pub without_row-off : (r : ℕ) (xs : List Cell) → has_row r xs ≡ false → 
 without_row-off r [] e = refl
 without_row-off r (x ∷ xs) e = grind (arith, common_steps, without_row-off r xs)
 
-has_row-without : (s r : ℕ) (cs : List Cell) → has_row s (without_row r cs) ≡ (not (eqb s r) && has_row s cs)
-has_row-without s r [] = grind (arith, common_steps)
-has_row-without s r (c ∷ cs) = grind (arith, common_steps, has_row-without s r cs)
+pub seek-without : (s r : ℕ) (cs : List Cell) → seek s (without_row r cs) ≡ cond (eqb s r) None (seek s cs)
+seek-without s r [] = grind (arith, common_steps)
+seek-without s r (c ∷ cs) = grind (arith, common_steps, seek-without s r cs)
 
 pub Distinct-without : (r : ℕ) (cs : List Cell) → Distinct cs → Distinct (without_row r cs)
 Distinct-without r [] d = tt
 Distinct-without r (c ∷ cs) d = elim (eqb c.row r) as (λ b. Distinct (cond (not b) (c ∷ without_row r cs) (without_row r cs))) [
   | true ↦ Distinct-without r cs d.1
-  | false ↦ (grind (arith, common_steps, has_row-without c.row r cs, d.0), Distinct-without r cs d.1)
+  | false ↦ (grind (arith, common_steps, has_row-seek c.row cs, has_row-seek c.row (without_row r cs), seek-without c.row r cs, d.0), Distinct-without r cs d.1)
 ]
-
-pub seek-without : (s r : ℕ) (cs : List Cell) → seek s (without_row r cs) ≡ cond (eqb s r) None (seek s cs)
-seek-without s r [] = grind (arith, common_steps)
-seek-without s r (c ∷ cs) = grind (arith, common_steps, seek-without s r cs)
 
 -- With the first row last.
 
@@ -51,14 +47,10 @@ length-turned_cells (c ∷ cs) = grind (arith, common_steps)
 
 -- With a row stored anew.
 
-has_row-stored : (s r : ℕ) (it : Record) (cs : List Cell) → has_row s (stored r it cs) ≡ has_row s cs
-has_row-stored s r it [] = refl
-has_row-stored s r it (c ∷ cs) = grind (arith, common_steps, has_row-stored s r it cs)
-
-pub Distinct-stored : (r : ℕ) (it : Record) (cs : List Cell) → Distinct cs → Distinct (stored r it cs)
-Distinct-stored r it [] d = tt
-Distinct-stored r it (c ∷ cs) d = (grind (arith, common_steps, has_row-stored c.row r it cs, d.0), Distinct-stored r it cs d.1)
-
 pub seek-stored : (s r : ℕ) (it : Record) (cs : List Cell) → seek s (stored r it cs) ≡ cond (eqb s r) (option_map (λ h. it) (seek s cs)) (seek s cs)
 seek-stored s r it [] = grind (arith, common_steps)
 seek-stored s r it (c ∷ cs) = grind (arith, common_steps, seek-stored s r it cs)
+
+pub Distinct-stored : (r : ℕ) (it : Record) (cs : List Cell) → Distinct cs → Distinct (stored r it cs)
+Distinct-stored r it [] d = tt
+Distinct-stored r it (c ∷ cs) d = (grind (arith, common_steps, has_row-seek c.row cs, has_row-seek c.row (stored r it cs), seek-stored c.row r it cs, d.0), Distinct-stored r it cs d.1)

@@ -1,11 +1,8 @@
 -- CLOCK: which row makes room.
-use Rattle.std.proofs.Common.{◌≡◌, ◌⊎◌, ℕ, true, false, List, [], ◌∷◌, ◌++◌, refl, arith}
+use Rattle.std.proofs.Common.{◌≡◌, ℕ, List, [], ◌∷◌, ◌++◌, refl, arith}
 use Rattle.std.proofs.lemmas.Grind.{common_steps}
 use Rattle.jc_state.specs.Clock.{AreInUse, FirstUnusedGoes, ElseFirstGoes}
-use Rattle.jc_state.proofs.Names.{CacheConfig, Item, Progress, is_live, stops_at, before_stop, from_stop, turned, with_ring, evicted, make_room}
-
-stops : (now : ℕ) (x : Item) → (is_live now x ≡ false) ⊎ (x.used ≡ false) → stops_at now x ≡ true
-stops now x h = grind (arith, common_steps)
+use Rattle.jc_state.proofs.Names.{CacheConfig, Item, Progress, before_stop, from_stop, turned, with_ring, evicted, make_room}
 
 -- the hand passes the rows that are in use
 passes : (now : ℕ) (before rest : List Item) → AreInUse now before → (from_stop now (before ++ rest) ≡ from_stop now rest) × (before_stop now (before ++ rest) ≡ before ++ before_stop now rest)
@@ -16,7 +13,7 @@ made : (c : CacheConfig) (now : ℕ) (p : Progress) (x : Item) (rest : List Item
 made c now p x rest e = rw (e, make_room)
 
 pub first_unused_goes : FirstUnusedGoes
-first_unused_goes c now p before x after e h w = grind (arith, common_steps, stops, made, passes now before (x ∷ after) h)
+first_unused_goes c now p before x after e h w = grind (arith, common_steps, made, passes now before (x ∷ after) h)
 
 pub else_first_goes : ElseFirstGoes
 else_first_goes c now p x rest e h = grind (arith, common_steps, made, passes now (x ∷ rest) [] h)

@@ -2,13 +2,11 @@ pub mod Names
 mod Vacancies
 mod Shelves
 mod Cells
-mod Hand
 pub mod Ties
 pub mod Found
-pub mod Room
+mod Going
 mod ClockLaw
 pub mod VisitLaws
 pub mod Changes
-mod Purges
 pub mod TiedKeys
 pub mod Walk

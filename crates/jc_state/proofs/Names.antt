@@ -9,8 +9,7 @@ pub use Rattle.jc_model.specs.Whole.{holds}
 pub use Rattle.jc_ring.specs.Ring.{first, on_ring, ring_touched}
 pub use Rattle.jc_rows.specs.Rows.{RowMap, with_expiry}
 pub use Rattle.jc_state.specs.declared.slots.Record.{Record}
-pub use Rattle.jc_state.specs.Shelf.{Cell, seek, has_row, row_after, without_row, cleared, turned_cells, stored_cell, stored, new_cell, with_expiry_of, slot, held_of, cells_of, IsShelf}
-pub use Rattle.jc_state.specs.Slots.{ListsVacant, IsSlots}
+pub use Rattle.jc_state.specs.Shelf.{Cell, seek, has_row, row_after, without_row, cleared, turned_cells, stored_cell, stored, new_cell, with_expiry_of, slot, held_of, cells_of, IsShelf, ListsVacant, IsSlots}
 pub use Rattle.jc_state.specs.Tied.{Distinct, Each, IsThere, Placed, Tied, SameElsewhere}
 pub use Rattle.jc_state.specs.Noted.{told_after}
 pub use Rattle.jc_state.specs.Kept.{Kept, item_of, items_of, state_of, progress_of, record_of, IsTied, IsVictim, IsRow, FoundRow}

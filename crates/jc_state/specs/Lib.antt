@@ -1,6 +1,5 @@
 pub mod Noted
 pub mod Shelf
-pub mod Slots
 pub mod Tied
 pub mod Kept
 pub mod Visited

@@ -1,5 +1,5 @@
 -- The rows of one cache in the order of its ring, and where they are kept.
-use Rattle.std.specs.Prelude.{◌≡◌, ◌≤◌, ℕ, Bool, false, true, eqb, ◌||◌, not, cond, List, [], ◌∷◌, ◌++◌, length}
+use Rattle.std.specs.Prelude.{◌≡◌, ◌+◌, ◌<◌, ◌≤◌, ◌^◌, ℕ, Bool, false, true, eqb, ltb, ◌||◌, ◌&&◌, not, cond, List, [], ◌∷◌, ◌++◌, length}
 use Rattle.std.specs.Prelude.{Option, Some, None, option_map, is_some, count_by, map, filter, slice_index_or}
 use Rattle.jc_model.specs.declared.config.Expiry.{Expiry}
 use Rattle.jc_model.specs.declared.config.Expiry.TheVariants.{Never}
@@ -55,6 +55,17 @@ with_expiry_of e it = record { key = it.key; value = it.value; expiry = e }
 
 abbrev pub slot : List (Option Record) → ℕ → Option Record
 slot slots r = slice_index_or slots r None
+
+-- each vacant row is listed once, and nothing else is
+abbrev pub ListsVacant : List (Option Record) → List ℕ → Type 0
+ListsVacant slots vacant = (r : ℕ) → count_by (eqb r) vacant ≡ cond (ltb r (length slots) && not (is_some (slot slots r))) 1 0
+
+-- the vacant ones are listed, with room for the numbers of all
+pub record IsSlots (slots : List (Option Record)) (vacant : List ℕ) (room : ℕ) : Type 0 where
+  pub few : length slots < 2 ^ 32
+  pub vacancies : ListsVacant slots vacant
+  pub all : length vacant + count_by is_some slots ≡ length slots
+  pub roomy : length slots ≤ room
 
 abbrev pub held_of : Option Record → Record
 held_of None = record { key = []; value = []; expiry = Never }

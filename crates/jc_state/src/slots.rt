@@ -31,7 +31,7 @@ impl Model for Slots {
     ghost use Rattle.std.specs.Prelude.{List, Option};
     ghost use Rattle.std.specs.Vec.{vec_capacity};
     ghost use Rattle.jc_state.specs.declared.slots.Record.{Record};
-    ghost use Rattle.jc_state.specs.Slots.{IsSlots};
+    ghost use Rattle.jc_state.specs.Shelf.{IsSlots};
 
     ghost Value = { List (Option Record) };
 

@@ -17,10 +17,9 @@ ghost use Rattle.jc_state.specs.declared.slots.Record.{Record};
 ghost use Rattle.jc_state.specs.Shelf.{seek, has_row};
 ghost use Rattle.jc_state.specs.Kept.{items_of, FoundRow, with_hit, with_miss, with_put, with_removal};
 ghost use Rattle.jc_state.specs.Kept.{with_eviction};
-ghost use Rattle.jc_state.specs.Noted.{notice_of, told_after};
-ghost use Rattle.jc_state.specs.Visited.{IsKeptIn, HasPlacesIn, has_live_in};
+ghost use Rattle.jc_state.specs.Visited.{IsKeptIn, has_live_in};
 
-use crate::notices::{Happening, Notices};
+use crate::notices::Notices;
 use crate::state::{CacheState, NO_COUNTS};
 use jc_expiry::counters::{with_eviction, with_hit, with_miss, with_put, with_removal};
 use jc_expiry::expiry::live;
@@ -255,18 +254,6 @@ impl<R: Rows, G: Ring> Visit<R, G> {
         ensures { self.new ≡ record self.old { cache = with_removal self.old.cache } }
     {
         self.cache.counts = with_removal(self.cache.counts);
-    }
-
-    /// Adds the notice of what happened where the cache has listeners.
-    fn tell(&mut self, happening: Happening)
-        requires { HasPlacesIn 1 self.old }
-        ensures same { self.new ≡ record self.old { noted = self.new.noted } }
-        ensures told { self.new.noted.told ≡ told_after self.old.cache.config
-            (notice_of happening.kind happening.key happening.value happening.before)
-            self.old.noted.told }
-        ensures spare { self.old.noted.spare ≤ self.new.noted.spare + 1 }
-    {
-        self.notices.note_for(self.cache.config(), happening);
     }
 
     /// Counts an eviction.

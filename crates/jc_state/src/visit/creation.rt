@@ -40,12 +40,13 @@ impl<R: Rows, G: Ring> Visit<R, G> {
                 self.ensure_room();
                 let Stored { value, told } = stored;
                 self.add_row(Record { key, value, expiry });
-                self.tell(Happening {
+                let happening = Happening {
                     kind: Kind::Created,
                     key,
                     value: told,
                     before: None,
-                });
+                };
+                self.notices.note_for(self.cache.config(), happening);
                 true
             }
         }

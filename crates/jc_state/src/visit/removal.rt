@@ -41,12 +41,13 @@ impl<R: Rows, G: Ring> Visit<R, G> {
             (notice_of kind held.key None (Some held.value)) self.old.noted.told }
     {
         let gone = self.take_row(row);
-        self.tell(Happening {
+        let happening = Happening {
             kind,
             key: gone.key,
             value: None,
             before: Some(gone.value),
-        });
+        };
+        self.notices.note_for(self.cache.config(), happening);
     }
 
     /// Of a key's row, if it has one, the number where it is live. An expired row is removed here, with its notice; a

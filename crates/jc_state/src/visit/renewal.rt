@@ -71,11 +71,12 @@ impl<R: Rows, G: Ring> Visit<R, G> {
         let expiry = after_update(cache.config().policy, held.expiry, self.moment);
         let before = cache.store(row, Record { key, value, expiry });
         renew(&mut self.rows, cache.id(), &before, expiry);
-        self.tell(Happening {
+        let happening = Happening {
             kind: Kind::Updated,
             key,
             value: told,
             before: Some(before.value),
-        });
+        };
+        self.notices.note_for(self.cache.config(), happening);
     }
 }

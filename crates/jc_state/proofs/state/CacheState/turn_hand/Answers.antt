@@ -1,7 +1,7 @@
 use Rattle.std.proofs.Common.{◌∙◌, arith}
 use Rattle.std.proofs.lemmas.Grind.{common_steps}
 use Rattle.jc_state.proofs.Cells.{length-turned_cells}
-use Rattle.jc_state.proofs.Hand.{hand-passes}
+use Rattle.jc_state.proofs.Going.{hand-passes}
 use Rattle.jc_state.proofs.Ties.{Tied-turned}
 use Rattle.jc_state.proofs.state.CacheState.turn_hand.Goals as goal
 

@@ -1,7 +1,6 @@
 use Rattle.std.proofs.Common.{◌≡◌, ◌∙◌, sym, subst}
 use Rattle.jc_state.proofs.Names.{with_room, Visited, progress_in}
-use Rattle.jc_state.proofs.Purges.{held_first}
-use Rattle.jc_state.proofs.Room.{made-evicted, made-expired}
+use Rattle.jc_state.proofs.Going.{held_first, made-evicted, made-expired}
 use Rattle.jc_state.proofs.visit.Visit.ensure_room.Goals as goal
 
 pub invariant_of-self : goal.invariant_of-self

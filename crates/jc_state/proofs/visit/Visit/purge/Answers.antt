@@ -2,7 +2,7 @@ use Rattle.std.proofs.Common.{◌≡◌, true, false, sym, ◌∙◌, arith}
 use Rattle.std.proofs.lemmas.Grind.{common_steps}
 use Rattle.jc_state.proofs.Names.{holds, purge, is_live, record_of}
 use Rattle.jc_model.proofs.Rings.{row_of-without}
-use Rattle.jc_state.proofs.Purges.{held_there, row_expired}
+use Rattle.jc_state.proofs.Going.{held_there, row_expired}
 use Rattle.jc_state.proofs.visit.Visit.purge.Goals as goal
 
 pub returns-in-None-clause-live : goal.returns-in-None-clause-live
