@@ -117,11 +117,9 @@ fn two(value: Option<Copies<Value>>) -> (Option<Value>, Option<Value>)
     ensures first { result.0 ≡ value }
     ensures second { result.1 ≡ value }
 {
-    match value {
-        Some(value) => {
-            let (first, second, _) = value.into_three();
-            (Some(first), Some(second))
-        }
-        None => (None, None),
-    }
+    let Some(value) = value else {
+        return (None, None);
+    };
+    let (first, second, _) = value.into_three();
+    (Some(first), Some(second))
 }

@@ -34,22 +34,20 @@ impl<R: Rows, G: Ring> Visit<R, G> {
         ensures progress { progress_in self.new
             ≡ create self.old.cache.config self.old.moment key stored.value (progress_in self.old) }
     {
-        match after_create(self.config().policy, self.moment) {
-            None => false,
-            Some(expiry) => {
-                self.ensure_room();
-                let Stored { value, told } = stored;
-                self.add_row(Record { key, value, expiry });
-                let happening = Happening {
-                    kind: Kind::Created,
-                    key,
-                    value: told,
-                    before: None,
-                };
-                self.notices.note_for(self.cache.config(), happening);
-                true
-            }
-        }
+        let Some(expiry) = after_create(self.config().policy, self.moment) else {
+            return false;
+        };
+        self.ensure_room();
+        let Stored { value, told } = stored;
+        self.add_row(Record { key, value, expiry });
+        let happening = Happening {
+            kind: Kind::Created,
+            key,
+            value: told,
+            before: None,
+        };
+        self.notices.note_for(self.cache.config(), happening);
+        true
     }
 
     /// Adds a row to the cache and the table, last in the ring and with a clear bit.

@@ -66,16 +66,12 @@ impl<R: Rows, G: Ring> Visit<R, G> {
         ensures found { (key : List ℕ) → FoundRow key self.old.cache row →
             FoundRow key self.new.cache result }
     {
-        match row {
-            None => None,
-            Some(row) => {
-                if self.is_live(row) {
-                    return Some(row);
-                }
-                self.remove_row(row, Kind::Expired);
-                None
-            }
+        let row = row?;
+        if self.is_live(row) {
+            return Some(row);
         }
+        self.remove_row(row, Kind::Expired);
+        None
     }
 
     /// Removes a row, with its notice.
