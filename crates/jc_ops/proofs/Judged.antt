@@ -17,10 +17,6 @@ use Rattle.jc_ops.specs.Lines.{loads_for}
 use Rattle.jc_ops.specs.Verdicts.{awaits_load}
 use Rattle.jc_ops.proofs.Goes.{waits_purged}
 
--- where the key has a row
-pub row_is_there : (key : List ℕ) (k : Kept) (row : Option ℕ) → FoundRow key k row → is_some (row_of key (items_of k.cells)) ≡ is_some row
-row_is_there key k row found = grind (arith, common_steps)
-
 -- what its answers say of a step
 pub decided_by : (loaded : Option (Option (List ℕ))) (verdict : Option Verdict) → verdict_in (given_by loaded verdict) ≡ verdict
 decided_by loaded verdict = grind (arith, common_steps)

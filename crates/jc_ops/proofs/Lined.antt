@@ -1,7 +1,8 @@
 -- A line of the table: what its step does as it begins, and at the answer of its writer or its loader.
-use Rattle.jc_ops.proofs.Names.{◌≡◌, ◌<◌, ◌≤◌, arith, ℕ, Bool, true, false, if◌then◌else◌, List, common_steps, Option, Some, None, is_some, Answer, KeyCall, Op, Request, CacheConfig}
-use Rattle.jc_ops.proofs.Names.{Line, Item, Progress, purge, find_row, ended, resume, is_written, live_in, ended_by, step, waiting, Run, key_run, value_of, Visited, SpendsAtMost, is_shown}
-use Rattle.jc_ops.proofs.Names.{line_at, is_invoke, shows, told_of, told_on, first_request, StepWaits, IsWaiting, waits_first}
+use Rattle.jc_ops.proofs.Names.{◌≡◌, ◌<◌, arith, ℕ, Bool, true, false, if◌then◌else◌, List, common_steps, Option, Some, None, is_some, Answer, KeyCall, Op, Request, CacheConfig}
+use Rattle.jc_ops.proofs.Names.{Line, Item, Progress, purge, find_row, ended, resume, is_written, live_in, ended_by, step, waiting, Run, key_run, value_of, is_shown}
+use Rattle.jc_ops.proofs.Names.{line_at, is_invoke, shows, first_request, StepWaits, IsWaiting, waits_first}
+use Rattle.std.specs.Option.{option_and}
 use Rattle.jc_model.specs.declared.call.Answer.TheVariants.{Loaded, Written}
 use Rattle.jc_model.specs.declared.call.By.TheVariants.{Loader, Writer}
 use Rattle.jc_model.specs.declared.call.Reply.TheVariants.{Fault}
@@ -13,10 +14,9 @@ use Rattle.jc_ops.specs.Lines.{asks_no_one, takes_value, shows_loaded, stores}
 use Rattle.jc_ops.specs.Supply.{HasRoom, adds}
 use Rattle.jc_ops.proofs.Goes.{waits_purged}
 
--- what is there where the key has a row
-where_is : (row : Option Item) (there : Bool) (given value : Option (List ℕ)) → is_some row ≡ there → (there ≡ true → given ≡ value) → (there ≡ false → given ≡ None) → ((x : Item) →
-    row ≡ Some x → value ≡ Some x.value) → given ≡ live_in row
-where_is row there given value is present absent at = grind (arith, common_steps)
+-- what was made of the key's row is there where it has one
+of_row : (row : Option Item) (r : Option ℕ) (given value : Option (List ℕ)) → is_some row ≡ is_some r → value ≡ option_and r given → ((x : Item) → row ≡ Some x → given ≡ Some x.value) → value ≡ live_in row
+of_row row r given value is made at = grind (arith, common_steps)
 
 -- a line shows a live row only where its operation does
 shown_live : (o : Op) (row : Option Item) (x : Item) → is_invoke o ≡ false → is_shown (line_at o (live_in row)).reply ≡ true → row ≡ Some x → shows o ≡ true
@@ -30,23 +30,10 @@ pub room_loaded : (there : Bool) (o : Op) (f : Option (List ℕ)) (s : Option St
     is_invoke o ≡ false → stored_value s ≡ f → there ≡ false → is_some s ≡ true → 0 < n
 room_loaded there o f s n enough plain gave absent some = grind (arith, common_steps)
 
--- By what the code has of an operation: whether its key has a row, and its line.
-
-module _ (o : Op) (row : Option Item) (there : Bool) (l : Line) (is : is_some row ≡ there) (line : l ≡ line_at o (live_in row)) where
-  fits : told_of there l.change ≤ told_on there o
-  fits = grind (arith, common_steps)
-
-  -- a line tells no more than its operation may
-  pub places_fit : (n : ℕ) → told_on there o ≤ n → told_of there l.change ≤ n
-  places_fit n places = let most : told_of there l.change ≤ told_on there o = fits in omega arith
-
-  pub spends_fit : {v w : Visited} → SpendsAtMost 1 (told_of there l.change) v w → SpendsAtMost 1 (told_on there o) v w
-  spends_fit h = let most : told_of there l.change ≤ told_on there o = fits in record { same = h.same; room = h.room; places = omega (arith, h.places, most) }
-
-  -- what it stores of its own has room as it begins
-  pub room_fits : (writer : Bool) (s : Option Stored) (n : ℕ) → stored_value s ≡ (if writer then None else value_of o) → HasRoom (adds there writer o) n → there ≡ false → stores l.change ≡ true →
-      is_some s ≡ true → 0 < n
-  room_fits writer s n keeps enough absent adds_row some = grind (arith, common_steps)
+-- what an operation stores of its own has room as it begins
+pub room_fits : (o : Op) (row : Option Item) (there : Bool) (writer : Bool) (s : Option Stored) (n : ℕ) → is_some row ≡ there → stored_value s ≡ (if writer then None else value_of o) →
+    HasRoom (adds there writer o) n → there ≡ false → stores (line_at o (live_in row)).change ≡ true → is_some s ≡ true → 0 < n
+room_fits o row there writer s n is keeps enough absent adds_row some = grind (arith, common_steps)
 
 -- An operation on a key.
 
@@ -110,17 +97,17 @@ module _ (c : CacheConfig) (now : ℕ) (k : List ℕ) (o : Op) (p : Progress) wh
       loader_gave loaded stored shown load store show =
           rw same (load_gave l (find_row k p) load w.request p w.resumed (rw same at w.run_is) loaded stored shown store (λ shows. show (shown_loaded (rw is at load) (rw is at shows))))
 
-    module _ (there : Bool) (has : is_some (find_row k p) ≡ there) (given shown : Option (List ℕ)) (present : there ≡ true → shown ≡ given) (absent : there ≡ false → shown ≡ None) where
+    module _ (r : Option ℕ) (has : is_some (find_row k p) ≡ is_some r) (given shown : Option (List ℕ)) (made : shown ≡ option_and r given) where
       show : (shows o ≡ true → (x : Item) → find_row k p ≡ Some x → given ≡ Some x.value) → is_invoke o ≡ false → is_shown line.reply ≡ true → shown ≡ live_in (find_row k p)
-      show at plain h = where_is (find_row k p) there shown given has present absent (λ x e. at (shown_live o (find_row k p) x plain h e) x e)
+      show at plain h = of_row (find_row k p) r given shown has made (λ x e. at (shown_live o (find_row k p) x plain h e) x e)
 
-      pub ends_at_once : (f : CacheConfig) (live stored : Option (List ℕ)) → purge c now k p ≡ p → f ≡ c → first_request f k o l.asks live ≡ None → stored ≡ (if c.writer then None else value_of o) →
+      pub begins_ended : (live stored : Option (List ℕ)) → purge c now k p ≡ p → first_request c k o l.asks live ≡ None → stored ≡ (if c.writer then None else value_of o) →
           (shows o ≡ true → (x : Item) → find_row k p ≡ Some x → given ≡ Some x.value) → step c now call p ≡ ended_by c now k l (find_row k p) stored shown p
-      ends_at_once f live stored purged same asks store at = rw is (ends live stored shown purged (rw (is, same) at asks) store (show at))
+      begins_ended live stored purged asks store at = rw is (ends live stored shown purged (rw is at asks) store (show at))
 
-      pub waits_first_for : (f : CacheConfig) (q : Request) → purge c now k p ≡ p → f ≡ c → first_request f k o l.asks shown ≡ Some q → (is_invoke o ≡ true → (x : Item) → find_row k p ≡ Some x →
+      pub begins_waiting : (q : Request) → purge c now k p ≡ p → first_request c k o l.asks shown ≡ Some q → (is_invoke o ≡ true → (x : Item) → find_row k p ≡ Some x →
           given ≡ Some x.value) → StepWaits c p q (waits_first now call) (step c now call p)
-      waits_first_for f q purged same asks at = waits shown q purged (rw (is, same) at asks) (λ invokes. where_is (find_row k p) there shown given has present absent (at invokes))
+      begins_waiting q purged asks at = waits shown q purged (rw is at asks) (λ invokes. of_row (find_row k p) r given shown has made (at invokes))
 
       pub writer_agreed : (stored : Option (List ℕ)) → is_invoke o ≡ false → IsWaiting c p (waits_first now call) → (l.asks ≡ Load → ⊥) → stored ≡ value_of o →
           (shows o ≡ true → (x : Item) → find_row k p ≡ Some x → given ≡ Some x.value) → resume (key_run c p (waits_first now call)) Written ≡ ended_by c now k l (find_row k p) stored shown p

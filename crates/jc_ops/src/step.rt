@@ -20,10 +20,9 @@ ghost use Rattle.jc_ops.specs.Stepped.{step_run, answer_run};
 
 use crate::step::change::end;
 use crate::step::invoke::answer_invoke;
-use crate::step::line::{answer_line, line_of, where_there};
+use crate::step::line::{answer_line, begin};
 use crate::step::request::first_request;
 use crate::supply::Supply;
-use crate::supply::values::Values;
 use jc_model::call::{Answer, KeyCall, Op, Reply, Request, Verdict};
 use jc_model::copies::Copies;
 use jc_model::value::Value;
@@ -111,20 +110,13 @@ impl KeyStep {
         ensures next { StepsFrom visit.old (step_run visit.old call) result visit.new }
         ensures call_stays { StaysAt visit.old.moment call result }
     {
-        let Supply { row, values } = supply;
-        let Values {
-            stored,
-            shown,
-            copy,
-            entry,
-        } = values;
-        let row = visit.purge(row);
-        let there = row.is_some();
-        let line = line_of(visit, row, &call);
-        let entry = where_there(there, entry);
+        let mut supply = supply;
+        let line = begin(visit, &call, &mut supply);
+        let copy = supply.values.copy.take();
+        let entry = supply.values.entry.take();
         match first_request(visit.config(), &call, line.asks, copy, entry) {
             Some(request) => {
-                drop((stored, shown));
+                drop(supply);
                 let step = KeyStep {
                     now: visit.moment(),
                     call,
@@ -133,16 +125,7 @@ impl KeyStep {
                 };
                 Next::Waiting(request, step)
             }
-            None => {
-                let shown = where_there(there, shown);
-                let values = Values {
-                    stored,
-                    shown,
-                    copy: None,
-                    entry: None,
-                };
-                Next::Ended(end(visit, &call.key, line, Supply { row, values }))
-            }
+            None => Next::Ended(end(visit, &call.key, line, supply)),
         }
     }
 
@@ -160,12 +143,9 @@ impl KeyStep {
         ensures spends { SpendsAtMost 1 (most_told_in visit.old call) visit.old visit.new }
         ensures ended { step_run visit.old call ≡ ended (progress_in visit.new) result }
     {
-        let Supply { row, values } = supply;
-        let row = visit.purge(row);
-        let line = line_of(visit, row, &call);
-        let shown = where_there(row.is_some(), values.shown);
-        let values = Values { shown, ..values };
-        end(visit, &call.key, line, Supply { row, values })
+        let mut supply = supply;
+        let line = begin(visit, &call, &mut supply);
+        end(visit, &call.key, line, supply)
     }
 
     /// Goes on with the answer to the request for which the step waits. It takes no memory beside its supply, and so
@@ -185,9 +165,6 @@ impl KeyStep {
         ensures next { StepsFrom visit.old (answer_run visit.old self answer) result visit.new }
         ensures call_stays { StaysAt visit.old.moment self.call result }
     {
-        let Supply { row, values } = supply;
-        let row = visit.purge(row);
-        let supply = Supply { row, values };
         match &self.call.op {
             Op::Invoke { processor, .. } => {
                 let processor = *processor;

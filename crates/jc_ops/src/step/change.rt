@@ -6,7 +6,7 @@ ghost use Rattle.jc_model.specs.Step.{counted};
 ghost use Rattle.jc_state.specs.Noted.{StoredIsTold};
 ghost use Rattle.jc_state.specs.Kept.{FoundRow};
 ghost use Rattle.jc_state.specs.Visited.{SpendsAtMost, HasPlacesIn, progress_in};
-ghost use Rattle.jc_ops.specs.Carried.{HasRoomToStore, changed_in, line_run};
+ghost use Rattle.jc_ops.specs.Carried.{CanEnd, HasRoomToStore, changed_in, line_run};
 ghost use Rattle.jc_ops.specs.Lines.{told_of};
 
 use crate::step::reply::reply_of;
@@ -101,10 +101,7 @@ pub(super) fn end<R: Rows, G: Ring>(
     line: Line,
     supply: Supply,
 ) -> Copies<Reply>
-    requires row { FoundRow key.now visit.old.cache supply.row }
-    requires places { HasPlacesIn (told_of (is_some supply.row) line.change) visit.old }
-    requires told { StoredIsTold visit.old.cache.config supply.values.stored }
-    requires room { HasRoomToStore supply.row line.change supply.values.stored visit.old.spare }
+    requires ready { CanEnd visit.old key.now line supply }
     ensures spends { SpendsAtMost 1 (told_of (is_some supply.row) line.change)
         visit.old visit.new }
     ensures run { line_run visit.old key.now line supply.values

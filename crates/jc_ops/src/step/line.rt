@@ -1,11 +1,12 @@
 //! A step of a line of the case table: its line, and the answer of its writer or loader.
-ghost use Rattle.std.specs.Prelude.{◌≡◌, true, false, None, is_some};
+ghost use Rattle.std.specs.Prelude.{◌≡◌, ◌≤◌, false, is_some};
 ghost use Rattle.jc_model.specs.Step.{live_in};
 ghost use Rattle.jc_state.specs.Kept.{key_row, FoundRow};
 ghost use Rattle.jc_state.specs.Visited.{SpendsAtMost};
-ghost use Rattle.jc_ops.specs.Carried.{IsReady};
-ghost use Rattle.jc_ops.specs.Lines.{is_invoke, line_at, told_on};
+ghost use Rattle.jc_ops.specs.Carried.{IsBegun, IsReady};
+ghost use Rattle.jc_ops.specs.Lines.{is_invoke, line_at, told_of, told_on};
 ghost use Rattle.jc_ops.specs.Stepped.{StepsFrom, StaysAt, answer_run, waits_first};
+ghost use Rattle.jc_ops.specs.Supply.{CoversIn, HasPlacesFor, HasRoomFor};
 
 use crate::step::change::{count, end};
 use crate::step::reply::fault;
@@ -25,7 +26,9 @@ pub(super) fn line_of<R: Rows, G: Ring>(
     call: &KeyCall,
 ) -> Line
     requires row { FoundRow call.now.key visit.now.cache row }
-    ensures { result ≡ line_at call.now.op (live_in (key_row visit.now.cache call.now.key)) }
+    ensures line { result
+        ≡ line_at call.now.op (live_in (key_row visit.now.cache call.now.key)) }
+    ensures told { told_of (is_some row) result.change ≤ told_on (is_some row) call.now.op }
 {
     match row {
         None => absent_line(&call.op),
@@ -42,12 +45,24 @@ pub(super) fn line_of<R: Rows, G: Ring>(
     }
 }
 
-/// What is only there where the key has a row.
-pub(super) fn where_there<T: Drop>(there: bool, value: Option<T>) -> Option<T>
-    ensures there { there ≡ true → result ≡ value }
-    ensures absent { there ≡ false → result ≡ None }
+/// The line of a step that begins. The key's expired row goes, and with it what the supply has of its value.
+pub(super) fn begin<R: Rows, G: Ring>(
+    visit: &mut Visit<R, G>,
+    call: &KeyCall,
+    supply: &mut Supply,
+) -> Line
+    requires row { FoundRow call.now.key visit.old.cache supply.old.row }
+    requires places { HasPlacesFor call.now visit.old }
+    requires covered { CoversIn visit.old.cache.config.writer visit.old call.now
+        supply.old.values }
+    requires room { HasRoomFor call.now visit.old }
+    ensures { IsBegun visit.old call.now result supply.new visit.new }
 {
-    if there { value } else { None }
+    let row = visit.purge(supply.row);
+    supply.row = row;
+    supply.values.shown = row.and(supply.values.shown.take());
+    supply.values.entry = row.and(supply.values.entry.take());
+    line_of(visit, row, call)
 }
 
 /// The answer to a step of any operation but a processor's.
@@ -80,7 +95,7 @@ pub(super) fn answer_line<R: Rows, G: Ring>(
         _ => match answer {
             Answer::Written => {
                 let Supply { row, values } = supply;
-                let shown = where_there(row.is_some(), values.shown);
+                let shown = row.and(values.shown);
                 let values = Values { shown, ..values };
                 Next::Ended(end(visit, &call.key, line, Supply { row, values }))
             }

@@ -1,45 +1,11 @@
-use Rattle.jc_ops.proofs.Names.{refl, sym, ◌∙◌, is_some, find_row, progress_in, None}
-use Rattle.jc_ops.proofs.Goes.{Purged, Begins, begins}
-use Rattle.jc_ops.proofs.Judged.{row_is_there}
-use Rattle.jc_ops.proofs.Lined.{places_fit, room_fits, spends_fit, ends_at_once, unasked}
-use Rattle.jc_ops.proofs.step.KeyStep.end_at_once.Given as given
-use Rattle.jc_ops.proofs.step.KeyStep.end_at_once.Goals.{After-purge-row}
+use Rattle.jc_ops.proofs.Names.{◌∙◌}
+use Rattle.jc_ops.proofs.Lined.{unasked}
 use Rattle.jc_ops.proofs.step.KeyStep.end_at_once.Goals as goal
-
-module _ (g : given.Over) (c : After-purge-row g) where
-  gone : Purged c.args.visit.now c.purge-row.new.self c.args.call.key c.purge-row.result
-  gone = let e = c.purge-row.ensures in record { spends = e.spends; live = e.live _ c.requires.row; is = e.progress _ c.requires.row; found = e.found _ c.requires.row }
-
-  left : Begins c.args.visit.now c.purge-row.new.self c.purge-row.new.self.cache.config c.purge-row.new.self.moment c.args.call (is_some c.purge-row.result) c.args.supply.values
-  left = begins _ _ c.args.call c.purge-row.result gone c.args.supply.values c.requires.covered c.requires.room c.requires.places
-
-pub line_of-line-requires : goal.line_of-line-requires
-line_of-line-requires g c = record { row = c.purge-row.ensures.found _ c.requires.row }
-
-pub end-requires : goal.end-requires
-end-requires g c =
-    let at = (goal.at.end-requires g c).After-purge-row in
-    let on = left g at in
-    let w = c.purge-row.new.self in
-    let found = (gone g at).found in
-    let has = row_is_there c.args.call.key w.cache c.purge-row.result found in
-    record {
-      row = found;
-      places = λ listens. places_fit c.args.call.op (find_row c.args.call.key (progress_in w)) _ c.line_of-line.result has c.line_of-line.ensures _ (on.places listens);
-      told = on.covered.told;
-      room = room_fits c.args.call.op (find_row c.args.call.key (progress_in w)) _ c.line_of-line.result has c.line_of-line.ensures w.cache.config.writer _ _ on.covered.stored on.room;
-    }
 
 pub returns : goal.returns
 returns g c =
-    let at = (goal.at.returns g c).After-purge-row in
-    let on = left g at in
-    let w = c.purge-row.new.self in
-    let row = row_is_there c.args.call.key w.cache c.purge-row.result (gone g at).found in
-    let none = unasked w.cache.config c.args.call.key c.args.call.op c.line_of-line.result None (rw c.purge-row.ensures.spends.same.config c.requires.unasked) in
+    let begun = c.begin-line.ensures in
     record {
-      spends = on.spends _ (spends_fit c.args.call.op (find_row c.args.call.key (progress_in w)) _ c.line_of-line.result row c.line_of-line.ensures c.end.ensures.spends);
-      ended = sym on.same ∙ (ends_at_once w.cache.config w.moment c.args.call.key c.args.call.op (progress_in w) c.line_of-line.result c.line_of-line.ensures c.is_some.result (row ∙
-          sym c.is_some.ensures) c.args.supply.values.shown c.where_there-shown.result
-          c.where_there-shown.ensures.there c.where_there-shown.ensures.absent w.cache.config None _ on.purged refl none on.covered.stored on.covered.shown ∙ c.end.ensures.run);
+      spends = begun.spends _ c.end.ensures.spends;
+      ended = begun.ends (unasked c.args.visit.now.cache.config c.args.call.key c.args.call.op c.begin-line.result _ c.requires.unasked) ∙ c.end.ensures.run;
     }

@@ -5,8 +5,8 @@ use Rattle.jc_model.specs.declared.call.Op.TheVariants.{Invoke}
 use Rattle.jc_model.specs.declared.call.Request.TheVariants.{Process}
 use Rattle.jc_state.specs.Noted.{stored_value}
 use Rattle.jc_ops.specs.Lines.{handed}
-use Rattle.jc_ops.proofs.Goes.{invoke_view}
-use Rattle.jc_ops.proofs.Judged.{row_is_there, awaits_by, decided_by, awaited, loader_gave, processor_answered, writer_agreed, writer_failed}
+use Rattle.jc_ops.proofs.Goes.{invoke_view, row_is_there}
+use Rattle.jc_ops.proofs.Judged.{awaits_by, decided_by, awaited, loader_gave, processor_answered, writer_agreed, writer_failed}
 use Rattle.jc_ops.proofs.step.invoke.answer_invoke.Goals as goal
 
 pub answer_process-requires-clause-invoke : goal.answer_process-requires-clause-invoke

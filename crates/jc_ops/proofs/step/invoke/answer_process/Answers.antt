@@ -1,7 +1,8 @@
 use Rattle.jc_ops.proofs.Names.{sym, ◌∙◌, ap, subst, Some, Run, KeyWait, StepWaits, find_row, verdict_of, given_by, loaded_in, is_invoke, progress_in}
 use Rattle.jc_model.specs.declared.call.Answer.TheVariants.{Processed}
 use Rattle.jc_ops.specs.Carried.{judged_run}
-use Rattle.jc_ops.proofs.Judged.{row_is_there, once_decided, acts_at_once, acts_waiting}
+use Rattle.jc_ops.proofs.Goes.{row_is_there}
+use Rattle.jc_ops.proofs.Judged.{once_decided, acts_at_once, acts_waiting}
 use Rattle.jc_ops.proofs.step.invoke.answer_process.Goals as goal
 
 pub invariant_of-result : goal.invariant_of-result

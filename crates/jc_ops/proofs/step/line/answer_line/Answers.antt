@@ -1,20 +1,28 @@
 use Rattle.std.proofs.Common.{ap₂}
-use Rattle.jc_ops.proofs.Names.{refl, sym, ◌∙◌, ap, find_row, ended, loaded_by, is_written, progress_in}
-use Rattle.jc_ops.proofs.Judged.{row_is_there}
-use Rattle.jc_ops.proofs.Lined.{room_loaded, spends_fit, writer_failed, writer_agreed, loader_failed, loader_gave}
+use Rattle.jc_ops.proofs.Names.{arith, refl, sym, ◌∙◌, ap, find_row, ended, loaded_by, is_written, progress_in}
+use Rattle.jc_ops.proofs.Goes.{row_is_there}
+use Rattle.jc_ops.proofs.Lined.{room_loaded, writer_failed, writer_agreed, loader_failed, loader_gave}
 use Rattle.jc_ops.proofs.step.line.answer_line.Goals as goal
 
-pub end-requires-clause-room : goal.end-requires-clause-room
-end-requires-clause-room g c = λ absent stores some.
-    let gave = (c.requires.ready.covered.loaded c.in-Loaded.field-0 (ap loaded_by c.in-Loaded.is)).stored c.requires.invoke in
-    room_loaded _ c.args.call.now.op c.in-Loaded.field-0 c.args.supply.values.stored c.args.visit.now.spare (rw c.in-Loaded.is at c.requires.ready.room) c.requires.invoke gave absent some
+pub end-requires : goal.end-requires
+end-requires g c =
+    let ready = c.requires.ready in
+    let gave = (ready.covered.loaded c.in-Loaded.field-0 (ap loaded_by c.in-Loaded.is)).stored c.requires.invoke in
+    record {
+      ready = record {
+        row = ready.row;
+        places = λ listens. omega (arith, c.line_of-line.ensures.told, ready.places listens);
+        told = ready.covered.told;
+        room = λ absent stores some. room_loaded _ c.args.call.now.op c.in-Loaded.field-0 c.args.supply.values.stored c.args.visit.now.spare (rw c.in-Loaded.is at ready.room) c.requires.invoke gave absent some;
+      };
+    }
 
 pub returns-in-Loaded-clause-next : goal.returns-in-Loaded-clause-next
 returns-in-Loaded-clause-next g c =
     let v = c.args.visit.now in
     let call = c.args.call.now in
     let gave = c.requires.ready.covered.loaded c.in-Loaded.field-0 (ap loaded_by c.in-Loaded.is) in
-    rw c.in-Loaded.is (loader_gave v.cache.config v.moment call.key call.op (progress_in v) c.line_of-line.result c.line_of-line.ensures c.requires.ready.waits.waits c.in-Loaded.field-0 _
+    rw c.in-Loaded.is (loader_gave v.cache.config v.moment call.key call.op (progress_in v) _ c.line_of-line.ensures.line c.requires.ready.waits.waits c.in-Loaded.field-0 _
     c.args.supply.values.shown c.in-Load.is (gave.stored c.requires.invoke) (gave.shown c.requires.invoke) ∙ c.end.ensures.run)
 
 pub returns-in_default-answer-clause-next : goal.returns-in_default-answer-clause-next
@@ -22,27 +30,21 @@ returns-in_default-answer-clause-next g c =
     let v = c.args.visit.now in
     let call = c.args.call.now in
     let has = row_is_there call.key v.cache c.args.supply.row c.requires.ready.row ∙ sym c.is_some.ensures in
-    loader_failed v.cache.config v.moment call.key call.op (progress_in v) c.line_of-line.result c.line_of-line.ensures c.requires.ready.waits.waits c.args.answer.now c.in-Load.is
+    loader_failed v.cache.config v.moment call.key call.op (progress_in v) _ c.line_of-line.ensures.line c.requires.ready.waits.waits c.args.answer.now c.in-Load.is
     c.in_default-answer.not-Loaded ∙ sym (ap₂ ended (c.count.ensures.progress (find_row call.key (progress_in v)) has) c.fault.ensures)
 
-pub returns-in-Written : goal.returns-in-Written
-returns-in-Written g c =
+pub returns-in-Written-clause-next : goal.returns-in-Written-clause-next
+returns-in-Written-clause-next g c =
     let v = c.args.visit.now in
     let call = c.args.call.now in
-    let row = row_is_there call.key v.cache c.args.supply.row c.requires.ready.row in
     let gave = c.requires.ready.covered.written (ap is_written c.in-Written.is) refl in
-    record {
-      spends = spends_fit call.op (find_row call.key (progress_in v)) _ c.line_of-line.result row c.line_of-line.ensures c.end-in-Written.ensures.spends;
-      next = rw c.in-Written.is (writer_agreed v.cache.config v.moment call.key call.op (progress_in v) c.line_of-line.result c.line_of-line.ensures c.is_some-in-Written.result (row ∙
-          sym c.is_some-in-Written.ensures) c.args.supply.values.shown c.where_there-shown.result
-          c.where_there-shown.ensures.there c.where_there-shown.ensures.absent _ c.requires.invoke c.requires.ready.waits.waits c.in_default.not-Load gave.stored gave.shown ∙
-          c.end-in-Written.ensures.run);
-      call_stays = tt;
-    }
+    rw c.in-Written.is (writer_agreed v.cache.config v.moment call.key call.op (progress_in v) _ c.line_of-line.ensures.line c.args.supply.row
+    (row_is_there call.key v.cache c.args.supply.row c.requires.ready.row) c.args.supply.values.shown c.and-shown.result
+    c.and-shown.ensures _ c.requires.invoke c.requires.ready.waits.waits c.in_default.not-Load gave.stored gave.shown ∙ c.end-in-Written.ensures.run)
 
 pub returns-in_default-answer-2-clause-next : goal.returns-in_default-answer-2-clause-next
 returns-in_default-answer-2-clause-next g c =
     let v = c.args.visit.now in
     let call = c.args.call.now in
-    writer_failed v.cache.config v.moment call.key call.op (progress_in v) c.line_of-line.result c.line_of-line.ensures c.requires.ready.waits.waits c.args.answer.now c.requires.invoke
+    writer_failed v.cache.config v.moment call.key call.op (progress_in v) _ c.line_of-line.ensures.line c.requires.ready.waits.waits c.args.answer.now c.requires.invoke
     c.in_default.not-Load c.in_default-answer-2.not-Written ∙ ap (ended (progress_in v)) (sym c.fault-in_default-answer-2.ensures)
