@@ -59,8 +59,3 @@ not_invoke o h = grind (arith, common_steps)
 pub line_view : (now : ℕ) (call : KeyCall) (given : List Answer) (w : KeyWait) (moment : ℕ) → w.now ≡ moment → given ≡ [] →
     ◌≡◌ {A = KeyWait} (record { now = now; call = call; given = given }) w → waits_first moment call ≡ w
 line_view now call given w moment at none view = rw (← at, ← view, none)
-
-pub invoke_view : (now : ℕ) (call : KeyCall) (given : List Answer) (w : KeyWait) (moment : ℕ) (processor : ℕ) (argument : List ℕ) → w.now ≡ moment → call.op ≡ op.Invoke processor argument →
-    ◌≡◌ {A = KeyWait} (record { now = now; call = call; given = given }) w →
-    ◌≡◌ {A = KeyWait} (record { now = moment; call = record { key = call.key; op = op.Invoke processor argument }; given = given }) w
-invoke_view now call given w moment processor argument at is view = rw (← at, ← view, is)

@@ -1,21 +1,23 @@
 -- A processor's step: what each answer leads to.
 use Rattle.jc_ops.proofs.Names.{◌≡◌, ℕ, arith, Bool, false, true, List, common_steps, refl, sym, ◌∙◌, ap, Option, Some, None, is_some, Answer, KeyCall, Request, CacheConfig, Line, Item}
-use Rattle.jc_ops.proofs.Names.{row_of, Progress, find_row, purge, Run}
-use Rattle.jc_ops.proofs.Names.{waiting, ended, resume, verdict_of, ended_by, KeyWait, key_run, step, Kept, items_of, FoundRow, given_by, loaded_in, verdict_in, asks_writer, StepWaits}
-use Rattle.jc_ops.proofs.Names.{IsWaiting, stores_by}
+use Rattle.jc_ops.proofs.Names.{Progress, find_row, purge, Run}
+use Rattle.jc_ops.proofs.Names.{waiting, ended, resume, verdict_of, ended_by, KeyWait, key_run, step, FoundRow, given_by, loaded_in, verdict_in, asks_writer, StepWaits}
+use Rattle.jc_ops.proofs.Names.{IsWaiting, stores_by, subst, is_written, answer_run, Visited, progress_in}
 use Rattle.jc_ops.proofs.Names.{hands_by, verdict_line, act_on, judged_on}
 use Rattle.jc_model.specs.declared.call.Answer.TheVariants.{Loaded, Written, Processed}
-use Rattle.jc_model.specs.declared.call.By.TheVariants.{Loader, Writer}
+use Rattle.jc_model.specs.declared.call.By.TheVariants.{Writer}
 use Rattle.jc_model.specs.declared.call.Op.TheVariants.{Invoke}
 use Rattle.jc_model.specs.declared.call.Reply.TheVariants.{Fault}
 use Rattle.jc_model.specs.declared.call.Request.TheVariants.{Process}
 use Rattle.jc_model.specs.declared.call.Verdict.{Verdict}
 use Rattle.std.specs.Prelude.{Ok, ◌||◌}
 use Rattle.jc_model.specs.Run.{answered}
-use Rattle.jc_model.specs.Changes.{miss}
 use Rattle.jc_ops.specs.Lines.{loads_for}
 use Rattle.jc_ops.specs.Verdicts.{awaits_load}
-use Rattle.jc_ops.proofs.Goes.{waits_purged}
+use Rattle.jc_ops.specs.declared.supply.Supply.{Supply}
+use Rattle.jc_state.specs.Noted.{stored_value}
+use Rattle.jc_ops.specs.Carried.{IsReady, judged_run, line_run}
+use Rattle.jc_ops.proofs.Goes.{waits_purged, row_is_there}
 
 -- what its answers say of a step
 pub decided_by : (loaded : Option (Option (List ℕ))) (verdict : Option Verdict) → verdict_in (given_by loaded verdict) ≡ verdict
@@ -69,34 +71,91 @@ module _ (c : CacheConfig) (now : ℕ) (k : List ℕ) where
       act_on c now k row loaded p v ≡ waiting q p' resumed → (a ≡ Written → ⊥) → resume (act_on c now k row loaded p v) a ≡ ended p (Fault Writer None)
   failed row loaded p v q p' resumed a e fails = grind (arith, common_steps)
 
-  -- A step that waits, by what it was given.
+-- A step that waits, by what it was given.
 
-  module _ (processor : ℕ) (argument : List ℕ) (p : Progress) where
-    abbrev pub wait : Option (Option (List ℕ)) → Option Verdict → KeyWait
-    wait loaded verdict = record { now = now; call = record { key = k; op = Invoke processor argument }; given = given_by loaded verdict }
+abbrev wait : ℕ → List ℕ → ℕ → List ℕ → Option (Option (List ℕ)) → Option Verdict → KeyWait
+wait now k processor argument loaded verdict = record { now = now; call = record { key = k; op = Invoke processor argument }; given = given_by loaded verdict }
 
-    module _ (h : IsWaiting c p (wait None None)) (absent : find_row k p ≡ None) (wants : loads_for c processor ≡ true) where
-      pub loader_failed : (a : Answer) → ((loaded : Option (List ℕ)) → a ≡ Loaded loaded → ⊥) → resume (key_run c p (wait None None)) a ≡ ended (miss p) (Fault Loader None)
-      loader_failed a fails = let gone : purge c now k p ≡ p = waits_purged c p (wait None None) h in grind (arith, common_steps)
+module _ (c : CacheConfig) (now : ℕ) (k : List ℕ) (processor : ℕ) (argument : List ℕ) (p : Progress) where
+  goes_on : (loaded : Option (List ℕ)) → purge c now k p ≡ p → IsWaiting c p (wait now k processor argument None None) → find_row k p ≡ None → loads_for c processor ≡ true →
+      StepWaits c p (Process k processor loaded argument) (wait now k processor argument (Some loaded) None) (resume (key_run c p (wait now k processor argument None None)) (Loaded loaded))
+  goes_on loaded gone h absent wants = grind (arith, common_steps)
 
-      pub loader_gave : (loaded : Option (List ℕ)) → StepWaits c p (Process k processor loaded argument) (wait (Some loaded) None) (resume (key_run c p (wait None None)) (Loaded loaded))
-      loader_gave loaded = let gone : purge c now k p ≡ p = waits_purged c p (wait None None) h in grind (arith, common_steps)
+  judged : (loaded : Option (Option (List ℕ))) (a : Answer) → purge c now k p ≡ p → IsWaiting c p (wait now k processor argument loaded None) → (find_row k p ≡ None → loaded ≡ None → loads_for c processor ≡ false) →
+      resume (key_run c p (wait now k processor argument loaded None)) a ≡ judged_on c now k (find_row k p) (loaded_in (given_by loaded None)) p (verdict_of a)
+  judged loaded a gone h asks = grind (arith, common_steps)
 
-    module _ (loaded : Option (Option (List ℕ))) where
-      pub processor_answered : (a : Answer) → IsWaiting c p (wait loaded None) → awaits_load c processor (is_some (find_row k p) || is_some loaded) ≡ false →
-          resume (key_run c p (wait loaded None)) a ≡ judged_on c now k (find_row k p) (loaded_in (given_by loaded None)) p (verdict_of a)
-      processor_answered a h unasked = let asks = unawaited c processor (find_row k p) loaded unasked in let gone : purge c now k p ≡ p = waits_purged c p (wait loaded None) h in grind
-          (arith, common_steps)
+  acts : (loaded : Option (Option (List ℕ))) (v : Verdict) → purge c now k p ≡ p → IsWaiting c p (wait now k processor argument loaded (Some v)) →
+      key_run c p (wait now k processor argument loaded (Some v)) ≡ act_on c now k (find_row k p) (loaded_in (given_by loaded (Some v))) p v
+  acts loaded v gone h = grind (arith, common_steps)
 
-      module _ (v : Verdict) (h : IsWaiting c p (wait loaded (Some v))) where
-        acts : key_run c p (wait loaded (Some v)) ≡ act_on c now k (find_row k p) (loaded_in (given_by loaded (Some v))) p v
-        acts = let gone : purge c now k p ≡ p = waits_purged c p (wait loaded (Some v)) h in grind (arith, common_steps)
+-- By what the code has of such a step on a visit.
 
-        pub writer_failed : (a : Answer) → (a ≡ Written → ⊥) → resume (key_run c p (wait loaded (Some v))) a ≡ ended p (Fault Writer None)
-        writer_failed a fails = rw acts (failed (find_row k p) (loaded_in (given_by loaded (Some v))) p v h.request p h.resumed a (rw acts at h.run_is) fails)
+module _ (v : Visited) (now : ℕ) (call : KeyCall) (loaded : Option (Option (List ℕ))) (verdict : Option Verdict) (w : KeyWait) (view : ◌≡◌ {A = KeyWait} (record { now = now; call = call; given = given_by loaded verdict }) w)
+    (n : ℕ) (a : Answer) (s : Supply) (ready : IsReady v n w a s) where
+  abbrev p : Progress
+  p = progress_in v
 
-        pub writer_agreed : (there : Bool) (l : Line) (stored : Option (List ℕ)) → is_some (find_row k p) ≡ there → l ≡ verdict_line v.action there →
-            stored ≡ stores_by false (loaded_in (given_by loaded (Some v))) v.action →
-            resume (key_run c p (wait loaded (Some v))) Written ≡ ended_by c now k l (find_row k p) stored v.answer p
-        writer_agreed there l stored has line stores = rw acts (agreed (find_row k p) (loaded_in (given_by loaded (Some v))) p v there has l line h.request p h.resumed stored
-            (rw acts at h.run_is) stores)
+  has : is_some (find_row call.key p) ≡ is_some s.row
+  has = row_is_there call.key v.cache s.row (subst (λ (k : List ℕ). FoundRow k v.cache s.row) (sym (ap (λ (x : KeyWait). x.call.key) view)) ready.row)
+
+  -- the processor has answered
+  module _ (undecided : verdict_in w.given ≡ None) (means : answer_run v w a ≡ judged_run v w (verdict_of a)) (d : Verdict) (gave : a ≡ Processed (Ok d)) (l : Line) (line : l ≡ verdict_line d.action (is_some s.row))
+      (f : CacheConfig) (same : f ≡ v.cache.config) where
+    decides : answer_run v w a ≡ act_on v.cache.config v.moment call.key (find_row call.key p) (loaded_in w.given) p d
+    decides = rw (ap (λ (x : KeyWait). x.call.key) view) (means ∙ ap (judged_run v w) (ap verdict_of gave))
+
+    pub verdict_ends : asks_writer f call.key l.asks s.values.copy ≡ None → answer_run v w a ≡ line_run v call.key l s.values
+    verdict_ends asks =
+        let cov = ready.covered.judged d (ap verdict_of gave) in
+        decides ∙ rw cov.shown (acts_at_once v.cache.config v.moment call.key (find_row call.key p) (loaded_in w.given) p d (is_some s.row) has l line f same s.values.copy cov.copy _ asks cov.stored)
+
+    pub verdict_waits : (q : Request) → asks_writer f call.key l.asks s.values.copy ≡ Some q → StepWaits v.cache.config p q (record { now = now; call = call; given = given_by loaded (Some d) }) (answer_run v w a)
+    verdict_waits q asks =
+        let cov = ready.covered.judged d (ap verdict_of gave) in
+        let after = once_decided v.cache.config p now call loaded verdict w d a view undecided gave in
+        subst (λ (run : Run). StepWaits v.cache.config p q (record { now = now; call = call; given = given_by loaded (Some d) }) run) after
+        (acts_waiting v.cache.config v.moment call.key (find_row call.key p) (loaded_in w.given) p d (is_some s.row) has l line f same s.values.copy cov.copy q _ asks (after ∙ decides))
+
+  module _ (processor : ℕ) (argument : List ℕ) (invoke : w.call.op ≡ Invoke processor argument) where
+    abbrev is : Option (Option (List ℕ)) → Option Verdict → KeyWait
+    is = wait v.moment call.key processor argument
+
+    same : (l : Option (Option (List ℕ))) (d : Option Verdict) → loaded ≡ l → verdict ≡ d → is l d ≡ w
+    same l d gave decided = rw (← ready.waits.moment, ← view, ap (λ (x : KeyWait). x.call.op) view ∙ invoke, gave, decided)
+
+    waits : (l : Option (Option (List ℕ))) (d : Option Verdict) → loaded ≡ l → verdict ≡ d → IsWaiting v.cache.config p (is l d)
+    waits l d gave decided = subst (λ (x : KeyWait). IsWaiting v.cache.config p x) (sym (same l d gave decided)) ready.waits.waits
+
+    pub loader_gave : (o : Option (List ℕ)) → a ≡ Loaded o → verdict ≡ None → awaits_load v.cache.config processor (is_some s.row || is_some loaded) ≡ true →
+        StepWaits v.cache.config p (Process call.key processor o argument) (record { now = now; call = call; given = given_by (Some o) verdict }) (answer_run v w a)
+    loader_gave o gave none asks =
+        let free = awaited v.cache.config processor (find_row call.key p) loaded (rw has asks) in
+        let h = waits None None free.1 none in
+        let asked : is (Some o) None ≡ record { now = now; call = call; given = given_by (Some o) verdict } =
+        rw (← ready.waits.moment, ← view, ap (λ (x : KeyWait). x.call.op) view ∙ invoke, none) in
+        subst (λ (x : KeyWait). StepWaits v.cache.config p (Process call.key processor o argument) x (answer_run v w a)) asked (rw (gave, ← same None None free.1 none)
+        (goes_on v.cache.config v.moment call.key processor argument p o (waits_purged v.cache.config p (is None None) h) h free.0 free.2))
+
+    pub processor_answered : verdict ≡ None → awaits_load v.cache.config processor (is_some s.row || is_some loaded) ≡ false → answer_run v w a ≡ judged_run v w (verdict_of a)
+    processor_answered none asks =
+        let h = waits loaded None refl none in
+        rw (← same loaded None refl none) (judged v.cache.config v.moment call.key processor argument p loaded a (waits_purged v.cache.config p (is loaded None) h) h
+        (unawaited v.cache.config processor (find_row call.key p) loaded (rw has asks)))
+
+    module _ (d : Verdict) (decided : verdict ≡ Some d) where
+      h : IsWaiting v.cache.config p (is loaded (Some d))
+      h = waits loaded (Some d) refl decided
+
+      run : key_run v.cache.config p (is loaded (Some d)) ≡ act_on v.cache.config v.moment call.key (find_row call.key p) (loaded_in (given_by loaded (Some d))) p d
+      run = acts v.cache.config v.moment call.key processor argument p loaded d (waits_purged v.cache.config p (is loaded (Some d)) h) h
+
+      pub writer_failed : (a ≡ Written → ⊥) → answer_run v w a ≡ ended p (Fault Writer None)
+      writer_failed fails = rw (← same loaded (Some d) refl decided, run) (failed v.cache.config v.moment call.key (find_row call.key p) (loaded_in (given_by loaded (Some d))) p d h.request p h.resumed a (rw run at h.run_is) fails)
+
+      pub writer_agreed : (l : Line) → a ≡ Written → l ≡ verdict_line d.action (is_some s.row) → answer_run v w a ≡ line_run v call.key l s.values
+      writer_agreed l wrote line =
+          let gave = ready.covered.agreed (ap is_written wrote) d (ap (λ (x : KeyWait). verdict_in x.given) (sym (same loaded (Some d) refl decided)) ∙ decided_by loaded (Some d)) in
+          let stores = subst (λ (x : KeyWait). stored_value s.values.stored ≡ stores_by false (loaded_in x.given) d.action) (sym (same loaded (Some d) refl decided)) gave.stored in
+          rw (wrote, ← same loaded (Some d) refl decided, run, gave.shown) (agreed v.cache.config v.moment call.key (find_row call.key p) (loaded_in (given_by loaded (Some d))) p d (is_some s.row) has l line
+          h.request p h.resumed (stored_value s.values.stored) (rw run at h.run_is) stores)

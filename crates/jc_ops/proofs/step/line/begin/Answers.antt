@@ -1,4 +1,4 @@
-use Rattle.jc_ops.proofs.Names.{◌≡◌, ◌<◌, ◌+◌, if◌then◌else◌, told_on, sym, ◌∙◌, ap, subst, arith, Bool, List, Option, Some, is_some, Item, row_of, Run, StepWaits, find_row, purge, step, waits_first, items_of, progress_in}
+use Rattle.jc_ops.proofs.Names.{◌≡◌, ◌<◌, ◌+◌, if◌then◌else◌, told_on, sym, ◌∙◌, ap, subst, arith, Some, is_some, Item, row_of, Run, StepWaits, find_row, purge, step, waits_first, items_of, progress_in}
 use Rattle.jc_model.proofs.Purge.{purged_row, purge-again, step-purged}
 use Rattle.jc_state.proofs.VisitLaws.{same_on}
 use Rattle.jc_ops.specs.Supply.{most_told_in}
