@@ -23,16 +23,9 @@ use Rattle.jc_ops.proofs.Goes.{waits_purged, row_is_there}
 pub decided_by : (loaded : Option (Option (List ℕ))) (verdict : Option Verdict) → verdict_in (given_by loaded verdict) ≡ verdict
 decided_by loaded verdict = grind (arith, common_steps)
 
+-- the step with its verdict is the one that has one answer more
 with_verdict : (run : Run) (loaded : Option (Option (List ℕ))) (v : Verdict) → answered run (given_by loaded (Some v)) ≡ resume (answered run (given_by loaded None)) (Processed (Ok v))
 with_verdict run loaded v = grind (arith, common_steps)
-
--- the step with its verdict is the one that has one answer more
-pub once_decided : (c : CacheConfig) (p : Progress) (now : ℕ) (call : KeyCall) (loaded : Option (Option (List ℕ))) (verdict : Option Verdict) (w : KeyWait) (v : Verdict) (a : Answer) →
-    ◌≡◌ {A = KeyWait} (record { now = now; call = call; given = given_by loaded verdict }) w → verdict_in w.given ≡ None → a ≡ Processed (Ok v) →
-    key_run c p (record { now = now; call = call; given = given_by loaded (Some v) }) ≡ resume (key_run c p w) a
-once_decided c p now call loaded verdict w v a view none is =
-    let undecided : verdict ≡ None = sym (decided_by loaded verdict) ∙ (ap (λ (x : KeyWait). verdict_in x.given) view ∙ none) in
-    rw (← view, is, undecided) (with_verdict (step c now call p) loaded v)
 
 -- whether the loader is awaited
 
@@ -41,10 +34,6 @@ pub awaited : (c : CacheConfig) (processor : ℕ) (row : Option Item) (loaded : 
 awaited c processor None None h = (refl, refl, h)
 awaited c processor None (Some l) h = cc
 awaited c processor (Some x) loaded h = cc
-
-unawaited : (c : CacheConfig) (processor : ℕ) (row : Option Item) (loaded : Option (Option (List ℕ))) → awaits_load c processor (is_some row || is_some loaded) ≡ false → row ≡ None →
-    loaded ≡ None → loads_for c processor ≡ false
-unawaited c processor row loaded h absent none = grind (arith, common_steps)
 
 -- by what the code has of the row and the answer
 pub awaits_by : (c f : CacheConfig) (processor : ℕ) (there answered x y r : Bool) → f ≡ c → there ≡ x → answered ≡ y → r ≡ awaits_load f processor (x || y) →
@@ -63,31 +52,28 @@ module _ (c : CacheConfig) (now : ℕ) (k : List ℕ) where
       pub acts_waiting : (q : Request) (u : KeyWait) → asks_writer f k l.asks copy ≡ Some q → key_run c p u ≡ act_on c now k row loaded p v → StepWaits c p q u (key_run c p u)
       acts_waiting q u asks means = grind (arith, common_steps)
 
-    agreed : (q : Request) (p' : Progress) (resumed : Answer → Run) (stored : Option (List ℕ)) → act_on c now k row loaded p v ≡ waiting q p' resumed → stored ≡ stores_by false loaded v.action →
-        resume (act_on c now k row loaded p v) Written ≡ ended_by c now k l row stored v.answer p
-    agreed q p' resumed stored e stores = grind (arith, common_steps)
-
-  failed : (row : Option Item) (loaded : Option (List ℕ)) (p : Progress) (v : Verdict) (q : Request) (p' : Progress) (resumed : Answer → Run) (a : Answer) →
-      act_on c now k row loaded p v ≡ waiting q p' resumed → (a ≡ Written → ⊥) → resume (act_on c now k row loaded p v) a ≡ ended p (Fault Writer None)
-  failed row loaded p v q p' resumed a e fails = grind (arith, common_steps)
-
 -- A step that waits, by what it was given.
 
 abbrev wait : ℕ → List ℕ → ℕ → List ℕ → Option (Option (List ℕ)) → Option Verdict → KeyWait
 wait now k processor argument loaded verdict = record { now = now; call = record { key = k; op = Invoke processor argument }; given = given_by loaded verdict }
 
-module _ (c : CacheConfig) (now : ℕ) (k : List ℕ) (processor : ℕ) (argument : List ℕ) (p : Progress) where
-  goes_on : (loaded : Option (List ℕ)) → purge c now k p ≡ p → IsWaiting c p (wait now k processor argument None None) → find_row k p ≡ None → loads_for c processor ≡ true →
+module _ (c : CacheConfig) (now : ℕ) (k : List ℕ) (processor : ℕ) (argument : List ℕ) (p : Progress) (gone : purge c now k p ≡ p) where
+  goes_on : (loaded : Option (List ℕ)) → IsWaiting c p (wait now k processor argument None None) → find_row k p ≡ None → loads_for c processor ≡ true →
       StepWaits c p (Process k processor loaded argument) (wait now k processor argument (Some loaded) None) (resume (key_run c p (wait now k processor argument None None)) (Loaded loaded))
-  goes_on loaded gone h absent wants = grind (arith, common_steps)
+  goes_on loaded h absent wants = grind (arith, common_steps)
 
-  judged : (loaded : Option (Option (List ℕ))) (a : Answer) → purge c now k p ≡ p → IsWaiting c p (wait now k processor argument loaded None) → (find_row k p ≡ None → loaded ≡ None → loads_for c processor ≡ false) →
-      resume (key_run c p (wait now k processor argument loaded None)) a ≡ judged_on c now k (find_row k p) (loaded_in (given_by loaded None)) p (verdict_of a)
-  judged loaded a gone h asks = grind (arith, common_steps)
+  module _ (loaded : Option (Option (List ℕ))) where
+    judged : (a : Answer) → IsWaiting c p (wait now k processor argument loaded None) → awaits_load c processor (is_some (find_row k p) || is_some loaded) ≡ false →
+        resume (key_run c p (wait now k processor argument loaded None)) a ≡ judged_on c now k (find_row k p) (loaded_in (given_by loaded None)) p (verdict_of a)
+    judged a h asks = grind (arith, common_steps)
 
-  acts : (loaded : Option (Option (List ℕ))) (v : Verdict) → purge c now k p ≡ p → IsWaiting c p (wait now k processor argument loaded (Some v)) →
-      key_run c p (wait now k processor argument loaded (Some v)) ≡ act_on c now k (find_row k p) (loaded_in (given_by loaded (Some v))) p v
-  acts loaded v gone h = grind (arith, common_steps)
+    module _ (v : Verdict) (h : IsWaiting c p (wait now k processor argument loaded (Some v))) where
+      failed : (a : Answer) → (a ≡ Written → ⊥) → resume (key_run c p (wait now k processor argument loaded (Some v))) a ≡ ended p (Fault Writer None)
+      failed a fails = grind (arith, common_steps)
+
+      agreed : (l : Line) (stored : Option (List ℕ)) → l ≡ verdict_line v.action (is_some (find_row k p)) → stored ≡ stores_by false (loaded_in (given_by loaded (Some v))) v.action →
+          resume (key_run c p (wait now k processor argument loaded (Some v))) Written ≡ ended_by c now k l (find_row k p) stored v.answer p
+      agreed l stored line stores = grind (arith, common_steps)
 
 -- By what the code has of such a step on a visit.
 
@@ -113,7 +99,8 @@ module _ (v : Visited) (now : ℕ) (call : KeyCall) (loaded : Option (Option (Li
     pub verdict_waits : (q : Request) → asks_writer f call.key l.asks s.values.copy ≡ Some q → StepWaits v.cache.config p q (record { now = now; call = call; given = given_by loaded (Some d) }) (answer_run v w a)
     verdict_waits q asks =
         let cov = ready.covered.judged d (ap verdict_of gave) in
-        let after = once_decided v.cache.config p now call loaded verdict w d a view undecided gave in
+        let none : verdict ≡ None = sym (decided_by loaded verdict) ∙ (ap (λ (x : KeyWait). verdict_in x.given) view ∙ undecided) in
+        let after : key_run v.cache.config p (record { now = now; call = call; given = given_by loaded (Some d) }) ≡ answer_run v w a = rw (← view, gave, none) (with_verdict (step v.cache.config now call p) loaded d) in
         subst (λ (run : Run). StepWaits v.cache.config p q (record { now = now; call = call; given = given_by loaded (Some d) }) run) after
         (acts_waiting v.cache.config v.moment call.key (find_row call.key p) (loaded_in w.given) p d (is_some s.row) has l line f same s.values.copy cov.copy q _ asks (after ∙ decides))
 
@@ -127,35 +114,31 @@ module _ (v : Visited) (now : ℕ) (call : KeyCall) (loaded : Option (Option (Li
     waits : (l : Option (Option (List ℕ))) (d : Option Verdict) → loaded ≡ l → verdict ≡ d → IsWaiting v.cache.config p (is l d)
     waits l d gave decided = subst (λ (x : KeyWait). IsWaiting v.cache.config p x) (sym (same l d gave decided)) ready.waits.waits
 
+    gone : (l : Option (Option (List ℕ))) (d : Option Verdict) → loaded ≡ l → verdict ≡ d → purge v.cache.config v.moment call.key p ≡ p
+    gone l d gave decided = waits_purged v.cache.config p (is l d) (waits l d gave decided)
+
     pub loader_gave : (o : Option (List ℕ)) → a ≡ Loaded o → verdict ≡ None → awaits_load v.cache.config processor (is_some s.row || is_some loaded) ≡ true →
         StepWaits v.cache.config p (Process call.key processor o argument) (record { now = now; call = call; given = given_by (Some o) verdict }) (answer_run v w a)
     loader_gave o gave none asks =
         let free = awaited v.cache.config processor (find_row call.key p) loaded (rw has asks) in
-        let h = waits None None free.1 none in
         let asked : is (Some o) None ≡ record { now = now; call = call; given = given_by (Some o) verdict } =
-        rw (← ready.waits.moment, ← view, ap (λ (x : KeyWait). x.call.op) view ∙ invoke, none) in
+            rw (← ready.waits.moment, ← view, ap (λ (x : KeyWait). x.call.op) view ∙ invoke, none) in
         subst (λ (x : KeyWait). StepWaits v.cache.config p (Process call.key processor o argument) x (answer_run v w a)) asked (rw (gave, ← same None None free.1 none)
-        (goes_on v.cache.config v.moment call.key processor argument p o (waits_purged v.cache.config p (is None None) h) h free.0 free.2))
+            (goes_on v.cache.config v.moment call.key processor argument p (gone None None free.1 none) o (waits None None free.1 none) free.0 free.2))
 
     pub processor_answered : verdict ≡ None → awaits_load v.cache.config processor (is_some s.row || is_some loaded) ≡ false → answer_run v w a ≡ judged_run v w (verdict_of a)
-    processor_answered none asks =
-        let h = waits loaded None refl none in
-        rw (← same loaded None refl none) (judged v.cache.config v.moment call.key processor argument p loaded a (waits_purged v.cache.config p (is loaded None) h) h
-        (unawaited v.cache.config processor (find_row call.key p) loaded (rw has asks)))
+    processor_answered none asks = rw (← same loaded None refl none)
+        (judged v.cache.config v.moment call.key processor argument p (gone loaded None refl none) loaded a (waits loaded None refl none) (rw has asks))
 
     module _ (d : Verdict) (decided : verdict ≡ Some d) where
-      h : IsWaiting v.cache.config p (is loaded (Some d))
-      h = waits loaded (Some d) refl decided
-
-      run : key_run v.cache.config p (is loaded (Some d)) ≡ act_on v.cache.config v.moment call.key (find_row call.key p) (loaded_in (given_by loaded (Some d))) p d
-      run = acts v.cache.config v.moment call.key processor argument p loaded d (waits_purged v.cache.config p (is loaded (Some d)) h) h
-
       pub writer_failed : (a ≡ Written → ⊥) → answer_run v w a ≡ ended p (Fault Writer None)
-      writer_failed fails = rw (← same loaded (Some d) refl decided, run) (failed v.cache.config v.moment call.key (find_row call.key p) (loaded_in (given_by loaded (Some d))) p d h.request p h.resumed a (rw run at h.run_is) fails)
+      writer_failed fails = rw (← same loaded (Some d) refl decided)
+          (failed v.cache.config v.moment call.key processor argument p (gone loaded (Some d) refl decided) loaded d (waits loaded (Some d) refl decided) a fails)
 
       pub writer_agreed : (l : Line) → a ≡ Written → l ≡ verdict_line d.action (is_some s.row) → answer_run v w a ≡ line_run v call.key l s.values
       writer_agreed l wrote line =
-          let gave = ready.covered.agreed (ap is_written wrote) d (ap (λ (x : KeyWait). verdict_in x.given) (sym (same loaded (Some d) refl decided)) ∙ decided_by loaded (Some d)) in
-          let stores = subst (λ (x : KeyWait). stored_value s.values.stored ≡ stores_by false (loaded_in x.given) d.action) (sym (same loaded (Some d) refl decided)) gave.stored in
-          rw (wrote, ← same loaded (Some d) refl decided, run, gave.shown) (agreed v.cache.config v.moment call.key (find_row call.key p) (loaded_in (given_by loaded (Some d))) p d (is_some s.row) has l line
-          h.request p h.resumed (stored_value s.values.stored) (rw run at h.run_is) stores)
+          let here = same loaded (Some d) refl decided in
+          let gave = ready.covered.agreed (ap is_written wrote) d (ap (λ (x : KeyWait). verdict_in x.given) (sym here) ∙ decided_by loaded (Some d)) in
+          let stores = subst (λ (x : KeyWait). stored_value s.values.stored ≡ stores_by false (loaded_in x.given) d.action) (sym here) gave.stored in
+          rw (wrote, ← here, gave.shown) (agreed v.cache.config v.moment call.key processor argument p (gone loaded (Some d) refl decided) loaded d (waits loaded (Some d) refl decided) l
+              (stored_value s.values.stored) (rw has line) stores)
