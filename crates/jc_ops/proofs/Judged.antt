@@ -12,8 +12,7 @@ use Rattle.jc_model.specs.declared.call.Request.TheVariants.{Process}
 use Rattle.jc_model.specs.declared.call.Verdict.{Verdict}
 use Rattle.std.specs.Prelude.{Ok, ◌||◌}
 use Rattle.jc_model.specs.Run.{answered}
-use Rattle.jc_ops.specs.Lines.{loads_for}
-use Rattle.jc_ops.specs.Verdicts.{awaits_load}
+use Rattle.jc_ops.specs.Lines.{awaits_load, loads_for}
 use Rattle.jc_ops.specs.declared.supply.Supply.{Supply}
 use Rattle.jc_state.specs.Noted.{stored_value}
 use Rattle.jc_ops.specs.Carried.{IsReady, judged_run, line_run}
@@ -122,9 +121,9 @@ module _ (v : Visited) (now : ℕ) (call : KeyCall) (loaded : Option (Option (Li
     loader_gave o gave none asks =
         let free = awaited v.cache.config processor (find_row call.key p) loaded (rw has asks) in
         let asked : is (Some o) None ≡ record { now = now; call = call; given = given_by (Some o) verdict } =
-            rw (← ready.waits.moment, ← view, ap (λ (x : KeyWait). x.call.op) view ∙ invoke, none) in
+        rw (← ready.waits.moment, ← view, ap (λ (x : KeyWait). x.call.op) view ∙ invoke, none) in
         subst (λ (x : KeyWait). StepWaits v.cache.config p (Process call.key processor o argument) x (answer_run v w a)) asked (rw (gave, ← same None None free.1 none)
-            (goes_on v.cache.config v.moment call.key processor argument p (gone None None free.1 none) o (waits None None free.1 none) free.0 free.2))
+        (goes_on v.cache.config v.moment call.key processor argument p (gone None None free.1 none) o (waits None None free.1 none) free.0 free.2))
 
     pub processor_answered : verdict ≡ None → awaits_load v.cache.config processor (is_some s.row || is_some loaded) ≡ false → answer_run v w a ≡ judged_run v w (verdict_of a)
     processor_answered none asks = rw (← same loaded None refl none)
@@ -141,4 +140,4 @@ module _ (v : Visited) (now : ℕ) (call : KeyCall) (loaded : Option (Option (Li
           let gave = ready.covered.agreed (ap is_written wrote) d (ap (λ (x : KeyWait). verdict_in x.given) (sym here) ∙ decided_by loaded (Some d)) in
           let stores = subst (λ (x : KeyWait). stored_value s.values.stored ≡ stores_by false (loaded_in x.given) d.action) (sym here) gave.stored in
           rw (wrote, ← here, gave.shown) (agreed v.cache.config v.moment call.key processor argument p (gone loaded (Some d) refl decided) loaded d (waits loaded (Some d) refl decided) l
-              (stored_value s.values.stored) (rw has line) stores)
+          (stored_value s.values.stored) (rw has line) stores)

@@ -100,10 +100,13 @@ asks_writer c k asks v = if c.writer then written_by k asks v else None
 abbrev pub loads_for : CacheConfig → ℕ → Bool
 loads_for c processor = if slice_index_or c.processors processor false then c.loader else false
 
+-- and it is awaited: the key has no row, and it has not yet answered, so that the entry is not known
+abbrev pub awaits_load : CacheConfig → ℕ → Bool → Bool
+awaits_load c processor known = if known then false else loads_for c processor
+
 abbrev pub asks_processor : CacheConfig → List ℕ → ℕ → List ℕ → Option (List ℕ) → Request
-asks_processor c k processor argument (Some live) = request.Process k processor (Some live) argument
-asks_processor c k processor argument None =
-    if loads_for c processor then request.Load k else request.Process k processor None argument
+asks_processor c k processor argument live =
+    if awaits_load c processor (is_some live) then request.Load k else request.Process k processor live argument
 
 abbrev pub asks_hook : CacheConfig → List ℕ → Ask → Option (List ℕ) → Option Request
 asks_hook c k ask.Load v = if c.loader then Some (request.Load k) else None

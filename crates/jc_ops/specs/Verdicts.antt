@@ -12,7 +12,6 @@ use Rattle.jc_model.specs.Changes.{Progress}
 use Rattle.jc_model.specs.Run.{Run, ended}
 use Rattle.jc_model.specs.Step.{counted, act_live, act_absent}
 use Rattle.jc_model.specs.Table.{live_verdict, absent_verdict}
-use Rattle.jc_ops.specs.Lines.{loads_for}
 
 -- the value that is stored at once; where the writer is asked, it is stored when the writer has agreed
 abbrev pub stores_by : Bool → Option (List ℕ) → Action → Option (List ℕ)
@@ -30,10 +29,6 @@ hands_by writer Remove = None
 abbrev pub verdict_line : Action → Bool → Line
 verdict_line action true = live_verdict action
 verdict_line action false = absent_verdict action
-
--- the loader is awaited: the key has no row, and it has not yet answered, so that the entry is not known
-abbrev pub awaits_load : CacheConfig → ℕ → Bool → Bool
-awaits_load c processor known = if known then false else loads_for c processor
 
 module _ (c : CacheConfig) (now : ℕ) (k : List ℕ) where
   -- a verdict, where the key has this row, if any, and its loader gave this value, if any

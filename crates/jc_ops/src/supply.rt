@@ -14,7 +14,7 @@ ghost use Rattle.jc_ops.specs.Supply.{CoversIn, CoversAnswerIn};
 ghost use Rattle.jc_ops.specs.Supply.{HasPlacesFor, HasRoomFor, HasRoomAt};
 
 use crate::step::KeyStep;
-use crate::supply::needs::{adds, adds_at};
+use crate::supply::needs::adds_at;
 pub use crate::supply::needs::{asks_no_one, creates, most_notices, takes_value};
 use crate::supply::values::Values;
 use jc_model::OutOfMemory;
@@ -50,7 +50,8 @@ impl Supply {
         let there = visit.has_live(row);
         let writer = visit.config().writer;
         visit.reserve_notices(most_notices(&call.op, there))?;
-        visit.reserve_rows(usize::from(adds(there, writer, &call.op)))?;
+        let adds = !there && !writer && creates(&call.op);
+        visit.reserve_rows(usize::from(adds))?;
         let values = Values::for_call(visit, row, call, writer)?;
         Ok(Supply { row, values })
     }

@@ -8,16 +8,14 @@ ghost use Rattle.jc_ops.specs.Carried.{IsReady, judged_run};
 ghost use Rattle.jc_ops.specs.Given.{verdict_in};
 ghost use Rattle.jc_ops.specs.Lines.{is_invoke, told_of};
 ghost use Rattle.jc_ops.specs.Stepped.{StepsFrom, StaysAt, answer_run};
-ghost use Rattle.jc_ops.specs.Verdicts.{verdict_line, awaits_load};
+ghost use Rattle.jc_ops.specs.Verdicts.{verdict_line};
 
 use crate::step::change::{count, end};
 use crate::step::reply::fault;
-use crate::step::request::{ask_writer, loads_for, process};
+use crate::step::request::{ask_writer, awaits_load, process};
 use crate::step::{KeyStep, Next};
 use crate::supply::Supply;
-use crate::supply::values::Values;
 use jc_model::call::{Action, Answer, By};
-use jc_model::config::CacheConfig;
 use jc_model::table::{Line, absent_verdict, live_verdict};
 use jc_ring::ring::Ring;
 use jc_rows::rows::Rows;
@@ -34,20 +32,12 @@ fn verdict_line(action: &Action, there: bool) -> Line
     }
 }
 
-/// Whether a processor's step waits for the loader: its key has no row, and the loader has not answered, so its entry is
-/// not known.
-fn awaits_load(config: &CacheConfig, processor: u8, known: bool) -> bool
-    ensures { result ≡ awaits_load config.now processor known }
-{
-    !known && loads_for(config, processor)
-}
-
 /// The processor's answer: its verdict is carried out, where the writer is not asked before.
 fn answer_process<R: Rows, G: Ring>(
     visit: &mut Visit<R, G>,
     step: KeyStep,
     answer: Answer,
-    supply: Supply,
+    mut supply: Supply,
 ) -> Next<KeyStep>
     requires invoke { is_invoke step.call.op ≡ true }
     requires undecided { verdict_in step.given ≡ None }
@@ -58,36 +48,24 @@ fn answer_process<R: Rows, G: Ring>(
     ensures next { StepsFrom visit.old (answer_run visit.old step answer) result visit.new }
     ensures call_stays { StaysAt step.now step.call result }
 {
-    let Supply { row, values } = supply;
     let verdict = match answer {
         Answer::Processed(Ok(verdict)) => verdict,
         _ => {
-            count(visit, true, row.is_some());
-            drop((step, values));
+            count(visit, true, supply.row.is_some());
+            drop((step, supply));
             return Next::Ended(fault(By::Processor, None));
         }
     };
-    let line = verdict_line(&verdict.action, row.is_some());
-    let Values {
-        stored,
-        shown,
-        copy,
-        entry,
-    } = values;
+    let line = verdict_line(&verdict.action, supply.row.is_some());
+    let copy = supply.values.copy.take();
     match ask_writer(visit.config(), &step.call.key, line.asks, copy) {
         Some(request) => {
-            drop((stored, shown, entry));
+            drop(supply);
             let verdict = Some(verdict);
             Next::Waiting(request, KeyStep { verdict, ..step })
         }
         None => {
-            let values = Values {
-                stored,
-                shown,
-                copy: None,
-                entry,
-            };
-            let reply = end(visit, &step.call.key, line, Supply { row, values });
+            let reply = end(visit, &step.call.key, line, supply);
             drop((step, verdict));
             Next::Ended(reply)
         }
@@ -136,8 +114,7 @@ pub(super) fn answer_invoke<R: Rows, G: Ring>(
                 }
             };
             let Supply { values, .. } = supply;
-            let Values { copy, entry, .. } = values;
-            match process(&step.call.key, processor, entry, copy) {
+            match process(&step.call.key, processor, values.entry, values.copy) {
                 Some(request) => {
                     let loaded = Some(loaded);
                     Next::Waiting(request, KeyStep { loaded, ..step })

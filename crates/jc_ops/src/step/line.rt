@@ -12,7 +12,6 @@ use crate::step::change::{count, end};
 use crate::step::reply::fault;
 use crate::step::{KeyStep, Next};
 use crate::supply::Supply;
-use crate::supply::values::Values;
 use jc_model::call::{Answer, By, KeyCall};
 use jc_model::table::{Ask, Line, absent_line, expected, live_line, otherwise};
 use jc_ring::ring::Ring;
@@ -70,7 +69,7 @@ pub(super) fn answer_line<R: Rows, G: Ring>(
     visit: &mut Visit<R, G>,
     call: &KeyCall,
     answer: &Answer,
-    supply: Supply,
+    mut supply: Supply,
 ) -> Next<KeyStep>
     requires invoke { is_invoke call.now.op ≡ false }
     requires ready { IsReady visit.old (told_on (is_some supply.row) call.now.op)
@@ -94,10 +93,8 @@ pub(super) fn answer_line<R: Rows, G: Ring>(
         },
         _ => match answer {
             Answer::Written => {
-                let Supply { row, values } = supply;
-                let shown = row.and(values.shown);
-                let values = Values { shown, ..values };
-                Next::Ended(end(visit, &call.key, line, Supply { row, values }))
+                supply.values.shown = supply.row.and(supply.values.shown.take());
+                Next::Ended(end(visit, &call.key, line, supply))
             }
             _ => {
                 drop(supply);

@@ -1,6 +1,6 @@
 //! What a step asks its hooks.
 ghost use Rattle.std.specs.Prelude.{◌≡◌, ℕ, List, true, Some};
-ghost use Rattle.jc_ops.specs.Lines.{handed, loads_for, asks_writer, first_request};
+ghost use Rattle.jc_ops.specs.Lines.{handed, awaits_load, asks_writer, first_request};
 
 use jc_model::call::{KeyCall, Op, Request};
 use jc_model::config::CacheConfig;
@@ -30,10 +30,14 @@ pub(crate) fn ask_writer(
     }
 }
 
-/// Whether the loader is asked before this processor, where the key has no row.
-pub(crate) fn loads_for(config: &CacheConfig, processor: u8) -> bool
-    ensures { result ≡ loads_for config.now processor }
+/// Whether the loader is asked before this processor: not where the key's entry is known, by its row or by the loader's
+/// answer.
+pub(crate) fn awaits_load(config: &CacheConfig, processor: u8, known: bool) -> bool
+    ensures { result ≡ awaits_load config.now processor known }
 {
+    if known {
+        return false;
+    }
     match config.processors.items().get(processor as usize) {
         Some(wants) => *wants && config.loader,
         None => false,
@@ -75,7 +79,7 @@ pub(crate) fn first_request(
 {
     match &call.op {
         Op::Invoke { processor, .. } => {
-            if live.is_none() && loads_for(config, *processor) {
+            if awaits_load(config, *processor, live.is_some()) {
                 return Some(Request::Load(call.key));
             }
             process(&call.key, *processor, live, copy)

@@ -1,10 +1,10 @@
 //! Which values an operation or a verdict stores, replies and hands to its hooks.
 ghost use Rattle.std.specs.Prelude.{◌≡◌, ◌&&◌, not, Bool, if◌then◌else◌, None, option_map};
 ghost use Rattle.jc_model.specs.Table.{value_of};
-ghost use Rattle.jc_ops.specs.Lines.{handed, shows, shows_loaded, takes_value};
-ghost use Rattle.jc_ops.specs.Lines.{asks_no_one, creates, is_invoke, told_of, told_by, most_told};
+ghost use Rattle.jc_ops.specs.Lines.{handed, shows, takes_value};
+ghost use Rattle.jc_ops.specs.Lines.{asks_no_one, creates, is_invoke, told_by, most_told};
 ghost use Rattle.jc_ops.specs.Verdicts.{stores_by, hands_by};
-ghost use Rattle.jc_ops.specs.Supply.{adds, adds_at};
+ghost use Rattle.jc_ops.specs.Supply.{adds_at};
 
 use crate::step::KeyStep;
 use jc_model::call::{Action, Answer, Op, Verdict};
@@ -40,42 +40,27 @@ pub fn takes_value(op: &Op) -> bool
     is_invoke(op) || shows(op)
 }
 
-/// Whether an operation replies the loaded value.
-pub(super) fn shows_loaded(op: &Op) -> bool
-    ensures { result ≡ shows_loaded op.now }
-{
-    matches!(absent_line(op).reply, Replied::Shown)
-}
-
 /// Whether an operation itself stores a key that is not there.
 pub fn creates(op: &Op) -> bool
     ensures { result ≡ creates op.now }
 {
     let line = absent_line(op);
-    match line.asks {
-        Ask::Load => false,
-        _ => matches!(line.change, Change::Store | Change::Put),
-    }
+    !matches!(line.asks, Ask::Load) && matches!(line.change, Change::Store | Change::Put)
 }
 
-/// How many notices a change may tell: of a live row one, and of a new one its victim's too.
-fn told_of(there: bool, change: Change) -> usize
-    ensures { result ≡ told_of there change }
+/// How many notices a line may tell: of a live row one, and of a new one its victim's too. A processor may decide for any
+/// change.
+fn told_by(there: bool, line: Line) -> usize
+    ensures { result ≡ told_by there line.asks line.change }
 {
+    let change = match line.asks {
+        Ask::Process => Change::Put,
+        _ => line.change,
+    };
     match change {
         Change::Keep | Change::Access => 0,
         Change::Store | Change::Put => if there { 1 } else { 2 },
         Change::Remove => if there { 1 } else { 0 },
-    }
-}
-
-/// How many notices a line may tell; a processor may decide for any change.
-fn told_by(there: bool, line: Line) -> usize
-    ensures { result ≡ told_by there line.asks line.change }
-{
-    match line.asks {
-        Ask::Process => told_of(there, Change::Put),
-        _ => told_of(there, line.change),
     }
 }
 
@@ -88,13 +73,6 @@ pub fn most_notices(op: &Op, there: bool) -> usize
     } else {
         told_by(false, absent_line(op)) + 1
     }
-}
-
-/// Whether a step adds a row to the table as it begins, by whether its key has a live row.
-pub(super) fn adds(there: bool, writer: bool, op: &Op) -> bool
-    ensures { result ≡ adds there writer op.now }
-{
-    !there && !writer && creates(op)
 }
 
 /// Whether a step that waits adds a row to the table at this answer, where its key has none.

@@ -7,13 +7,12 @@ ghost use Rattle.jc_ops.specs.Lines.{takes_value};
 ghost use Rattle.jc_ops.specs.Supply.{CoversIn, CoversLoaded, CoversVerdict, CoversAnswerIn};
 
 use crate::step::KeyStep;
-use crate::supply::needs::{
-    handed, handed_by, is_invoke, shows, shows_loaded, stored_by, stored_now,
-};
+use crate::supply::needs::{handed, handed_by, is_invoke, shows, stored_by, stored_now};
 use jc_model::OutOfMemory;
 use jc_model::call::{Answer, KeyCall, Op, Verdict};
 use jc_model::config::CacheConfig;
 use jc_model::copies::Copies;
+use jc_model::table::{Replied, absent_line};
 use jc_model::value::Value;
 use jc_ring::ring::Ring;
 use jc_rows::rows::Rows;
@@ -119,7 +118,8 @@ impl Values {
                 entry,
             });
         }
-        let shown = to_show(if shows_loaded(op) { loaded } else { None })?;
+        let shown = matches!(absent_line(op).reply, Replied::Shown);
+        let shown = to_show(if shown { loaded } else { None })?;
         let stored = Stored::of_any(config, loaded)?;
         Ok(Values {
             stored,

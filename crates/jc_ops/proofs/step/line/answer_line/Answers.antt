@@ -39,8 +39,8 @@ returns-in-Written-clause-next g c =
     let call = c.args.call.now in
     let gave = c.requires.ready.covered.written (ap is_written c.in-Written.is) refl in
     rw c.in-Written.is (writer_agreed v.cache.config v.moment call.key call.op (progress_in v) _ c.line_of-line.ensures.line c.args.supply.row
-    (row_is_there call.key v.cache c.args.supply.row c.requires.ready.row) c.args.supply.values.shown c.and-shown.result
-    c.and-shown.ensures _ c.requires.invoke c.requires.ready.waits.waits c.in_default.not-Load gave.stored gave.shown ∙ c.end-in-Written.ensures.run)
+    (row_is_there call.key v.cache c.args.supply.row c.requires.ready.row) c.args.supply.values.shown c.and.result
+    (rw c.take.ensures.value at c.and.ensures) _ c.requires.invoke c.requires.ready.waits.waits c.in_default.not-Load gave.stored gave.shown ∙ c.end-in-Written.ensures.run)
 
 pub returns-in_default-answer-2-clause-next : goal.returns-in_default-answer-2-clause-next
 returns-in_default-answer-2-clause-next g c =
