@@ -37,7 +37,8 @@ invoke_told there processor argument o is = rw is (grind (arith, common_steps))
 -- A step that waits, with its supply for this answer.
 module _ (v : Visited) (w : KeyWait) (a : Answer) (s : Supply) (row : FoundRow w.call.key v.cache s.row) (waits : WaitsIn v w) where
   there : has_live_in v w.call.key ≡ is_some s.row
-  there = rw (← row_is_there w.call.key v.cache s.row row) (sym (live_by v.cache.config v.moment w.call.key (progress_in v) _ refl (rw waits.moment at (waits_purged v.cache.config (progress_in v) w waits.waits))))
+  there = rw (← row_is_there w.call.key v.cache s.row row)
+      (sym (live_by v.cache.config v.moment w.call.key (progress_in v) _ refl (rw waits.moment at (waits_purged v.cache.config (progress_in v) w waits.waits))))
 
   pub ready : CoversAnswerIn v w a s.values → HasRoomAt w a v → HasPlacesFor w.call v → IsReady v (told_on (is_some s.row) w.call.op) w a s
   ready covered room places = record {

@@ -1,7 +1,7 @@
 -- A processor's step: what each answer leads to.
 use Rattle.jc_ops.proofs.Names.{◌≡◌, ℕ, arith, Bool, false, true, List, common_steps, refl, sym, ◌∙◌, ap, Option, Some, None, is_some, Answer, KeyCall, Request, CacheConfig, Line, Item}
 use Rattle.jc_ops.proofs.Names.{Progress, find_row, purge, Run}
-use Rattle.jc_ops.proofs.Names.{waiting, ended, resume, verdict_of, ended_by, KeyWait, key_run, step, FoundRow, given_by, loaded_in, verdict_in, asks_writer, StepWaits}
+use Rattle.jc_ops.proofs.Names.{ended, resume, verdict_of, ended_by, KeyWait, key_run, step, FoundRow, given_by, loaded_in, verdict_in, asks_writer, StepWaits}
 use Rattle.jc_ops.proofs.Names.{IsWaiting, stores_by, subst, is_written, answer_run, Visited, progress_in}
 use Rattle.jc_ops.proofs.Names.{hands_by, verdict_line, act_on, judged_on}
 use Rattle.jc_model.specs.declared.call.Answer.TheVariants.{Loaded, Written, Processed}
@@ -76,8 +76,8 @@ module _ (c : CacheConfig) (now : ℕ) (k : List ℕ) (processor : ℕ) (argumen
 
 -- By what the code has of such a step on a visit.
 
-module _ (v : Visited) (now : ℕ) (call : KeyCall) (loaded : Option (Option (List ℕ))) (verdict : Option Verdict) (w : KeyWait) (view : ◌≡◌ {A = KeyWait} (record { now = now; call = call; given = given_by loaded verdict }) w)
-    (n : ℕ) (a : Answer) (s : Supply) (ready : IsReady v n w a s) where
+module _ (v : Visited) (now : ℕ) (call : KeyCall) (loaded : Option (Option (List ℕ))) (verdict : Option Verdict) (w : KeyWait)
+    (view : ◌≡◌ {A = KeyWait} (record { now = now; call = call; given = given_by loaded verdict }) w) (n : ℕ) (a : Answer) (s : Supply) (ready : IsReady v n w a s) where
   abbrev p : Progress
   p = progress_in v
 
@@ -85,8 +85,8 @@ module _ (v : Visited) (now : ℕ) (call : KeyCall) (loaded : Option (Option (Li
   has = row_is_there call.key v.cache s.row (subst (λ (k : List ℕ). FoundRow k v.cache s.row) (sym (ap (λ (x : KeyWait). x.call.key) view)) ready.row)
 
   -- the processor has answered
-  module _ (undecided : verdict_in w.given ≡ None) (means : answer_run v w a ≡ judged_run v w (verdict_of a)) (d : Verdict) (gave : a ≡ Processed (Ok d)) (l : Line) (line : l ≡ verdict_line d.action (is_some s.row))
-      (f : CacheConfig) (same : f ≡ v.cache.config) where
+  module _ (undecided : verdict_in w.given ≡ None) (means : answer_run v w a ≡ judged_run v w (verdict_of a)) (d : Verdict) (gave : a ≡ Processed (Ok d))
+      (l : Line) (line : l ≡ verdict_line d.action (is_some s.row)) (f : CacheConfig) (same : f ≡ v.cache.config) where
     decides : answer_run v w a ≡ act_on v.cache.config v.moment call.key (find_row call.key p) (loaded_in w.given) p d
     decides = rw (ap (λ (x : KeyWait). x.call.key) view) (means ∙ ap (judged_run v w) (ap verdict_of gave))
 
@@ -95,11 +95,13 @@ module _ (v : Visited) (now : ℕ) (call : KeyCall) (loaded : Option (Option (Li
         let cov = ready.covered.judged d (ap verdict_of gave) in
         decides ∙ rw cov.shown (acts_at_once v.cache.config v.moment call.key (find_row call.key p) (loaded_in w.given) p d (is_some s.row) has l line f same s.values.copy cov.copy _ asks cov.stored)
 
-    pub verdict_waits : (q : Request) → asks_writer f call.key l.asks s.values.copy ≡ Some q → StepWaits v.cache.config p q (record { now = now; call = call; given = given_by loaded (Some d) }) (answer_run v w a)
+    pub verdict_waits : (q : Request) → asks_writer f call.key l.asks s.values.copy ≡ Some q →
+        StepWaits v.cache.config p q (record { now = now; call = call; given = given_by loaded (Some d) }) (answer_run v w a)
     verdict_waits q asks =
         let cov = ready.covered.judged d (ap verdict_of gave) in
         let none : verdict ≡ None = sym (decided_by loaded verdict) ∙ (ap (λ (x : KeyWait). verdict_in x.given) view ∙ undecided) in
-        let after : key_run v.cache.config p (record { now = now; call = call; given = given_by loaded (Some d) }) ≡ answer_run v w a = rw (← view, gave, none) (with_verdict (step v.cache.config now call p) loaded d) in
+        let after : key_run v.cache.config p (record { now = now; call = call; given = given_by loaded (Some d) }) ≡ answer_run v w a =
+        rw (← view, gave, none) (with_verdict (step v.cache.config now call p) loaded d) in
         subst (λ (run : Run). StepWaits v.cache.config p q (record { now = now; call = call; given = given_by loaded (Some d) }) run) after
         (acts_waiting v.cache.config v.moment call.key (find_row call.key p) (loaded_in w.given) p d (is_some s.row) has l line f same s.values.copy cov.copy q _ asks (after ∙ decides))
 

@@ -1,13 +1,13 @@
 -- A line of the table: what its step does as it begins, and at the answer of its writer or its loader.
 use Rattle.jc_ops.proofs.Names.{◌≡◌, ◌<◌, arith, ℕ, Bool, true, false, if◌then◌else◌, List, common_steps, Option, Some, None, is_some, Answer, KeyCall, Op, Request, CacheConfig}
-use Rattle.jc_ops.proofs.Names.{Line, Item, Progress, purge, find_row, ended, resume, is_written, live_in, ended_by, step, waiting, Run, key_run, value_of, is_shown}
+use Rattle.jc_ops.proofs.Names.{Line, Item, Progress, purge, find_row, ended, resume, is_written, live_in, ended_by, step, key_run, value_of, is_shown}
 use Rattle.jc_ops.proofs.Names.{line_at, is_invoke, shows, first_request, StepWaits, IsWaiting, waits_first}
 use Rattle.std.specs.Option.{option_and}
 use Rattle.jc_model.specs.declared.call.Answer.TheVariants.{Loaded, Written}
 use Rattle.jc_model.specs.declared.call.By.TheVariants.{Loader, Writer}
 use Rattle.jc_model.specs.declared.call.Reply.TheVariants.{Fault}
 use Rattle.jc_model.specs.declared.table.Ask.TheVariants.{Load}
-use Rattle.jc_model.specs.Step.{carried, counted}
+use Rattle.jc_model.specs.Step.{counted}
 use Rattle.jc_state.specs.declared.stored.Stored.{Stored}
 use Rattle.jc_state.specs.Noted.{stored_value}
 use Rattle.jc_ops.specs.Lines.{asks_no_one, takes_value, shows_loaded, stores}
@@ -15,7 +15,8 @@ use Rattle.jc_ops.specs.Supply.{HasRoom, adds}
 use Rattle.jc_ops.proofs.Goes.{waits_purged}
 
 -- what was made of the key's row is there where it has one
-of_row : (row : Option Item) (r : Option ℕ) (given value : Option (List ℕ)) → is_some row ≡ is_some r → value ≡ option_and r given → ((x : Item) → row ≡ Some x → given ≡ Some x.value) → value ≡ live_in row
+of_row : (row : Option Item) (r : Option ℕ) (given value : Option (List ℕ)) → is_some row ≡ is_some r → value ≡ option_and r given →
+    ((x : Item) → row ≡ Some x → given ≡ Some x.value) → value ≡ live_in row
 of_row row r given value is made at = grind (arith, common_steps)
 
 -- a line shows a live row only where its operation does
@@ -35,91 +36,50 @@ pub room_fits : (o : Op) (row : Option Item) (there : Bool) (writer : Bool) (s :
     HasRoom (adds there writer o) n → there ≡ false → stores (line_at o (live_in row)).change ≡ true → is_some s ≡ true → 0 < n
 room_fits o row there writer s n is keeps enough absent adds_row some = grind (arith, common_steps)
 
--- An operation on a key.
+-- An operation on a key, by what the code has: its line, and what was made of the key's row.
 
-module _ (c : CacheConfig) (now : ℕ) (k : List ℕ) (o : Op) (p : Progress) where
-  abbrev line : Line
-  line = line_at o (live_in (find_row k p))
-
+module _ (c : CacheConfig) (now : ℕ) (k : List ℕ) (o : Op) (p : Progress) (l : Line) (is : l ≡ line_at o (live_in (find_row k p))) where
   abbrev call : KeyCall
   call = record { key = k; op = o }
 
-  ends : (live stored shown : Option (List ℕ)) → purge c now k p ≡ p → first_request c k o line.asks live ≡ None → stored ≡ (if c.writer then None else value_of o) →
-      (is_invoke o ≡ false → is_shown line.reply ≡ true → shown ≡ live_in (find_row k p)) → step c now call p ≡ ended_by c now k line (find_row k p) stored shown p
-  ends live stored shown purged asks store show = grind (arith, common_steps)
+  module _ (w : IsWaiting c p (waits_first now call)) where
+    purged : purge c now k p ≡ p
+    purged = waits_purged c p (waits_first now call) w
 
-  waits : (live : Option (List ℕ)) (q : Request) → purge c now k p ≡ p → first_request c k o line.asks live ≡ Some q → (is_invoke o ≡ true → live ≡ live_in (find_row k p)) →
-      StepWaits c p q (waits_first now call) (step c now call p)
-  waits live q purged asks same = grind (arith, common_steps)
+    pub writer_failed : (a : Answer) → is_invoke o ≡ false → (l.asks ≡ Load → ⊥) → (a ≡ Written → ⊥) → resume (key_run c p (waits_first now call)) a ≡ ended p (Fault Writer None)
+    writer_failed a plain writes failed =
+        let gone : purge c now k p ≡ p = purged in let on = rw is at writes in let not : is_written a ≡ false = not_written a failed in grind (arith, common_steps)
 
-  agrees : (stored shown : Option (List ℕ)) → purge c now k p ≡ p → is_invoke o ≡ false → IsWaiting c p (waits_first now call) → (line.asks ≡ Load → ⊥) → stored ≡ value_of o →
-      (is_shown line.reply ≡ true → shown ≡ live_in (find_row k p)) →
-      resume (key_run c p (waits_first now call)) Written ≡ ended_by c now k line (find_row k p) stored shown p
-  agrees stored shown purged plain w writes store show = grind (arith, common_steps)
+    pub loader_failed : (a : Answer) → l.asks ≡ Load → ((v : Option (List ℕ)) → a ≡ Loaded v → ⊥) →
+        resume (key_run c p (waits_first now call)) a ≡ ended (counted l.counts (find_row k p) p) (Fault Loader None)
+    loader_failed a load fails = let gone : purge c now k p ≡ p = purged in let on = rw is at load in rw is (grind (arith, common_steps))
 
-  fails : (a : Answer) → purge c now k p ≡ p → is_invoke o ≡ false → IsWaiting c p (waits_first now call) → (line.asks ≡ Load → ⊥) → is_written a ≡ false →
-      resume (key_run c p (waits_first now call)) a ≡ ended p (Fault Writer None)
-  fails a purged plain w writes failed = grind (arith, common_steps)
+    pub loader_gave : (loaded stored shown : Option (List ℕ)) → l.asks ≡ Load → stored ≡ loaded → (shows_loaded o ≡ true → shown ≡ loaded) →
+        resume (key_run c p (waits_first now call)) (Loaded loaded) ≡ ended_by c now k l (find_row k p) stored shown p
+    loader_gave loaded stored shown load store show = let gone : purge c now k p ≡ p = purged in let on = rw is at load in rw is (grind (arith, common_steps))
 
-  carries : purge c now k p ≡ p → step c now call p ≡ carried c now k o line (find_row k p) p
-  carries purged = grind (arith, common_steps)
+  module _ (r : Option ℕ) (has : is_some (find_row k p) ≡ is_some r) (given shown : Option (List ℕ)) (made : shown ≡ option_and r given) where
+    show : (shows o ≡ true → (x : Item) → find_row k p ≡ Some x → given ≡ Some x.value) → is_invoke o ≡ false →
+        is_shown (line_at o (live_in (find_row k p))).reply ≡ true → shown ≡ live_in (find_row k p)
+    show at plain h = of_row (find_row k p) r given shown has made (λ x e. at (shown_live o (find_row k p) x plain h e) x e)
 
-  module _ (l : Line) (row : Option Item) (load : l.asks ≡ Load) (q : Request) (p' : Progress) (resumed : Answer → Run) (waits : carried c now k o l row p ≡ waiting q p' resumed) where
-    load_failed : (a : Answer) → ((v : Option (List ℕ)) → a ≡ Loaded v → ⊥) → resume (carried c now k o l row p) a ≡ ended (counted l.counts row p) (Fault Loader None)
-    load_failed a fails = grind (arith, common_steps)
+    pub begins_ended : (live stored : Option (List ℕ)) → purge c now k p ≡ p → first_request c k o l.asks live ≡ None → stored ≡ (if c.writer then None else value_of o) →
+        (shows o ≡ true → (x : Item) → find_row k p ≡ Some x → given ≡ Some x.value) → step c now call p ≡ ended_by c now k l (find_row k p) stored shown p
+    begins_ended live stored purged asks store at = let on = rw is at asks in let all = show at in rw is (grind (arith, common_steps))
 
-    load_gave : (loaded stored shown : Option (List ℕ)) → stored ≡ loaded → (is_shown l.reply ≡ true → shown ≡ loaded) →
-        resume (carried c now k o l row p) (Loaded loaded) ≡ ended_by c now k l row stored shown p
-    load_gave loaded stored shown store show = grind (arith, common_steps)
+    pub begins_waiting : (q : Request) → purge c now k p ≡ p → first_request c k o l.asks shown ≡ Some q → (is_invoke o ≡ true → (x : Item) → find_row k p ≡ Some x →
+        given ≡ Some x.value) → StepWaits c p q (waits_first now call) (step c now call p)
+    begins_waiting q purged asks at = let on = rw is at asks in let all = λ (invokes : is_invoke o ≡ true). of_row (find_row k p) r given shown has made (at invokes) in grind (arith, common_steps)
 
-  shown_loaded : line.asks ≡ Load → is_shown line.reply ≡ true → shows_loaded o ≡ true
-  shown_loaded load shown = grind (arith, common_steps)
-
-  -- by what the code has: the line, whether the key has a row, and what is there only where it has
-
-  module _ (l : Line) (is : l ≡ line) where
-    module _ (w : IsWaiting c p (waits_first now call)) where
-      purged : purge c now k p ≡ p
-      purged = waits_purged c p (waits_first now call) w
-
-      same : step c now call p ≡ carried c now k o l (find_row k p) p
-      same = rw is (carries purged)
-
-      pub writer_failed : (a : Answer) → is_invoke o ≡ false → (l.asks ≡ Load → ⊥) → (a ≡ Written → ⊥) → resume (key_run c p (waits_first now call)) a ≡ ended p (Fault Writer None)
-      writer_failed a plain writes failed = fails a purged plain w (rw is at writes) (not_written a failed)
-
-      pub loader_failed : (a : Answer) → l.asks ≡ Load → ((v : Option (List ℕ)) → a ≡ Loaded v → ⊥) →
-          resume (key_run c p (waits_first now call)) a ≡ ended (counted l.counts (find_row k p) p) (Fault Loader None)
-      loader_failed a load fails = rw same (load_failed l (find_row k p) load w.request p w.resumed (rw same at w.run_is) a fails)
-
-      pub loader_gave : (loaded stored shown : Option (List ℕ)) → l.asks ≡ Load → stored ≡ loaded → (shows_loaded o ≡ true → shown ≡ loaded) →
-          resume (key_run c p (waits_first now call)) (Loaded loaded) ≡ ended_by c now k l (find_row k p) stored shown p
-      loader_gave loaded stored shown load store show =
-          rw same (load_gave l (find_row k p) load w.request p w.resumed (rw same at w.run_is) loaded stored shown store (λ shows. show (shown_loaded (rw is at load) (rw is at shows))))
-
-    module _ (r : Option ℕ) (has : is_some (find_row k p) ≡ is_some r) (given shown : Option (List ℕ)) (made : shown ≡ option_and r given) where
-      show : (shows o ≡ true → (x : Item) → find_row k p ≡ Some x → given ≡ Some x.value) → is_invoke o ≡ false → is_shown line.reply ≡ true → shown ≡ live_in (find_row k p)
-      show at plain h = of_row (find_row k p) r given shown has made (λ x e. at (shown_live o (find_row k p) x plain h e) x e)
-
-      pub begins_ended : (live stored : Option (List ℕ)) → purge c now k p ≡ p → first_request c k o l.asks live ≡ None → stored ≡ (if c.writer then None else value_of o) →
-          (shows o ≡ true → (x : Item) → find_row k p ≡ Some x → given ≡ Some x.value) → step c now call p ≡ ended_by c now k l (find_row k p) stored shown p
-      begins_ended live stored purged asks store at = rw is (ends live stored shown purged (rw is at asks) store (show at))
-
-      pub begins_waiting : (q : Request) → purge c now k p ≡ p → first_request c k o l.asks shown ≡ Some q → (is_invoke o ≡ true → (x : Item) → find_row k p ≡ Some x →
-          given ≡ Some x.value) → StepWaits c p q (waits_first now call) (step c now call p)
-      begins_waiting q purged asks at = waits shown q purged (rw is at asks) (λ invokes. of_row (find_row k p) r given shown has made (at invokes))
-
-      pub writer_agreed : (stored : Option (List ℕ)) → is_invoke o ≡ false → IsWaiting c p (waits_first now call) → (l.asks ≡ Load → ⊥) → stored ≡ value_of o →
-          (shows o ≡ true → (x : Item) → find_row k p ≡ Some x → given ≡ Some x.value) → resume (key_run c p (waits_first now call)) Written ≡ ended_by c now k l (find_row k p) stored shown p
-      writer_agreed stored plain w writes store at = rw is (agrees stored shown (waits_purged c p (waits_first now call) w) plain w (rw is at writes) store (show at plain))
+    pub writer_agreed : (stored : Option (List ℕ)) → is_invoke o ≡ false → IsWaiting c p (waits_first now call) → (l.asks ≡ Load → ⊥) → stored ≡ value_of o →
+        (shows o ≡ true → (x : Item) → find_row k p ≡ Some x → given ≡ Some x.value) → resume (key_run c p (waits_first now call)) Written ≡ ended_by c now k l (find_row k p) stored shown p
+    writer_agreed stored plain w writes store at =
+        let gone : purge c now k p ≡ p = waits_purged c p (waits_first now call) w in let on = rw is at writes in let all = show at plain in rw is (grind (arith, common_steps))
 
 -- an operation that asks no one has no first request
 pub unasked : (c : CacheConfig) (k : List ℕ) (o : Op) (l : Line) (live : Option (List ℕ)) → asks_no_one c o ≡ true → first_request c k o l.asks live ≡ None
 unasked c k o l live none = grind (arith, common_steps)
 
 -- an operation that replies its row's value, or hands it on, takes it
-pub takes_shown : (o : Op) → shows o ≡ true → takes_value o ≡ true
-takes_shown o h = grind (arith, common_steps)
-
-pub takes_entry : (o : Op) → is_invoke o ≡ true → takes_value o ≡ true
-takes_entry o h = grind (arith, common_steps)
+pub takes : (o : Op) → (shows o ≡ true → takes_value o ≡ true) × (is_invoke o ≡ true → takes_value o ≡ true)
+takes o = (λ h. grind (arith, common_steps), λ h. grind (arith, common_steps))

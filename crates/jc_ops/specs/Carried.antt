@@ -13,7 +13,7 @@ use Rattle.jc_model.specs.Suspended.{KeyWait}
 use Rattle.jc_state.specs.declared.stored.Stored.{Stored}
 use Rattle.jc_state.specs.Kept.{key_row, FoundRow}
 use Rattle.jc_state.specs.Noted.{StoredIsTold, stored_value}
-use Rattle.jc_state.specs.Visited.{Visited, IsSameVisit, SpendsAtMost, HasPlacesIn, progress_in}
+use Rattle.jc_state.specs.Visited.{Visited, SpendsAtMost, HasPlacesIn, progress_in}
 use Rattle.jc_ops.specs.declared.supply.Supply.{Supply}
 use Rattle.jc_ops.specs.declared.supply.values.Values.{Values}
 use Rattle.jc_ops.specs.Given.{loaded_in}
@@ -56,7 +56,6 @@ pub record IsBegun (old : Visited) (call : KeyCall) (l : Line) (s : Supply) (new
   pub asks : (q : Request) → first_request old.cache.config call.key call.op l.asks s.values.entry ≡ Some q →
       StepWaits old.cache.config (progress_in new) q (waits_first old.moment call) (step_run old call)
   pub ends : first_request old.cache.config call.key call.op l.asks s.values.entry ≡ None → step_run old call ≡ line_run new call.key l s.values
-  pub same : IsSameVisit old new
   pub waits : SpendsAtMost 1 (most_told_in old call) old new
   pub spends : (x : Visited) → SpendsAtMost 1 (told_of (is_some s.row) l.change) new x → SpendsAtMost 1 (most_told_in old call) old x
 

@@ -20,7 +20,7 @@ use jc_state::stored::Stored;
 use jc_state::visit::Visit;
 
 /// The values of one step.
-#[derive(Drop)]
+#[derive(Default, Drop)]
 pub struct Values {
     /// What the step stores.
     pub stored: Option<Stored>,
@@ -172,12 +172,7 @@ impl Values {
             Answer::Processed(Ok(verdict)) => {
                 Values::judged(config, loaded, verdict, config.writer)
             }
-            _ => Ok(Values {
-                stored: None,
-                shown: None,
-                copy: None,
-                entry: None,
-            }),
+            _ => Ok(Values::default()),
         }
     }
 }

@@ -13,7 +13,8 @@ end-requires g c =
         row = ready.row;
         places = λ listens. omega (arith, c.line_of-line.ensures.told, ready.places listens);
         told = ready.covered.told;
-        room = λ absent stores some. room_loaded _ c.args.call.now.op c.in-Loaded.field-0 c.args.supply.values.stored c.args.visit.now.spare (rw c.in-Loaded.is at ready.room) c.requires.invoke gave absent some;
+        room = λ absent stores some. room_loaded _ c.args.call.now.op c.in-Loaded.field-0 c.args.supply.values.stored c.args.visit.now.spare
+            (rw c.in-Loaded.is at ready.room) c.requires.invoke gave absent some;
       };
     }
 
