@@ -6,31 +6,26 @@ use Rattle.std.proofs.lemmas.Simd.{map-map}
 use Rattle.std.specs.List.{list_any}
 use Rattle.std.specs.Str.{bytes_eq}
 use Rattle.std.proofs.lemmas.Slice.Eq.{bytes_eq-Decides}
-use Rattle.jc_model.specs.Lists.{distinct, AreKeys}
-use Rattle.jc_bulk.proofs.Names.{KeyCall, Op, same_op, put_each, remove_each, LacksKey, HasDistinctKeys, Item, keys_in}
+use Rattle.jc_model.specs.declared.call.Call.{Call}
+use Rattle.jc_model.specs.Lists.{distinct}
+use Rattle.jc_bulk.specs.Each.{each_of}
+use Rattle.jc_bulk.proofs.Names.{Visited, put_each, LacksKey, HasDistinctKeys, Item, keys_in}
 use Rattle.jc_bulk.proofs.Rows.{keys_of}
 
 -- the first is not the second, and with those behind it they are different
 pub past_second : (k q : List ℕ) (ks : List (List ℕ)) → distinct (k ∷ q ∷ ks) ≡ true → (k ≢ q) × (distinct (k ∷ ks) ≡ true)
 past_second k q ks e = (λ same. grind (arith, common_steps, bytes_eq-Decides q k), grind (arith, common_steps))
 
-pub same_keys : (o : Op) (ks : List (List ℕ)) → keys_in (same_op o ks) ≡ ks
-same_keys o ks = simp (map-map, map-id)
+pub each_keys : (v : Visited) (call : Call) (ks : List (List ℕ)) → keys_in (each_of v call ks) ≡ ks
+each_keys v call ks = simp (map-map, map-id)
 
 pub put_keys : (ps : List (List ℕ × List ℕ)) → keys_in (put_each ps) ≡ map (λ p. p.0) ps
 put_keys ps = simp map-map
-
--- the calls that were made have the keys that were given
-pub keys_apart : (calls : List KeyCall) (keys : List (List ℕ)) → keys_in calls ≡ keys → AreKeys keys → distinct (keys_in calls) ≡ true
-keys_apart calls keys same h = rw same h.1
 
 lacks_none : (k : List ℕ) (ring : List Item) → LacksKey k ring → list_any (λ y. bytes_eq y k) (keys_of ring) ≡ false
 lacks_none k [] l = refl
 lacks_none k (x ∷ xs) l = grind (arith, common_steps, bytes_eq-Decides x.key k, l.0, lacks_none k xs l.1)
 
-ring_apart : (ring : List Item) → HasDistinctKeys ring → distinct (keys_of ring) ≡ true
+pub ring_apart : (ring : List Item) → HasDistinctKeys ring → distinct (keys_of ring) ≡ true
 ring_apart [] d = refl
 ring_apart (x ∷ xs) d = grind (arith, common_steps, lacks_none x.key xs d.0, ring_apart xs d.1)
-
-pub row_apart : (now : ℕ) (ring : List Item) → HasDistinctKeys ring → distinct (keys_in (remove_each now ring)) ≡ true
-row_apart now ring d = simp map-map (ring_apart ring d)

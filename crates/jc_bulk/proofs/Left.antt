@@ -1,5 +1,5 @@
 -- What the steps that are left need stays right while the steps before them are done.
-use Rattle.std.proofs.Common.{◌≡◌, ◌≢◌, ℕ, true, false, if◌then◌else◌, not, leb, Option, Some, List, [], ◌∷◌, ◌++◌, drop, length, sym, ◌∙◌, arith}
+use Rattle.std.proofs.Common.{◌≡◌, ◌≢◌, ℕ, true, false, if◌then◌else◌, not, leb, Option, Some, None, IfSome, List, [], ◌∷◌, ◌++◌, drop, length, sym, ◌∙◌, arith}
 use Rattle.std.proofs.lemmas.Grind.{common_steps}
 use Rattle.std.specs.List.{All}
 use Rattle.std.proofs.lemmas.List.Elements.{All-nil, All-cons, All-head, All-tail, All-append, All-push, All-drop, All-map, All-filter, All-weaker}
@@ -7,8 +7,11 @@ use Rattle.std.specs.Str.{bytes_eq}
 use Rattle.std.proofs.lemmas.Slice.Eq.{bytes_eq-Decides}
 use Rattle.jc_model.proofs.Rings.{room_in}
 use Rattle.jc_model.proofs.Keeps.{step-keeps}
-use Rattle.jc_bulk.proofs.Names.{KeyCall, CacheConfig, Item, State, passed, stops_at, before_stop, from_stop, turned, row_of, Progress, step, Throughout, Answer, Reply, Run, resume, HasDistinctKeys, KeyWait, key_run, StepsTo, Covers, Provided, calls_in, keys_in, AreCovered}
-use Rattle.jc_model.proofs.Everywhere.{at_each-resume, at_each-answered}
+use Rattle.jc_bulk.proofs.Names.{KeyCall, CacheConfig, Item, State, passed, stops_at, before_stop, from_stop, turned, row_of, Progress, step, Throughout, Answer, Reply, Run, HasDistinctKeys, KeyWait, StepsTo, answer_run, Covers, Provided, calls_in, keys_in, AreCovered}
+use Rattle.jc_bulk.proofs.Names.{Visited, Awaited, Ahead, IsAheadOf, IsSuspendedIn, items_of, progress_in, waits_of}
+use Rattle.jc_model.specs.Run.{answered}
+use Rattle.jc_model.proofs.Everywhere.{at_each-answered}
+use Rattle.jc_model.proofs.Resume.{answered-append}
 use Rattle.jc_ops.specs.declared.step.Next.{Next}
 use Rattle.jc_ops.specs.declared.step.Next.TheVariants.{Ended, Waiting}
 use Rattle.jc_model.specs.Lists.{distinct}
@@ -63,15 +66,18 @@ came_to : (c : CacheConfig) (run : Run) (next : Next KeyWait Reply) (p : Progres
 came_to c run (Ended reply) p P e h = rw e at h
 came_to c run (Waiting request w) p P e h = (rw e.run_is at h).0
 
-module _ (c : CacheConfig) (k : List ℕ) (run : Run) (next : Next KeyWait Reply) (p after : Progress) (e : StepsTo c run next after) (d : HasDistinctKeys p.state.ring) (stay : (q : List ℕ) (o : Option (List ℕ)) → k ≢ q → Fits q o p.state.ring → Throughout (λ t. Fits q o t.ring) run) where
+-- the step on a key, with these answers
+module _ (c : CacheConfig) (now : ℕ) (call : KeyCall) (p : Progress) (given : List Answer) (next : Next KeyWait Reply) (after : Progress) (e : StepsTo c (answered (step c now call p) given) next after) (d : HasDistinctKeys p.state.ring) where
   -- what is the value of the row as it was, if it is there, is that of the row as it is
-  found_was : (q : List ℕ) (o : Option (List ℕ)) → k ≢ q → ((x : Item) → row_of q p.state.ring ≡ Some x → o ≡ Some x.value) → (x : Item) → row_of q after.state.ring ≡ Some x → o ≡ Some x.value
-  found_was q o differ h x is = fits-found q o after.state.ring x (came_to c run next after (λ t. Fits q o t.ring) e (stay q o differ (fits-there q o p.state.ring p.state.ring (all_there p.state.ring d) h))) is
+  found_was : (q : List ℕ) (o : Option (List ℕ)) → call.key ≢ q → ((x : Item) → row_of q p.state.ring ≡ Some x → o ≡ Some x.value) → (x : Item) → row_of q after.state.ring ≡ Some x → o ≡ Some x.value
+  found_was q o differ h x is =
+      let there = fits-there q o p.state.ring p.state.ring (all_there p.state.ring d) h in
+      fits-found q o after.state.ring x (came_to c _ next after (λ t. Fits q o t.ring) e (at_each-answered _ _ (step c now call p) given (step-fits c now q o call p differ there))) is
 
-  covered-stays : (rest : List Provided) → distinct (k ∷ keys_in (calls_in rest)) ≡ true → AreCovered c p.state.ring rest → AreCovered c after.state.ring rest
+  pub covered-stays : (rest : List Provided) → distinct (call.key ∷ keys_in (calls_in rest)) ≡ true → AreCovered c p.state.ring rest → AreCovered c after.state.ring rest
   covered-stays [] apart v = tt
   covered-stays (s ∷ ss) apart v =
-      let here = past_second k s.call.key (keys_in (calls_in ss)) apart in (
+      let here = past_second call.key s.call.key (keys_in (calls_in ss)) apart in (
         record {
           stored = v.0.stored;
           told = v.0.told;
@@ -82,14 +88,12 @@ module _ (c : CacheConfig) (k : List ℕ) (run : Run) (next : Next KeyWait Reply
         covered-stays ss here.1 v.1,
       )
 
-pub covered_at_start : (c : CacheConfig) (now : ℕ) (call : KeyCall) (p : Progress) (next : Next KeyWait Reply) (after : Progress) (rest : List Provided) → StepsTo c (step c now call p) next after → distinct (call.key ∷ keys_in (calls_in rest)) ≡ true → HasDistinctKeys p.state.ring → AreCovered c p.state.ring rest → AreCovered c after.state.ring rest
-covered_at_start c now call p next after rest e apart d =
-    covered-stays c call.key (step c now call p) next p after e d (λ q o differ h. step-fits c now q o call p differ h) rest apart
-
-pub covered_at_answer : (c : CacheConfig) (p : Progress) (w : KeyWait) (a : Answer) (next : Next KeyWait Reply) (after : Progress) (rest : List Provided) → StepsTo c (resume (key_run c p w) a) next after → distinct (w.call.key ∷ keys_in (calls_in rest)) ≡ true → HasDistinctKeys p.state.ring → AreCovered c p.state.ring rest → AreCovered c after.state.ring rest
-covered_at_answer c p w a next after rest e apart d =
-    covered-stays c w.call.key (resume (key_run c p w) a) next p after e d
-    (λ q o differ h. at_each-resume _ _ (key_run c p w) a (at_each-answered _ _ (step c w.now w.call p) w.given (step-fits c w.now q o w.call p differ h))) rest apart
+-- so also where a call has had its answer
+pub covered_at_answer : (awaits : Awaited) (v : Visited) (w : KeyWait) (ahead : Option Ahead) (a : Answer) (next : Next KeyWait Reply) (after : Progress) → IsSuspendedIn v (waits_of awaits w ahead) → IfSome ahead (IsAheadOf w.call.key)
+    → HasDistinctKeys (items_of v.cache.cells) → StepsTo v.cache.config (answer_run v w a) next after → IfSome ahead (λ r. AreCovered v.cache.config after.state.ring r.rest.items)
+covered_at_answer awaits v w None a next after h ahead d e = tt
+covered_at_answer awaits v w (Some r) a next after h ahead d e =
+    covered-stays v.cache.config w.now w.call (progress_in v) (w.given ++ a ∷ []) next after (rw answered-append e) d r.rest.items ahead.apart h.suspended.held.1
 
 -- One step more.
 

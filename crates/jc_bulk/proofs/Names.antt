@@ -15,16 +15,16 @@ pub use Rattle.jc_model.specs.Suspended.{KeyWait, key_run, bulk_run}
 pub use Rattle.jc_model.specs.Whole.{after_key, each, touch_each, holds, contents, plan}
 pub use Rattle.jc_state.specs.Noted.{Noted, HasPlaces}
 pub use Rattle.jc_state.specs.Kept.{items_of, record_of, IsRow}
-pub use Rattle.jc_state.specs.Visited.{Visited, IsSameVisit, IsUnchanged, progress_in}
-pub use Rattle.jc_ops.specs.Stepped.{StepsTo, StepWaits, IsWaiting, WaitsIn}
+pub use Rattle.jc_state.specs.Visited.{Visited, IsSameVisit, IsUnchanged, SpendsAtMost, HasPlacesIn, progress_in}
+pub use Rattle.jc_ops.specs.Stepped.{StepsTo, StepWaits, IsWaiting, WaitsIn, step_run, answer_run}
 pub use Rattle.jc_ops.specs.Supply.{Covers, HasRoom, HasRoomAt, adds}
 pub use Rattle.jc_ops.specs.Lines.{most_told}
+pub use Rattle.jc_bulk.specs.declared.bulk.Ahead.{Ahead}
 pub use Rattle.jc_bulk.specs.declared.bulk.Needs.{Needs}
 pub use Rattle.jc_bulk.specs.declared.bulk.Provided.{Provided}
 pub use Rattle.jc_bulk.specs.declared.tally.Tally.{Tally}
-pub use Rattle.jc_bulk.specs.Entries.{live_value}
-pub use Rattle.jc_bulk.specs.Calls.{WaitsOn, IsSuspendedIn, wait_run}
-pub use Rattle.jc_bulk.specs.Ahead.{AreReady, ahead_run}
+pub use Rattle.jc_bulk.specs.Calls.{WaitsOn, IsSuspendedIn, wait_run, plan_in, call_run}
+pub use Rattle.jc_bulk.specs.Ahead.{IsAheadOf, AreCoveredIn, AreReady, HasRoomFrom, places_ahead, ahead_run, calls_ahead, waits_of}
 pub use Rattle.jc_bulk.specs.Provided.{calls_in, keys_in, AreCovered, places_for, IsAhead, IsReady}
-pub use Rattle.jc_bulk.specs.Tallied.{HasRoomFor, sum_of, pushed}
-pub use Rattle.jc_bulk.specs.Waits.{Waits, wait_of, moment_of}
+pub use Rattle.jc_bulk.specs.Tallied.{UsesRoomForOne, sum_of}
+pub use Rattle.jc_bulk.specs.Waits.{Waits, moment_of}

@@ -1,8 +1,11 @@
 -- The rows of a ring, one after the other, by their keys.
-use Rattle.std.proofs.Common.{◌≡◌, ◌<◌, ◌+◌, ℕ, suc, zero, Some, List, [], ◌∷◌, ◌++◌, length, map, drop, get_or, refl, sym, arith, ◌≢◌, true, false, if◌then◌else◌, ◌∙◌}
+use Rattle.std.proofs.Common.{◌≡◌, ℕ, Some, List, [], ◌∷◌, map, refl, ap, arith, ◌≢◌, true, false, if◌then◌else◌, ◌∙◌}
 use Rattle.std.proofs.lemmas.Grind.{common_steps}
 use Rattle.std.proofs.lemmas.Slice.Eq.{bytes_eq-Decides}
-use Rattle.jc_bulk.proofs.Names.{CacheConfig, Item, row_of, is_live, LacksKey, HasDistinctKeys, contents, live_value, pushed, with_row, after_access, Progress, hit, access, touch_each}
+use Rattle.jc_model.specs.declared.call.Call.TheVariants.{RemoveAll}
+use Rattle.jc_bulk.specs.Each.{each_of}
+use Rattle.jc_bulk.specs.Entries.{listed, touched, all_touched}
+use Rattle.jc_bulk.proofs.Names.{CacheConfig, Item, Visited, items_of, row_of, is_live, LacksKey, HasDistinctKeys, contents, with_row, after_access, Progress, hit, access, touch_each, remove_each}
 
 abbrev pub keys_of : List Item → List (List ℕ)
 keys_of ring = map (λ x. x.key) ring
@@ -20,30 +23,15 @@ pub all_there : (ring : List Item) → HasDistinctKeys ring → StillThere ring 
 all_there [] d = tt
 all_there (y ∷ ys) d = (grind (arith, common_steps, bytes_eq-Decides y.key y.key), past_all y ys ys d.0 (all_there ys d.1))
 
--- the row at an index of the rows that are left, by its key
-pub record RowIn (whole left : List Item) (i : ℕ) (k : List ℕ) : Type 0 where
-  pub row : Item
-  pub key_is : row.key ≡ k
-  pub here : drop i left ≡ row ∷ drop (i + 1) left
-  pub found : row_of k whole ≡ Some row
+-- What is done for each key of the rows is done for each row.
 
-abbrev pub RowAt : List Item → ℕ → List ℕ → Type 0
-RowAt ring i k = RowIn ring ring i k
+pub all_listed : (c : CacheConfig) (now : ℕ) (ring left : List Item) → StillThere left ring → listed now ring (keys_of left) ≡ contents c now left
+all_listed c now ring [] s = refl
+all_listed c now ring (x ∷ xs) s = grind (arith, common_steps, s.0, all_listed c now ring xs s.1)
 
-row_in : (whole left : List Item) (i : ℕ) (k : List ℕ) → StillThere left whole → i < length (keys_of left) → k ≡ get_or (keys_of left) i k → RowIn whole left i k
-row_in whole [] i k s h e = absurd (omega arith)
-row_in whole (y ∷ ys) zero k s h e = record { row = y; key_is = sym e; here = refl; found = rw e s.0 }
-row_in whole (y ∷ ys) (suc i) k s h e =
-    let behind : RowIn whole ys i k = row_in whole ys i k s.1 (omega arith) e in
-    let place : suc i + 1 ≡ suc (i + 1) = omega arith in
-    record { row = behind.row; key_is = behind.key_is; here = rw place behind.here; found = behind.found }
-
-pub row_at : {keys : List (List ℕ)} (ring : List Item) (i : ℕ) (k : List ℕ) → HasDistinctKeys ring → keys ≡ keys_of ring → i < length keys → k ≡ get_or keys i k → RowAt ring i k
-row_at ring i k d same h e = row_in ring ring i k (all_there ring d) (rw same at h) (rw same at e)
-
--- what is listed of the row
-pub listed_row : (c : CacheConfig) (now : ℕ) (ring : List Item) (i : ℕ) (k : List ℕ) (r : RowAt ring i k) (items : List (List ℕ × List ℕ)) → pushed items k (live_value now k ring) ++ contents c now (drop (i + 1) ring) ≡ items ++ contents c now (drop i ring)
-listed_row c now ring i k r items = rw (r.here, ← r.key_is) (grind (arith, common_steps, r.found, r.key_is))
+pub all_removed : (v : Visited) (left : List Item) → StillThere left (items_of v.cache.cells) → each_of v RemoveAll (keys_of left) ≡ remove_each v.moment left
+all_removed v [] s = refl
+all_removed v (x ∷ xs) s = grind (arith, common_steps, s.0, all_removed v xs s.1)
 
 -- All live rows are used, one after the other.
 
@@ -66,3 +54,9 @@ left_after c now x left p a = elim (is_live now x) as (λ b. AreLeft left (if b 
   | true ↦ record { there = still_stored (record x { expiry = after_access c.policy x.expiry now; used = true }) left p.state.ring a.apart.0 a.there.1; apart = a.apart.1 }
   | false ↦ record { there = a.there.1; apart = a.apart.1 }
 ]
+
+pub each_touched : (v : Visited) (left : List Item) (p : Progress) → AreLeft left p.state.ring → all_touched v (keys_of left) p ≡ touch_each v.cache.config v.moment left p
+each_touched v [] p a = refl
+each_touched v (x ∷ xs) p a =
+    let here : touched v x.key p ≡ touch_each v.cache.config v.moment (x ∷ []) p = rw (a.there.0, touched) in
+    ap (all_touched v (keys_of xs)) here ∙ each_touched v xs (touch_each v.cache.config v.moment (x ∷ []) p) (left_after v.cache.config v.moment x xs p a)

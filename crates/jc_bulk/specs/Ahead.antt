@@ -1,18 +1,17 @@
 -- The steps that are ahead of a call, on a visit.
-use Rattle.std.specs.Prelude.{◌≡◌, ◌+◌, ◌≤◌, ℕ, Bool, true, List, ◌∷◌, length}
+use Rattle.std.specs.Prelude.{◌≡◌, ◌+◌, ◌≤◌, ℕ, true, List, [], ◌∷◌, length, Option, Some, None}
 use Rattle.jc_model.specs.declared.call.KeyCall.{KeyCall}
-use Rattle.jc_model.specs.declared.call.Reply.{Reply}
 use Rattle.jc_model.specs.Run.{Run, Awaited}
-use Rattle.jc_model.specs.Suspended.{KeyWait}
-use Rattle.jc_model.specs.Whole.{after_key, each}
+use Rattle.jc_model.specs.Suspended.{KeyWait, one, many}
+use Rattle.jc_model.specs.Whole.{each}
 use Rattle.jc_state.specs.Kept.{items_of}
 use Rattle.jc_state.specs.Visited.{Visited, HasPlacesIn, progress_in}
-use Rattle.jc_ops.specs.Supply.{most_told_in}
+use Rattle.jc_ops.specs.Supply.{most_told_in, HasPlacesFor}
 use Rattle.jc_bulk.specs.declared.bulk.Ahead.{Ahead}
 use Rattle.jc_bulk.specs.declared.bulk.Provided.{Provided}
 use Rattle.jc_bulk.specs.Provided.{calls_in, keys_in, any_creates, places_for, AreCovered, IsAhead, IsReady}
 use Rattle.jc_bulk.specs.Tallied.{sum_of}
-use Rattle.jc_bulk.specs.Waits.{Waits, wait_of}
+use Rattle.jc_bulk.specs.Waits.{Waits}
 
 -- their calls
 abbrev pub calls_ahead : Ahead → List KeyCall
@@ -38,25 +37,23 @@ AreReady v a = IsReady v.cache.config (items_of v.cache.cells) v.noted v.spare a
 abbrev pub ahead_run : Visited → Ahead → Run
 ahead_run v a = each v.cache.config v.moment (calls_ahead a) (sum_of a.sum) (progress_in v)
 
--- where they are behind a step on this key, which has ended with this reply
-abbrev pub behind_run : Visited → List ℕ → Reply → Ahead → Run
-behind_run v key reply a =
-    after_key key (λ next q. each v.cache.config v.moment (calls_ahead a) next q) (sum_of a.sum) (progress_in v) reply
-
 -- the table has room for the rows that steps may add
 abbrev pub HasRoomForSteps : List KeyCall → ℕ → Type 0
 HasRoomForSteps calls spare = any_creates calls ≡ true → length calls ≤ spare
 
--- Of a call whose step waits, from that step on.
+-- Of a call whose step waits, from that step on. A call on this one key has no steps ahead.
 
--- the call, with what it awaits, whether or not it is on this one key
-abbrev pub waits_of : Awaited → KeyWait → Ahead → Bool → Waits
-waits_of awaits w a alone = record { awaits = awaits; wait = wait_of alone w (calls_ahead a) (sum_of a.sum); stock = a.rest.items }
+-- the call, with what it awaits
+abbrev pub waits_of : Awaited → KeyWait → Option Ahead → Waits
+waits_of awaits w None = record { awaits = awaits; wait = one w; stock = [] }
+waits_of awaits w (Some a) = record { awaits = awaits; wait = many (record { key = w; rest = calls_ahead a; sum = sum_of a.sum }); stock = a.rest.items }
 
 -- places for all notices
-abbrev pub HasPlacesFrom : KeyWait → Ahead → Visited → Type 0
-HasPlacesFrom w a v = HasPlacesIn (places_ahead a + most_told_in v w.call) v
+abbrev pub HasPlacesFrom : KeyWait → Option Ahead → Visited → Type 0
+HasPlacesFrom w None v = HasPlacesFor w.call v
+HasPlacesFrom w (Some a) v = HasPlacesIn (places_ahead a + most_told_in v w.call) v
 
 -- the table has room for the rows that the steps may add
-abbrev pub HasRoomFrom : Ahead → ℕ → Type 0
-HasRoomFrom a spare = a.needs.adds ≡ true → length a.rest.items + 1 ≤ spare
+abbrev pub HasRoomFrom : Option Ahead → ℕ → Type 0
+HasRoomFrom None spare = Unit {0}
+HasRoomFrom (Some a) spare = a.needs.adds ≡ true → length a.rest.items + 1 ≤ spare

@@ -1,5 +1,6 @@
 -- What a call on many keys has gathered, as the code has it.
-use Rattle.std.specs.Prelude.{ℕ, ◌+◌, ◌≤◌, List, [], ◌∷◌, ◌++◌, Option, Some, None, Result, Ok, Err}
+use Rattle.std.specs.Prelude.{ℕ, ◌+◌, ◌≤◌, List, ◌++◌, Option, Some, None, option_map, Result, Ok, Err}
+use Rattle.std.specs.Option.{option_to_list}
 use Rattle.jc_model.specs.declared.call.ProcessorFault.{ProcessorFault}
 use Rattle.jc_model.specs.declared.call.Reply.{Reply}
 use Rattle.jc_model.specs.declared.call.Reply.TheVariants.{Found, Fault}
@@ -40,5 +41,4 @@ result_in _ = None
 
 -- with the key's part of the reply, where it has one
 abbrev pub pushed : {T : Type 0} → List (List ℕ × T) → List ℕ → Option T → List (List ℕ × T)
-pushed items k None = items
-pushed items k (Some x) = items ++ (k, x) ∷ []
+pushed items k part = items ++ option_to_list (option_map (λ x. (k, x)) part)

@@ -1,9 +1,7 @@
 -- The plain data of a suspended call.
-use Rattle.std.specs.Prelude.{ℕ, Bool, true, false, List}
-use Rattle.jc_model.specs.declared.call.KeyCall.{KeyCall}
+use Rattle.std.specs.Prelude.{ℕ, List}
 use Rattle.jc_model.specs.Run.{Awaited, for_load, for_write, for_process, for_tell}
-use Rattle.jc_model.specs.Suspended.{Wait, KeyWait, one, many, telling}
-use Rattle.jc_model.specs.Bulk.{Sum}
+use Rattle.jc_model.specs.Suspended.{Wait, one, many, telling}
 use Rattle.jc_bulk.specs.declared.bulk.Provided.{Provided}
 use Rattle.jc_bulk.specs.declared.waits.Awaits.{Awaits}
 use Rattle.jc_bulk.specs.declared.waits.Awaits.TheVariants.{Load, Write, Process, Tell}
@@ -26,8 +24,3 @@ abbrev pub moment_of : Wait → ℕ
 moment_of (one w) = w.now
 moment_of (many w) = w.key.now
 moment_of (telling reply) = 0
-
--- what a call has come to whose step waits: that step alone, or with these steps after it and the sum so far
-abbrev pub wait_of : Bool → KeyWait → List KeyCall → Sum → Wait
-wait_of true w rest sum = one w
-wait_of false w rest sum = many (record { key = w; rest = rest; sum = sum })

@@ -2,22 +2,18 @@
 //!
 //! A call first makes the memory that it may need. Where memory is refused, nothing has changed; from there on it can't
 //! be refused. It ends with its reply, or waits for one answer; its notices are the visit's.
-ghost use Rattle.std.specs.Prelude.{◌≡◌, true, false, None, IfOk, IfErr, IfSome, OnErr, IsOk};
-ghost use Rattle.jc_model.specs.declared.config.CacheConfig.{CacheConfig};
-ghost use Rattle.jc_model.specs.Changes.{Progress};
-ghost use Rattle.jc_model.specs.Run.{Run, fits};
-ghost use Rattle.jc_model.specs.Whole.{is_at_once, is_free};
+ghost use Rattle.std.specs.Prelude.{◌≡◌, true, None, IfOk, IfErr, IfSome, OnErr, IsOk};
+ghost use Rattle.jc_model.specs.Run.{fits};
+ghost use Rattle.jc_model.specs.Whole.{is_free};
 ghost use Rattle.jc_state.specs.Visited.{IsSameVisit, IsUnchanged};
-ghost use Rattle.jc_ops.specs.Stepped.{StepsTo};
-ghost use Rattle.jc_bulk.specs.Calls.{ComesTo, ComesFrom, EndsFrom, IsSuspendedIn, plan_in};
-ghost use Rattle.jc_bulk.specs.Calls.{call_run, answered_run};
+ghost use Rattle.jc_bulk.specs.Calls.{ComesFrom, EndsFrom, IsSuspendedIn, call_run, answered_run};
 
-use crate::bulk::{Ahead, go_on, go_on_after};
+use crate::bulk::go_on;
 use crate::entries::entries;
 use crate::provide::{prepare, prepare_answer};
 use crate::waits::{Suspended, suspend};
 use jc_model::OutOfMemory;
-use jc_model::call::{Answer, Call, Reply, Request};
+use jc_model::call::{Answer, Call, Reply};
 use jc_model::copies::Copies;
 use jc_model::table::key_step;
 use jc_ops::step::reply::{done, truth};
@@ -26,24 +22,9 @@ use jc_ops::supply::{Supply, asks_no_one};
 use jc_ring::ring::Ring;
 use jc_rows::rows::Rows;
 use jc_state::visit::Visit;
-use std::alloc::Global;
 
 /// What a call has come to: its reply, or the next request.
 pub type CallNext = Next<Suspended>;
-
-/// A call on one key, by what its step has come to.
-fn on_one_key(alloc: Global, next: Next<KeyStep>) -> CallNext
-    ensures { (c : CacheConfig) → (run : Run) → (p : Progress) →
-        StepsTo c run next p → ComesTo c run result p }
-{
-    match next {
-        Next::Ended(reply) => Next::Ended(reply),
-        Next::Waiting(request, step) => {
-            let none = Ahead::none(alloc);
-            suspend(request, step, none, true)
-        }
-    }
-}
 
 /// Makes a call on one key that asks no one, and so does not wait: its reply. Of any other call nothing, and nothing has
 /// changed; so also where memory is refused.
@@ -72,45 +53,10 @@ pub fn end_at_once<R: Rows, G: Ring>(
                 return Ok(None);
             };
             if !asks_no_one(visit.config(), &step.op) {
-                drop(step);
                 return Ok(None);
             }
-            match Supply::for_step(visit, &step) {
-                Ok(supply) => Ok(Some(KeyStep::end_at_once(visit, step, supply))),
-                Err(refused) => {
-                    drop(step);
-                    Err(refused)
-                }
-            }
-        }
-    }
-}
-
-/// Begins a call that does a step on one key or on many.
-fn start_steps<R: Rows, G: Ring>(
-    visit: &mut Visit<R, G>,
-    call: &Call,
-) -> Result<CallNext, OutOfMemory>
-    requires steps { is_at_once (plan_in visit.old call.now) ≡ false }
-    ensures same_visit { IsSameVisit visit.old visit.new }
-    ensures ok { IfOk result (λ next.
-        ComesFrom visit.old (call_run visit.old call.now) next visit.new) }
-    ensures same { OnErr result (IsUnchanged visit.old visit.new) }
-{
-    match key_step(call)? {
-        Some(step) => match Supply::for_step(visit, &step) {
-            Ok(supply) => {
-                let next = KeyStep::start(visit, step, supply);
-                Ok(on_one_key(visit.alloc(), next))
-            }
-            Err(refused) => {
-                drop(step);
-                Err(refused)
-            }
-        },
-        None => {
-            let ahead = prepare(visit, call)?;
-            Ok(go_on(visit, ahead))
+            let supply = Supply::for_step(visit, &step)?;
+            Ok(Some(KeyStep::end_at_once(visit, step, supply)))
         }
     }
 }
@@ -141,7 +87,19 @@ pub fn start_call<R: Rows, G: Ring>(
             Ok(Next::Ended(done()))
         }
         Call::Entries => Ok(Next::Ended(entries(visit)?.map(Reply::Listed))),
-        _ => start_steps(visit, call),
+        _ => match key_step(call)? {
+            Some(step) => {
+                let supply = Supply::for_step(visit, &step)?;
+                match KeyStep::start(visit, step, supply) {
+                    Next::Ended(reply) => Ok(Next::Ended(reply)),
+                    Next::Waiting(request, step) => Ok(suspend(request, step, None)),
+                }
+            }
+            None => {
+                let ahead = prepare(visit, call)?;
+                Ok(go_on(visit, ahead))
+            }
+        },
     }
 }
 
@@ -159,34 +117,19 @@ pub fn answer_call<R: Rows, G: Ring>(
     ensures back { IfErr result (λ back. back ≡ (suspended, answer)) }
     ensures same { OnErr result (IsUnchanged visit.old visit.new) }
 {
-    let Suspended {
-        step,
-        ahead,
-        alone,
-        awaits,
-    } = suspended;
-    match prepare_answer(visit, &step, &ahead, &answer) {
-        Err(_) => {
-            let suspended = Suspended {
-                step,
-                ahead,
-                alone,
-                awaits,
-            };
-            Err((suspended, answer))
-        }
-        Ok(supply) => {
-            let key = step.call().key;
-            match step.answer(visit, answer, supply) {
-                Next::Waiting(request, step) => Ok(suspend(request, step, ahead, alone)),
-                Next::Ended(reply) => {
-                    if alone {
-                        drop(ahead);
-                        return Ok(Next::Ended(reply));
-                    }
-                    Ok(go_on_after(visit, key, reply, ahead))
-                }
-            }
-        }
+    let Ok(supply) = prepare_answer(visit, &suspended.step, &suspended.ahead, &answer) else {
+        return Err((suspended, answer));
+    };
+    let Suspended { step, ahead, .. } = suspended;
+    let key = step.call().key;
+    match step.answer(visit, answer, supply) {
+        Next::Waiting(request, step) => Ok(suspend(request, step, ahead)),
+        Next::Ended(reply) => match ahead {
+            None => Ok(Next::Ended(reply)),
+            Some(mut ahead) => match ahead.sum.add(key, reply) {
+                Some(reply) => Ok(Next::Ended(reply)),
+                None => Ok(go_on(visit, ahead)),
+            },
+        },
     }
 }

@@ -1,14 +1,12 @@
 //! All entries of a cache at once.
-ghost use Rattle.std.specs.Prelude.{◌≡◌, ◌+◌, ◌<◌, ◌≤◌, [], ◌∷◌, Some, None, map, option_map};
-ghost use Rattle.std.specs.Prelude.{IfOk, OnOk, OnErr};
-ghost use Rattle.jc_model.specs.State.{Item};
-ghost use Rattle.jc_model.specs.Sound.{HasDistinctKeys};
+ghost use Rattle.std.specs.Prelude.{◌≡◌, None, IfOk, OnOk, OnErr};
 ghost use Rattle.jc_state.specs.Kept.{items_of, key_row};
-ghost use Rattle.jc_state.specs.Visited.{IsSameVisit, IsUnchanged};
-ghost use Rattle.jc_bulk.specs.Entries.{live_value, live_pairs, TouchesEach};
-ghost use Rattle.jc_bulk.specs.Tallied.{pushed};
+ghost use Rattle.jc_state.specs.Visited.{IsSameVisit, IsUnchanged, progress_in};
+ghost use Rattle.jc_bulk.specs.Entries.{live_value, live_pairs, listed, TouchesEach};
+ghost use Rattle.jc_bulk.specs.Entries.{touched, all_touched};
 
 use crate::lists::Lists;
+use crate::tally::push;
 use jc_model::OutOfMemory;
 use jc_model::copies::Copies;
 use jc_model::key::Key;
@@ -18,49 +16,31 @@ use jc_ring::ring::Ring;
 use jc_rows::rows::Rows;
 use jc_state::visit::Visit;
 
-/// The key's value, if it has a live row.
-fn live_value<'a, R: Rows, G: Ring>(visit: &'a Visit<R, G>, key: &Key) -> Option<&'a Value>
-    ensures { option_map (λ v. v.now) result
-        ≡ live_value visit.now.moment key.now (items_of visit.now.cache.cells) }
+/// Copies of the key's value, if it has a live row.
+fn live_value<R: Rows, G: Ring>(
+    visit: &Visit<R, G>,
+    key: &Key,
+) -> Result<Copies<Option<Value>>, OutOfMemory>
+    ensures { IfOk result (λ value. value
+        ≡ live_value visit.now.moment key.now (items_of visit.now.cache.cells)) }
 {
     match visit.find(key) {
-        None => None,
-        Some(row) => {
-            if visit.is_live(row) {
-                Some(visit.value(row).first())
-            } else {
-                None
-            }
-        }
+        Some(row) if visit.is_live(row) => Ok(Copies::of(visit.value(row).first())?.map(Some)),
+        _ => Ok(Copies::new(None, None, None)),
     }
 }
 
-/// Adds a key with its value, where it has one.
-fn list(pairs: &mut Lists<(Key, Value)>, key: Key, value: Option<&Value>) -> Result<(), OutOfMemory>
-    requires room { 0 < pairs.old.spare }
-    ensures items { OnOk result
-        (pairs.new.items ≡ pushed pairs.old.items key (option_map (λ v. v.now) value.entry)) }
-    ensures spare { pairs.old.spare ≤ pairs.new.spare + 1 }
-{
-    if let Some(value) = value {
-        let (first, second, third) = Copies::of(value)?.into_three();
-        pairs.push(Copies::new((key, first), (key, second), (key, third)));
-    }
-    Ok(())
-}
-
-/// The pairs of all live rows, in the order of the ring.
+/// The pairs of those of these keys that have a live row.
 fn contents<R: Rows, G: Ring>(
     visit: &Visit<R, G>,
     keys: &[Key],
 ) -> Result<Lists<(Key, Value)>, OutOfMemory>
-    requires keys { keys.now ≡ map (λ x. x.key) (items_of visit.now.cache.cells) }
-    requires apart { HasDistinctKeys (items_of visit.now.cache.cells) }
-    ensures { IfOk result (λ lists. lists.items ≡ live_pairs visit.now) }
+    ensures { IfOk result (λ lists. lists.items
+        ≡ listed visit.now.moment (items_of visit.now.cache.cells) keys.now) }
 {
     let mut pairs = Lists::with_room(visit.alloc(), keys.len())?;
     for key in keys {
-        list(&mut pairs, *key, live_value(visit, key))?;
+        push(&mut pairs, *key, live_value(visit, key)?);
     }
     Ok(pairs)
 }
@@ -68,8 +48,7 @@ fn contents<R: Rows, G: Ring>(
 /// Counts a hit on the key's row and uses it, where it is live.
 fn touch<R: Rows, G: Ring>(visit: &mut Visit<R, G>, key: &Key)
     ensures same { IsSameVisit visit.old visit.new }
-    ensures progress { (x : Item) → key_row visit.old.cache key.now ≡ Some x →
-        TouchesEach visit.old (x ∷ []) visit.new }
+    ensures progress { progress_in visit.new ≡ touched visit.old key.now (progress_in visit.old) }
     ensures none { key_row visit.old.cache key.now ≡ None → visit.new ≡ visit.old }
 {
     if let Some(row) = visit.find(key) {
@@ -80,12 +59,11 @@ fn touch<R: Rows, G: Ring>(visit: &mut Visit<R, G>, key: &Key)
     }
 }
 
-/// Counts a hit on each live row and uses it, in the order of the ring.
+/// Counts a hit on each live row of these keys and uses it, in their order.
 fn touch_each<R: Rows, G: Ring>(visit: &mut Visit<R, G>, keys: &[Key])
-    requires keys { keys.now ≡ map (λ x. x.key) (items_of visit.old.cache.cells) }
-    requires apart { HasDistinctKeys (items_of visit.old.cache.cells) }
     ensures same { IsSameVisit visit.old visit.new }
-    ensures progress { TouchesEach visit.old (items_of visit.old.cache.cells) visit.new }
+    ensures progress { progress_in visit.new
+        ≡ all_touched visit.old keys.now (progress_in visit.old) }
 {
     for key in keys {
         touch(visit, key);

@@ -101,32 +101,12 @@ pub fn prepare<R: Rows, G: Ring>(visit: &mut Visit<R, G>, call: &Call) -> Result
     Ok(Ahead { rest, sum, needs })
 }
 
-/// Places for the notices of the step that waits and of those after it, and room for the rows that they may add.
-fn reserve_ahead<R: Rows, G: Ring>(
-    visit: &mut Visit<R, G>,
-    step: &KeyStep,
-    ahead: &Ahead,
-) -> Result<(), OutOfMemory>
-    ensures same { IsUnchanged visit.old visit.new }
-    ensures places { OnOk result (HasPlacesFrom step.entry.now ahead.now visit.new) }
-    ensures kept { visit.old.spare ≤ visit.new.spare }
-    ensures asks { HasRoomFrom ahead.now visit.old.spare →
-        visit.new.spare ≡ visit.old.spare }
-    ensures room { OnOk result (HasRoomFrom ahead.now visit.new.spare) }
-{
-    let steps = ahead.rest.len() + 1;
-    let needs = ahead.needs;
-    let own = most_notices(&step.call().op, false);
-    visit.reserve_notices(places_for(needs, ahead.rest.len(), own)?)?;
-    visit.reserve_rows(if needs.adds { steps } else { 0 })
-}
-
 /// What the step that waits may need at this answer, and the room that it and the steps after it may need. Their
 /// values were made when the call began.
 pub fn prepare_answer<R: Rows, G: Ring>(
     visit: &mut Visit<R, G>,
     step: &KeyStep,
-    ahead: &Ahead,
+    ahead: &Option<Ahead>,
     answer: &Answer,
 ) -> Result<Supply, OutOfMemory>
     ensures same { IsUnchanged visit.old visit.new }
@@ -142,11 +122,12 @@ pub fn prepare_answer<R: Rows, G: Ring>(
         CoversAnswerIn visit.old step.entry.now answer.now s.values) }
 {
     let supply = Supply::for_answer(visit, step, answer)?;
-    match reserve_ahead(visit, step, ahead) {
-        Ok(()) => Ok(supply),
-        Err(refused) => {
-            drop(supply);
-            Err(refused)
-        }
-    }
+    let Some(ahead) = ahead else {
+        return Ok(supply);
+    };
+    let own = most_notices(&step.call().op, false);
+    let steps = ahead.rest.len();
+    visit.reserve_notices(places_for(ahead.needs, steps, own)?)?;
+    visit.reserve_rows(if ahead.needs.adds { steps + 1 } else { 0 })?;
+    Ok(supply)
 }

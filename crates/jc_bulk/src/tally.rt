@@ -1,5 +1,6 @@
 //! What a call on many keys gathers of its steps, in room that was made before the first of them.
-ghost use Rattle.std.specs.Prelude.{◌≡◌, ℕ, ◌+◌, ◌<◌, ◌≤◌, ◌^◌, IfOk};
+ghost use Rattle.std.specs.Prelude.{◌≡◌, ℕ, ◌+◌, ◌<◌, ◌≤◌, ◌^◌, Some, None, IfOk, IfSome, option_map};
+ghost use Rattle.jc_model.specs.declared.call.Reply.TheVariants.{Fault};
 ghost use Rattle.jc_model.specs.Bulk.{with_key, gathered_reply, ends_call};
 ghost use Rattle.jc_state.specs.Visited.{Visited};
 ghost use Rattle.jc_bulk.specs.Calls.{first_sum};
@@ -12,7 +13,7 @@ use jc_model::call::{By, Call, ProcessorFault, Reply};
 use jc_model::copies::Copies;
 use jc_model::key::Key;
 use jc_model::value::Value;
-use jc_ops::step::reply::done;
+use jc_ops::step::reply::{done, fault};
 use std::alloc::Global;
 
 /// The replies of the keys so far.
@@ -31,7 +32,7 @@ pub struct Tally {
 }
 
 /// Whose fault ends the call, if this reply to a key is one.
-pub fn ends_call(reply: &Reply) -> Option<By>
+fn ends_call(reply: &Reply) -> Option<By>
     ensures { result ≡ ends_call reply.now }
 {
     match reply {
@@ -63,7 +64,7 @@ fn processed(reply: Reply) -> Option<Result<Value, ProcessorFault>>
 }
 
 /// Adds a key with its part of the reply, where it has one.
-fn push<T: Drop>(lists: &mut Lists<(Key, T)>, key: Key, part: Copies<Option<T>>)
+pub fn push<T: Drop>(lists: &mut Lists<(Key, T)>, key: Key, part: Copies<Option<T>>)
     requires room { 0 < lists.old.spare }
     ensures items { lists.new.items ≡ pushed lists.old.items key part }
     ensures spare { lists.old.spare ≤ lists.new.spare + 1 }
@@ -88,20 +89,26 @@ impl Tally {
         Ok(Tally { done: 0, collected })
     }
 
-    /// Adds a key that is done, with its reply.
-    pub fn add(&mut self, key: Key, reply: Copies<Reply>)
+    /// Adds a key that is done, with its reply. Where that ends the call, nothing is added, and this is the call's reply.
+    pub fn add(&mut self, key: Key, reply: Copies<Reply>) -> Option<Copies<Reply>>
         requires room { HasRoomFor 1 self.old.collected }
         requires few { self.old.done + 1 < 2 ^ 32 }
-        ensures sum { sum_of self.new ≡ with_key key reply (sum_of self.old) }
-        ensures done { self.new.done ≡ self.old.done + 1 }
-        ensures room { UsesRoomForOne self.old.collected self.new.collected }
+        ensures ends { result ≡ option_map (λ by. Fault by (Some self.old.done)) (ends_call reply) }
+        ensures same { IfSome result (λ r. self.new ≡ self.old) }
+        ensures sum { result ≡ None → sum_of self.new ≡ with_key key reply (sum_of self.old) }
+        ensures room { result ≡ None → UsesRoomForOne self.old.collected self.new.collected }
     {
+        if let Some(by) = ends_call(reply.first()) {
+            drop(reply);
+            return Some(fault(by, Some(self.done)));
+        }
         self.done += 1;
         match &mut self.collected {
             Collected::Nothing => {}
             Collected::Pairs(pairs) => push(pairs, key, reply.map(found)),
             Collected::Results(results) => push(results, key, reply.map(processed)),
         }
+        None
     }
 
     /// The reply after the last key.

@@ -1,8 +1,8 @@
 //! A call that waits for the answer to one request.
-ghost use Rattle.std.specs.Prelude.{◌≡◌};
+ghost use Rattle.std.specs.Prelude.{◌≡◌, IfSome};
 ghost use Rattle.jc_model.specs.Run.{awaited_by, fits};
 ghost use Rattle.jc_bulk.specs.Ahead.{IsAheadOf, waits_of};
-ghost use Rattle.jc_bulk.specs.Waits.{awaited, moment_of};
+ghost use Rattle.jc_bulk.specs.Waits.{moment_of};
 
 use crate::bulk::Ahead;
 use crate::call::CallNext;
@@ -23,46 +23,37 @@ pub enum Awaits {
 #[derive(Drop)]
 pub struct Suspended {
     pub(crate) step: KeyStep,
-    pub(crate) ahead: Ahead,
-    /// The call is on this one key: no steps are ahead, and its reply is the step's own.
-    pub(crate) alone: bool,
+    /// None where the call is on this one key: its reply is the step's own.
+    pub(crate) ahead: Option<Ahead>,
     pub(crate) awaits: Awaits,
 }
 
 impl Model for Suspended {
+    ghost use Rattle.std.specs.Prelude.{IfSome};
     ghost use Rattle.jc_bulk.specs.Ahead.{IsAheadOf, waits_of};
     ghost use Rattle.jc_bulk.specs.Waits.{Waits, awaited};
 
     ghost Value = { Waits };
 
-    ghost view = { λ s. waits_of (awaited s.awaits) s.step s.ahead s.alone };
+    ghost view = { λ s. waits_of (awaited s.awaits) s.step s.ahead };
 
-    ghost invariant = { λ s. IsAheadOf s.step.call.key s.ahead };
-}
-
-/// What kind of answer a request awaits.
-fn awaits_of(request: &Request) -> Awaits
-    ensures { awaited result ≡ awaited_by request.now }
-{
-    match request {
-        Request::Load(_) => Awaits::Load,
-        Request::Write(_, _) => Awaits::Write,
-        Request::Delete(_) => Awaits::Write,
-        Request::Process { .. } => Awaits::Process,
-        Request::Tell(_) => Awaits::Tell,
-    }
+    ghost invariant = { λ s. IfSome s.ahead (IsAheadOf s.step.call.key) };
 }
 
 /// A call whose step waits with this request.
-pub(crate) fn suspend(request: Request, step: KeyStep, ahead: Ahead, alone: bool) -> CallNext
-    requires { IsAheadOf step.call.key ahead }
-    ensures { result ≡ Next.Waiting request (waits_of (awaited_by request) step ahead alone) }
+pub(crate) fn suspend(request: Request, step: KeyStep, ahead: Option<Ahead>) -> CallNext
+    requires { IfSome ahead (IsAheadOf step.call.key) }
+    ensures { result ≡ Next.Waiting request (waits_of (awaited_by request) step ahead) }
 {
-    let awaits = awaits_of(&request);
+    let awaits = match &request {
+        Request::Load(_) => Awaits::Load,
+        Request::Write(_, _) | Request::Delete(_) => Awaits::Write,
+        Request::Process { .. } => Awaits::Process,
+        Request::Tell(_) => Awaits::Tell,
+    };
     let suspended = Suspended {
         step,
         ahead,
-        alone,
         awaits,
     };
     Next::Waiting(request, suspended)
