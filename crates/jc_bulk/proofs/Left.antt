@@ -36,10 +36,9 @@ fits-found q o (y ∷ ys) x f e = grind (arith, common_steps, bytes_eq-Decides y
 -- The hand leaves the rows before which it stops, and passes those before them.
 all-parts : (P : Item → Type 0) (now : ℕ) (xs : List Item) → All P xs → All P (from_stop now xs) × All P (before_stop now xs)
 all-parts P now [] f = (f, f)
-all-parts P now (x ∷ xs) f = elim (stops_at now x) as (λ b. All P (if b then x ∷ xs else from_stop now xs) × All P (if b then [] else x ∷ before_stop now xs)) [
-  | true ↦ (f, All-nil P)
-  | false ↦ (let rest = all-parts P now xs (All-tail P x xs f) in (rest.0, All-cons P x _ (All-head P x xs f) rest.1))
-]
+all-parts P now (x ∷ xs) f =
+    let rest = all-parts P now xs (All-tail P x xs f) in
+    grind (arith, common_steps, f, rest.0, All-nil P, All-cons P x _ (All-head P x xs f) rest.1)
 
 all-turned : (P : Item → Type 0) (now : ℕ) (xs : List Item) → ((x : Item) → P x → P (passed x)) → All P xs → All P (turned now xs)
 all-turned P now xs passes f = let parts = all-parts P now xs f in All-append P _ _ parts.0 (All-map P passed _ (All-weaker P _ passes _ parts.1))

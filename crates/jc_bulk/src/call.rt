@@ -44,21 +44,17 @@ pub fn end_at_once<R: Rows, G: Ring>(
     if visit.config().loader || visit.config().writer {
         return Ok(None);
     }
-    match call {
-        Call::Contains(_) | Call::Stats | Call::ClearStats | Call::Clear | Call::Entries => {
-            Ok(None)
-        }
-        _ => {
-            let Some(step) = key_step(call)? else {
-                return Ok(None);
-            };
-            if !asks_no_one(visit.config(), &step.op) {
-                return Ok(None);
-            }
-            let supply = Supply::for_step(visit, &step)?;
-            Ok(Some(KeyStep::end_at_once(visit, step, supply)))
-        }
+    if let Call::Contains(_) | Call::Stats | Call::ClearStats | Call::Clear | Call::Entries = call {
+        return Ok(None);
     }
+    let Some(step) = key_step(call)? else {
+        return Ok(None);
+    };
+    if !asks_no_one(visit.config(), &step.op) {
+        return Ok(None);
+    }
+    let supply = Supply::for_step(visit, &step)?;
+    Ok(Some(KeyStep::end_at_once(visit, step, supply)))
 }
 
 /// Begins a call on a cache. Where memory is refused, nothing has changed; a call that takes none is not refused.

@@ -39,13 +39,10 @@ impl<T> Lists<T> {
         ensures items { IfOk result (λ lists. lists.items ≡ []) }
         ensures room { IfOk result (λ lists. lists.spare ≡ room) }
     {
-        let first = Vec::with_capacity(alloc, room)?;
-        let second = Vec::with_capacity(alloc, room)?;
-        let third = Vec::with_capacity(alloc, room)?;
         Ok(Lists {
-            first,
-            second,
-            third,
+            first: Vec::with_capacity(alloc, room)?,
+            second: Vec::with_capacity(alloc, room)?,
+            third: Vec::with_capacity(alloc, room)?,
         })
     }
 
@@ -65,15 +62,10 @@ impl<T> Lists<T> {
     pub fn into_lists(self) -> Copies<Sequence<T>>
         ensures { result ≡ self.items }
     {
-        let Lists {
-            first,
-            second,
-            third,
-        } = self;
         Copies::new(
-            Sequence::new(first),
-            Sequence::new(second),
-            Sequence::new(third),
+            Sequence::new(self.first),
+            Sequence::new(self.second),
+            Sequence::new(self.third),
         )
     }
 }

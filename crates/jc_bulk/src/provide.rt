@@ -45,10 +45,8 @@ fn places_for(needs: Needs, steps: usize, more: usize) -> Result<usize, OutOfMem
     ensures { IfOk result (λ places. places ≡ places_for needs.tells steps + more) }
 {
     let each = if needs.tells { 3 } else { 1 };
-    match steps.checked_mul(each) {
-        Some(places) => places.checked_add(more).ok_or(AllocError),
-        None => Err(AllocError),
-    }
+    let places = steps.checked_mul(each).ok_or(AllocError)?;
+    places.checked_add(more).ok_or(AllocError)
 }
 
 /// The key's row, where the step's values are taken of it.

@@ -24,14 +24,10 @@ fn op_on<R: Rows, G: Ring>(visit: &Visit<R, G>, call: &Call, key: &Key) -> Resul
             processor,
             argument,
             ..
-        } => {
-            let processor = *processor;
-            let argument = argument.share()?;
-            Ok(Op::Invoke {
-                processor,
-                argument,
-            })
-        }
+        } => Ok(Op::Invoke {
+            processor: *processor,
+            argument: argument.share()?,
+        }),
         Call::RemoveKeys(_) => Ok(Op::Remove),
         Call::RemoveAll if visit.holds(key) => Ok(Op::Remove),
         Call::RemoveAll => Ok(Op::Expire),

@@ -25,7 +25,7 @@ pub struct Suspended {
     pub(crate) step: KeyStep,
     /// None where the call is on this one key: its reply is the step's own.
     pub(crate) ahead: Option<Ahead>,
-    pub(crate) awaits: Awaits,
+    pub(crate) kind: Awaits,
 }
 
 impl Model for Suspended {
@@ -35,7 +35,7 @@ impl Model for Suspended {
 
     ghost Value = { Waits };
 
-    ghost view = { λ s. waits_of (awaited s.awaits) s.step s.ahead };
+    ghost view = { λ s. waits_of (awaited s.kind) s.step s.ahead };
 
     ghost invariant = { λ s. IfSome s.ahead (IsAheadOf s.step.call.key) };
 }
@@ -45,18 +45,13 @@ pub(crate) fn suspend(request: Request, step: KeyStep, ahead: Option<Ahead>) -> 
     requires { IfSome ahead (IsAheadOf step.call.key) }
     ensures { result ≡ Next.Waiting request (waits_of (awaited_by request) step ahead) }
 {
-    let awaits = match &request {
+    let kind = match &request {
         Request::Load(_) => Awaits::Load,
         Request::Write(_, _) | Request::Delete(_) => Awaits::Write,
         Request::Process { .. } => Awaits::Process,
         Request::Tell(_) => Awaits::Tell,
     };
-    let suspended = Suspended {
-        step,
-        ahead,
-        awaits,
-    };
-    Next::Waiting(request, suspended)
+    Next::Waiting(request, Suspended { step, ahead, kind })
 }
 
 impl Suspended {
@@ -64,7 +59,7 @@ impl Suspended {
     pub fn awaits(&self, answer: &Answer) -> bool
         ensures { result ≡ fits self.now.awaits answer.now }
     {
-        match self.awaits {
+        match self.kind {
             Awaits::Load => matches!(answer, Answer::Loaded(_) | Answer::LoadFailed),
             Awaits::Write => matches!(answer, Answer::Written | Answer::WriteFailed),
             Awaits::Process => matches!(answer, Answer::Processed(_)),
