@@ -1,26 +1,16 @@
 -- The keys of a call's steps are different.
-use Rattle.std.proofs.Common.{◌≡◌, ◌≢◌, ℕ, true, false, List, [], ◌∷◌, map, refl, arith}
+use Rattle.std.proofs.Common.{◌≡◌, ◌≢◌, ℕ, true, false, List, [], ◌∷◌, refl, arith}
 use Rattle.std.proofs.lemmas.Grind.{common_steps}
-use Rattle.std.proofs.lemmas.List.{map-id}
-use Rattle.std.proofs.lemmas.Simd.{map-map}
 use Rattle.std.specs.List.{list_any}
 use Rattle.std.specs.Str.{bytes_eq}
 use Rattle.std.proofs.lemmas.Slice.Eq.{bytes_eq-Decides}
-use Rattle.jc_model.specs.declared.call.Call.{Call}
 use Rattle.jc_model.specs.Lists.{distinct}
-use Rattle.jc_bulk.specs.Each.{each_of}
-use Rattle.jc_bulk.proofs.Names.{Visited, put_each, LacksKey, HasDistinctKeys, Item, keys_in}
+use Rattle.jc_bulk.proofs.Names.{LacksKey, HasDistinctKeys, Item}
 use Rattle.jc_bulk.proofs.Rows.{keys_of}
 
 -- the first is not the second, and with those behind it they are different
 pub past_second : (k q : List ℕ) (ks : List (List ℕ)) → distinct (k ∷ q ∷ ks) ≡ true → (k ≢ q) × (distinct (k ∷ ks) ≡ true)
 past_second k q ks e = (λ same. grind (arith, common_steps, bytes_eq-Decides q k), grind (arith, common_steps))
-
-pub each_keys : (v : Visited) (call : Call) (ks : List (List ℕ)) → keys_in (each_of v call ks) ≡ ks
-each_keys v call ks = simp (map-map, map-id)
-
-pub put_keys : (ps : List (List ℕ × List ℕ)) → keys_in (put_each ps) ≡ map (λ p. p.0) ps
-put_keys ps = simp map-map
 
 lacks_none : (k : List ℕ) (ring : List Item) → LacksKey k ring → list_any (λ y. bytes_eq y k) (keys_of ring) ≡ false
 lacks_none k [] l = refl

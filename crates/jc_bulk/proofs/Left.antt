@@ -7,7 +7,7 @@ use Rattle.std.specs.Str.{bytes_eq}
 use Rattle.std.proofs.lemmas.Slice.Eq.{bytes_eq-Decides}
 use Rattle.jc_model.proofs.Rings.{room_in}
 use Rattle.jc_model.proofs.Keeps.{step-keeps}
-use Rattle.jc_bulk.proofs.Names.{KeyCall, CacheConfig, Item, State, passed, stops_at, before_stop, from_stop, turned, row_of, Progress, step, Throughout, Answer, Reply, Run, HasDistinctKeys, KeyWait, StepsTo, answer_run, Covers, Provided, calls_in, keys_in, AreCovered}
+use Rattle.jc_bulk.proofs.Names.{KeyCall, CacheConfig, Item, State, passed, before_stop, from_stop, turned, row_of, Progress, step, Throughout, Answer, Reply, Run, HasDistinctKeys, KeyWait, StepsTo, answer_run, Covers, Provided, calls_in, keys_in, AreCovered}
 use Rattle.jc_bulk.proofs.Names.{Visited, Awaited, Ahead, IsAheadOf, IsSuspendedIn, items_of, progress_in, waits_of}
 use Rattle.jc_model.specs.Run.{answered}
 use Rattle.jc_model.proofs.Everywhere.{at_each-answered}
@@ -40,11 +40,11 @@ all-parts P now (x ∷ xs) f =
     let rest = all-parts P now xs (All-tail P x xs f) in
     grind (arith, common_steps, f, rest.0, All-nil P, All-cons P x _ (All-head P x xs f) rest.1)
 
-all-turned : (P : Item → Type 0) (now : ℕ) (xs : List Item) → ((x : Item) → P x → P (passed x)) → All P xs → All P (turned now xs)
-all-turned P now xs passes f = let parts = all-parts P now xs f in All-append P _ _ parts.0 (All-map P passed _ (All-weaker P _ passes _ parts.1))
-
 all-room : (P : Item → Type 0) (c : CacheConfig) (now : ℕ) (xs : List Item) → ((x : Item) → P x → P (passed x)) → All P xs → All P (room_in c now xs)
-all-room P c now xs passes f = elim (leb c.capacity (length xs)) as (λ b. All P (if b then drop 1 (turned now xs) else xs)) [ true ↦ All-drop P 1 _ (all-turned P now xs passes f) | false ↦ f ]
+all-room P c now xs passes f =
+    let parts = all-parts P now xs f in
+    let all : All P (turned now xs) = All-append P _ _ parts.0 (All-map P passed _ (All-weaker P _ passes _ parts.1)) in
+    elim (leb c.capacity (length xs)) as (λ b. All P (if b then drop 1 (turned now xs) else xs)) [ true ↦ All-drop P 1 _ all | false ↦ f ]
 
 -- no change of another key's row gives a row of this key another value
 pub step-fits : (c : CacheConfig) (now : ℕ) (q : List ℕ) (o : Option (List ℕ)) (call : KeyCall) (p : Progress) → call.key ≢ q → Fits q o p.state.ring → Throughout (λ s. Fits q o s.ring) (step c now call p)

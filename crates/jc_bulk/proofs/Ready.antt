@@ -36,8 +36,5 @@ module _ (v : Visited) (p : Provided) (a : Ahead) (r : IsReady v.cache.config (i
   pub first_and_rest : (there : Bool) → HasPlacesIn (places_ahead a + most_told there p.call.op) v
   first_and_rest there = λ listens. grind (arith, common_steps, nat_tests, r.places listens, most_absent there p.call.op, most_three p.call.op, r.ahead.telling)
 
-  pub first_places : (there : Bool) → HasPlacesIn (most_told there p.call.op) v
-  first_places there = λ listens. omega (arith, first_and_rest there listens)
-
   pub first_room : (there : Bool) → HasRoom (adds there v.cache.config.writer p.call.op) v.spare
   first_room there = λ adding. grind (arith, common_steps, r.room, r.ahead.adding)

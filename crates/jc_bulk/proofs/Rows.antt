@@ -35,11 +35,6 @@ all_removed v (x ∷ xs) s = grind (arith, common_steps, s.0, all_removed v xs s
 
 -- All live rows are used, one after the other.
 
--- the rows that are left to be used, which no use so far has touched
-pub record AreLeft (left : List Item) (ring : List Item) : Type 0 where
-  pub there : StillThere left ring
-  pub apart : HasDistinctKeys left
-
 -- another row is stored anew
 other_row : (x : Item) (k : List ℕ) (ring : List Item) → k ≢ x.key → row_of k (with_row x ring) ≡ row_of k ring
 other_row x k [] d = refl
@@ -49,14 +44,15 @@ still_stored : (x : Item) (xs ring : List Item) → LacksKey x.key xs → StillT
 still_stored x [] ring l s = tt
 still_stored x (y ∷ ys) ring l s = (other_row x y.key ring l.0 ∙ s.0, still_stored x ys ring l.1 s.1)
 
-pub left_after : (c : CacheConfig) (now : ℕ) (x : Item) (left : List Item) (p : Progress) → AreLeft (x ∷ left) p.state.ring → AreLeft left (touch_each c now (x ∷ []) p).state.ring
-left_after c now x left p a = elim (is_live now x) as (λ b. AreLeft left (if b then access c now x (hit p) else p).state.ring) [
-  | true ↦ record { there = still_stored (record x { expiry = after_access c.policy x.expiry now; used = true }) left p.state.ring a.apart.0 a.there.1; apart = a.apart.1 }
-  | false ↦ record { there = a.there.1; apart = a.apart.1 }
+-- the rows that are left are as they were when one more is used
+left_after : (c : CacheConfig) (now : ℕ) (x : Item) (left : List Item) (p : Progress) → LacksKey x.key left → StillThere left p.state.ring → StillThere left (touch_each c now (x ∷ []) p).state.ring
+left_after c now x left p l s = elim (is_live now x) as (λ b. StillThere left (if b then access c now x (hit p) else p).state.ring) [
+  | true ↦ still_stored (record x { expiry = after_access c.policy x.expiry now; used = true }) left p.state.ring l s
+  | false ↦ s
 ]
 
-pub each_touched : (v : Visited) (left : List Item) (p : Progress) → AreLeft left p.state.ring → all_touched v (keys_of left) p ≡ touch_each v.cache.config v.moment left p
-each_touched v [] p a = refl
-each_touched v (x ∷ xs) p a =
-    let here : touched v x.key p ≡ touch_each v.cache.config v.moment (x ∷ []) p = rw (a.there.0, touched) in
-    ap (all_touched v (keys_of xs)) here ∙ each_touched v xs (touch_each v.cache.config v.moment (x ∷ []) p) (left_after v.cache.config v.moment x xs p a)
+pub each_touched : (v : Visited) (left : List Item) (p : Progress) → StillThere left p.state.ring → HasDistinctKeys left → all_touched v (keys_of left) p ≡ touch_each v.cache.config v.moment left p
+each_touched v [] p s d = refl
+each_touched v (x ∷ xs) p s d =
+    let here : touched v x.key p ≡ touch_each v.cache.config v.moment (x ∷ []) p = rw (s.0, touched) in
+    ap (all_touched v (keys_of xs)) here ∙ each_touched v xs (touch_each v.cache.config v.moment (x ∷ []) p) (left_after v.cache.config v.moment x xs p d.0 s.1) d.1

@@ -1,10 +1,11 @@
 use Rattle.std.proofs.Common.{◌∙◌, [], refl, sym, ap, arith}
 use Rattle.jc_model.proofs.Refusals.{none_mapped}
 use Rattle.jc_state.proofs.VisitLaws.{same_on, same_visit}
+use Rattle.jc_state.specs.Visited.{has_live_in}
 use Rattle.jc_bulk.proofs.Names.{Ahead, Sum, progress_in, calls_ahead, step_run, sum_of}
 use Rattle.jc_bulk.proofs.EachStep.{step_ended, step_waits}
 use Rattle.jc_bulk.proofs.Left.{covered-stays}
-use Rattle.jc_bulk.proofs.Ready.{ready_after, first_ahead, first_and_rest, first_places, first_room}
+use Rattle.jc_bulk.proofs.Ready.{ready_after, first_ahead, first_and_rest, first_room}
 use Rattle.jc_bulk.proofs.bulk.go_on.Goals as goal
 
 pub steps-init : goal.steps-init
@@ -12,7 +13,8 @@ steps-init g c = record { same = same_visit _; ready = c.requires.ready; run = r
 
 pub start-requires-clause-places : goal.start-requires-clause-places
 start-requires-clause-places g c =
-    first_places c.steps.visit c.in-Some.field-0 (record c.steps.ahead { rest = c.pop_front.new.self }) (rw c.in-Some.ensures.items at c.steps.invariant.ready) _
+    let places = first_and_rest c.steps.visit c.in-Some.field-0 (record c.steps.ahead { rest = c.pop_front.new.self }) (rw c.in-Some.ensures.items at c.steps.invariant.ready) in
+    λ listens. omega (arith, places (has_live_in c.steps.visit c.in-Some.field-0.call.key) listens)
 
 pub start-requires-clause-room : goal.start-requires-clause-room
 start-requires-clause-room g c =

@@ -12,4 +12,4 @@ pub returns-clause-progress : goal.returns-clause-progress
 returns-clause-progress g c =
     let v = c.args.visit.now in
     let keys = c.in_ok-keys.ensures in
-    rw (c.touch_each.ensures.progress, c.as_slice-2.ensures.value, keys.keys) (each_touched v (items_of v.cache.cells) (progress_in v) (record { there = all_there _ keys.apart; apart = keys.apart }))
+    rw (c.touch_each.ensures.progress, c.as_slice-2.ensures.value, keys.keys) (each_touched v (items_of v.cache.cells) (progress_in v) (all_there _ keys.apart) keys.apart)

@@ -1,7 +1,6 @@
-use Rattle.std.proofs.lemmas.List.{take_all}
-use Rattle.jc_bulk.proofs.Apart.{each_keys}
+use Rattle.std.proofs.lemmas.List.{take_all, map-id}
+use Rattle.std.proofs.lemmas.Simd.{map-map}
 use Rattle.jc_bulk.proofs.steps.each_key.Goals as goal
 
 pub returns-clause-apart : goal.returns-clause-apart
-returns-clause-apart g c =
-    rw (c.loop-key.invariant, take_all _ _ c.loop-key-test.false, each_keys c.args.visit.now c.args.call.now c.args.keys.now) c.requires.apart
+returns-clause-apart g c = rw (c.loop-key.invariant, take_all _ _ c.loop-key-test.false) (simp (map-map, map-id) c.requires.apart)
