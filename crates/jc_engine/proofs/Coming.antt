@@ -1,12 +1,11 @@
 -- A cache more, under the next id, and no caches yet.
 use Rattle.jc_engine.proofs.Names.{common_steps, map-append, length_push, CacheConfig, none_before, Status, RowMap, Member, member_of, members_of, Slot, IsManaged, cache_in, Cache, status_of, lives_of, fresh_cache}
-use Rattle.jc_engine.proofs.Names.{fresh_slot, IsAt, IsSound, places_of, caches_in, get-empty}
+use Rattle.jc_engine.proofs.Names.{fresh_slot, IsAt, places_of, caches_in, get-empty}
 use Rattle.std.proofs.Common.{◌≡◌, ℕ, ◌+◌, ◌≤◌, ◌<◌, zero, suc, List, [], ◌∷◌, ◌++◌, map, length, option_map, Option, Some, None, refl, sym, ap, subst, ◌∙◌, arith}
 use Rattle.std.specs.FinMap as table
-use Rattle.jc_model.specs.declared.call.Notice.{Notice}
 use Rattle.jc_model.specs.Limits.{most_ids}
-use Rattle.jc_state.specs.Kept.{Kept}
-use Rattle.jc_engine.specs.Sound.{IsManager}
+use Rattle.jc_state.specs.Visited.{Visited}
+use Rattle.jc_engine.specs.Sound.{IsManager, IsSpare}
 use Rattle.jc_engine.proofs.Numbered.{none-places, Puts, put_other, places_more}
 use Rattle.jc_engine.proofs.Places.{Within, listed_seen, stands, each_put}
 
@@ -24,23 +23,19 @@ module _ (w : Within) (c : CacheConfig) (g : ℕ → Option Slot) (puts : Puts w
       ∙ map-append (option_map cache_in) (places_of w.caches (length w.members)) (Some (fresh_slot (length w.members) c) ∷ [])
       ∙ ap (λ (ks : List (Option Cache)). ks ++ Some (fresh_cache c) ∷ []) w.view_is
 
-  pub sound_more : IsSound w.rows g (w.members ++ Some (member_of c) ∷ [])
-  sound_more = record {
-    each = each_put w.rows w.caches g (length w.members) _ puts (fresh_at w.rows (length w.members) c (stands w (length w.members) (w.sound.beyond (length w.members) (omega arith)))) (λ id differ. w.sound.each id);
+  pub manager_more : length w.members < most_ids → IsManager w.visit g (w.members ++ Some (member_of c) ∷ [])
+  manager_more below = record {
+    each = each_put w.visit.table w.caches g (length w.members) _ puts
+        (fresh_at w.visit.table (length w.members) c (stands w (length w.members) (w.is.beyond (length w.members) (omega arith)))) (λ id differ. w.is.each id);
     beyond = λ id above. (let past : length w.members + 1 ≤ id = subst (λ (n : ℕ). n ≤ id) one_more above in
-        put_other w.caches g (length w.members) _ puts id (λ e. omega (arith, past, e)) ∙ w.sound.beyond id (omega (arith, past)));
+        put_other w.caches g (length w.members) _ puts id (λ e. omega (arith, past, e)) ∙ w.is.beyond id (omega (arith, past)));
     listed =
         ap (λ (ms : List (Option Member)). ms ++ Some (member_of c) ∷ []) (listed_seen w)
         ∙ sym (ap members_of (map-append (option_map status_of) w.seen (Some (fresh_cache c) ∷ [])) ∙ map-append (option_map (λ (k : Status). member_of k.config)) (lives_of w.seen) (Some (status_of (fresh_cache c)) ∷ []))
         ∙ ap (λ (ks : List (Option Cache)). members_of (lives_of ks)) (sym seen_more);
-  }
-
-  pub manager_more : {spare : Kept} {told : List Notice} → IsManager w.rows w.caches w.members spare told → length w.members < most_ids → IsManager w.rows g (w.members ++ Some (member_of c) ∷ []) spare told
-  manager_more is below = record {
-    sound = sound_more;
-    spare = is.spare;
-    unused = put_other w.caches g (length w.members) _ puts most_ids (λ e. omega (arith, below, e)) ∙ is.unused;
-    untold = is.untold;
+    few = omega (arith, one_more, below);
+    spare = w.is.spare;
+    untold = w.is.untold;
   }
 
 -- No caches yet.
@@ -57,9 +52,12 @@ module _ (f : ℕ → Option Slot) (first : ℕ) (none : (id : ℕ) → f id ≡
   pub vacant_seen : caches_in f (length members) ≡ none_before first []
   vacant_seen = ap (caches_in f) (ap length fresh ∙ none_length Member first) ∙ ap (map (option_map cache_in)) (none-places f first none) ∙ none_map cache_in first
 
-  pub vacant_sound : (m : RowMap) → m ≡ table.empty → IsSound m f members
-  vacant_sound m empty = record {
-    each = λ id. subst (IsAt m id) (sym (none id)) (λ key. ap (λ (n : RowMap). table.get n (id, key)) empty ∙ get-empty (id, key));
+  pub vacant_manager : (v : Visited) → first ≤ most_ids → v.table ≡ table.empty → IsSpare v.cache → v.noted.told ≡ [] → IsManager v f members
+  vacant_manager v few empty spare untold = record {
+    each = λ id. subst (IsAt v.table id) (sym (none id)) (λ key. ap (λ (n : RowMap). table.get n (id, key)) empty ∙ get-empty (id, key));
     beyond = λ id above. none id;
     listed = fresh ∙ sym (ap (λ (ks : List (Option Cache)). members_of (lives_of ks)) vacant_seen ∙ ap members_of (none_map status_of first) ∙ none_map (λ (k : Status). member_of k.config) first);
+    few = rw (fresh, none_length Member first) few;
+    spare = spare;
+    untold = untold;
   }

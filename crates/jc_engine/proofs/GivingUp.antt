@@ -1,7 +1,9 @@
 -- A call that is given up.
-use Rattle.jc_engine.proofs.Names.{common_steps, Notice, CacheConfig, Cause, Progress, Awaited, Wait, standing_by, gives_up, idle, reply_of, moved_by, RowMap, Noted, Idle, Slot, cache_in, turn_in, IsManaged, LeavesNotices}
+use Rattle.jc_engine.proofs.Names.{common_steps, Notice, CacheConfig, Cause, Progress, Awaited, Wait, standing_by, gives_up, idle, reply_of, moved_by, Noted, Idle, Slot, cache_in, turn_in, LeavesNotices}
 use Rattle.jc_engine.proofs.Names.{Abandons, of_abandon, GivenUp}
 use Rattle.std.proofs.Common.{◌≡◌, ℕ, false, List, [], IfOk, OnOk, OnErr, Option, Some, None, Ok, Err, Result, refl, sym, ap, subst, arith}
+use Rattle.jc_state.specs.Visited.{Visited}
+use Rattle.jc_engine.specs.Managed.{IsReady, IsPutBack}
 use Rattle.jc_engine.proofs.Moving.{Did}
 
 given_up : (c : CacheConfig) (p : Progress) (turn : Option (Awaited × Wait)) → (turn ≡ None → ⊥) → (reply_of c (standing_by c p turn) gives_up ≡ GivenUp p.notices) × (moved_by c (standing_by c p turn) gives_up ≡ idle p.state)
@@ -22,6 +24,6 @@ module _ (cache cache' : Slot) where
   ends (Ok left) is = (is.2, ap (λ (k : Slot). turn_in k.turn) is.0, tt)
   ends (Err cause) is = (tt, tt, ap cache_in is.2)
 
-  pub managed_after : (m : RowMap) (id : ℕ) (r : Result (Option Noted) Cause) → IsManaged m id cache → Abandons cache r cache' → IsManaged m id cache' × (cache'.state.config ≡ cache.state.config)
-  managed_after m id (Ok left) managed is = subst (λ (k : Slot). IsManaged m id k × (k.state.config ≡ cache.state.config)) (sym is.0) (record { id_is = managed.id_is; kept = managed.kept; waits = tt }, refl)
-  managed_after m id (Err cause) managed is = subst (λ (k : Slot). IsManaged m id k × (k.state.config ≡ cache.state.config)) (sym is.2) (managed, refl)
+  pub put_back : (v : Visited) (r : Result (Option Noted) Cause) → IsReady cache v → Abandons cache r cache' → IsPutBack cache v cache' v
+  put_back v (Ok left) is abandons = grind (arith, common_steps)
+  put_back v (Err cause) is abandons = grind (arith, common_steps)

@@ -2,10 +2,11 @@
 use Rattle.std.proofs.Common.{◌≡◌, ℕ, Bool, true, false, if◌then◌else◌, List, length, option_map, slice_set, OnOk, OnErr, IfOk, IfErr, is_some, Option, Some, None, Ok, Err, Result, refl, sym, ap, ◌∙◌}
 use Rattle.jc_engine.proofs.Names.{map-set, Cause, OutOfMemory, Outcome, there, at_place, Status, CacheEvent, on_cache, reply_of, refuse_last, is_refused, for_memory, answer_of, answer_in, moved, put_moved, lives_by, at_place_map}
 use Rattle.jc_engine.proofs.Names.{Advance, Slot, Cache, status_of, lives_of, cache_in, is_step, Moves, step_of, outcome_of, of_start, ChangesOne, caches_in, Refused, Stepped, at_same}
-use Rattle.jc_engine.proofs.Names.{answer_to_destroy, Destroyed, Awaited, Wait, standing_by}
+use Rattle.jc_engine.proofs.Names.{FitsAt, IfOk-weaker, NoSuchCache, on_err_weaker, answer_to_destroy, Destroyed, Awaited, Wait, standing_by}
 use Rattle.jc_model.specs.declared.event.Cause.TheVariants.{Busy}
 use Rattle.jc_model.specs.Runs.{destroyed_by}
-use Rattle.jc_engine.specs.Managed.{reply_to}
+use Rattle.jc_state.specs.Visited.{Visited}
+use Rattle.jc_engine.specs.Managed.{reply_to, HasHeard, IsRefusedFor}
 use Rattle.jc_engine.proofs.Places.{same_set, place_of, Within, seen_is, live_is, Changes, seen_put}
 
 -- where memory suffices, a reply stays
@@ -40,6 +41,10 @@ module _ (caches : List (Option Cache)) (id : ℕ) {o : Option Cache} (at : at_p
 pub reply_at : (caches : List (Option Cache)) (id : ℕ) {k : Cache} (said : CacheEvent) → at_place caches id ≡ Some k → answer_in (lives_of caches) (on_cache id said) false ≡ reply_to k said
 reply_at caches id said at = answer_at caches id at said false ∙ plain _
 
+-- no cache answers at an id where none is
+pub no_answer : (w : Within) (id : ℕ) (said : CacheEvent) → w.caches id ≡ None → Refused NoSuchCache ≡ answer_in (lives_of w.seen) (on_cache id said) false
+no_answer w id said none = sym (answer_at w.seen id (seen_is w id none) said false)
+
 -- a cache is destroyed where no call is open
 pub destroyed_at : (caches : List (Option Cache)) (id : ℕ) {k : Cache} → at_place caches id ≡ Some k
     → answer_to_destroy (at_place (lives_of caches) id) ≡ (if is_some k.turn then Refused Busy else Destroyed)
@@ -51,27 +56,27 @@ destroyed_at caches id {k} at = ap answer_to_destroy (live_at caches id at) ∙ 
 
 -- what an event did to its cache; memory says whether memory was refused
 pub record Did (k k' : Cache) (said : CacheEvent) (memory : Bool) (o : Outcome) : Type 0 where
-  pub shows : o ≡ refuse_last memory (reply_of k.config (status_of k).standing said)
+  pub shows : o ≡ refuse_last memory (reply_to k said)
   pub moves : is_refused o ≡ false → status_of k' ≡ moved (status_of k) said
   pub stays : is_refused o ≡ true → k' ≡ k
 
-pub advanced : {T : Type 0} {k k' : Cache} {said : CacheEvent} (r : Result Advance T) → is_step (reply_of k.config (status_of k).standing said) ≡ true → IfOk r (λ advance. Moves k said advance k') → OnErr r (k' ≡ k) → Did k k' said (for_memory (outcome_of r)) (outcome_of r)
-advanced (Ok advance) allowed ok err = record { shows = ok.shows ∙ sym (plain _); moves = λ _. ok.moves; stays = λ e. absurd cc }
-advanced (Err back) allowed ok err = record { shows = memory_refused _ allowed; moves = λ e. absurd cc; stays = λ _. err }
+-- a call that has moved its cache
+pub moved_on : {k k' : Cache} {said : CacheEvent} {advance : Advance} → Moves k said k' advance → Did k k' said false (Stepped (step_of advance))
+moved_on moves = record { shows = moves.shows ∙ sym (plain _); moves = λ _. moves.moves; stays = λ e. absurd cc }
+
+-- a call that goes on
+pub advanced : {T : Type 0} {cache cache' : Slot} {v w : Visited} {said : CacheEvent} (r : Result Advance T) → is_step (reply_to (cache_in cache) said) ≡ true → HasHeard cache v said r cache' w → Did (cache_in cache) (cache_in cache') said (for_memory (outcome_of r)) (outcome_of r)
+advanced (Ok advance) allowed heard = moved_on heard.ok
+advanced (Err back) allowed heard = record { shows = memory_refused _ allowed; moves = λ e. absurd cc; stays = λ _. ap cache_in heard.same }
+
+-- a call that begins, and may be refused
+pub started : {cache cache' : Slot} {v w : Visited} {said : CacheEvent} (r : Result Advance Cause) → HasHeard cache v said r cache' w → IfErr r (IsRefusedFor (cache_in cache) said) → Did (cache_in cache) (cache_in cache') said (for_memory (of_start r)) (of_start r)
+started (Ok advance) heard err = moved_on heard.ok
+started (Err cause) heard err = record { shows = err; moves = λ e. absurd cc; stays = λ _. ap cache_in heard.same }
 
 pub ok_then : {A E P : Type 0} (r : Result A E) → P → OnOk r P
 ok_then (Ok x) p = p
 ok_then (Err e) p = tt
-
--- a call that begins, and may be refused
-pub started : {k k' : Cache} {said : CacheEvent} (r : Result Advance Cause) → IfOk r (λ advance. Moves k said advance k') → IfErr r (λ cause. Refused cause ≡ refuse_last (for_memory (Refused cause)) (reply_of k.config (status_of k).standing said)) → OnErr r (k' ≡ k)
-    → Did k k' said (for_memory (of_start r)) (of_start r)
-started (Ok advance) ok err same = record { shows = ok.shows ∙ sym (plain _); moves = λ _. ok.moves; stays = λ e. absurd cc }
-started (Err cause) ok err same = record { shows = err; moves = λ e. absurd cc; stays = λ _. same }
-
--- a call that has moved its cache
-pub moved_on : {k k' : Cache} {said : CacheEvent} {advance : Advance} → Moves k said advance k' → Did k k' said false (Stepped (step_of advance))
-moved_on moves = record { shows = moves.shows ∙ sym (plain _); moves = λ _. moves.moves; stays = λ e. absurd cc }
 
 -- the manager's fields after it
 module _ {w : Within} {id : ℕ} {cache cache' : Slot} {g : ℕ → Option Slot} (c : Changes w id cache (Some cache') g) where
@@ -86,6 +91,12 @@ module _ {w : Within} {id : ℕ} {cache cache' : Slot} {g : ℕ → Option Slot}
       seen_put c
       ∙ ap (λ (k : Cache). slice_set w.seen id (Some k)) same
       ∙ same_set w.seen id (Some (cache_in cache)) (place_of w.seen id (cache_in cache) (seen_is w id c.at))
+
+  pub fits_after : {T : Type 0} {v n : Visited} {said : CacheEvent} (r : Result Advance T) → HasHeard cache v said r cache' n → IfOk r (λ advance. FitsAt advance (at_place (caches_in g (length w.members)) id))
+  fits_after r heard = IfOk-weaker r _ _ (λ advance moves. rw new_here moves.fits) heard.ok
+
+  pub refused_after : {T : Type 0} {v n : Visited} {said : CacheEvent} (r : Result Advance T) → HasHeard cache v said r cache' n → OnErr r (caches_in g (length w.members) ≡ w.seen)
+  refused_after r heard = on_err_weaker r (λ same. unchanged (ap cache_in same)) heard.same
 
   module _ {said : CacheEvent} {memory : Bool} {o : Outcome} (d : Did (cache_in cache) (cache_in cache') said memory o) where
     pub outcome_after : o ≡ answer_in (lives_of w.seen) (on_cache id said) memory

@@ -8,30 +8,20 @@ use Rattle.jc_model.specs.Refusals.{broken_limit, refused_if}
 use Rattle.jc_model.proofs.Refusals.{both_none, keeps_limits, none_mapped, not_refused}
 use Rattle.jc_engine.proofs.Places.{length_map}
 
--- Caches that are not refused may have rows.
-
-some_rows : (place : ℕ) (c : CacheConfig) → option_map (open_refusal_for place) (broken_limit c) ≡ None → 1 ≤ c.capacity
-some_rows place c h = (keeps_limits c (none_mapped (open_refusal_for place) (broken_limit c) h)).some_rows
-
 -- behind the names and the caches before it, one more has rows and a name of its own
 next_allowed : (names : List (List ℕ)) (place : ℕ) (before after : List CacheConfig) (c : CacheConfig) → refusal_from names place (before ++ c ∷ after) ≡ None → (1 ≤ c.capacity) × (is_taken c.name (names ++ names_in before) ≡ false)
 next_allowed names place [] after c h =
     let here = both_none (option_map (open_refusal_for place) (broken_limit c)) _ (both_none (refusal_at names place c) (refusal_from (names ++ c.name ∷ []) (place + 1) after) h).0 in
-    (some_rows place c here.0, rw append-nil (not_refused (is_taken c.name names) _ here.1))
+    ((keeps_limits c (none_mapped (open_refusal_for place) (broken_limit c) here.0)).some_rows, rw append-nil (not_refused (is_taken c.name names) _ here.1))
 next_allowed names place (d ∷ before) after c h =
     subst (λ (ns : List (List ℕ)). (1 ≤ c.capacity) × (is_taken c.name ns ≡ false)) (append_assoc names (d.name ∷ []) (names_in before))
     (next_allowed (names ++ d.name ∷ []) (place + 1) before after c (both_none (refusal_at names place d) (refusal_from (names ++ d.name ∷ []) (place + 1) (before ++ c ∷ after)) h).1)
 
 -- One cache more behind these.
 
-before_more : {A : Type 0} (n : ℕ) (xs ys : List (Option A)) → none_before n xs ++ ys ≡ none_before n (xs ++ ys)
-before_more zero xs ys = refl
-before_more (suc n) xs ys = ap (λ l. None ∷ l) (before_more n xs ys)
-
 pub fresh_more : (first : ℕ) (configs : List CacheConfig) (c : CacheConfig) → fresh_from first configs ++ Some (fresh_cache c) ∷ [] ≡ fresh_from first (configs ++ c ∷ [])
-fresh_more first configs c =
-    before_more first (map (λ d. Some (fresh_cache d)) configs) (Some (fresh_cache c) ∷ [])
-    ∙ ap (none_before first) (sym (map-append (λ d. Some (fresh_cache d)) configs (c ∷ [])))
+fresh_more zero configs c = sym (map-append (λ d. Some (fresh_cache d)) configs (c ∷ []))
+fresh_more (suc first) configs c = ap (λ l. None ∷ l) (fresh_more first configs c)
 
 pub fresh_length : (first : ℕ) (configs : List CacheConfig) → length (fresh_from first configs) ≡ first + length configs
 fresh_length zero configs = length_map (λ c. Some (fresh_cache c)) configs ∙ omega arith

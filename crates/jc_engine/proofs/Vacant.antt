@@ -1,11 +1,11 @@
 -- A manager of which no call has changed a cache is sound over any empty table.
 use Rattle.std.proofs.Common.{length, ◌≡◌, ℕ, List, [], Option, Some, None, refl, sym, ap, subst, ◌∙◌}
 use Rattle.std.specs.FinMap as table
-use Rattle.jc_engine.proofs.Names.{CacheConfig, Status, Lives, at_place, opened, opened_from, state_in, RowMap, items_of, item_of, Tied, Slot, IsManaged, cache_in, status_of, lives_of, IsAt, IsSound, get-empty, nil_from_length}
+use Rattle.jc_engine.proofs.Names.{CacheConfig, Status, Lives, at_place, opened, opened_from, state_in, RowMap, items_of, item_of, Tied, Slot, IsManaged, cache_in, status_of, lives_of, IsAt, get-empty, nil_from_length}
 use Rattle.std.proofs.Common.{arith}
 use Rattle.jc_state.specs.Kept.{Kept}
-use Rattle.jc_state.specs.Visited.{IsKeptIn}
-use Rattle.jc_engine.specs.Sound.{IsSpare}
+use Rattle.jc_state.specs.Visited.{Visited, IsKeptIn}
+use Rattle.jc_engine.specs.Sound.{IsSpare, IsManager}
 use Rattle.jc_engine.proofs.Names.{length-map}
 use Rattle.jc_engine.proofs.Places.{Within, stands, live_is}
 use Rattle.jc_engine.proofs.Openings.{made_there}
@@ -21,15 +21,22 @@ vacant m id cache c is fresh =
     let none : cache.state.cells ≡ [] = nil_from_length cache.state.cells (sym (length-map cache.state.cells item_of) ∙ ap length ring) in
     record { id_is = is.id_is; kept = record { tied = subst (Tied table.empty cache.state.id) (sym none) (tied_empty cache.state.id); within = is.kept.within }; waits = is.waits }
 
-module _ (w : Within) where
-  pub sound_over : (n : RowMap) (first : ℕ) (configs : List CacheConfig) → n ≡ table.empty → lives_of w.seen ≡ opened_from first configs → IsSound n w.caches w.members
-  sound_over n first configs empty fresh = rw empty record { each = λ id. by id (w.caches id) refl; beyond = w.sound.beyond; listed = w.sound.listed }
-    where
-      by : (id : ℕ) (found : Option Slot) → w.caches id ≡ found → IsAt table.empty id found
-      by id None at = λ key. get-empty (id, key)
-      by id (Some cache) at =
-          let new = made_there opened first configs id (status_of (cache_in cache)) (ap (λ (ks : Lives). at_place ks id) (sym fresh) ∙ live_is w id at) in
-          vacant w.rows id cache new.0 (stands w id at) new.1
+pub manager_over : (w : Within) (n : Visited) (first : ℕ) (configs : List CacheConfig) → n.table ≡ table.empty → lives_of w.seen ≡ opened_from first configs
+    → n.cache ≡ w.visit.cache → n.noted ≡ w.visit.noted → IsManager n w.caches w.members
+manager_over w n first configs empty fresh cache noted = record {
+  each = λ id. rw empty (by id (w.caches id) refl);
+  beyond = w.is.beyond;
+  listed = w.is.listed;
+  few = w.is.few;
+  spare = rw cache w.is.spare;
+  untold = rw noted w.is.untold;
+}
+  where
+    by : (id : ℕ) (found : Option Slot) → w.caches id ≡ found → IsAt table.empty id found
+    by id None at = λ key. get-empty (id, key)
+    by id (Some cache) at =
+        let new = made_there opened first configs id (status_of (cache_in cache)) (ap (λ (ks : Lives). at_place ks id) (sym fresh) ∙ live_is w id at) in
+        vacant w.visit.table id cache new.0 (stands w id at) new.1
 
 -- a cache without rows has none in an empty table
 pub spare_empty : (m : RowMap) (spare : Kept) → m ≡ table.empty → IsSpare spare → IsKeptIn m spare

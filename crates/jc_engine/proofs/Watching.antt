@@ -29,13 +29,13 @@ expiry_is key (Some k) = refl
 
 module _ (w : Within) where
   -- the table's rows are those of the caches
-  pub expiry_seen : (id : ℕ) (key : List ℕ) → option_map (λ row. row.1) (table.get w.rows (id, key)) ≡ expiry_in key (at_place w.seen id)
-  expiry_seen id key = expiry_shown w.rows id (w.caches id) key (w.sound.each id) ∙ ap (expiry_in key) (sym (seen_is w id refl))
+  pub expiry_seen : (id : ℕ) (key : List ℕ) → option_map (λ row. row.1) (table.get w.visit.table (id, key)) ≡ expiry_in key (at_place w.seen id)
+  expiry_seen id key = expiry_shown w.visit.table id (w.caches id) key (w.is.each id) ∙ ap (expiry_in key) (sym (seen_is w id refl))
 
   pub sound_seen : (id : ℕ) (k : Cache) → at_place w.seen id ≡ Some k → IsCacheSound k.config k.progress.state
-  sound_seen id k at = sound_there w.rows id (w.caches id) k (w.sound.each id) (sym (seen_is w id refl) ∙ at)
+  sound_seen id k at = sound_there w.visit.table id (w.caches id) k (w.is.each id) (sym (seen_is w id refl) ∙ at)
 
-  expiry : (id : ℕ) (key : List ℕ) → option_map (λ row. row.1) (table.get w.rows (id, key)) ≡ expiry_at key (at_place (states_of (lives_of w.seen)) id)
+  expiry : (id : ℕ) (key : List ℕ) → option_map (λ row. row.1) (table.get w.visit.table (id, key)) ≡ expiry_at key (at_place (states_of (lives_of w.seen)) id)
   expiry id key = expiry_seen id key ∙ (expiry_is key (at_place w.seen id) ∙ ap (expiry_at key) (sym (state_at w.seen id)))
 
   distinct : (id : ℕ) (s : State) → at_place (states_of (lives_of w.seen)) id ≡ Some s → HasDistinctKeys s.ring
@@ -45,23 +45,23 @@ module _ (w : Within) where
       by None is e = absurd cc
       by (Some k) is e = let same : k.progress.state ≡ s = cc in rw same at (sound_seen id k is).0
 
-  placed_there : (image : Image) → Shows w.rows image → image.stash ≡ 0 → (id : ℕ) (key : List ℕ) (e : Expiry) → expiry_at key (at_place (states_of (lives_of w.seen)) id) ≡ Some e → (i : ℕ) × (image_slot image i ≡ Some ((id, key), e))
-  placed_there image shows none id key e at = by (table.get w.rows (id, key)) refl (expiry id key ∙ at)
+  placed_there : (image : Image) → Shows w.visit.table image → image.stash ≡ 0 → (id : ℕ) (key : List ℕ) (e : Expiry) → expiry_at key (at_place (states_of (lives_of w.seen)) id) ≡ Some e → (i : ℕ) × (image_slot image i ≡ Some ((id, key), e))
+  placed_there image shows none id key e at = by (table.get w.visit.table (id, key)) refl (expiry id key ∙ at)
     where
-      by : (o : Option (ℕ × Expiry)) → table.get w.rows (id, key) ≡ o → option_map (λ row. row.1) o ≡ Some e → (i : ℕ) × (image_slot image i ≡ Some ((id, key), e))
+      by : (o : Option (ℕ × Expiry)) → table.get w.visit.table (id, key) ≡ o → option_map (λ row. row.1) o ≡ Some e → (i : ℕ) × (image_slot image i ≡ Some ((id, key), e))
       by None here is = absurd cc
       by (Some row) here is =
           let there = shows.whole none (id, key) row here in
           let same : row.1 ≡ e = cc in
           (there.0, there.1 ∙ ap (λ (x : Expiry). Some ((id, key), x)) same)
 
-  pub states_shown : (image : Image) → Shows w.rows image → ShowsStates (states_of (lives_of w.seen)) image
+  pub states_shown : (image : Image) → Shows w.visit.table image → ShowsStates (states_of (lives_of w.seen)) image
   states_shown image shows = record {
     placed = λ i s at. (let row = shows.placed i s at in sym (expiry s.0.0 s.0.1) ∙ ap (option_map (λ (r : ℕ × _). r.1)) row.1);
-    others = shows.others ∙ count w.rows (states_of (lives_of w.seen)) expiry distinct;
+    others = shows.others ∙ count w.visit.table (states_of (lives_of w.seen)) expiry distinct;
     whole = placed_there image shows;
   }
 
 -- a watcher that has seen the table has seen the caches
-pub caches_seen : (w : Within) {images : List Image} {met : Bool} → SeesTable w.rows images met → ShowsStates (states_of (lives_of w.seen)) (last_image images) × (met ≡ true)
+pub caches_seen : (w : Within) {images : List Image} {met : Bool} → SeesTable w.visit.table images met → ShowsStates (states_of (lives_of w.seen)) (last_image images) × (met ≡ true)
 caches_seen w is = (rw is.last.0 (states_shown w is.image is.shows), is.last.1)

@@ -9,7 +9,7 @@ use Rattle.jc_model.specs.Limits.{most_ids, most_rows_together}
 use Rattle.jc_engine.specs.Caches.{Cache, lives_of, id_of}
 use Rattle.jc_engine.specs.Opening.{is_taken}
 use Rattle.jc_engine.specs.declared.turn.Turn.TheVariants.{Idle}
-use Rattle.jc_engine.specs.Slots.{Slot}
+use Rattle.jc_engine.specs.Managed.{Slot}
 use Rattle.jc_model.specs.Runs.{members_of}
 use Rattle.jc_model.specs.Refusals.{rows_of}
 

@@ -2,7 +2,6 @@ pub mod Caches
 pub mod Opening
 pub mod Results
 pub mod Waiting
-pub mod Slots
 pub mod Managed
 pub mod Advances
 pub mod Sound

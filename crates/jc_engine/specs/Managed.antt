@@ -1,6 +1,6 @@
 -- What the fields of one cache stand for, and how it moves.
 use Rattle.std.specs.Prelude.{◌≡◌, ◌≢◌, ℕ, Bool, true, false, List, [], Result, Ok, Err}
-use Rattle.std.specs.Prelude.{Option, Some, None, MatchOption}
+use Rattle.std.specs.Prelude.{Option, Some, None, MatchOption, IfOk, OnErr}
 use Rattle.jc_model.specs.declared.call.Notice.{Notice}
 use Rattle.jc_model.specs.declared.call.Request.TheVariants.{Tell}
 use Rattle.jc_model.specs.declared.config.CacheConfig.{CacheConfig}
@@ -10,7 +10,7 @@ use Rattle.jc_model.specs.declared.event.Step.{Step}
 use Rattle.jc_model.specs.declared.event.Step.TheVariants.{Done, Need}
 use Rattle.jc_model.specs.declared.event.Outcome.{Outcome}
 use Rattle.jc_model.specs.declared.event.Outcome.TheVariants as outcome
-use Rattle.jc_model.specs.Run.{Run, and_then, Awaited, for_tell, told_by}
+use Rattle.jc_model.specs.Run.{Run, and_then, Awaited, awaited_by, for_tell, told_by}
 use Rattle.jc_model.specs.Everywhere.{AtEach}
 use Rattle.jc_model.specs.Whole.{told_first}
 use Rattle.jc_model.specs.Runs.{CacheEvent, shown, standing_of, reply_of, refuse_last, for_memory, moved}
@@ -18,14 +18,19 @@ use Rattle.jc_model.specs.Suspended.{Wait, one, many, telling, standing_by}
 use Rattle.jc_rows.specs.Rows.{RowMap}
 use Rattle.jc_state.specs.Noted.{Noted}
 use Rattle.jc_state.specs.Kept.{Kept, progress_of}
+use Rattle.jc_state.specs.Tied.{SameElsewhere}
 use Rattle.jc_state.specs.Visited.{Visited, IsKeptIn}
 use Rattle.jc_bulk.specs.Calls.{IsSuspended}
 use Rattle.jc_engine.specs.declared.turn.Turn.{Turn}
 use Rattle.jc_engine.specs.declared.turn.Turn.TheVariants.{Idle, Waiting, Telling}
 use Rattle.jc_engine.specs.declared.turn.Advance.{Advance}
 use Rattle.jc_engine.specs.declared.turn.Advance.TheVariants.{Replied, Asked, Told}
-use Rattle.jc_engine.specs.Slots.{Slot}
 use Rattle.jc_engine.specs.Caches.{Cache, status_of}
+
+-- one live cache: its state, and whether a call is open
+pub record Slot : Type 0 where
+  pub state : Kept
+  pub turn : Turn
 
 abbrev pub turn_in : Turn → Option (Awaited × Wait)
 turn_in Idle = None
@@ -53,15 +58,32 @@ pub record IsManaged (m : RowMap) (id : ℕ) (cache : Slot) : Type 0 where
   pub kept : IsKeptIn m cache.state
   pub waits : WaitsThere cache.state.config cache.state cache.turn
 
--- Between two calls the visit has a cache without rows, whose id is not this, and no notices.
-pub record IsBetweenCalls (id : ℕ) (v : Visited) : Type 0 where
+-- The cache is managed, and the visit has another one, without rows, and no notices.
+pub record IsReady (cache : Slot) (v : Visited) : Type 0 where
+  pub kept : IsKeptIn v.table cache.state
+  pub waits : WaitsThere cache.state.config cache.state cache.turn
   pub empty : v.cache.cells ≡ []
-  pub apart : v.cache.id ≢ id
+  pub apart : v.cache.id ≢ cache.state.id
   pub untold : v.noted.told ≡ []
 
--- and then as before
+-- the visit has that one again, and no notices
 pub record RestsAgain (v w : Visited) : Type 0 where
   pub cache : w.cache ≡ v.cache
+  pub untold : w.noted.told ≡ []
+
+-- After a call the cache is managed, and the table says the same of other caches.
+pub record IsPutBack (cache : Slot) (v : Visited) (cache' : Slot) (w : Visited) : Type 0 where
+  pub managed : IsManaged w.table cache.state.id cache'
+  pub config : cache'.state.config ≡ cache.state.config
+  pub elsewhere : SameElsewhere cache.state.id v.table w.table
+  pub rests : RestsAgain v w
+
+-- a visit has given its cache back, in exchange for the spare one, and told its notices
+pub record GivesBack (spare : Kept) (v : Visited) (cache : Slot) (w : Visited) : Type 0 where
+  pub state : cache.state ≡ v.cache
+  pub kept : IsKeptIn w.table cache.state
+  pub table : w.table ≡ v.table
+  pub spare_is : w.cache ≡ spare
   pub untold : w.noted.told ≡ []
 
 -- The call moves.
@@ -92,26 +114,33 @@ FitsTurn (Replied reply) turn = turn ≡ None
 FitsTurn (Asked request) turn = (told_by request ≡ []) × (tells turn ≡ false)
 FitsTurn (Told notices) turn = tells turn ≡ true
 
--- no request of a run tells notices
+-- no request of a run awaits that notices were told
 abbrev pub NeverTells : Run → Type 0
-NeverTells run = AtEach (λ q p. told_by q ≡ []) (λ p r. Unit {0}) run
+NeverTells run = AtEach (λ q p. awaited_by q ≢ for_tell) (λ p r. Unit {0}) run
 
--- a call that has come to this run goes on as the turn says
-pub record Settled (c : CacheConfig) (run : Run) (k : Kept) (turn : Turn) (advance : Advance) : Type 0 where
+-- a call that has come to this run goes on as its cache says
+pub record Settled (c : CacheConfig) (run : Run) (cache : Slot) (advance : Advance) : Type 0 where
   pub shows : outcome.Step (step_of advance) ≡ shown (and_then run told_first)
-  pub stands : standing_by c (progress_of k (notices_in turn)) (turn_in turn) ≡ standing_of (and_then run told_first)
-  pub waits : WaitsThere c k turn
-  pub fits : NeverTells run → FitsTurn advance (turn_in turn)
+  pub stands : standing_by c (cache_in cache).progress (turn_in cache.turn) ≡ standing_of (and_then run told_first)
+  pub waits : WaitsThere c cache.state cache.turn
+  pub fits : NeverTells run → FitsTurn advance (turn_in cache.turn)
 
 -- what a cache answers to an event that it hears, where memory suffices
 abbrev pub reply_to : Cache → CacheEvent → Outcome
 reply_to k said = reply_of k.config (status_of k).standing said
 
 -- a cache has heard an event and moved as it is to
-pub record Moves (k : Cache) (said : CacheEvent) (advance : Advance) (k' : Cache) : Type 0 where
+pub record Moves (k : Cache) (said : CacheEvent) (k' : Cache) (advance : Advance) : Type 0 where
   pub shows : outcome.Step (step_of advance) ≡ reply_to k said
   pub moves : status_of k' ≡ moved (status_of k) said
   pub fits : FitsTurn advance k'.turn
+
+-- It has done so in a visit. Where it is refused, nothing has changed but the room and the places that are left.
+pub record HasHeard {T : Type 0} (cache : Slot) (v : Visited) (said : CacheEvent) (r : Result Advance T) (cache' : Slot) (w : Visited) : Type 0 where
+  pub back : IsPutBack cache v cache' w
+  pub ok : IfOk r (Moves (cache_in cache) said (cache_in cache'))
+  pub same : OnErr r (cache' ≡ cache)
+  pub table : OnErr r (w.table ≡ v.table)
 
 abbrev pub is_step : Outcome → Bool
 is_step (outcome.Step s) = true

@@ -2,13 +2,12 @@
 use Rattle.std.specs.Prelude.{◌≡◌, ℕ, zero, suc, ◌≤◌, List, [], ◌∷◌, ◌++◌, map, option_map, length, if◌then◌else◌, nat_eq}
 use Rattle.std.specs.Prelude.{Option, Some, None}
 use Rattle.std.specs.FinMap as table
-use Rattle.jc_model.specs.declared.call.Notice.{Notice}
 use Rattle.jc_model.specs.Limits.{most_ids}
 use Rattle.jc_rows.specs.Rows.{RowMap}
 use Rattle.jc_state.specs.Kept.{Kept}
-use Rattle.jc_engine.specs.Slots.{Slot}
+use Rattle.jc_state.specs.Visited.{Visited}
 use Rattle.jc_engine.specs.Caches.{Cache, lives_of}
-use Rattle.jc_engine.specs.Managed.{IsManaged, cache_in}
+use Rattle.jc_engine.specs.Managed.{Slot, IsManaged, cache_in}
 use Rattle.jc_model.specs.Refusals.{Member}
 use Rattle.jc_model.specs.Runs.{members_of}
 
@@ -34,21 +33,17 @@ Puts old number value new = (other : ℕ) → new other ≡ (if nat_eq number ot
 abbrev pub caches_in : (ℕ → Option Slot) → ℕ → List (Option Cache)
 caches_in caches next = map (option_map cache_in) (places_of caches next)
 
--- The table has the rows of all caches and no others; the members are the caches, and no id from the next on has one.
-pub record IsSound (m : RowMap) (caches : ℕ → Option Slot) (members : List (Option Member)) : Type 0 where
-  pub each : (id : ℕ) → IsAt m id (caches id)
-  pub beyond : NoneFrom (length members) caches
-  pub listed : members ≡ members_of (lives_of (caches_in caches (length members)))
-
 -- Between two calls the visit has a cache without rows, whose id is given to none.
 pub record IsSpare (spare : Kept) : Type 0 where
   pub empty : spare.cells ≡ []
   pub id_is : spare.id ≡ most_ids
 
--- a manager's fields: its table, its caches by id, their members, and what its visit has between two calls, the cache
--- and the notices
-pub record IsManager (m : RowMap) (caches : ℕ → Option Slot) (members : List (Option Member)) (cache : Kept) (told : List Notice) : Type 0 where
-  pub sound : IsSound m caches members
-  pub spare : IsSpare cache
-  pub unused : caches most_ids ≡ None
-  pub untold : told ≡ []
+-- A manager's fields. The table has the rows of all caches and no others; the members are the caches, and no id from the
+-- next on has one; and between two calls the visit has a spare cache, and no notices.
+pub record IsManager (v : Visited) (caches : ℕ → Option Slot) (members : List (Option Member)) : Type 0 where
+  pub each : (id : ℕ) → IsAt v.table id (caches id)
+  pub beyond : NoneFrom (length members) caches
+  pub listed : members ≡ members_of (lives_of (caches_in caches (length members)))
+  pub few : length members ≤ most_ids
+  pub spare : IsSpare v.cache
+  pub untold : v.noted.told ≡ []

@@ -1,17 +1,15 @@
 //! One cache under the manager: its configuration, its rows and counters, and its open call.
 mod calls;
 
-ghost use Rattle.std.specs.Prelude.{◌≡◌, ℕ, None, is_some};
+ghost use Rattle.std.specs.Prelude.{◌≡◌, ℕ, None, [], is_some};
 ghost use Rattle.jc_model.specs.Runs.{begins, answers};
 ghost use Rattle.jc_state.specs.Tied.{SameElsewhere};
 ghost use Rattle.jc_engine.specs.Sound.{IsAt};
-ghost use Rattle.jc_engine.specs.declared.turn.Turn.TheVariants.{Idle};
 ghost use Rattle.jc_engine.specs.Managed.{cache_in, turn_in};
-ghost use Rattle.jc_engine.specs.Managed.{IsManaged, IsBetweenCalls, RestsAgain, IsRefusalTo, Abandons};
+ghost use Rattle.jc_engine.specs.Managed.{IsReady, RestsAgain, IsRefusalTo, Abandons};
 
-use crate::turn::Turn;
+use crate::turn::{Turn, WaitingCall};
 use jc_model::call::{Answer, Call};
-use jc_model::config::CacheConfig;
 use jc_model::event::Cause;
 use jc_ring::ring::Ring;
 use jc_rows::rows::Rows;
@@ -29,7 +27,7 @@ pub(crate) struct Managed<G: Ring> {
 }
 
 impl<G: Ring> Model for Managed<G> {
-    ghost use Rattle.jc_engine.specs.Slots.{Slot};
+    ghost use Rattle.jc_engine.specs.Managed.{Slot};
 
     ghost Value = { Slot };
 
@@ -37,16 +35,6 @@ impl<G: Ring> Model for Managed<G> {
 }
 
 impl<G: Ring> Managed<G> {
-    /// A cache of which no call is open.
-    pub(crate) fn new(state: Box<CacheState<G>>) -> Managed<G>
-        ensures { result ≡ record { state = state.value; turn = Idle } }
-    {
-        Managed {
-            state,
-            turn: Turn::Idle,
-        }
-    }
-
     /// Whether a call is open.
     pub(crate) fn is_open(&self) -> bool
         ensures { result ≡ is_some (turn_in self.now.turn) }
@@ -95,8 +83,9 @@ impl<G: Ring> Managed<G> {
 
     /// Takes all its rows out of the table.
     pub(crate) fn leave<R: Rows>(&mut self, visit: &mut Visit<R, G>)
-        requires managed { IsManaged visit.old.table self.old.state.id self.old }
-        requires between { IsBetweenCalls self.old.state.id visit.old }
+        requires { IsReady self.old visit.old }
+        ensures cleared { self.new
+            ≡ record self.old { state = record self.old.state { cells = [] } } }
         ensures gone { IsAt visit.new.table self.old.state.id None }
         ensures elsewhere { SameElsewhere self.old.state.id visit.old.table visit.new.table }
         ensures rests { RestsAgain visit.old visit.new }
@@ -104,15 +93,6 @@ impl<G: Ring> Managed<G> {
         visit.exchange(&mut self.state);
         visit.clear();
         visit.exchange(&mut self.state);
-    }
-
-    /// Its configuration alone; the rest is let go.
-    pub(crate) fn into_config(self) -> CacheConfig
-        ensures { result ≡ self.state.config }
-    {
-        let Managed { state, turn } = self;
-        drop(turn);
-        Box::into_inner(state).into_config()
     }
 
     /// Ends the open call without a reply, and hands out the notices that no one was told, if any may be left.
@@ -125,7 +105,10 @@ impl<G: Ring> Managed<G> {
                 drop(reply);
                 Ok(None)
             }
-            Turn::Waiting(call) => Ok(Some(call.into_notices())),
+            Turn::Waiting(WaitingCall { suspended, notices }) => {
+                drop(suspended);
+                Ok(Some(notices))
+            }
         }
     }
 }

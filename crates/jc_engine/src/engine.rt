@@ -45,8 +45,7 @@ impl<R: Rows, G: Ring> Model for Engine<R, G> {
 
     ghost view = { λ e. caches_in (get nat_eq e.caches) (length e.roster) };
 
-    ghost invariant = { λ e. IsManager e.visit.table (get nat_eq e.caches) e.roster
-        e.visit.cache e.visit.noted.told };
+    ghost invariant = { λ e. IsManager e.visit (get nat_eq e.caches) e.roster };
 }
 
 impl<R: Rows, G: Ring> Engine<R, G> {

@@ -1,20 +1,20 @@
 //! Caches that are created and destroyed while the manager runs.
-ghost use Rattle.std.specs.Prelude.{◌≡◌, ◌≤◌, None, Some, [], ◌∷◌, ◌++◌, IfOk, IfErr, OnOk, OnErr, length, slice_set};
+ghost use Rattle.std.specs.Prelude.{◌≡◌, None, Some, [], ◌∷◌, ◌++◌, IfOk, IfErr, OnOk, OnErr, length, slice_set};
 ghost use Rattle.jc_model.specs.declared.event.Event.TheVariants.{Create, Destroy};
 ghost use Rattle.jc_model.specs.Runs.{create_refusal};
 ghost use Rattle.jc_engine.specs.Caches.{lives_of, fresh_cache};
-ghost use Rattle.jc_engine.specs.Fresh.{MayCome, fresh_slot};
+ghost use Rattle.jc_engine.specs.Fresh.{MayCome};
 ghost use Rattle.jc_engine.specs.Heard.{IsAnswer, IsFreeAnswer, LeadsTo};
 ghost use Rattle.jc_engine.specs.Results.{of_create, of_destroy};
 
 use crate::cache::Managed;
 use crate::engine::Engine;
+use crate::turn::Turn;
 use jc_model::config::CacheConfig;
 use jc_model::event::{CacheId, Cause, CreateRefusal};
 use jc_ring::ring::Ring;
 use jc_rows::rows::Rows;
 use jc_state::state::CacheState;
-use std::alloc::Global;
 
 impl<R: Rows, G: Ring> Engine<R, G> {
     /// Creates a cache without rows and counts. Its id is the least above all that were given before.
@@ -90,36 +90,24 @@ impl<R: Rows, G: Ring> Engine<R, G> {
     {
         let number = self.roster.next();
         let (name, capacity) = (config.name, config.capacity);
-        let cache = fresh(self.alloc, number, config)?;
         let Ok(_) = self.caches.reserve(1) else {
-            return Err(cache.into_config());
+            return Err(config);
+        };
+        let state = CacheState::empty(self.alloc, CacheId::new(number), config)?;
+        let state = match Box::new(self.alloc, state) {
+            Ok(state) => state,
+            Err(refused) => return Err(refused.value.into_config()),
         };
         let Ok(_) = self.roster.add(name, capacity) else {
-            return Err(cache.into_config());
+            return Err(Box::into_inner(state).into_config());
         };
-        match self.caches.insert(number, cache) {
+        let turn = Turn::Idle;
+        match self.caches.insert(number, Managed { state, turn }) {
             Ok(none) => {
                 drop(none);
                 Ok(CacheId::new(number))
             }
             Err(_) => unreachable!(),
         }
-    }
-}
-
-/// One cache as it is at first.
-fn fresh<G: Ring>(
-    alloc: Global,
-    number: u32,
-    config: CacheConfig,
-) -> Result<Managed<G>, CacheConfig>
-    requires { 1 ≤ config.capacity }
-    ensures made { IfOk result (λ cache. cache ≡ fresh_slot number config) }
-    ensures back { IfErr result (λ back. back ≡ config) }
-{
-    let state = CacheState::empty(alloc, CacheId::new(number), config)?;
-    match Box::new(alloc, state) {
-        Ok(state) => Ok(Managed::new(state)),
-        Err(refused) => Err(refused.value.into_config()),
     }
 }

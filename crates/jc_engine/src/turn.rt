@@ -24,17 +24,6 @@ impl Model for WaitingCall {
     ghost view = { λ w. record { call = w.suspended; told = w.notices.told } };
 }
 
-impl WaitingCall {
-    /// Gives the call up: the notices that are left to be told.
-    pub(crate) fn into_notices(self) -> Notices
-        ensures { result.told ≡ self.told }
-    {
-        let WaitingCall { suspended, notices } = self;
-        drop(suspended);
-        notices
-    }
-}
-
 /// Whether a call is open, and for what it waits.
 #[derive(Drop)]
 pub(crate) enum Turn {

@@ -2,29 +2,27 @@ use Rattle.std.proofs.Common.{◌≡◌, Bool, None, ap, sym, ◌∙◌, length,
 use Rattle.jc_model.specs.declared.event.Cause.TheVariants.{Busy}
 use Rattle.jc_engine.proofs.Names.{get, map-set, member_of, Destroyed, Refused, status_of, lives_of, caches_in}
 use Rattle.jc_engine.proofs.Numbered.{puts_for}
-use Rattle.jc_engine.proofs.Places.{within, seen_is, managed_own, member_at, Changes, seen_after, sound_after, between, unused_after}
+use Rattle.jc_engine.proofs.Places.{within, seen_is, member_at, Changes, seen_after, manager_after, ready}
 use Rattle.jc_engine.proofs.Moving.{destroyed_at}
 use Rattle.jc_engine.proofs.engine.Engine.destroy.Given as given
 use Rattle.jc_engine.proofs.engine.Engine.destroy.Goals as goal
 
 pub unreachable-requires : goal.unreachable-requires
 unreachable-requires g c =
-    let none = seen_is (within c.self.view_is c.self.invariant.sound) c.args.id (sym (rw c.number-number.ensures at c.in-None.ensures.value)) in
+    let none = seen_is (within c.self.view_is c.self.invariant) c.args.id (sym (rw c.number-number.ensures at c.in-None.ensures.value)) in
     let some = c.in-Some.ensures in
     absurd cc
 
 pub leave-requires : goal.leave-requires
-leave-requires g c =
-    let at = sym (rw c.number-number.ensures at c.in-Some-remove.ensures.value) in
-    record { managed = managed_own (within c.self.view_is c.self.invariant.sound) c.args.id at; between = between c.self.inside.visit c.self.invariant c.args.id _ at }
+leave-requires g c = ready (within c.self.view_is c.self.invariant) c.args.id c.self.inside.visit.moment (sym (rw c.number-number.ensures at c.in-Some-remove.ensures.value))
 
 pub remove-requires-in-Some-remove : goal.remove-requires-in-Some-remove
 remove-requires-in-Some-remove g c =
     let at = sym (rw c.number-number.ensures at c.in-Some-remove.ensures.value) in
-    (member_of c.in-Some-remove.cache.state.config, rw c.number-number.ensures (member_at (within c.self.view_is c.self.invariant.sound) c.args.id at))
+    (member_of c.in-Some-remove.cache.state.config, rw c.number-number.ensures (member_at (within c.self.view_is c.self.invariant) c.args.id at))
 
 module _ (g : given.Over) (c : goal.After-remove-in-Some-remove g) where
-  changes : Changes (within c.self.view_is c.self.invariant.sound) c.args.id c.in-Some-remove.cache None (get nat_eq c.remove.new.self)
+  changes : Changes (within c.self.view_is c.self.invariant) c.args.id c.in-Some-remove.cache None (get nat_eq c.remove.new.self)
   changes = record { at = sym (rw c.number-number.ensures at c.in-Some-remove.ensures.value); puts = puts_for _ _ _ c.number-number.ensures c.remove.ensures.updates.0 }
 
   removed : c.remove-in-Some-remove.new.self ≡ slice_set c.self.inside.roster c.args.id None
@@ -34,12 +32,7 @@ module _ (g : given.Over) (c : goal.After-remove-in-Some-remove g) where
   gone = rw removed (seen_after changes)
 
 pub invariant_of-self : goal.invariant_of-self
-invariant_of-self g c = rw (removed g c) (record {
-  sound = sound_after (changes g c) c.leave.new.visit.table c.leave.ensures.gone c.leave.ensures.elsewhere;
-  spare = rw c.leave.ensures.rests.cache c.self.invariant.spare;
-  unused = unused_after (changes g c) c.self.invariant.unused;
-  untold = c.leave.ensures.rests.untold;
-})
+invariant_of-self g c = rw (removed g c) (manager_after (changes g c) c.leave.new.visit c.leave.ensures.gone c.leave.ensures.elsewhere c.leave.ensures.rests)
 
 pub returns-clause-outcome : goal.returns-clause-outcome
 returns-clause-outcome g c =

@@ -4,4 +4,4 @@ use Rattle.jc_engine.proofs.Listed.{names_listed}
 use Rattle.jc_engine.proofs.engine.Engine.names.Goals as goal
 
 pub returns : goal.returns
-returns g c = c.names.ensures ∙ names_listed (within c.self.view_is c.self.invariant.sound)
+returns g c = c.names.ensures ∙ names_listed (within c.self.view_is c.self.invariant)

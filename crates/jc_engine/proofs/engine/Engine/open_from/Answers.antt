@@ -1,7 +1,7 @@
 use Rattle.std.proofs.Common.{◌≡◌, List, ◌∷◌, ◌++◌, Option, None, sym, ap, subst, ◌∙◌, append_assoc, arith, nat_eq}
 use Rattle.jc_engine.proofs.Names.{CacheConfig, Cache, MayCome, open_refusal_from}
-use Rattle.jc_engine.proofs.Names.{common_steps, get, lookup, most_ids}
-use Rattle.jc_engine.proofs.Coming.{vacant_seen, vacant_sound}
+use Rattle.jc_engine.proofs.Names.{common_steps, get, lookup}
+use Rattle.jc_engine.proofs.Coming.{vacant_seen, vacant_manager}
 use Rattle.jc_engine.proofs.Vacant.{spare_empty}
 use Rattle.jc_engine.proofs.Openings.{may_come, fresh_more}
 use Rattle.jc_engine.proofs.engine.Engine.open_from.Goals as goal
@@ -17,14 +17,9 @@ pub new-requires : goal.new-requires
 new-requires g c = record { kept = spare_empty (g.R.Rows.contents c.args.rows) c.in_ok-spare_cache.field-0.value c.requires c.in_ok-spare_cache.ensures }
 
 pub invariant_of-engine : goal.invariant_of-engine
-invariant_of-engine g c = record {
-  sound =
-      rw c.new.ensures.table
-      (vacant_sound (get nat_eq c.new-2.result) c.args.first (λ i. ap (lookup (nat_eq i)) c.new-2.ensures.empty) c.new-3.result c.new-3.ensures (g.R.Rows.contents c.args.rows) c.requires);
-  spare = rw c.new.ensures.cache c.in_ok-spare_cache.ensures;
-  unused = ap (lookup (nat_eq most_ids)) c.new-2.ensures.empty;
-  untold = c.new.ensures.untold;
-}
+invariant_of-engine g c =
+    vacant_manager (get nat_eq c.new-2.result) c.args.first (λ i. ap (lookup (nat_eq i)) c.new-2.ensures.empty) c.new-3.result c.new-3.ensures c.new.result (omega arith)
+    (c.new.ensures.table ∙ c.requires) (rw c.new.ensures.cache c.in_ok-spare_cache.ensures) c.new.ensures.untold
 
 pub loop-config-init : goal.loop-config-init
 loop-config-init g c = record {
