@@ -1,21 +1,13 @@
 -- One cache and its call: what the call has come to is what the cache is to answer.
-use Rattle.jc_engine.proofs.Names.{common_steps, Answer, Call, Notice, Request, CacheConfig, Cause, WrongAnswer, Outcome, Progress, Run, ended, waiting, and_then, resume, for_tell, fits}
-use Rattle.jc_engine.proofs.Names.{told_first, Standing, Status, begins, answers, shown, standing_of, Wait, one, many, telling, run_of, Kept, progress_of, wait_run, WaitsOn, Advance}
-use Rattle.jc_engine.proofs.Names.{Asked, Idle, Waiting, Telling, cache_in, is_step, WaitsThere, Settled, Moves, Refused}
-use Rattle.std.proofs.Common.{◌≡◌, ℕ, List, [], Bool, true, false, if◌then◌else◌, refl, sym, ap, subst, ◌∙◌, arith, Ok}
-use Rattle.jc_model.specs.declared.call.Reply.{Reply}
-use Rattle.jc_state.specs.Visited.{Visited, IsKeptIn, IsSameVisit}
+use Rattle.jc_engine.proofs.Names.{common_steps, Answer, Call, Request, CacheConfig, WrongAnswer, Progress, Run, waiting, and_then, resume, fits, told_first, Standing, Status, begins, answers, shown}
+use Rattle.jc_engine.proofs.Names.{standing_of, Wait, one, many, telling, run_of, Kept, progress_of, wait_run, WaitsOn, Advance, Asked, Idle, Waiting, Telling, cache_in, is_step, WaitsThere, Settled, Moves, Refused, Slot}
+use Rattle.std.proofs.Common.{◌≡◌, ℕ, [], Bool, true, if◌then◌else◌, refl, sym, ap, subst, ◌∙◌, arith, Ok}
+use Rattle.jc_state.specs.Visited.{Visited, IsSameVisit}
 use Rattle.jc_bulk.specs.Calls.{call_run}
 use Rattle.jc_engine.specs.Managed.{GivesBack, HasHeard, IsPutBack, IsReady, reply_to}
 use Rattle.jc_engine.specs.Waiting.{WaitState}
-use Rattle.jc_engine.proofs.Names.{RowMap, Slot, IsManaged}
 use Rattle.jc_engine.specs.declared.turn.Turn.{Turn}
-use Rattle.jc_engine.proofs.Untold.{not_told, carried_out-untold, resume-untold, tells_nothing, wait_run-untold}
-
--- the first of two, where the answer is a step
-first_of : (b : Bool) (reply : Outcome) (cause : Cause) → is_step (if b then reply else Refused cause) ≡ true → b ≡ true
-first_of true reply cause is = refl
-first_of false reply cause is = absurd cc
+use Rattle.jc_engine.proofs.Untold.{carried_out-untold, resume-untold, tells_nothing, wait_run-untold}
 
 -- a call has begun on the cache of this visit
 began : (v : Visited) (turn : Turn) (call : Call) (cache' : Slot) (advance : Advance) → is_step (reply_to (cache_in (record { state = v.cache; turn = turn })) (begins v.moment call)) ≡ true → v.noted.told ≡ []
@@ -50,10 +42,10 @@ idle_before k (Waiting s) now call allowed = absurd cc
 idle_before k (Telling r) now call allowed = absurd cc
 
 -- a suspended call goes on as its run does
-run_on : (c : CacheConfig) (p : Progress) (w : Wait) (a : Answer) (run : Run) → wait_run c p w ≡ run → ((q : Progress) (r : Reply) → run ≡ ended q r → ⊥) → run_of c p w a ≡ and_then (resume (wait_run c p w) a) told_first
-run_on c p (one w) a run is waits = refl
-run_on c p (many w) a run is waits = refl
-run_on c p (telling r) a run is waits = absurd (waits p r (sym is))
+run_on : (c : CacheConfig) (p : Progress) (w : Wait) (a : Answer) (request : Request) (resumed : Answer → Run) → wait_run c p w ≡ waiting request p resumed → run_of c p w a ≡ and_then (resume (wait_run c p w) a) told_first
+run_on c p (one w) a request resumed is = refl
+run_on c p (many w) a request resumed is = refl
+run_on c p (telling r) a request resumed is = absurd cc
 
 -- a call that waits stands as its run does
 pub settled_waiting : (c : CacheConfig) (run : Run) (k : Kept) (request : Request) (w : WaitState) → WaitsOn c (progress_of k w.told) request w.call run → Settled c run (record { state = k; turn = Waiting w }) (Asked request)
@@ -61,7 +53,7 @@ settled_waiting c run k request w is = grind (arith, common_steps, tells_nothing
 
 -- an answer that is allowed is one that the call waits for, and not that notices were told
 pub awaited : (k : Kept) (w : WaitState) (a : Answer) → is_step (reply_to (cache_in (record { state = k; turn = Waiting w })) (answers a)) ≡ true → fits w.call.awaits a ≡ true
-awaited k w a allowed = first_of (fits w.call.awaits a) (shown (run_of k.config (progress_of k w.told) w.call.wait a)) WrongAnswer allowed
+awaited k w a allowed = grind (arith, common_steps)
 
 -- and a cache has heard the answer
 pub has_gone_on : {T : Type 0} {k : Kept} {s : WaitState} {cache' : Slot} {v v' w w' : Visited} {a : Answer} {advance : Advance} → IsReady (record { state = k; turn = Waiting s }) v
@@ -70,9 +62,7 @@ pub has_gone_on : {T : Type 0} {k : Kept} {s : WaitState} {cache' : Slot} {v v' 
 has_gone_on {T} {k} {s} {cache'} {v} {v'} {w} {w'} {a} {advance} is allowed entered table same back settled =
     let c = k.config in
     let run = wait_run c (progress_of k s.told) s.call.wait in
-    let request : Run = waiting is.waits.request (progress_of k s.told) is.waits.resumed in
-    let goes : run_of c (progress_of k s.told) s.call.wait a ≡ and_then (resume run a) told_first =
-        run_on c (progress_of k s.told) s.call.wait a request is.waits.run_is (λ q r e. (let no : request ≡ ended q r = e in cc)) in
+    let goes = run_on c (progress_of k s.told) s.call.wait a is.waits.request is.waits.resumed is.waits.run_is in
     let fit : fits s.call.awaits a ≡ true = awaited k s a allowed in
     let after : IsPutBack (record { state = k; turn = Waiting s }) v cache' w' = put_back entered table same back (rw entered settled.waits) in
     record {

@@ -1,13 +1,15 @@
--- A cache more, under the next id, and no caches yet.
-use Rattle.jc_engine.proofs.Names.{common_steps, map-append, length_push, CacheConfig, none_before, Status, RowMap, Member, member_of, members_of, Slot, IsManaged, cache_in, Cache, status_of, lives_of, fresh_cache}
-use Rattle.jc_engine.proofs.Names.{fresh_slot, IsAt, places_of, caches_in, get-empty}
-use Rattle.std.proofs.Common.{◌≡◌, ℕ, ◌+◌, ◌≤◌, ◌<◌, zero, suc, List, [], ◌∷◌, ◌++◌, map, length, option_map, Option, Some, None, refl, sym, ap, subst, ◌∙◌, arith}
+-- A manager's fields with a cache more, with no caches yet, and over another table.
+use Rattle.jc_engine.proofs.Names.{common_steps, map-append, length_push, CacheConfig, none_before, Status, RowMap, Member, member_of, members_of, Slot, IsManaged, cache_in, Cache, status_of, lives_of, fresh_cache, fresh_slot, IsAt, places_of, caches_in, get-empty, Lives, at_place, opened, opened_from, state_in, items_of, item_of, Tied, nil_from_length, length-map}
 use Rattle.std.specs.FinMap as table
+use Rattle.std.proofs.Common.{◌≡◌, ℕ, ◌+◌, ◌≤◌, ◌<◌, zero, suc, List, [], ◌∷◌, ◌++◌, map, length, option_map, Option, Some, None, refl, sym, ap, subst, ◌∙◌, arith}
 use Rattle.jc_model.specs.Limits.{most_ids}
-use Rattle.jc_state.specs.Visited.{Visited}
+use Rattle.jc_state.specs.Visited.{Visited, IsKeptIn}
 use Rattle.jc_engine.specs.Sound.{IsManager, IsSpare}
 use Rattle.jc_engine.proofs.Numbered.{none-places, Puts, put_other, places_more}
-use Rattle.jc_engine.proofs.Places.{Within, listed_seen, stands, each_put}
+use Rattle.jc_engine.proofs.Places.{Within, listed_seen, stands, each_put, live_is}
+use Rattle.jc_state.specs.Kept.{Kept}
+use Rattle.jc_engine.proofs.Openings.{made_there}
+use Rattle.jc_engine.proofs.Watching.{state_is}
 
 fresh_at : (m : RowMap) (id : ℕ) (c : CacheConfig) → IsAt m id None → IsManaged m id (fresh_slot id c)
 fresh_at m id c none = grind (arith, common_steps)
@@ -61,3 +63,39 @@ module _ (f : ℕ → Option Slot) (first : ℕ) (none : (id : ℕ) → f id ≡
     spare = spare;
     untold = untold;
   }
+
+-- The same caches over an empty table, where no call has changed one.
+
+tied_empty : (id : ℕ) → Tied table.empty id []
+tied_empty id = record { distinct = tt; placed = tt; found = λ k r e at. (let none = get-empty (id, k) in absurd cc) }
+
+vacant : (m : RowMap) (id : ℕ) (cache : Slot) (c : CacheConfig) → IsManaged m id cache → status_of (cache_in cache) ≡ opened c → IsManaged table.empty id cache
+vacant m id cache c is fresh =
+    let k = cache_in cache in
+    let ring : items_of cache.state.cells ≡ [] = ap (λ s. s.ring) (sym (state_is k.config k.progress k.turn)) ∙ ap (λ (s : Status). (state_in s.standing).ring) fresh in
+    let none : cache.state.cells ≡ [] = nil_from_length cache.state.cells (sym (length-map cache.state.cells item_of) ∙ ap length ring) in
+    record { id_is = is.id_is; kept = record { tied = subst (Tied table.empty cache.state.id) (sym none) (tied_empty cache.state.id); within = is.kept.within }; waits = is.waits }
+
+pub manager_over : (w : Within) (n : Visited) (first : ℕ) (configs : List CacheConfig) → n.table ≡ table.empty → lives_of w.seen ≡ opened_from first configs
+    → n.cache ≡ w.visit.cache → n.noted ≡ w.visit.noted → IsManager n w.caches w.members
+manager_over w n first configs empty fresh cache noted = record {
+  each = λ id. rw empty (by id (w.caches id) refl);
+  beyond = w.is.beyond;
+  listed = w.is.listed;
+  few = w.is.few;
+  spare = rw cache w.is.spare;
+  untold = rw noted w.is.untold;
+}
+  where
+    by : (id : ℕ) (found : Option Slot) → w.caches id ≡ found → IsAt table.empty id found
+    by id None at = λ key. get-empty (id, key)
+    by id (Some cache) at =
+        let new = made_there opened first configs id (status_of (cache_in cache)) (ap (λ (ks : Lives). at_place ks id) (sym fresh) ∙ live_is w id at) in
+        vacant w.visit.table id cache new.0 (stands w id at) new.1
+
+-- a cache without rows has none in an empty table
+pub spare_empty : (m : RowMap) (spare : Kept) → m ≡ table.empty → IsSpare spare → IsKeptIn m spare
+spare_empty m spare empty is = rw empty record {
+  tied = subst (Tied table.empty spare.id) (sym is.empty) (tied_empty spare.id);
+  within = rw is.empty (omega arith);
+}

@@ -1,7 +1,8 @@
 -- The table has as many rows as the caches have together.
-use Rattle.jc_engine.proofs.Names.{common_steps, cases_lt, sum_by-cons, bytes_eq-Decides, Expiry, Item, State, row_of, at_place, all_there, LacksKey, HasDistinctKeys, RowMap, expiry_at, same_rows, get-empty, len-empty}
+use Rattle.jc_rows.proofs.Laws.{get-removed_cache}
+use Rattle.jc_engine.proofs.Names.{common_steps, nat_tests, cases_lt, sum_by-cons, bytes_eq-Decides, Expiry, Item, State, row_of, at_place, all_there, LacksKey, HasDistinctKeys, RowMap, expiry_at, same_rows, get-empty, len-empty}
 use Rattle.jc_engine.proofs.Names.{get-removed_same, get-removed_other, get-removed_absent, len-removed}
-use Rattle.std.proofs.Common.{◌≡◌, ℕ, zero, suc, ◌+◌, ◌-◌, ◌<◌, Bool, true, false, cond, List, [], ◌∷◌, length, Option, Some, None, inl, inr, IsSome, refl, sym, ap, subst, ◌∙◌, arith, Decides, option_map, sum_by, bytes_eq}
+use Rattle.std.proofs.Common.{◌≡◌, ℕ, zero, suc, ◌+◌, ◌-◌, ◌<◌, Bool, true, false, cond, List, [], ◌∷◌, length, Option, Some, None, inl, inr, refl, sym, ap, subst, ◌∙◌, arith, Decides, option_map, sum_by, bytes_eq}
 use Rattle.std.specs.FinMap as table
 
 abbrev Found : Type 0
@@ -47,12 +48,7 @@ module _ (m : RowMap) (base : ℕ) (s : State) (x : Item) (xs : List Item) (stat
   keys = has.distinct 0 (record s { ring = x ∷ xs }) refl
 
   one_less : table.len (table.remove m (base, x.key)) + 1 ≡ table.len m
-  one_less = len-removed m (base, x.key) (there (table.get m (base, x.key)) (bytes_eq x.key x.key) ((bytes_eq-Decides x.key x.key).1 refl) (has.own base 0 x.key (omega arith)))
-    where
-      there : (o : Found) (b : Bool) → b ≡ true → option_map (λ row. row.1) o ≡ option_map (λ (y : Item). y.expiry) (cond b (Some x) (row_of x.key xs)) → IsSome o
-      there (Some row) b is e = refl
-      there None true is e = absurd cc
-      there None false is e = absurd cc
+  one_less = len-removed m (base, x.key) (grind (arith, common_steps, (bytes_eq-Decides x.key x.key).1 refl, has.own base 0 x.key))
 
   own_less : (id i : ℕ) (key : List ℕ) → id ≡ base + i
       → option_map (λ row. row.1) (table.get (table.remove m (base, x.key)) (id, key)) ≡ expiry_at key (at_place (Some (record s { ring = xs }) ∷ states) i)
@@ -64,9 +60,7 @@ module _ (m : RowMap) (base : ℕ) (s : State) (x : Item) (xs : List Item) (stat
           let same : id ≡ base = omega (arith, is) in
           rw (same, ← d.0 refl, get-removed_same m (base, x.key), lacking x.key xs keys.0) refl
       go false d was = ap (option_map (λ row. row.1)) (get-removed_other m (base, x.key) (id, key) (λ same. (let yes : false ≡ true = d.1 (sym (ap (λ (p : ℕ × List ℕ). p.1) same)) in cc))) ∙ was
-  own_less id (suc i) key is =
-      ap (option_map (λ row. row.1)) (get-removed_other m (base, x.key) (id, key) (λ same. (let here : id ≡ base = ap (λ (p : ℕ × List ℕ). p.0) same in omega (arith, is, here))))
-      ∙ has.own id (suc i) key is
+  own_less id (suc i) key is = ap (option_map (λ row. row.1)) (get-removed_cache m base x.key id key (grind (arith, nat_tests))) ∙ has.own id (suc i) key is
 
   less : HasRows (table.remove m (base, x.key)) base (Some (record s { ring = xs }) ∷ states)
   less = record { own = own_less; before = λ id key below. get-removed_absent m (base, x.key) (id, key) (has.before id key below); distinct = distinct_less }

@@ -4,13 +4,10 @@ pub mod Numbered
 pub mod Places
 pub mod Hearing
 pub mod Moving
-pub mod GivingUp
-pub mod Taken
 pub mod Openings
 pub mod Untold
 pub mod Calls
 pub mod Counted
 pub mod Watching
-pub mod Vacant
 pub mod Coming
 pub mod Listed

@@ -4,7 +4,10 @@ use Rattle.jc_engine.proofs.Names.{CacheConfig, most_ids, all_there, Status, cre
 use Rattle.jc_engine.proofs.Names.{allowed, at_place, is_open_in, Slot}
 use Rattle.jc_roster.specs.Members.{numbers_from}
 use Rattle.jc_roster.proofs.Listing.{NumberThere, number_there}
-use Rattle.jc_engine.proofs.Places.{length_map, place_of, Within, listed_seen, seen_is, member_at}
+use Rattle.jc_state.specs.Visited.{Visited}
+use Rattle.jc_engine.specs.Sound.{IsManager}
+use Rattle.jc_engine.proofs.Names.{caches_in}
+use Rattle.jc_engine.proofs.Places.{as_many, length_map, place_of, Within, within, listed_seen, seen_is, member_at}
 
 named_there : (caches : List (Option Cache)) → map (λ (m : Member). m.name) (all_there (members_of (lives_of caches))) ≡ names_of caches
 named_there [] = refl
@@ -25,16 +28,24 @@ may_come caches c none =
       total = may.together;
     }
 
+-- what the roster says is so of the caches that are seen
+module _ {v : Visited} {f : ℕ → Option Slot} {members : List (Option Member)} {seen : List (Option Cache)} (view_is : caches_in f (length members) ≡ seen) (is : IsManager v f members) where
+  listed : members ≡ members_of (lives_of seen)
+  listed = listed_seen (within view_is is)
+
+  pub names_listed : map (λ (m : Member). m.name) (all_there members) ≡ names_of seen
+  names_listed = ap (λ (ms : List (Option Member)). map (λ (m : Member). m.name) (all_there ms)) listed ∙ named_there seen
+
+  pub id_listed : (name : List ℕ) → id_named name members ≡ id_of name seen
+  id_listed name = ap (id_named name) listed ∙ id_there name seen
+
+  pub refusal_listed : (c : CacheConfig) → refusal_beside members c ≡ create_refusal (lives_of seen) c
+  refusal_listed c = ap (λ (ms : List (Option Member)). refusal_beside ms c) listed
+
+  pub length_listed : length members ≡ length seen
+  length_listed = sym (as_many (within view_is is))
+
 module _ (w : Within) where
-  pub names_listed : map (λ (m : Member). m.name) (all_there w.members) ≡ names_of w.seen
-  names_listed = ap (λ (ms : List (Option Member)). map (λ (m : Member). m.name) (all_there ms)) (listed_seen w) ∙ named_there w.seen
-
-  pub id_listed : (name : List ℕ) → id_named name w.members ≡ id_of name w.seen
-  id_listed name = ap (id_named name) (listed_seen w) ∙ id_there name w.seen
-
-  pub refusal_listed : (c : CacheConfig) → refusal_beside w.members c ≡ create_refusal (lives_of w.seen) c
-  refusal_listed c = ap (λ (ms : List (Option Member)). refusal_beside ms c) (listed_seen w)
-
   -- where no call is open of the caches whose numbers are listed, none is of any
   pub none_open : (numbers : List ℕ) → numbers ≡ numbers_from 0 w.members → ((k : ℕ) → k < length numbers → is_open_in (at_place w.seen (get_or numbers k 0)) ≡ false)
       → (id : ℕ) → is_open_in (at_place w.seen id) ≡ false

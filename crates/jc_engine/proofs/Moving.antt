@@ -1,12 +1,12 @@
 -- One event of the manager, by what it did to its cache.
-use Rattle.std.proofs.Common.{◌≡◌, ℕ, Bool, true, false, if◌then◌else◌, List, length, option_map, slice_set, OnOk, OnErr, IfOk, IfErr, is_some, Option, Some, None, Ok, Err, Result, refl, sym, ap, ◌∙◌}
-use Rattle.jc_engine.proofs.Names.{map-set, Cause, OutOfMemory, Outcome, there, at_place, Status, CacheEvent, on_cache, reply_of, refuse_last, is_refused, for_memory, answer_of, answer_in, moved, put_moved, lives_by, at_place_map}
-use Rattle.jc_engine.proofs.Names.{Advance, Slot, Cache, status_of, lives_of, cache_in, is_step, Moves, step_of, outcome_of, of_start, ChangesOne, caches_in, Refused, Stepped, at_same}
-use Rattle.jc_engine.proofs.Names.{FitsAt, IfOk-weaker, NoSuchCache, on_err_weaker, answer_to_destroy, Destroyed, Awaited, Wait, standing_by}
+use Rattle.std.proofs.Common.{◌≡◌, ℕ, Bool, true, false, if◌then◌else◌, List, length, option_map, slice_set, OnOk, OnErr, IfOk, IfErr, is_some, Option, Some, None, Ok, Err, Result, refl, sym, ap, ◌∙◌, [], arith}
+use Rattle.jc_engine.proofs.Names.{map-set, Cause, OutOfMemory, Outcome, there, at_place, Status, CacheEvent, on_cache, reply_of, refuse_last, is_refused, for_memory, answer_of, answer_in, moved, put_moved, lives_by, at_place_map, Advance, Slot}
+use Rattle.jc_engine.proofs.Names.{Cache, status_of, lives_of, cache_in, is_step, Moves, step_of, outcome_of, of_start, ChangesOne, caches_in, Refused, Stepped, at_same, FitsAt, IfOk-weaker, NoSuchCache, on_err_weaker, answer_to_destroy}
+use Rattle.jc_engine.proofs.Names.{Destroyed, Awaited, Wait, standing_by, common_steps, Notice, gives_up, Noted, Idle, turn_in, LeavesNotices, Abandons, of_abandon, GivenUp}
 use Rattle.jc_model.specs.declared.event.Cause.TheVariants.{Busy}
 use Rattle.jc_model.specs.Runs.{destroyed_by}
 use Rattle.jc_state.specs.Visited.{Visited}
-use Rattle.jc_engine.specs.Managed.{reply_to, HasHeard, IsRefusedFor}
+use Rattle.jc_engine.specs.Managed.{reply_to, HasHeard, IsRefusedFor, IsReady, IsPutBack}
 use Rattle.jc_engine.proofs.Places.{same_set, place_of, Within, seen_is, live_is, Changes, seen_put}
 
 -- where memory suffices, a reply stays
@@ -111,3 +111,23 @@ module _ {w : Within} {id : ℕ} {cache cache' : Slot} {g : ℕ → Option Slot}
         by false moves stays =
             ap lives_of (seen_put c) ∙ map-set (option_map status_of) w.seen id (Some (cache_in cache'))
             ∙ (ap (λ (s : Status). slice_set (lives_of w.seen) id (Some s)) (moves refl) ∙ ap (put_moved (lives_of w.seen) id said) (sym (live_is w id c.at)))
+
+-- A call that is given up.
+
+module _ (cache cache' : Slot) where
+  handed : (notices : List Notice) → cache' ≡ record cache { turn = Idle } → (turn_in cache.turn ≡ None → ⊥) → notices ≡ (cache_in cache).progress.notices → Did (cache_in cache) (cache_in cache') gives_up false (GivenUp notices)
+  handed notices after waits same = grind (arith, common_steps)
+
+  pub abandoned : (r : Result (Option Noted) Cause) → Abandons cache r cache' → Did (cache_in cache) (cache_in cache') gives_up false (of_abandon r)
+  abandoned (Ok None) is = handed [] is.0 is.1 (sym is.2.1)
+  abandoned (Ok (Some left)) is = handed left.told is.0 is.1 is.2.1
+  abandoned (Err cause) is = grind (arith, common_steps)
+
+  -- the notices that it leaves, that no call is open after it, and that else nothing has changed
+  pub ends : (r : Result (Option Noted) Cause) → Abandons cache r cache' → IfOk r (LeavesNotices (cache_in cache)) × OnOk r (turn_in cache'.turn ≡ None) × OnErr r (cache_in cache' ≡ cache_in cache)
+  ends (Ok left) is = (is.2, ap (λ (k : Slot). turn_in k.turn) is.0, tt)
+  ends (Err cause) is = (tt, tt, ap cache_in is.2)
+
+  pub put_back : (v : Visited) (r : Result (Option Noted) Cause) → IsReady cache v → Abandons cache r cache' → IsPutBack cache v cache' v
+  put_back v (Ok left) is abandons = grind (arith, common_steps)
+  put_back v (Err cause) is abandons = grind (arith, common_steps)

@@ -52,7 +52,7 @@ pub use Rattle.jc_engine.specs.declared.open.OpenRefusal.{OpenRefusal}
 pub use Rattle.jc_engine.specs.declared.open.OpenRefusal.TheVariants.{IdsSpent, TooManyCaches, TotalCapacity}
 pub use Rattle.jc_engine.specs.Advances.{ChangesOne, ClosedAt, FitsAt, is_open_in, of_abandon, of_start, outcome_of}
 pub use Rattle.jc_engine.specs.Caches.{Cache, expiry_in, fresh_cache, fresh_from, holds_in, id_of, lives_of, names_of, status_of}
-pub use Rattle.jc_engine.specs.Fresh.{AreNames, MayCome, fresh_slot}
+pub use Rattle.jc_engine.specs.Opening.{AreNames, MayCome, fresh_slot}
 pub use Rattle.jc_engine.specs.Managed.{Slot, Abandons, FitsTurn, IsManaged, LeavesNotices, Moves, NeverTells, Settled, WaitsThere, cache_in, is_step, is_telling, notices_in, step_of, tells, turn_in}
 pub use Rattle.jc_engine.specs.Opening.{capacities, is_taken, names_in, open_refusal, open_refusal_for, open_refusal_from, refusal_at, refusal_from}
 pub use Rattle.jc_engine.specs.Sound.{IsAt, NoneFrom, caches_in, places_of}

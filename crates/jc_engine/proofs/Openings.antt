@@ -1,12 +1,14 @@
 -- A manager that is being opened.
-use Rattle.std.proofs.Common.{◌≡◌, ℕ, ◌≤◌, ◌+◌, length-append, append_assoc, zero, suc, false, List, [], ◌∷◌, ◌++◌, map, length, Option, Some, None, refl, sym, ap, subst, ◌∙◌, arith, option_map, sum, ltb, append-nil}
-use Rattle.jc_engine.proofs.Names.{nat_tests, common_steps, map-append, sum_by-cons, sum_by-append, CacheConfig, most_caches, most_rows_together, most_ids, at_place, none_before, named_from, all_there, opened_from}
-use Rattle.jc_engine.proofs.Names.{Member, members_of, rows_of, Cache, status_of, lives_of, fresh_cache, fresh_from, MayCome, is_taken, names_in, open_refusal_for, refusal_at, refusal_from, capacities}
-use Rattle.jc_engine.proofs.Names.{open_refusal, open_refusal_from, TooManyCaches, TotalCapacity, IdsSpent}
+use Rattle.std.proofs.Common.{◌≡◌, ℕ, ◌≤◌, ◌+◌, length-append, append_assoc, zero, suc, false, List, [], ◌∷◌, ◌++◌, map, length, Some, None, refl, sym, ap, subst, ◌∙◌, arith, option_map, sum, ltb, append-nil, Bool, true, cond, bytes_eq}
+use Rattle.jc_engine.proofs.Names.{nat_tests, common_steps, map-append, sum_by-cons, sum_by-append, CacheConfig, most_caches, most_rows_together, most_ids, at_place, none_before, named_from, all_there, opened_from, Member, members_of, rows_of}
+use Rattle.jc_engine.proofs.Names.{Cache, status_of, lives_of, fresh_cache, fresh_from, MayCome, is_taken, names_in, open_refusal_for, refusal_at, refusal_from, capacities, open_refusal, open_refusal_from, TooManyCaches, TotalCapacity, IdsSpent}
+use Rattle.jc_engine.proofs.Names.{HashSet, contains, AreNames}
 use Rattle.std.proofs.lemmas.Simd.{map-map}
 use Rattle.jc_model.specs.Refusals.{broken_limit, refused_if}
 use Rattle.jc_model.proofs.Refusals.{both_none, keeps_limits, none_mapped, not_refused}
 use Rattle.jc_engine.proofs.Places.{length_map}
+use Rattle.std.specs.List.{list_any}
+use Rattle.std.proofs.lemmas.List.Folds.{list_any-append}
 
 -- behind the names and the caches before it, one more has rows and a name of its own
 next_allowed : (names : List (List ℕ)) (place : ℕ) (before after : List CacheConfig) (c : CacheConfig) → refusal_from names place (before ++ c ∷ after) ≡ None → (1 ≤ c.capacity) × (is_taken c.name (names ++ names_in before) ≡ false)
@@ -73,3 +75,14 @@ may_come first configs before after c h all =
       name = unnamed first 0 c.name before next.1;
       total = let within = within_total before after c (let most : sum (capacities configs) ≤ most_rows_together = grind (arith, nat_tests) in rw (← all) at most) in omega (arith, rows_fresh first before, within);
     }
+
+-- Names that are taken, in a set and as a list.
+
+pub any_map : {A B : Type 0} (p : B → Bool) (f : A → B) (xs : List A) → list_any (λ x. p (f x)) xs ≡ list_any p (map f xs)
+any_map p f [] = refl
+any_map p f (x ∷ xs) = cc (any_map p f xs)
+
+pub one_more : {S : Type 0} (set set' : HashSet (List ℕ) S) (names : List (List ℕ)) (name : List ℕ)
+    → ((q : List ℕ) → contains bytes_eq set' q ≡ cond (bytes_eq name q) true (contains bytes_eq set q))
+    → AreNames (Some set) names → AreNames (Some set') (names ++ name ∷ [])
+one_more set set' names name updates are q = grind (arith, common_steps, updates q, are q, list_any-append (λ n. bytes_eq n q) names (name ∷ []))

@@ -1,5 +1,5 @@
 -- The caches by id, and what is seen of them, before and after one of them has changed.
-use Rattle.std.proofs.Common.{zero, suc, [], ◌∷◌, ◌≡◌, ◌≢◌, ℕ, ◌<◌, List, map, length, option_map, slice_get, slice_set, Option, Some, None, inl, inr, refl, sym, ap, subst, ◌∙◌, length-set, arith}
+use Rattle.std.proofs.Common.{zero, suc, [], ◌∷◌, ◌≡◌, ◌≢◌, ℕ, ◌<◌, List, map, length, option_map, slice_get, slice_set, Option, Some, inl, inr, sym, ap, subst, ◌∙◌, length-set, arith}
 use Rattle.jc_engine.proofs.Names.{cases_eq, length-map, map-set, set-get_or, get_or_from_slice_get, CacheConfig, at_place, Status, RowMap, Member, member_of, members_of, SameElsewhere, Slot, cache_in}
 use Rattle.jc_state.specs.Visited.{Visited}
 use Rattle.jc_engine.specs.Managed.{IsReady, RestsAgain, IsPutBack}
@@ -121,5 +121,5 @@ module _ {w : Within} {id : ℕ} {cache : Slot} {o : Option Slot} {g : ℕ → O
 pub manager_moved : {w : Within} {id : ℕ} {cache cache' : Slot} {g : ℕ → Option Slot} {n : Visited} → Changes w id cache (Some cache') g → (moment : ℕ) → IsPutBack cache (record w.visit { moment = moment }) cache' n → IsManager n g w.members
 manager_moved {w} {id} {cache} {cache'} {g} {n} c moment is =
     let stays : slice_set w.members id (Some (member_of cache'.state.config)) ≡ w.members =
-        ap (λ (d : CacheConfig). slice_set w.members id (Some (member_of d))) is.config ∙ same_set w.members id _ (place_of w.members id _ (member_at w id c.at)) in
+    ap (λ (d : CacheConfig). slice_set w.members id (Some (member_of d))) is.config ∙ same_set w.members id _ (place_of w.members id _ (member_at w id c.at)) in
     subst (IsManager n g) stays (manager_after c n is.managed is.elsewhere (record { cache = is.rests.cache; untold = is.rests.untold }))

@@ -1,5 +1,5 @@
 -- No request of a step awaits that notices were told: they are told after the last step.
-use Rattle.std.proofs.Common.{◌≡◌, ◌≢◌, ℕ, ◌*◌, true, List, [], length, refl, sym, subst, ◌∙◌, arith}
+use Rattle.std.proofs.Common.{◌≡◌, ◌≢◌, ℕ, ◌*◌, true, List, [], length, sym, subst, ◌∙◌, arith}
 use Rattle.jc_engine.proofs.Names.{common_steps, Answer, Request, CacheConfig, Progress, Run, waiting, resume, answered, told_by, Awaited, for_tell, awaited_by, fits, Plan, each, carried_out, Wait, telling, key_run, Waits}
 use Rattle.jc_engine.proofs.Names.{wait_run, IsSuspended, NeverTells, one_key, many_keys}
 use Rattle.jc_model.specs.declared.call.KeyCall.{KeyCall}

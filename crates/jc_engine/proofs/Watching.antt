@@ -23,10 +23,6 @@ state_at caches id =
     by None = refl
     by (Some k) = ap (λ (s : State). Some s) (state_is k.config k.progress k.turn)
 
-expiry_is : (key : List ℕ) (o : Option Cache) → expiry_in key o ≡ expiry_at key (option_map (λ (k : Cache). k.progress.state) o)
-expiry_is key None = refl
-expiry_is key (Some k) = refl
-
 module _ (w : Within) where
   -- the table's rows are those of the caches
   pub expiry_seen : (id : ℕ) (key : List ℕ) → option_map (λ row. row.1) (table.get w.visit.table (id, key)) ≡ expiry_in key (at_place w.seen id)
@@ -36,7 +32,7 @@ module _ (w : Within) where
   sound_seen id k at = sound_there w.visit.table id (w.caches id) k (w.is.each id) (sym (seen_is w id refl) ∙ at)
 
   expiry : (id : ℕ) (key : List ℕ) → option_map (λ row. row.1) (table.get w.visit.table (id, key)) ≡ expiry_at key (at_place (states_of (lives_of w.seen)) id)
-  expiry id key = expiry_seen id key ∙ (expiry_is key (at_place w.seen id) ∙ ap (expiry_at key) (sym (state_at w.seen id)))
+  expiry id key = expiry_seen id key ∙ ap (expiry_at key) (sym (state_at w.seen id))
 
   distinct : (id : ℕ) (s : State) → at_place (states_of (lives_of w.seen)) id ≡ Some s → HasDistinctKeys s.ring
   distinct id s at = by (at_place w.seen id) refl (sym (state_at w.seen id) ∙ at)

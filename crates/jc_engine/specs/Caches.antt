@@ -4,7 +4,7 @@ use Rattle.std.specs.Prelude.{Option, Some, None}
 use Rattle.std.specs.FinMap as table
 use Rattle.jc_model.specs.declared.config.CacheConfig.{CacheConfig}
 use Rattle.jc_model.specs.declared.config.Expiry.{Expiry}
-use Rattle.jc_model.specs.State.{first_state, row_of}
+use Rattle.jc_model.specs.State.{State, first_state, row_of}
 use Rattle.jc_model.specs.Changes.{Progress, begun}
 use Rattle.jc_model.specs.Run.{Awaited}
 use Rattle.jc_model.specs.Whole.{holds}
@@ -53,9 +53,12 @@ abbrev pub AreSound : List (Option Cache) → Type 0
 AreSound caches = (id : ℕ) (k : Cache) → at_place caches id ≡ Some k → IsSound k.config k.progress.state
 
 -- when a cache's row of this key expires
+abbrev pub expiry_at : List ℕ → Option State → Option Expiry
+expiry_at key None = None
+expiry_at key (Some s) = option_map (λ x. x.expiry) (row_of key s.ring)
+
 abbrev pub expiry_in : List ℕ → Option Cache → Option Expiry
-expiry_in key None = None
-expiry_in key (Some k) = option_map (λ x. x.expiry) (row_of key k.progress.state.ring)
+expiry_in key k = expiry_at key (option_map (λ k. k.progress.state) k)
 
 -- the table has at each place the expiry that the cache there has for the key
 abbrev pub IsTableOf : RowMap → List (Option Cache) → Type 0

@@ -5,7 +5,6 @@ pub mod Waiting
 pub mod Managed
 pub mod Advances
 pub mod Sound
-pub mod Fresh
 pub mod Free
 pub mod Heard
 pub mod Watching

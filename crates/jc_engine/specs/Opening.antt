@@ -1,6 +1,7 @@
 -- Which configurations a manager opens with.
-use Rattle.std.specs.Prelude.{◌≡◌, ◌⊎◌, ℕ, ◌+◌, ltb, Bool, List, [], ◌∷◌, ◌++◌, length, sum, map}
+use Rattle.std.specs.Prelude.{◌≡◌, ◌<◌, ◌≤◌, ◌⊎◌, ℕ, ◌+◌, ltb, Bool, List, [], ◌∷◌, ◌++◌, length, sum, map}
 use Rattle.std.specs.Prelude.{Option, Some, None, IfSome, Result, Err, IfErr}
+use Rattle.std.specs.HashSet.{HashSet, contains}
 use Rattle.std.specs.List.{list_any}
 use Rattle.std.specs.Option.{option_map, option_or}
 use Rattle.std.specs.Str.{bytes_eq}
@@ -8,9 +9,14 @@ use Rattle.jc_model.specs.declared.config.CacheConfig.{CacheConfig}
 use Rattle.jc_model.specs.declared.config.Limit.{Limit}
 use Rattle.jc_model.specs.declared.config.Limit.TheVariants as limit
 use Rattle.jc_model.specs.Limits.{most_caches, most_rows_together, most_ids}
-use Rattle.jc_model.specs.Refusals.{broken_limit, refused_if}
+use Rattle.jc_model.specs.Refusals.{broken_limit, refused_if, rows_of}
+use Rattle.jc_model.specs.Runs.{members_of}
+use Rattle.jc_model.specs.State.{zeros}
 use Rattle.jc_engine.specs.declared.open.OpenRefusal.{OpenRefusal}
 use Rattle.jc_engine.specs.declared.open.OpenRefusal.TheVariants.{TooManyCaches, BadCapacity, TooManyListeners, TooManyProcessors, DuplicateName, TotalCapacity, IdsSpent, OutOfMemory}
+use Rattle.jc_engine.specs.declared.turn.Turn.TheVariants.{Idle}
+use Rattle.jc_engine.specs.Caches.{Cache, lives_of, id_of}
+use Rattle.jc_engine.specs.Managed.{Slot}
 
 abbrev pub is_taken : List ℕ → List (List ℕ) → Bool
 is_taken name names = list_any (λ n. bytes_eq n name) names
@@ -54,3 +60,18 @@ RefusesDue due result = IfSome due (λ refusal. result ≡ Err refusal)
 -- and no other is, but one for want of memory
 abbrev pub RefusesNoOther : {T : Type 0} → Option OpenRefusal → Result T OpenRefusal → Type 0
 RefusesNoOther due result = IfErr result (λ refusal. (due ≡ Some refusal) ⊎ (refusal ≡ OutOfMemory))
+
+-- a cache of this configuration may get the next id
+pub record MayCome (caches : List (Option Cache)) (c : CacheConfig) : Type 0 where
+  pub ids : length caches < most_ids
+  pub rows : 1 ≤ c.capacity
+  pub name : id_of c.name caches ≡ None
+  pub total : rows_of (members_of (lives_of caches)) + c.capacity ≤ most_rows_together
+
+-- the set has these names and no others; where memory was refused there is no set
+abbrev pub AreNames : {S : Type 0} → Option (HashSet (List ℕ) S) → List (List ℕ) → Type 0
+AreNames None names = Unit {0}
+AreNames (Some set) names = (name : List ℕ) → contains bytes_eq set name ≡ is_taken name names
+
+abbrev pub fresh_slot : ℕ → CacheConfig → Slot
+fresh_slot id c = record { state = record { config = c; id = id; cells = []; counts = zeros }; turn = Idle }

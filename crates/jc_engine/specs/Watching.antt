@@ -1,22 +1,18 @@
 -- What an image of the table shows of the caches.
 use Rattle.std.specs.Prelude.{◌≡◌, true, false, Bool, ℕ, ◌+◌, List, length, map, sum_by, option_map, is_some, count_by}
-use Rattle.std.specs.Prelude.{Option, Some, None}
+use Rattle.std.specs.Prelude.{Option, Some}
 use Rattle.jc_model.specs.declared.config.Expiry.{Expiry}
-use Rattle.jc_model.specs.State.{State, row_of}
+use Rattle.jc_model.specs.State.{State}
 use Rattle.jc_model.specs.Runs.{Lives}
 use Rattle.jc_model.specs.Solo.{state_in}
 use Rattle.jc_rows.specs.Images.{Image, Shown, image_slot, last_image}
 use Rattle.jc_model.specs.Places.{at_place, all_there}
+pub use Rattle.jc_engine.specs.Caches.{expiry_at}
 use Rattle.jc_engine.specs.Caches.{Cache, lives_of}
 
 -- the rows and counters of live caches, by their ids
 abbrev pub states_of : Lives → List (Option State)
 states_of lives = map (option_map (λ k. state_in k.standing)) lives
-
--- when a cache's row of this key expires
-abbrev pub expiry_at : List ℕ → Option State → Option Expiry
-expiry_at key None = None
-expiry_at key (Some s) = option_map (λ x. x.expiry) (row_of key s.ring)
 
 -- each row that an image places is one of its cache, with that expiry, its count is the number of the others, and where
 -- there are none it places all

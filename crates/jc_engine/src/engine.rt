@@ -53,18 +53,14 @@ impl<R: Rows, G: Ring> Engine<R, G> {
     pub fn cache(&self, name: &Key) -> Option<CacheId>
         ensures { result ≡ id_of name.now self.now }
     {
-        match self.roster.find(name) {
-            Some(number) => Some(CacheId::new(number)),
-            None => None,
-        }
+        Some(CacheId::new(self.roster.find(name)?))
     }
 
     /// The live cache with this id.
     pub(crate) fn find(&self, id: CacheId) -> Option<&Managed<G>>
         ensures { at_place self.now id ≡ option_map cache_in (option_map (λ cache. cache.now) result) }
     {
-        let number = id.number();
-        self.caches.get(&number)
+        self.caches.get(&id.number())
     }
 
     /// Whether a live cache has this id.
@@ -94,8 +90,7 @@ impl<R: Rows, G: Ring> Engine<R, G> {
     pub fn has(&self, id: CacheId, key: &Key, now: u64) -> bool
         ensures { result ≡ holds_in now key.now (at_place self.now id) }
     {
-        let number = id.number();
-        match self.caches.get(&number) {
+        match self.caches.get(&id.number()) {
             Some(cache) => cache.state.holds(self.visit.rows(), key, now),
             None => false,
         }

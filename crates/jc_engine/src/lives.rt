@@ -3,7 +3,7 @@ ghost use Rattle.std.specs.Prelude.{◌≡◌, None, Some, [], ◌∷◌, ◌++�
 ghost use Rattle.jc_model.specs.declared.event.Event.TheVariants.{Create, Destroy};
 ghost use Rattle.jc_model.specs.Runs.{create_refusal};
 ghost use Rattle.jc_engine.specs.Caches.{lives_of, fresh_cache};
-ghost use Rattle.jc_engine.specs.Fresh.{MayCome};
+ghost use Rattle.jc_engine.specs.Opening.{MayCome};
 ghost use Rattle.jc_engine.specs.Heard.{IsAnswer, IsFreeAnswer, LeadsTo};
 ghost use Rattle.jc_engine.specs.Results.{of_create, of_destroy};
 
@@ -55,18 +55,17 @@ impl<R: Rows, G: Ring> Engine<R, G> {
             return Err(Cause::Busy);
         }
         let number = id.number();
-        match self.caches.remove(&number) {
-            Some(mut cache) => {
-                cache.leave(&mut self.visit);
-                drop(cache);
-                self.roster.remove(number);
-                Ok(())
-            }
-            None => unreachable!(),
-        }
+        let Some(mut cache) = self.caches.remove(&number) else {
+            unreachable!()
+        };
+        cache.leave(&mut self.visit);
+        drop(cache);
+        self.roster.remove(number);
+        Ok(())
     }
 
     /// The id that the next cache gets.
+    #[tactic(auto, using(crate::proofs::Listed::length_listed))]
     pub fn next_id(&self) -> CacheId
         ensures { result ≡ length self.now }
     {
@@ -74,6 +73,7 @@ impl<R: Rows, G: Ring> Engine<R, G> {
     }
 
     /// Why no cache can be created now, where memory suffices.
+    #[tactic(auto, using(crate::proofs::Listed::refusal_listed))]
     pub fn create_refusal(&self, config: &CacheConfig) -> Option<CreateRefusal>
         ensures { result ≡ create_refusal (lives_of self.now) config.now }
     {

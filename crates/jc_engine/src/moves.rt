@@ -93,9 +93,8 @@ impl<R: Rows, G: Ring> Engine<R, G> {
         if !matches!(call, Call::Get(_)) {
             return None;
         }
-        let number = id.number();
         self.visit.set_moment(now);
-        match self.caches.get_mut(&number) {
+        match self.caches.get_mut(&id.number()) {
             Some(cache) => cache.get_at_once(&mut self.visit, call),
             None => None,
         }
@@ -110,9 +109,8 @@ impl<R: Rows, G: Ring> Engine<R, G> {
         ensures free { FreeIsAnswered self.old (Begin id now call.now) (of_start result) }
         ensures refused { OnErr result (self.new ≡ self.old) }
     {
-        let number = id.number();
         self.visit.set_moment(now);
-        match self.caches.get_mut(&number) {
+        match self.caches.get_mut(&id.number()) {
             Some(cache) => cache.start(&mut self.visit, call),
             None => Err(Cause::NoSuchCache),
         }
@@ -129,8 +127,7 @@ impl<R: Rows, G: Ring> Engine<R, G> {
         ensures told { fits for_tell answer ≡ true → IsOk result }
         ensures refused { OnErr result (self.new ≡ self.old) }
     {
-        let number = id.number();
-        match self.caches.get_mut(&number) {
+        match self.caches.get_mut(&id.number()) {
             Some(cache) => cache.go_on(&mut self.visit, answer),
             None => unreachable!(),
         }
@@ -145,8 +142,7 @@ impl<R: Rows, G: Ring> Engine<R, G> {
         ensures left { IfOk result (λ left. LeavesAt (at_place self.old id) left) }
         ensures refused { OnErr result (self.new ≡ self.old) }
     {
-        let number = id.number();
-        let Some(cache) = self.caches.get_mut(&number) else {
+        let Some(cache) = self.caches.get_mut(&id.number()) else {
             return Err(Cause::NoSuchCache);
         };
         cache.abandon()

@@ -7,7 +7,7 @@ ghost use Rattle.jc_model.specs.Limits.{most_caches};
 ghost use Rattle.jc_engine.specs.Caches.{AreJustOpened, fresh_from};
 ghost use Rattle.jc_engine.specs.Opening.{RefusesDue, RefusesNoOther, open_refusal, open_refusal_from};
 ghost use Rattle.jc_engine.specs.Opening.{refusal_from, is_taken, capacities, names_in};
-ghost use Rattle.jc_engine.specs.Fresh.{AreNames};
+ghost use Rattle.jc_engine.specs.Opening.{AreNames};
 ghost use Rattle.jc_engine.specs.Sound.{IsSpare};
 
 use crate::engine::Engine;

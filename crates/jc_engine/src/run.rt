@@ -8,18 +8,9 @@ ghost use Rattle.jc_engine.specs.Free.{takes_none, FreeAreHeard};
 ghost use Rattle.jc_engine.specs.Heard.{IsAnswer, LeadsTo, RunLeadsTo};
 
 use crate::engine::Engine;
-use jc_model::event::{Cause, Event, Outcome};
+use jc_model::event::{Event, Outcome};
 use jc_ring::ring::Ring;
 use jc_rows::rows::Rows;
-
-/// What becomes of an event that is refused. What it brought is let go.
-fn refusal<T: Drop>(refused: (Cause, T)) -> Outcome
-    ensures { result ≡ Outcome.Refused refused.0 }
-{
-    let (cause, brought) = refused;
-    drop(brought);
-    Outcome::Refused(cause)
-}
 
 impl<R: Rows, G: Ring> Engine<R, G> {
     /// The events one after the other, each with its outcome. What is seen of a cache that was not yet used at first,
@@ -62,11 +53,17 @@ impl<R: Rows, G: Ring> Engine<R, G> {
         match event {
             Event::Begin(id, now, call) => match self.begin(id, now, call) {
                 Ok(step) => Outcome::Step(step),
-                Err(refused) => refusal(refused),
+                Err((cause, call)) => {
+                    drop(call);
+                    Outcome::Refused(cause)
+                }
             },
             Event::Answer(id, answer) => match self.resume(id, answer) {
                 Ok(step) => Outcome::Step(step),
-                Err(refused) => refusal(refused),
+                Err((cause, answer)) => {
+                    drop(answer);
+                    Outcome::Refused(cause)
+                }
             },
             Event::GiveUp(id) => match self.give_up(id) {
                 Ok(notices) => Outcome::GivenUp(notices),

@@ -1,6 +1,6 @@
 use Rattle.std.proofs.Common.{◌∙◌, bytes_eq}
 use Rattle.jc_engine.proofs.Names.{CacheConfig}
-use Rattle.jc_engine.proofs.Taken.{any_map}
+use Rattle.jc_engine.proofs.Openings.{any_map}
 use Rattle.jc_engine.proofs.open.is_taken.Goals as goal
 
 pub returns-in-None : goal.returns-in-None

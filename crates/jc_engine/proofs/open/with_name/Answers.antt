@@ -1,6 +1,6 @@
 use Rattle.std.proofs.Common.{subst}
 use Rattle.jc_engine.proofs.Names.{AreNames}
-use Rattle.jc_engine.proofs.Taken.{one_more}
+use Rattle.jc_engine.proofs.Openings.{one_more}
 use Rattle.jc_engine.proofs.open.with_name.Goals as goal
 
 pub returns-in-Ok : goal.returns-in-Ok

@@ -2,14 +2,13 @@ use Rattle.std.proofs.Common.{Some, sym, false, rules, nat_eq}
 use Rattle.jc_engine.proofs.Names.{get, gives_up, cache_in, of_abandon, IfOk-weaker, on_ok_weaker, on_err_weaker}
 use Rattle.jc_engine.proofs.Numbered.{puts_for}
 use Rattle.jc_engine.proofs.Places.{within, seen_is, Changes, manager_moved, ready}
-use Rattle.jc_engine.proofs.Moving.{no_answer, Did, one_after, new_here, unchanged, outcome_after, lives_later}
-use Rattle.jc_engine.proofs.GivingUp.{abandoned, ends, put_back}
+use Rattle.jc_engine.proofs.Moving.{abandoned, ends, put_back, no_answer, Did, one_after, new_here, unchanged, outcome_after, lives_later}
 use Rattle.jc_engine.proofs.engine.Engine.abandon.Given as given
 use Rattle.jc_engine.proofs.engine.Engine.abandon.Goals as goal
 
 module _ (g : given.Over) (c : goal.After-self-2-1 g) where
   changes : Changes (within c.self.view_is c.self.invariant) c.args.id c.in-Some.cache.now (Some c.abandon.new.self) (get nat_eq (c.get_mut.follows.lender c.abandon.new.self))
-  changes = record { at = sym (rw c.number-number.ensures at c.in-Some.ensures.value); puts = puts_for _ _ _ c.number-number.ensures ((c.get_mut.follows.holds c.abandon.new.self).3 (search rules)).0 }
+  changes = record { at = sym (rw c.number.ensures at c.in-Some.ensures.value); puts = puts_for _ _ _ c.number.ensures ((c.get_mut.follows.holds c.abandon.new.self).3 (search rules)).0 }
 
   did : Did (cache_in c.in-Some.cache.now) (cache_in c.abandon.new.self) gives_up false (of_abandon c.abandon.result)
   did = abandoned c.in-Some.cache.now c.abandon.new.self c.abandon.result c.abandon.ensures
@@ -31,4 +30,4 @@ returns g c =
     }
 
 pub returns-in_default-clause-outcome : goal.returns-in_default-clause-outcome
-returns-in_default-clause-outcome g c = no_answer (within c.self.view_is c.self.invariant) c.args.id gives_up (sym (rw c.number-number.ensures at c.in_default.ensures.value))
+returns-in_default-clause-outcome g c = no_answer (within c.self.view_is c.self.invariant) c.args.id gives_up (sym (rw c.number.ensures at c.in_default.ensures.value))

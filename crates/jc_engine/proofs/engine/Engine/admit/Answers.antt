@@ -9,7 +9,7 @@ use Rattle.jc_engine.proofs.engine.Engine.admit.Given as given
 use Rattle.jc_engine.proofs.engine.Engine.admit.Goals as goal
 
 pub add-requires-clause-new : goal.add-requires-clause-new
-add-requires-clause-new g c = id_listed (within c.self.view_is c.self.invariant) c.args.config.name ∙ c.requires.name
+add-requires-clause-new g c = id_listed c.self.view_is c.self.invariant c.args.config.name ∙ c.requires.name
 
 pub invariant_of-self-in-Err : goal.invariant_of-self-in-Err
 invariant_of-self-in-Err g c = rw (fun_ext c.reserve.ensures.entries.2) c.self.invariant

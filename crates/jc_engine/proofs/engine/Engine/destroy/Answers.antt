@@ -9,26 +9,26 @@ use Rattle.jc_engine.proofs.engine.Engine.destroy.Goals as goal
 
 pub unreachable-requires : goal.unreachable-requires
 unreachable-requires g c =
-    let none = seen_is (within c.self.view_is c.self.invariant) c.args.id (sym (rw c.number-number.ensures at c.in-None.ensures.value)) in
+    let none = seen_is (within c.self.view_is c.self.invariant) c.args.id (sym (rw c.number-number.ensures at c.in_default-remove.ensures.value)) in
     let some = c.in-Some.ensures in
     absurd cc
 
 pub leave-requires : goal.leave-requires
 leave-requires g c = ready (within c.self.view_is c.self.invariant) c.args.id c.self.inside.visit.moment (sym (rw c.number-number.ensures at c.in-Some-remove.ensures.value))
 
-pub remove-requires-in-Some-remove : goal.remove-requires-in-Some-remove
-remove-requires-in-Some-remove g c =
+pub remove-requires-2 : goal.remove-requires-2
+remove-requires-2 g c =
     let at = sym (rw c.number-number.ensures at c.in-Some-remove.ensures.value) in
     (member_of c.in-Some-remove.cache.state.config, rw c.number-number.ensures (member_at (within c.self.view_is c.self.invariant) c.args.id at))
 
-module _ (g : given.Over) (c : goal.After-remove-in-Some-remove g) where
+module _ (g : given.Over) (c : goal.After-remove-2 g) where
   changes : Changes (within c.self.view_is c.self.invariant) c.args.id c.in-Some-remove.cache None (get nat_eq c.remove.new.self)
   changes = record { at = sym (rw c.number-number.ensures at c.in-Some-remove.ensures.value); puts = puts_for _ _ _ c.number-number.ensures c.remove.ensures.updates.0 }
 
-  removed : c.remove-in-Some-remove.new.self ≡ slice_set c.self.inside.roster c.args.id None
-  removed = rw c.number-number.ensures at c.remove-in-Some-remove.ensures
+  removed : c.remove-2.new.self ≡ slice_set c.self.inside.roster c.args.id None
+  removed = rw c.number-number.ensures at c.remove-2.ensures
 
-  gone : caches_in (get nat_eq c.remove.new.self) (length c.remove-in-Some-remove.new.self) ≡ slice_set c.args.self.now c.args.id None
+  gone : caches_in (get nat_eq c.remove.new.self) (length c.remove-2.new.self) ≡ slice_set c.args.self.now c.args.id None
   gone = rw removed (seen_after changes)
 
 pub invariant_of-self : goal.invariant_of-self

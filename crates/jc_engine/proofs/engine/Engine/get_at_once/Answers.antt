@@ -8,11 +8,11 @@ use Rattle.jc_engine.proofs.engine.Engine.get_at_once.Given as given
 use Rattle.jc_engine.proofs.engine.Engine.get_at_once.Goals as goal
 
 pub get_at_once-requires : goal.get_at_once-requires
-get_at_once-requires g c = rw c.set_moment.ensures (ready (within c.self.view_is c.self.invariant) c.args.id c.args.now (sym (rw c.number-number.ensures at c.in-Some.ensures.value)))
+get_at_once-requires g c = rw c.set_moment.ensures (ready (within c.self.view_is c.self.invariant) c.args.id c.args.now (sym (rw c.number.ensures at c.in-Some.ensures.value)))
 
 module _ (g : given.Over) (c : goal.After-self-in-Some-1 g) where
   changes : Changes (within c.self.view_is c.self.invariant) c.args.id c.in-Some.cache.now (Some c.get_at_once.new.self) (get nat_eq (c.get_mut.follows.lender c.get_at_once.new.self))
-  changes = record { at = sym (rw c.number-number.ensures at c.in-Some.ensures.value); puts = puts_for _ _ _ c.number-number.ensures ((c.get_mut.follows.holds c.get_at_once.new.self).3 (search rules)).0 }
+  changes = record { at = sym (rw c.number.ensures at c.in-Some.ensures.value); puts = puts_for _ _ _ c.number.ensures ((c.get_mut.follows.holds c.get_at_once.new.self).3 (search rules)).0 }
 
 pub invariant_of-self : goal.invariant_of-self
 invariant_of-self g c = manager_moved (changes g c) c.args.now (rw c.set_moment.ensures at c.get_at_once.ensures.back)

@@ -1,4 +1,4 @@
-use Rattle.std.proofs.Common.{Some, false, sym, rules, nat_eq}
+use Rattle.std.proofs.Common.{Some, sym, rules, nat_eq}
 use Rattle.jc_engine.proofs.Names.{get, answers}
 use Rattle.jc_engine.proofs.Numbered.{puts_for}
 use Rattle.jc_engine.proofs.Places.{within, seen_is, Changes, manager_moved, ready}
@@ -8,12 +8,12 @@ use Rattle.jc_engine.proofs.engine.Engine.go_on.Goals as goal
 
 pub unreachable-requires : goal.unreachable-requires
 unreachable-requires g c =
-    let no = rw (← no_answer (within c.self.view_is c.self.invariant) c.args.id (answers c.args.answer) (sym (rw c.number-number.ensures at c.in-None.ensures.value))) at c.requires in
+    let no = rw (← no_answer (within c.self.view_is c.self.invariant) c.args.id (answers c.args.answer) (sym (rw c.number.ensures at c.in-None.ensures.value))) at c.requires in
     cc
 
 pub go_on-requires : goal.go_on-requires
 go_on-requires g c =
-    let at = sym (rw c.number-number.ensures at c.in-Some.ensures.value) in
+    let at = sym (rw c.number.ensures at c.in-Some.ensures.value) in
     record {
       ready = ready (within c.self.view_is c.self.invariant) c.args.id c.self.inside.visit.moment at;
       allowed = rw (reply_at c.args.self.now c.args.id (answers c.args.answer) (seen_is (within c.self.view_is c.self.invariant) c.args.id at)) at c.requires;
@@ -21,7 +21,7 @@ go_on-requires g c =
 
 module _ (g : given.Over) (c : goal.After-self-in-Some-1 g) where
   changes : Changes (within c.self.view_is c.self.invariant) c.args.id c.in-Some.cache.now (Some c.go_on.new.self) (get nat_eq (c.get_mut.follows.lender c.go_on.new.self))
-  changes = record { at = sym (rw c.number-number.ensures at c.in-Some.ensures.value); puts = puts_for _ _ _ c.number-number.ensures ((c.get_mut.follows.holds c.go_on.new.self).3 (search rules)).0 }
+  changes = record { at = sym (rw c.number.ensures at c.in-Some.ensures.value); puts = puts_for _ _ _ c.number.ensures ((c.get_mut.follows.holds c.go_on.new.self).3 (search rules)).0 }
 
 pub invariant_of-self : goal.invariant_of-self
 invariant_of-self g c = manager_moved (changes g c) c.self.inside.visit.moment c.go_on.ensures.heard.back

@@ -1,6 +1,6 @@
 use Rattle.std.proofs.Common.{◌∙◌}
 use Rattle.jc_engine.proofs.Places.{within}
-use Rattle.jc_engine.proofs.Vacant.{manager_over, spare_empty}
+use Rattle.jc_engine.proofs.Coming.{manager_over, spare_empty}
 use Rattle.jc_engine.proofs.engine.Engine.over.Goals as goal
 
 pub over-requires : goal.over-requires

@@ -8,11 +8,11 @@ use Rattle.jc_engine.proofs.engine.Engine.start.Given as given
 use Rattle.jc_engine.proofs.engine.Engine.start.Goals as goal
 
 pub start-requires : goal.start-requires
-start-requires g c = rw c.set_moment.ensures (ready (within c.self.view_is c.self.invariant) c.args.id c.args.now (sym (rw c.number-number.ensures at c.in-Some.ensures.value)))
+start-requires g c = rw c.set_moment.ensures (ready (within c.self.view_is c.self.invariant) c.args.id c.args.now (sym (rw c.number.ensures at c.in-Some.ensures.value)))
 
 module _ (g : given.Over) (c : goal.After-self-in-Some-1 g) where
   changes : Changes (within c.self.view_is c.self.invariant) c.args.id c.in-Some.cache.now (Some c.start.new.self) (get nat_eq (c.get_mut.follows.lender c.start.new.self))
-  changes = record { at = sym (rw c.number-number.ensures at c.in-Some.ensures.value); puts = puts_for _ _ _ c.number-number.ensures ((c.get_mut.follows.holds c.start.new.self).3 (search rules)).0 }
+  changes = record { at = sym (rw c.number.ensures at c.in-Some.ensures.value); puts = puts_for _ _ _ c.number.ensures ((c.get_mut.follows.holds c.start.new.self).3 (search rules)).0 }
 
   heard : HasHeard c.in-Some.cache.now (record c.self.inside.visit { moment = c.args.now }) (begins c.args.now c.args.call.now) c.start.result c.start.new.self c.start.new.visit
   heard = rw c.set_moment.ensures at c.start.ensures.heard
@@ -35,8 +35,8 @@ returns-in-Some g c =
 
 pub returns-in-None-clause-outcome : goal.returns-in-None-clause-outcome
 returns-in-None-clause-outcome g c =
-    no_answer (within c.self.view_is c.self.invariant) c.args.id (begins c.args.now c.args.call.now) (sym (rw c.number-number.ensures at c.in-None.ensures.value))
+    no_answer (within c.self.view_is c.self.invariant) c.args.id (begins c.args.now c.args.call.now) (sym (rw c.number.ensures at c.in-None.ensures.value))
 
 pub returns-in-None-clause-free : goal.returns-in-None-clause-free
 returns-in-None-clause-free g c = λ _.
-    no_answer (within c.self.view_is c.self.invariant) c.args.id (begins c.args.now c.args.call.now) (sym (rw c.number-number.ensures at c.in-None.ensures.value))
+    no_answer (within c.self.view_is c.self.invariant) c.args.id (begins c.args.now c.args.call.now) (sym (rw c.number.ensures at c.in-None.ensures.value))
