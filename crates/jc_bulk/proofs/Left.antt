@@ -15,7 +15,6 @@ use Rattle.jc_model.proofs.Resume.{answered-append}
 use Rattle.jc_ops.specs.declared.step.Next.{Next}
 use Rattle.jc_ops.specs.declared.step.Next.TheVariants.{Ended, Waiting}
 use Rattle.jc_model.specs.Lists.{distinct}
-use Rattle.jc_bulk.proofs.Apart.{past_second}
 use Rattle.jc_bulk.proofs.Rows.{StillThere, all_there}
 
 -- A step of one key leaves the rows of other keys with their values: some may be evicted, none gets another value.
@@ -64,6 +63,10 @@ fits-there q o (y ∷ ys) ring s h = All-cons (HasValue q o) y ys (λ same. h y 
 came_to : (c : CacheConfig) (run : Run) (next : Next KeyWait Reply) (p : Progress) (P : State → Type 0) → StepsTo c run next p → Throughout P run → P p.state
 came_to c run (Ended reply) p P e h = rw e at h
 came_to c run (Waiting request w) p P e h = (rw e.run_is at h).0
+
+-- the first is not the second, and with those behind it they are different
+past_second : (k q : List ℕ) (ks : List (List ℕ)) → distinct (k ∷ q ∷ ks) ≡ true → (k ≢ q) × (distinct (k ∷ ks) ≡ true)
+past_second k q ks e = (λ same. grind (arith, common_steps, bytes_eq-Decides q k), grind (arith, common_steps))
 
 -- the step on a key, with these answers
 module _ (c : CacheConfig) (now : ℕ) (call : KeyCall) (p : Progress) (given : List Answer) (next : Next KeyWait Reply) (after : Progress) (e : StepsTo c (answered (step c now call p) given) next after) (d : HasDistinctKeys p.state.ring) where

@@ -3,4 +3,3 @@ pub mod Left
 pub mod Ready
 pub mod EachStep
 pub mod Rows
-pub mod Apart

@@ -1,6 +1,9 @@
 -- The rows of a ring, one after the other, by their keys.
 use Rattle.std.proofs.Common.{◌≡◌, ℕ, Some, List, [], ◌∷◌, map, refl, ap, arith, ◌≢◌, true, false, if◌then◌else◌, ◌∙◌}
 use Rattle.std.proofs.lemmas.Grind.{common_steps}
+use Rattle.std.specs.List.{list_any}
+use Rattle.std.specs.Str.{bytes_eq}
+use Rattle.jc_model.specs.Lists.{distinct}
 use Rattle.std.proofs.lemmas.Slice.Eq.{bytes_eq-Decides}
 use Rattle.jc_model.specs.declared.call.Call.TheVariants.{RemoveAll}
 use Rattle.jc_bulk.specs.Each.{each_of}
@@ -22,6 +25,14 @@ past_all y ys (x ∷ xs) l s = (grind (arith, common_steps, bytes_eq-Decides y.k
 pub all_there : (ring : List Item) → HasDistinctKeys ring → StillThere ring ring
 all_there [] d = tt
 all_there (y ∷ ys) d = (grind (arith, common_steps, bytes_eq-Decides y.key y.key), past_all y ys ys d.0 (all_there ys d.1))
+
+lacks_none : (k : List ℕ) (ring : List Item) → LacksKey k ring → list_any (λ y. bytes_eq y k) (keys_of ring) ≡ false
+lacks_none k [] l = refl
+lacks_none k (x ∷ xs) l = grind (arith, common_steps, bytes_eq-Decides x.key k, l.0, lacks_none k xs l.1)
+
+pub ring_apart : (ring : List Item) → HasDistinctKeys ring → distinct (keys_of ring) ≡ true
+ring_apart [] d = refl
+ring_apart (x ∷ xs) d = grind (arith, common_steps, lacks_none x.key xs d.0, ring_apart xs d.1)
 
 -- What is done for each key of the rows is done for each row.
 

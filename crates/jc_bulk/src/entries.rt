@@ -1,9 +1,9 @@
 //! All entries of a cache at once.
 ghost use Rattle.std.specs.Prelude.{◌≡◌, None, IfOk, OnOk, OnErr};
+ghost use Rattle.jc_model.specs.Whole.{contents, touch_each};
 ghost use Rattle.jc_state.specs.Kept.{items_of, key_row};
 ghost use Rattle.jc_state.specs.Visited.{IsSameVisit, IsUnchanged, progress_in};
-ghost use Rattle.jc_bulk.specs.Entries.{live_value, live_pairs, listed, TouchesEach};
-ghost use Rattle.jc_bulk.specs.Entries.{touched, all_touched};
+ghost use Rattle.jc_bulk.specs.Entries.{live_value, touched, all_touched};
 
 use crate::lists::Lists;
 use crate::tally::push;
@@ -28,21 +28,6 @@ fn live_value<R: Rows, G: Ring>(
         Some(row) if visit.is_live(row) => Ok(Copies::of(visit.value(row).first())?.map(Some)),
         _ => Ok(Copies::new(None, None, None)),
     }
-}
-
-/// The pairs of those of these keys that have a live row.
-fn contents<R: Rows, G: Ring>(
-    visit: &Visit<R, G>,
-    keys: &[Key],
-) -> Result<Lists<(Key, Value)>, OutOfMemory>
-    ensures { IfOk result (λ lists. lists.items
-        ≡ listed visit.now.moment (items_of visit.now.cache.cells) keys.now) }
-{
-    let mut pairs = Lists::with_room(visit.alloc(), keys.len())?;
-    for key in keys {
-        push(&mut pairs, *key, live_value(visit, key)?);
-    }
-    Ok(pairs)
 }
 
 /// Counts a hit on the key's row and uses it, where it is live.
@@ -75,13 +60,18 @@ pub(crate) fn entries<R: Rows, G: Ring>(
     visit: &mut Visit<R, G>,
 ) -> Result<Copies<Sequence<(Key, Value)>>, OutOfMemory>
     ensures same_visit { IsSameVisit visit.old visit.new }
-    ensures listed { IfOk result (λ pairs. pairs ≡ live_pairs visit.old) }
-    ensures progress { OnOk result
-        (TouchesEach visit.old (items_of visit.old.cache.cells) visit.new) }
+    ensures listed { IfOk result (λ pairs. pairs ≡ contents visit.old.cache.config
+        visit.old.moment (items_of visit.old.cache.cells)) }
+    ensures progress { OnOk result (progress_in visit.new ≡ touch_each visit.old.cache.config
+        visit.old.moment (items_of visit.old.cache.cells) (progress_in visit.old)) }
     ensures same { OnErr result (IsUnchanged visit.old visit.new) }
 {
-    let keys = visit.keys()?;
-    let pairs = contents(visit, keys.as_slice())?;
-    touch_each(visit, keys.as_slice());
+    let rows = visit.keys()?;
+    let keys = rows.as_slice();
+    let mut pairs = Lists::with_room(visit.alloc(), keys.len())?;
+    for key in keys {
+        push(&mut pairs, *key, live_value(visit, key)?);
+    }
+    touch_each(visit, keys);
     Ok(pairs.into_lists())
 }

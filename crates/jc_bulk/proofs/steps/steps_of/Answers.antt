@@ -1,7 +1,6 @@
 use Rattle.std.proofs.Common.{inl, inr}
 use Rattle.jc_bulk.proofs.Names.{items_of}
-use Rattle.jc_bulk.proofs.Rows.{all_there, all_removed}
-use Rattle.jc_bulk.proofs.Apart.{ring_apart}
+use Rattle.jc_bulk.proofs.Rows.{all_there, all_removed, ring_apart}
 use Rattle.jc_bulk.proofs.steps.steps_of.Goals as goal
 
 pub returns-in_ok-keys-in-RemoveAll-clause-steps : goal.returns-in_ok-keys-in-RemoveAll-clause-steps

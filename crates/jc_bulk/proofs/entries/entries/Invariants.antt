@@ -1,7 +1,7 @@
 use Rattle.std.proofs.Common.{◌≡◌, ◌≤◌, ◌+◌, ◌++◌, drop, length}
 use Rattle.jc_bulk.specs.Entries.{listed}
 use Rattle.jc_bulk.proofs.Names.{items_of}
-use Rattle.jc_bulk.proofs.entries.contents.Given as goal
+use Rattle.jc_bulk.proofs.entries.entries.Given as goal
 
 abbrev pub invariant-loop-key : goal.invariant-loop-key
 invariant-loop-key g l = record {
