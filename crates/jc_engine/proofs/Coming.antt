@@ -15,12 +15,9 @@ fresh_at : (m : RowMap) (id : ℕ) (c : CacheConfig) → IsAt m id None → IsMa
 fresh_at m id c none = grind (arith, common_steps)
 
 module _ (w : Within) (c : CacheConfig) (g : ℕ → Option Slot) (puts : Puts w.caches (length w.members) (Some (fresh_slot (length w.members) c)) g) where
-  one_more : length (w.members ++ Some (member_of c) ∷ []) ≡ length w.members + 1
-  one_more = length_push w.members (Some (member_of c))
-
   pub seen_more : caches_in g (length (w.members ++ Some (member_of c) ∷ [])) ≡ w.seen ++ Some (fresh_cache c) ∷ []
   seen_more =
-      ap (caches_in g) one_more
+      ap (caches_in g) (length_push w.members (Some (member_of c)))
       ∙ ap (map (option_map cache_in)) (places_more w.caches g (length w.members) (Some (fresh_slot (length w.members) c)) puts)
       ∙ map-append (option_map cache_in) (places_of w.caches (length w.members)) (Some (fresh_slot (length w.members) c) ∷ [])
       ∙ ap (λ (ks : List (Option Cache)). ks ++ Some (fresh_cache c) ∷ []) w.view_is
@@ -29,13 +26,13 @@ module _ (w : Within) (c : CacheConfig) (g : ℕ → Option Slot) (puts : Puts w
   manager_more below = record {
     each = each_put w.visit.table w.caches g (length w.members) _ puts
         (fresh_at w.visit.table (length w.members) c (stands w (length w.members) (w.is.beyond (length w.members) (omega arith)))) (λ id differ. w.is.each id);
-    beyond = λ id above. (let past : length w.members + 1 ≤ id = subst (λ (n : ℕ). n ≤ id) one_more above in
+    beyond = λ id above. (let past : length w.members + 1 ≤ id = rw (length_push w.members (Some (member_of c))) at above in
         put_other w.caches g (length w.members) _ puts id (λ e. omega (arith, past, e)) ∙ w.is.beyond id (omega (arith, past)));
     listed =
         ap (λ (ms : List (Option Member)). ms ++ Some (member_of c) ∷ []) (listed_seen w)
         ∙ sym (ap members_of (map-append (option_map status_of) w.seen (Some (fresh_cache c) ∷ [])) ∙ map-append (option_map (λ (k : Status). member_of k.config)) (lives_of w.seen) (Some (status_of (fresh_cache c)) ∷ []))
         ∙ ap (λ (ks : List (Option Cache)). members_of (lives_of ks)) (sym seen_more);
-    few = omega (arith, one_more, below);
+    few = rw (length_push w.members (Some (member_of c))) (omega (arith, below));
     spare = w.is.spare;
     untold = w.is.untold;
   }

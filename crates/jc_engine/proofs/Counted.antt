@@ -1,5 +1,5 @@
 -- The table has as many rows as the caches have together.
-use Rattle.jc_rows.proofs.Laws.{get-removed_cache}
+use Rattle.jc_rows.proofs.Laws.{get-removed_cache, get-removed_key}
 use Rattle.jc_engine.proofs.Names.{common_steps, nat_tests, cases_lt, sum_by-cons, bytes_eq-Decides, Expiry, Item, State, row_of, at_place, all_there, LacksKey, HasDistinctKeys, RowMap, expiry_at, same_rows, get-empty, len-empty}
 use Rattle.jc_engine.proofs.Names.{get-removed_same, get-removed_other, get-removed_absent, len-removed}
 use Rattle.std.proofs.Common.{◌≡◌, ℕ, zero, suc, ◌+◌, ◌-◌, ◌<◌, Bool, true, false, cond, List, [], ◌∷◌, length, Option, Some, None, inl, inr, refl, sym, ap, subst, ◌∙◌, arith, Decides, option_map, sum_by, bytes_eq}
@@ -52,14 +52,9 @@ module _ (m : RowMap) (base : ℕ) (s : State) (x : Item) (xs : List Item) (stat
 
   own_less : (id i : ℕ) (key : List ℕ) → id ≡ base + i
       → option_map (λ row. row.1) (table.get (table.remove m (base, x.key)) (id, key)) ≡ expiry_at key (at_place (Some (record s { ring = xs }) ∷ states) i)
-  own_less id zero key is = go (bytes_eq x.key key) (bytes_eq-Decides x.key key) (has.own id 0 key is)
-    where
-      go : (b : Bool) → Decides b (x.key ≡ key) → option_map (λ row. row.1) (table.get m (id, key)) ≡ option_map (λ (y : Item). y.expiry) (cond b (Some x) (row_of key xs))
-          → option_map (λ row. row.1) (table.get (table.remove m (base, x.key)) (id, key)) ≡ option_map (λ (y : Item). y.expiry) (row_of key xs)
-      go true d was =
-          let same : id ≡ base = omega (arith, is) in
-          rw (same, ← d.0 refl, get-removed_same m (base, x.key), lacking x.key xs keys.0) refl
-      go false d was = ap (option_map (λ row. row.1)) (get-removed_other m (base, x.key) (id, key) (λ same. (let yes : false ≡ true = d.1 (sym (ap (λ (p : ℕ × List ℕ). p.1) same)) in cc))) ∙ was
+  own_less id zero key is =
+      let same : id ≡ base = omega (arith, is) in
+      rw same (grind (arith, common_steps, bytes_eq-Decides x.key key, bytes_eq-Decides key x.key, get-removed_same m (base, x.key), get-removed_key m base x.key base key, lacking x.key xs keys.0, has.own base 0 key))
   own_less id (suc i) key is = ap (option_map (λ row. row.1)) (get-removed_cache m base x.key id key (grind (arith, nat_tests))) ∙ has.own id (suc i) key is
 
   less : HasRows (table.remove m (base, x.key)) base (Some (record s { ring = xs }) ∷ states)

@@ -1,11 +1,13 @@
 -- An image that shows the table shows the caches.
-use Rattle.std.proofs.Common.{◌≡◌, ℕ, Bool, true, List, Option, Some, None, refl, sym, ap, ◌∙◌, option_map}
+use Rattle.std.proofs.Common.{◌≡◌, ℕ, Bool, true, List, length, Option, Some, None, refl, sym, ap, ◌∙◌, option_map}
 use Rattle.std.specs.FinMap as table
 use Rattle.jc_engine.proofs.Names.{CacheConfig, Expiry, State, Progress, Awaited, at_place, Status, state_in, HasDistinctKeys, Wait, standing_by, Cache, status_of, lives_of, expiry_in, ShowsStates, expiry_at, states_of}
 use Rattle.jc_engine.proofs.Names.{IsCacheSound, at_place_map}
 use Rattle.jc_rows.specs.Images.{Image, Shows, image_slot, last_image}
-use Rattle.jc_state.specs.Visited.{SeesTable}
-use Rattle.jc_engine.proofs.Places.{Within, seen_is}
+use Rattle.jc_state.specs.Visited.{SeesTable, Visited}
+use Rattle.jc_engine.specs.Sound.{IsManager}
+use Rattle.jc_engine.proofs.Names.{Member, Slot, caches_in}
+use Rattle.jc_engine.proofs.Places.{Within, seen_is, within}
 use Rattle.jc_engine.proofs.Tables.{expiry_shown, sound_there}
 use Rattle.jc_engine.proofs.Counted.{count}
 
@@ -59,5 +61,6 @@ module _ (w : Within) where
   }
 
 -- a watcher that has seen the table has seen the caches
-pub caches_seen : (w : Within) {images : List Image} {met : Bool} → SeesTable w.visit.table images met → ShowsStates (states_of (lives_of w.seen)) (last_image images) × (met ≡ true)
-caches_seen w is = (rw is.last.0 (states_shown w is.image is.shows), is.last.1)
+pub caches_seen : {v : Visited} {f : ℕ → Option Slot} {members : List (Option Member)} {seen : List (Option Cache)} {images : List Image} {met : Bool} → caches_in f (length members) ≡ seen → IsManager v f members → SeesTable v.table images met
+    → ShowsStates (states_of (lives_of seen)) (last_image images) × (met ≡ true)
+caches_seen view_is is sees = (rw sees.last.0 (states_shown (within view_is is) sees.image sees.shows), sees.last.1)

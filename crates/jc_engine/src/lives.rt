@@ -32,10 +32,8 @@ impl<R: Rows, G: Ring> Engine<R, G> {
         if let Some(refusal) = self.create_refusal(&config) {
             return Err((refusal, config));
         }
-        match self.admit(config) {
-            Ok(id) => Ok(id),
-            Err(config) => Err((CreateRefusal::OutOfMemory, config)),
-        }
+        self.admit(config)
+            .map_err(|config| (CreateRefusal::OutOfMemory, config))
     }
 
     /// Destroys a cache: all its rows are taken out of the table, which no one is told and nothing counts, and its id

@@ -10,6 +10,7 @@ use jc_rows::watched::Watched;
 
 impl<R: Watched, G: Ring> Engine<R, G> {
     /// A watcher of the table. The last image that it has seen shows the caches as they are.
+    #[tactic(auto, using(crate::proofs::Watching::caches_seen))]
     pub fn watch(&mut self) -> Result<R::Watcher, OutOfMemory>
         ensures same { self.new ≡ self.old }
         ensures watcher { IfOk result (λ w. SeesCaches R.seen R.met w self.old) }
@@ -18,6 +19,7 @@ impl<R: Watched, G: Ring> Engine<R, G> {
     }
 
     /// The watcher sees the table's last image, which shows the caches as they are.
+    #[tactic(auto, using(crate::proofs::Watching::caches_seen))]
     pub fn meet(&mut self, watcher: &mut R::Watcher) -> Result<(), OutOfMemory>
         ensures same { self.new ≡ self.old }
         ensures front { IsPrefix (R.seen watcher.old) (R.seen watcher.new) }
