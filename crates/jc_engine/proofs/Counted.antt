@@ -1,8 +1,8 @@
 -- The table has as many rows as the caches have together.
 use Rattle.jc_rows.proofs.Laws.{get-removed_cache, get-removed_key}
 use Rattle.jc_engine.proofs.Names.{common_steps, nat_tests, cases_lt, sum_by-cons, bytes_eq-Decides, Expiry, Item, State, row_of, at_place, all_there, LacksKey, HasDistinctKeys, RowMap, expiry_at, same_rows, get-empty, len-empty}
-use Rattle.jc_engine.proofs.Names.{get-removed_same, get-removed_other, get-removed_absent, len-removed}
-use Rattle.std.proofs.Common.{◌≡◌, ℕ, zero, suc, ◌+◌, ◌-◌, ◌<◌, Bool, true, false, cond, List, [], ◌∷◌, length, Option, Some, None, inl, inr, refl, sym, ap, subst, ◌∙◌, arith, Decides, option_map, sum_by, bytes_eq}
+use Rattle.jc_engine.proofs.Names.{get-removed_same, get-removed_absent, len-removed}
+use Rattle.std.proofs.Common.{◌≡◌, ℕ, zero, suc, ◌+◌, ◌-◌, ◌<◌, List, [], ◌∷◌, length, Option, Some, None, inl, inr, refl, sym, ap, subst, ◌∙◌, arith, option_map, sum_by}
 use Rattle.std.specs.FinMap as table
 
 abbrev Found : Type 0

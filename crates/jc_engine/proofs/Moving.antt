@@ -1,8 +1,8 @@
 -- One event of the manager, by what it did to its cache.
-use Rattle.std.proofs.Common.{◌≡◌, ℕ, Bool, true, false, if◌then◌else◌, List, length, option_map, slice_set, OnOk, OnErr, IfOk, IfErr, is_some, Option, Some, None, Ok, Err, Result, refl, sym, ap, ◌∙◌, [], arith}
+use Rattle.std.proofs.Common.{◌≡◌, ℕ, Bool, true, false, if◌then◌else◌, List, length, option_map, slice_set, OnOk, OnErr, IfOk, IfErr, is_some, Option, Some, None, Ok, Err, Result, refl, sym, ap, ◌∙◌, arith}
 use Rattle.jc_engine.proofs.Names.{map-set, Cause, OutOfMemory, Outcome, there, at_place, Status, CacheEvent, on_cache, reply_of, refuse_last, is_refused, for_memory, answer_of, answer_in, moved, put_moved, lives_by, at_place_map, Advance, Slot}
 use Rattle.jc_engine.proofs.Names.{Cache, status_of, lives_of, cache_in, is_step, Moves, step_of, outcome_of, of_start, ChangesOne, caches_in, Refused, Stepped, at_same, FitsAt, IfOk-weaker, NoSuchCache, on_err_weaker, answer_to_destroy}
-use Rattle.jc_engine.proofs.Names.{Destroyed, Awaited, Wait, standing_by, common_steps, Notice, gives_up, Noted, Idle, turn_in, LeavesNotices, Abandons, of_abandon, GivenUp}
+use Rattle.jc_engine.proofs.Names.{Destroyed, Awaited, Wait, standing_by, common_steps, gives_up, Noted, turn_in, LeavesNotices, Abandons, of_abandon}
 use Rattle.jc_model.specs.declared.event.Cause.TheVariants.{Busy}
 use Rattle.jc_model.specs.Runs.{destroyed_by}
 use Rattle.jc_state.specs.Visited.{Visited}
@@ -115,12 +115,9 @@ module _ {w : Within} {id : ℕ} {cache cache' : Slot} {g : ℕ → Option Slot}
 -- A call that is given up.
 
 module _ (cache cache' : Slot) where
-  handed : (notices : List Notice) → cache' ≡ record cache { turn = Idle } → (turn_in cache.turn ≡ None → ⊥) → notices ≡ (cache_in cache).progress.notices → Did (cache_in cache) (cache_in cache') gives_up false (GivenUp notices)
-  handed notices after waits same = grind (arith, common_steps)
-
   pub abandoned : (r : Result (Option Noted) Cause) → Abandons cache r cache' → Did (cache_in cache) (cache_in cache') gives_up false (of_abandon r)
-  abandoned (Ok None) is = handed [] is.0 is.1 (sym is.2.1)
-  abandoned (Ok (Some left)) is = handed left.told is.0 is.1 is.2.1
+  abandoned (Ok None) is = grind (arith, common_steps)
+  abandoned (Ok (Some left)) is = grind (arith, common_steps)
   abandoned (Err cause) is = grind (arith, common_steps)
 
   -- the notices that it leaves, that no call is open after it, and that else nothing has changed

@@ -1,13 +1,16 @@
 //! The manager: many caches over one table of rows, each with at most one open call.
-ghost use Rattle.std.specs.Prelude.{◌≡◌, IfErr, OnErr, is_some, option_map};
+ghost use Rattle.std.specs.Prelude.{◌≡◌, IfOk, IfErr, OnOk, OnErr, is_some, option_map};
+ghost use mathlib.Core.List.{IsPrefix};
 ghost use Rattle.jc_model.specs.declared.event.Event.TheVariants.{Begin, Answer as Answered, GiveUp};
 ghost use Rattle.jc_model.specs.Places.{at_place};
 ghost use Rattle.jc_engine.specs.Caches.{AreSound, IsTableOf, names_of, id_of, holds_in};
 ghost use Rattle.jc_engine.specs.Heard.{IsAnswer, IsFreeAnswer, FreeIsAnswered, LeadsTo};
 ghost use Rattle.jc_engine.specs.Managed.{cache_in};
 ghost use Rattle.jc_engine.specs.Results.{of_begin, of_resume, of_give_up};
+ghost use Rattle.jc_engine.specs.Watching.{SeesCaches, SeesNoMore};
 
 use crate::cache::Managed;
+use jc_model::OutOfMemory;
 use jc_model::call::{Answer, Call, Notice, Reply};
 use jc_model::event::{CacheId, Cause, Step};
 use jc_model::key::Key;
@@ -16,6 +19,7 @@ use jc_model::value::Value;
 use jc_ring::ring::Ring;
 use jc_roster::roster::Roster;
 use jc_rows::rows::Rows;
+use jc_rows::watched::Watched;
 use jc_state::visit::Visit;
 use std::alloc::Global;
 use std::collections::HashMap;
@@ -151,5 +155,28 @@ impl<R: Rows, G: Ring> Engine<R, G> {
             Some(left) => Ok(left.into_lists().0),
             None => Ok(Sequence::new(Vec::new(self.alloc))),
         }
+    }
+}
+
+/// A manager whose table others may watch.
+impl<R: Watched, G: Ring> Engine<R, G> {
+    /// A watcher of the table. The last image that it has seen shows the caches as they are.
+    #[tactic(auto, using(crate::proofs::Watching::caches_seen))]
+    pub fn watch(&mut self) -> Result<R::Watcher, OutOfMemory>
+        ensures same { self.new ≡ self.old }
+        ensures watcher { IfOk result (λ w. SeesCaches R.seen R.met w self.old) }
+    {
+        self.visit.watch()
+    }
+
+    /// The watcher sees the table's last image, which shows the caches as they are.
+    #[tactic(auto, using(crate::proofs::Watching::caches_seen))]
+    pub fn meet(&mut self, watcher: &mut R::Watcher) -> Result<(), OutOfMemory>
+        ensures same { self.new ≡ self.old }
+        ensures front { IsPrefix (R.seen watcher.old) (R.seen watcher.new) }
+        ensures met { OnOk result (SeesCaches R.seen R.met watcher.new self.old) }
+        ensures refused { OnErr result (SeesNoMore R.seen R.met watcher.old watcher.new) }
+    {
+        self.visit.meet(watcher)
     }
 }

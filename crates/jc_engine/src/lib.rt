@@ -8,4 +8,3 @@ mod moves;
 pub mod open;
 mod run;
 pub mod turn;
-mod watched;

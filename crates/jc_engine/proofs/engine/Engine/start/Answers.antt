@@ -38,5 +38,4 @@ returns-in-None-clause-outcome g c =
     no_answer (within c.self.view_is c.self.invariant) c.args.id (begins c.args.now c.args.call.now) (sym (rw c.number.ensures at c.in-None.ensures.value))
 
 pub returns-in-None-clause-free : goal.returns-in-None-clause-free
-returns-in-None-clause-free g c = λ _.
-    no_answer (within c.self.view_is c.self.invariant) c.args.id (begins c.args.now c.args.call.now) (sym (rw c.number.ensures at c.in-None.ensures.value))
+returns-in-None-clause-free g c = λ _. returns-in-None-clause-outcome g c
