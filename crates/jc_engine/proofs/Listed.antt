@@ -1,12 +1,11 @@
 -- The live caches by name, and what creating one asks of them.
 use Rattle.std.proofs.Common.{◌≡◌, ◌<◌, ℕ, false, List, [], ◌∷◌, map, length, get_or, option_map, Option, Some, None, refl, sym, ap, subst, ◌∙◌, arith}
 use Rattle.jc_engine.proofs.Names.{CacheConfig, most_ids, all_there, Status, create_refusal, Member, member_of, members_of, id_named, refusal_beside, Cache, status_of, lives_of, names_of, id_of, MayCome, named_map}
-use Rattle.jc_engine.proofs.Names.{allowed, at_place, is_open_in, Slot}
+use Rattle.jc_engine.proofs.Names.{allowed, at_place, is_open_in, Slot, caches_in}
 use Rattle.jc_roster.specs.Members.{numbers_from}
 use Rattle.jc_roster.proofs.Listing.{NumberThere, number_there}
 use Rattle.jc_state.specs.Visited.{Visited}
 use Rattle.jc_engine.specs.Sound.{IsManager}
-use Rattle.jc_engine.proofs.Names.{caches_in}
 use Rattle.jc_engine.proofs.Places.{as_many, length_map, place_of, Within, within, listed_seen, seen_is, member_at}
 
 named_there : (caches : List (Option Cache)) → map (λ (m : Member). m.name) (all_there (members_of (lives_of caches))) ≡ names_of caches

@@ -1,6 +1,5 @@
 -- The outcomes of a manager's inner calls, which keep the copies that a transcript needs.
-use Rattle.std.specs.Prelude.{◌≡◌, ℕ, Bool, false, is_some, List, [], Result, Ok, Err, slice_set}
-use Rattle.std.specs.Prelude.{Option, Some, None}
+use Rattle.std.specs.Prelude.{◌≡◌, ℕ, Bool, false, is_some, List, [], Result, Ok, Err, slice_set, Option, Some, None}
 use Rattle.jc_model.specs.declared.event.Cause.{Cause}
 use Rattle.jc_model.specs.declared.event.Cause.TheVariants.{OutOfMemory}
 use Rattle.jc_model.specs.declared.event.Outcome.{Outcome}

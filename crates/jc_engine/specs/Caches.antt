@@ -1,6 +1,5 @@
 -- The caches of a manager, as its callers see them: by id, where a cache is live or none is.
-use Rattle.std.specs.Prelude.{◌≡◌, ℕ, Bool, false, List, map, option_map}
-use Rattle.std.specs.Prelude.{Option, Some, None}
+use Rattle.std.specs.Prelude.{◌≡◌, ℕ, Bool, false, List, map, option_map, Option, Some, None}
 use Rattle.std.specs.FinMap as table
 use Rattle.jc_model.specs.declared.config.CacheConfig.{CacheConfig}
 use Rattle.jc_model.specs.declared.config.Expiry.{Expiry}

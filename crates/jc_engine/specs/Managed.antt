@@ -1,6 +1,5 @@
 -- What the fields of one cache stand for, and how it moves.
-use Rattle.std.specs.Prelude.{◌≡◌, ◌≢◌, ℕ, Bool, true, false, List, [], Result, Ok, Err}
-use Rattle.std.specs.Prelude.{Option, Some, None, MatchOption, IfOk, OnErr}
+use Rattle.std.specs.Prelude.{◌≡◌, ◌≢◌, ℕ, Bool, true, false, List, [], Result, Ok, Err, Option, Some, None, MatchOption, IfOk, OnErr}
 use Rattle.jc_model.specs.declared.call.Notice.{Notice}
 use Rattle.jc_model.specs.declared.call.Request.TheVariants.{Tell}
 use Rattle.jc_model.specs.declared.config.CacheConfig.{CacheConfig}

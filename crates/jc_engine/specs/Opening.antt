@@ -1,6 +1,5 @@
 -- Which configurations a manager opens with.
-use Rattle.std.specs.Prelude.{◌≡◌, ◌<◌, ◌≤◌, ◌⊎◌, ℕ, ◌+◌, ltb, Bool, List, [], ◌∷◌, ◌++◌, length, sum, map}
-use Rattle.std.specs.Prelude.{Option, Some, None, IfSome, Result, Err, IfErr}
+use Rattle.std.specs.Prelude.{◌≡◌, ◌<◌, ◌≤◌, ◌⊎◌, ℕ, ◌+◌, ltb, Bool, List, [], ◌∷◌, ◌++◌, length, sum, map, Option, Some, None, IfSome, Result, Err, IfErr}
 use Rattle.std.specs.HashSet.{HashSet, contains}
 use Rattle.std.specs.List.{list_any}
 use Rattle.std.specs.Option.{option_map, option_or}

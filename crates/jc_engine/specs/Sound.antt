@@ -1,6 +1,5 @@
 -- What is true of a manager's fields.
-use Rattle.std.specs.Prelude.{◌≡◌, ℕ, zero, suc, ◌≤◌, List, [], ◌∷◌, ◌++◌, map, option_map, length, if◌then◌else◌, nat_eq}
-use Rattle.std.specs.Prelude.{Option, Some, None}
+use Rattle.std.specs.Prelude.{◌≡◌, ℕ, zero, suc, ◌≤◌, List, [], ◌∷◌, ◌++◌, map, option_map, length, if◌then◌else◌, nat_eq, Option, Some, None}
 use Rattle.std.specs.FinMap as table
 use Rattle.jc_model.specs.Limits.{most_ids}
 use Rattle.jc_rows.specs.Rows.{RowMap}

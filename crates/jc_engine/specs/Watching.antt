@@ -1,6 +1,5 @@
 -- What an image of the table shows of the caches.
-use Rattle.std.specs.Prelude.{◌≡◌, true, false, Bool, ℕ, ◌+◌, List, length, map, sum_by, option_map, is_some, count_by}
-use Rattle.std.specs.Prelude.{Option, Some}
+use Rattle.std.specs.Prelude.{◌≡◌, true, false, Bool, ℕ, ◌+◌, List, length, map, sum_by, option_map, is_some, count_by, Option, Some}
 use Rattle.jc_model.specs.declared.config.Expiry.{Expiry}
 use Rattle.jc_model.specs.State.{State}
 use Rattle.jc_model.specs.Runs.{Lives}

@@ -1,6 +1,5 @@
 use Rattle.std.proofs.Common.{◌≡◌, List, ◌∷◌, ◌++◌, Option, None, sym, ap, subst, ◌∙◌, append_assoc, arith, nat_eq}
-use Rattle.jc_engine.proofs.Names.{CacheConfig, Cache, MayCome, open_refusal_from}
-use Rattle.jc_engine.proofs.Names.{common_steps, get, lookup}
+use Rattle.jc_engine.proofs.Names.{CacheConfig, Cache, MayCome, open_refusal_from, common_steps, get, lookup}
 use Rattle.jc_engine.proofs.Coming.{spare_empty, vacant_seen, vacant_manager}
 use Rattle.jc_engine.proofs.Openings.{may_come, fresh_more}
 use Rattle.jc_engine.proofs.engine.Engine.open_from.Goals as goal
