@@ -8,14 +8,16 @@ use std::time::Duration;
 const CROWD: u64 = 128;
 
 /// From where this is counted on when one has been away for its time, and the others have not gone.
-const AGAIN: u64 = 112;
+const AGAIN: u64 = 120;
 
-/// How often it looks, while it stays away, whether the others have gone.
-const SLICES: u32 = 50;
-
-/// How long it sleeps between two looks, in microseconds. In all of them together those that are left make hundreds of
-/// thousands of calls.
+/// How long a thread sleeps between two looks whether the others have gone, in microseconds.
 const SLICE: u64 = 1000;
+
+/// How often it looks at first. In so many slices whoever has the turn makes hundreds of thousands of calls.
+const FIRST: u64 = 50;
+
+/// How often at most. While the others do not go, each stays away for twice as long as the one before.
+const LONGEST: u64 = 400;
 
 /// How often in a row the lock is free where the others have gone.
 const LOOKS: u32 = 12;
@@ -34,15 +36,17 @@ const PAUSE: u32 = 8;
 /// short intervals.
 ///
 /// Where threads find it held again and again they are too many for it, and each change of hands moves what the lock
-/// guards to another processor. Then one of them stays away for so long that this is next to nothing beside the calls
-/// which those that are left make meanwhile, unless they go.
+/// guards to another processor. Then they take turns, the longer the longer this lasts: one of them stays away, unless the
+/// others go, for so long that a change of hands is next to nothing beside the calls which are made meanwhile.
 #[derive(Drop)]
 pub(crate) struct BriefLock<T> {
     mutex: Mutex<T>,
     /// How many more threads found the lock held than found it free, since one last stayed away; never less than 0.
     crowd: AtomicU64,
+    /// For how many slices the next thread stays away.
+    turn: AtomicU64,
     /// Always zero: a thread that stays away sleeps on it, and no one wakes it.
-    away: AtomicU64,
+    sleep: AtomicU64,
 }
 
 /// Lets the time between two tries go by.
@@ -57,7 +61,8 @@ impl<T> BriefLock<T> {
         BriefLock {
             mutex: Mutex::new(value),
             crowd: AtomicU64::new(0),
-            away: AtomicU64::new(0),
+            turn: AtomicU64::new(FIRST),
+            sleep: AtomicU64::new(0),
         }
     }
 
@@ -113,19 +118,42 @@ impl<T> BriefLock<T> {
         true
     }
 
-    /// Stays away for a while where threads find the lock held again and again. Where they still do so then, one of them
+    /// Whether the others have gone, seen after a sleep. A look may find the lock free only because whoever has the turn
+    /// is interrupted: so where one finds it free, this sleeps and looks again.
+    fn have_gone<R: Wait>(&self, rt: &R) -> bool {
+        for _ in 0..2 {
+            self.sleep.park_timeout(rt, 0, Duration::from_micros(SLICE));
+            if !self.is_idle() {
+                return false;
+            }
+        }
+        true
+    }
+
+    /// Lets the others have a turn of so many slices; whether they still call at its end.
+    fn sit_out<R: Wait>(&self, rt: &R, slices: u64) -> bool {
+        for _ in 0..slices {
+            if self.have_gone(rt) {
+                return false;
+            }
+        }
+        true
+    }
+
+    /// Stays away for a turn where threads find the lock held again and again. Where they still do so then, one of them
     /// soon stays away in its place.
     fn give_way<R: Wait>(&self, rt: &R) {
         if !self.note_held() {
             return;
         }
-        for _ in 0..SLICES {
-            self.away.park_timeout(rt, 0, Duration::from_micros(SLICE));
-            if self.is_idle() {
-                return;
-            }
+        let turn = self.turn.load(Ordering::SeqCst);
+        if self.sit_out(rt, turn) {
+            let longer = turn.saturating_mul(2).min(LONGEST);
+            self.turn.store(longer, Ordering::SeqCst);
+            self.crowd.store(AGAIN, Ordering::SeqCst);
+        } else {
+            self.turn.store(FIRST, Ordering::SeqCst);
         }
-        self.crowd.store(AGAIN, Ordering::SeqCst);
     }
 
     /// Takes the lock that another thread had a moment ago.
