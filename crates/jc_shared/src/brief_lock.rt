@@ -4,25 +4,31 @@ use std::sync::atomic::{AtomicU64, Ordering};
 use std::sync::{Mutex, MutexGuard, Wait};
 use std::time::Duration;
 
-/// How many more threads find the lock held than find it free before one of them stays away.
+/// How many more threads meet others at the lock than find it free before one of them stays away.
 const CROWD: u64 = 128;
 
-/// From where this is counted on when one has been away for its time, and the others have not gone.
-const AGAIN: u64 = 120;
+/// From where this is counted on when one has gone to stay away, and when it comes back at the end of its turn.
+const AGAIN: u64 = 112;
 
-/// How long a thread sleeps between two looks whether the others have gone, in microseconds.
-const SLICE: u64 = 1000;
+/// How long a thread sleeps before it first looks whether the lock has room for it, in microseconds.
+const NAP: u64 = 1_000;
 
-/// How often it looks at first. In so many slices whoever has the turn makes hundreds of thousands of calls.
-const FIRST: u64 = 50;
+/// How long it sleeps at most between two looks. To be woken costs a processor some twenty microseconds.
+const LONGEST_NAP: u64 = 16_000;
 
-/// How often at most. While the others do not go, each stays away for twice as long as the one before.
-const LONGEST: u64 = 400;
+/// How often it looks at first: for some 60 ms, in which whoever has the turn makes hundreds of thousands of calls.
+const FIRST: u64 = 7;
 
-/// How often in a row the lock is free where the others have gone.
-const LOOKS: u32 = 12;
+/// How often at most: for some 400 ms. While there is no room, a thread looks twice as often as the one before.
+const LONGEST: u64 = 28;
 
-/// The pauses between two of these looks. A thread that a look has kept from the lock has had it since.
+/// How often a look finds the lock free or held.
+const GLANCES: u32 = 16;
+
+/// How often it is free where the lock has room for one more.
+const ROOM: u32 = 10;
+
+/// The pauses after each. A thread that this has kept from the lock has had it since.
 const PAUSES: u32 = 3;
 
 /// How often a thread that found the lock held tries again before it lets itself be put to sleep.
@@ -35,15 +41,17 @@ const PAUSE: u32 = 8;
 /// as long, for the thread that waits and for the one that wakes it: so a thread that finds the lock held tries again at
 /// short intervals.
 ///
-/// Where threads find it held again and again they are too many for it, and each change of hands moves what the lock
-/// guards to another processor. Then they take turns, the longer the longer this lasts: one of them stays away, unless the
-/// others go, for so long that a change of hands is next to nothing beside the calls which are made meanwhile.
+/// Where threads meet at it again and again they are too many for it, and each change of hands moves what the lock guards
+/// to another processor. Then they take turns, the longer the longer this lasts: one of them stays away, unless the lock
+/// has room for it, for so long that a change of hands is next to nothing beside the calls which are made meanwhile.
 #[derive(Drop)]
 pub(crate) struct BriefLock<T> {
     mutex: Mutex<T>,
-    /// How many more threads found the lock held than found it free, since one last stayed away; never less than 0.
+    /// How many threads wait for the lock, those apart that stay away.
+    waiting: AtomicU64,
+    /// How many more threads met others at the lock than found it free, since one last stayed away; never less than 0.
     crowd: AtomicU64,
-    /// For how many slices the next thread stays away.
+    /// How often the next thread that stays away looks whether there is room for it.
     turn: AtomicU64,
     /// Always zero: a thread that stays away sleeps on it, and no one wakes it.
     sleep: AtomicU64,
@@ -60,6 +68,7 @@ impl<T> BriefLock<T> {
     pub(crate) fn new(value: T) -> BriefLock<T> {
         BriefLock {
             mutex: Mutex::new(value),
+            waiting: AtomicU64::new(0),
             crowd: AtomicU64::new(0),
             turn: AtomicU64::new(FIRST),
             sleep: AtomicU64::new(0),
@@ -87,79 +96,80 @@ impl<T> BriefLock<T> {
         }
     }
 
-    /// Counts a thread that found the lock free. What others count meanwhile stands.
+    /// Counts a thread that found the lock free: it met others even so where one waits for it meanwhile. What others count
+    /// at the same time stands. With the crowd its long turns end.
     fn note_free(&self) {
+        if self.waiting.load(Ordering::SeqCst) != 0 {
+            self.crowd.fetch_add(1, Ordering::SeqCst);
+            return;
+        }
         let crowd = self.crowd.load(Ordering::SeqCst);
-        if crowd != 0 {
-            drop(
-                self.crowd
-                    .compare_exchange(crowd, crowd - 1, Ordering::SeqCst, Ordering::SeqCst),
-            );
+        if crowd != 0
+            && self
+                .crowd
+                .compare_exchange(crowd, crowd - 1, Ordering::SeqCst, Ordering::SeqCst)
+                .is_ok()
+            && crowd == 1
+        {
+            self.turn.store(FIRST, Ordering::SeqCst);
         }
     }
 
     /// Counts a thread that found it held; whether this one is to stay away. Of several at once only one is.
     fn note_held(&self) -> bool {
         self.crowd.fetch_add(1, Ordering::SeqCst) >= CROWD - 1
-            && self.crowd.swap(0, Ordering::SeqCst) >= CROWD
+            && self.crowd.swap(AGAIN, Ordering::SeqCst) >= CROWD
     }
 
-    /// Whether the lock is free, and stays so for a moment.
-    fn is_idle(&self) -> bool {
-        for _ in 0..LOOKS {
-            match self.try_lock() {
-                Some(guard) => drop(guard),
-                None => return false,
+    /// Whether the lock has room for one more thread: it is free most of the time.
+    fn has_room(&self) -> bool {
+        let mut free = 0u32;
+        for _ in 0..GLANCES {
+            if let Some(guard) = self.try_lock() {
+                drop(guard);
+                free = free.saturating_add(1);
             }
             for _ in 0..PAUSES {
                 pause();
             }
         }
-        true
+        free >= ROOM
     }
 
-    /// Whether the others have gone, seen after a sleep. A look may find the lock free only because whoever has the turn
-    /// is interrupted: so where one finds it free, this sleeps and looks again.
-    fn have_gone<R: Wait>(&self, rt: &R) -> bool {
-        for _ in 0..2 {
-            self.sleep.park_timeout(rt, 0, Duration::from_micros(SLICE));
-            if !self.is_idle() {
+    /// Whether it has room after a sleep of so many microseconds.
+    fn has_room_after<R: Wait>(&self, rt: &R, nap: u64) -> bool {
+        self.sleep.park_timeout(rt, 0, Duration::from_micros(nap));
+        self.has_room()
+    }
+
+    /// Lets the others have a turn of so many looks; whether it has come to its end. A look may find the lock free only
+    /// because whoever has the turn is interrupted: so this comes back early where a second one finds room too.
+    fn sit_out<R: Wait>(&self, rt: &R, looks: u64) -> bool {
+        let mut nap = NAP;
+        for _ in 0..looks {
+            if self.has_room_after(rt, nap) && self.has_room_after(rt, NAP) {
                 return false;
             }
+            nap = nap.saturating_mul(2).min(LONGEST_NAP);
         }
         true
     }
 
-    /// Lets the others have a turn of so many slices; whether they still call at its end.
-    fn sit_out<R: Wait>(&self, rt: &R, slices: u64) -> bool {
-        for _ in 0..slices {
-            if self.have_gone(rt) {
-                return false;
-            }
-        }
-        true
-    }
-
-    /// Stays away for a turn where threads find the lock held again and again. Where they still do so then, one of them
-    /// soon stays away in its place.
+    /// Stays away for a turn where threads meet at the lock again and again. At its end one of them soon stays away in its
+    /// place, and for longer.
     fn give_way<R: Wait>(&self, rt: &R) {
-        if !self.note_held() {
-            return;
-        }
-        let turn = self.turn.load(Ordering::SeqCst);
-        if self.sit_out(rt, turn) {
-            let longer = turn.saturating_mul(2).min(LONGEST);
-            self.turn.store(longer, Ordering::SeqCst);
-            self.crowd.store(AGAIN, Ordering::SeqCst);
-        } else {
-            self.turn.store(FIRST, Ordering::SeqCst);
+        if self.note_held() {
+            let turn = self.turn.load(Ordering::SeqCst);
+            if self.sit_out(rt, turn) {
+                let longer = turn.saturating_mul(2).min(LONGEST);
+                self.turn.store(longer, Ordering::SeqCst);
+                self.crowd.store(AGAIN, Ordering::SeqCst);
+            }
         }
     }
 
-    /// Takes the lock that another thread had a moment ago.
-    #[inline(never)]
-    fn lock_held<R: Wait>(&self, rt: &R) -> MutexGuard<'_, T> {
-        self.give_way(rt);
+    /// Waits for the lock: by trying it for a while, then asleep.
+    fn lock_soon<R: Wait>(&self, rt: &R) -> MutexGuard<'_, T> {
         for _ in 0..TRIES {
             if let Some(guard) = self.try_lock() {
                 return guard;
@@ -167,5 +177,15 @@ impl<T> BriefLock<T> {
             pause();
         }
         self.mutex.lock(rt)
+    }
+
+    /// Takes the lock that another thread had a moment ago.
+    #[inline(never)]
+    fn lock_held<R: Wait>(&self, rt: &R) -> MutexGuard<'_, T> {
+        self.give_way(rt);
+        self.waiting.fetch_add(1, Ordering::SeqCst);
+        let guard = self.lock_soon(rt);
+        self.waiting.fetch_sub(1, Ordering::SeqCst);
+        guard
     }
 }
