@@ -2,3 +2,4 @@ pub mod Documents
 pub mod Duplicates
 pub mod Limits
 pub mod Loops
+pub mod Readings

@@ -1,18 +1,17 @@
 -- A configuration that was read opens a manager, and the callbacks that it names are those that its caches are to have.
-use Rattle.std.proofs.Common.{◌≡◌, ℕ, zero, suc, ◌+◌, ◌≤◌, Bool, true, false, List, [], ◌∷◌, ◌++◌, length, map, Option, Some, None, option_map, Result, Ok, Err, refl, sym, ap, ◌∙◌, subst, arith, nat_le, add-one}
-use Rattle.std.specs.Prelude.{◌||◌, ◌&&◌, ltb, if◌then◌else◌, is_some, sum, option_and_then, ⊤}
+use Rattle.std.proofs.Common.{◌≡◌, ℕ, zero, suc, ◌+◌, ◌≤◌, Bool, true, false, List, [], ◌∷◌, ◌++◌, length, map, Option, Some, None, Ok, refl, sym, ap, ◌∙◌, subst, arith, nat_le}
+use Rattle.std.specs.Prelude.{◌||◌, ◌&&◌, ltb, if◌then◌else◌, is_some, sum, ⊤}
 use Rattle.std.specs.Option.{ok_or}
 use Rattle.std.specs.List.{list_any, fold}
 use Rattle.std.specs.Str.{bytes_eq}
 use Rattle.std.proofs.lemmas.Bool.Decides.{nat_tests}
 use Rattle.std.proofs.lemmas.List.{length-map, length-replicate}
-use Rattle.toml.specs.Data.{Data, Items, no_items, item, get, as_array}
+use Rattle.toml.specs.Data.{Data, Items, no_items, item, get}
 use Rattle.jc_config.specs.Config.{document_of, tables_of, cache_of, caches_of, check_totals, check_names, duplicate_from, total_of, fault_unless, configuration_in}
-use Rattle.jc_config.specs.Faults.{◌>>=◌, config_member_name}
-use Rattle.jc_config.specs.Kinds.{loader_of, writer_of, processor_of, wants_value_of}
-use Rattle.jc_config.specs.Members.{whole_number, number, name_text, text_kind, kinds_of, count_of, few_kinds, processor_list, needed_table_member, table_member_or, optional, table_policy, no_other_entry}
+use Rattle.jc_config.specs.Faults.{config_member_name}
+use Rattle.jc_config.specs.Kinds.{loader_of, writer_of, wants_value_of}
+use Rattle.jc_config.specs.Members.{whole_number, number, name_text, text_kind, processor_list, needed_table_member, table_member_or, optional, table_policy, no_other_entry}
 use Rattle.jc_config.specs.declared.fault.Member.TheVariants as members
-use Rattle.jc_config.specs.declared.fault.ConfigFault.{ConfigFault}
 use Rattle.jc_config.specs.declared.fault.ConfigFault.TheVariants.{NotToml}
 use Rattle.jc_config.specs.declared.kinds.CacheSettings.{CacheSettings}
 use Rattle.jc_config.specs.declared.kinds.Configuration.{Configuration}
@@ -23,6 +22,7 @@ use Rattle.jc_config.specs.declared.kinds.WriterKind.{WriterKind}
 use Rattle.jc_config.specs.declared.kinds.WriterKind.TheVariants.{Check}
 use Rattle.jc_config.specs.declared.kinds.ProcessorKind.{ProcessorKind}
 use Rattle.jc_config.specs.declared.kinds.ProcessorKind.TheVariants as kind
+use Rattle.jc_config.proofs.Readings.{bind_ok, ok_same, provided_ok, ok_or_some, then_some, some_same, if_some, short_or}
 use Rattle.jc_engine.specs.Opening.{is_taken, refusal_from, capacities, open_refusal}
 use Rattle.jc_model.specs.Refusals.{broken_limit}
 use Rattle.jc_hooks.specs.Processors.{wants_of}
@@ -32,38 +32,6 @@ use Rattle.jc_hooks.specs.Suits.{Suits}
 use Rattle.jc_hooks.specs.Suits.{AllSuit}
 use Rattle.jc_runner.specs.Naming.{ProgramHooks, loader_named, writer_named, processor_named, fresh_listener, AreHooksNamed, AllHooksNamed}
 use Rattle.jc_runner.specs.Opens.{HasKinds, AllHaveKinds, CanOpenConfiguration}
-
--- A reading that succeeded.
-
-bind_ok : {A B : Type 0} (r : Result A ConfigFault) (f : A → Result B ConfigFault) (y : B) → (r >>= f) ≡ Ok y → (x : A) × (r ≡ Ok x) × (f x ≡ Ok y)
-bind_ok (Ok x) f y e = (x, refl, e)
-bind_ok (Err w) f y e = cc
-
-ok_same : {A : Type 0} (x y : A) → ◌≡◌ {A = Result A ConfigFault} (Ok x) (Ok y) → x ≡ y
-ok_same x y e = cc
-
-provided_ok : (b : Bool) (w : ConfigFault) (u : Unit {0}) → fault_unless b w ≡ Ok u → b ≡ true
-provided_ok true w u e = refl
-provided_ok false w u e = cc
-
-ok_or_some : {A : Type 0} (o : Option A) (w : ConfigFault) (x : A) → ok_or o w ≡ Ok x → o ≡ Some x
-ok_or_some (Some y) w x e = ap Some (ok_same y x e)
-ok_or_some None w x e = cc
-
-then_some : {A B : Type 0} (f : A → Option B) (o : Option A) (y : B) → option_and_then f o ≡ Some y → (x : A) × (f x ≡ Some y)
-then_some f (Some x) y e = (x, e)
-then_some f None y e = cc
-
-some_same : {A : Type 0} (x y : A) → Some x ≡ Some y → x ≡ y
-some_same x y e = cc
-
-map_some : {A B : Type 0} (f : A → B) (o : Option A) (y : B) → option_map f o ≡ Some y → (x : A) × (o ≡ Some x) × (f x ≡ y)
-map_some f (Some x) y e = (x, refl, some_same (f x) y e)
-map_some f None y e = cc
-
-if_some : {A : Type 0} (b : Bool) (o : Option A) (y : A) → (if b then o else None) ≡ Some y → (b ≡ true) × (o ≡ Some y)
-if_some true o y e = (refl, e)
-if_some false o y e = cc
 
 both : (a b : Bool) → (a && b) ≡ true → (a ≡ true) × (b ≡ true)
 both true b e = (refl, e)
@@ -89,21 +57,6 @@ listeners_within : (n : ℕ) (o : Option Data) (v : ℕ) → table_member_or 0 (
 listeners_within n None v e = rw (← ok_same 0 v e) refl
 listeners_within n (Some d) v e = (number_within 0 most_listeners d v (ok_or_some _ _ v e)).1
 
-kinds_count : (ds : Items) (ks : List ProcessorKind) → kinds_of ds ≡ Some ks → count_of ds ≡ length ks
-kinds_count no_items [] e = refl
-kinds_count no_items (k ∷ ks) e = cc
-kinds_count (item d ds) ks e =
-    let (kind, one) = then_some (λ (kind : ProcessorKind). option_map (λ kinds. kind ∷ kinds) (kinds_of ds)) (text_kind processor_of d) ks e in
-    let (rest, more, same) = map_some (λ (kinds : List ProcessorKind). kind ∷ kinds) (kinds_of ds) ks one in
-    rw (← same, kinds_count ds rest more) (add-one (length rest))
-
-few : (n : ℕ) (o : Option Data) (ks : List ProcessorKind) → table_member_or [] processor_list n members.Processors o ≡ Ok ks → nat_le (length ks) most_processors ≡ true
-few n None ks e = rw (← ok_same [] ks e) refl
-few n (Some v) ks e =
-    let (items, found) = then_some few_kinds (as_array v) ks (ok_or_some _ _ ks e) in
-    let (short, read) = if_some (nat_le (count_of items) most_processors) (kinds_of items) ks found in
-    rw (kinds_count items ks read) at short
-
 -- One cache.
 
 record Sound (c : CacheSettings) : Type 0 where
@@ -128,7 +81,7 @@ sound_cache n d c e =
       some = (capacity_within n d capacity e2).0;
       most = (capacity_within n d capacity e2).1;
       listeners = listeners_within n (get (config_member_name members.Listeners) d) listeners e7;
-      processors = rw (length-map kinds wants_value_of) (few n (get (config_member_name members.Processors) d) kinds e6);
+      processors = rw (length-map kinds wants_value_of) (short_or n (get (config_member_name members.Processors) d) kinds e6);
       kinds = record { loads = refl; writes = refl; processes = refl };
     })
 

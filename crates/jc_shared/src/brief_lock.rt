@@ -4,7 +4,7 @@ use std::sync::atomic::{AtomicU64, Ordering};
 use std::sync::{Mutex, MutexGuard, Wait};
 use std::time::Duration;
 
-/// How many more threads meet others at the lock than find it free before one of them stays away.
+/// How many more calls meet others at the lock than find it free before a thread stays away.
 const CROWD: u64 = 128;
 
 /// From where this is counted on when one has gone to stay away, and when it comes back at the end of its turn.
@@ -13,25 +13,31 @@ const AGAIN: u64 = 112;
 /// How long a thread sleeps before it first looks whether the lock has room for it, in microseconds.
 const NAP: u64 = 1_000;
 
-/// How long it sleeps at most between two looks. To be woken costs a processor some twenty microseconds.
-const LONGEST_NAP: u64 = 16_000;
+/// How long it sleeps at most between two looks, and so the lock may lie idle where whoever had the turn has gone. To be
+/// woken costs a processor some twenty microseconds.
+const LONGEST_NAP: u64 = 4_000;
 
 /// How often it looks at first: for some 60 ms, in which whoever has the turn makes hundreds of thousands of calls.
-const FIRST: u64 = 7;
+const FIRST: u64 = 16;
 
 /// How often at most: for some 400 ms. While there is no room, a thread looks twice as often as the one before.
-const LONGEST: u64 = 28;
+const LONGEST: u64 = 100;
 
-/// How often a look finds the lock free or held.
+/// How often a look tries the lock.
 const GLANCES: u32 = 16;
 
-/// How often it is free where the lock has room for one more.
-const ROOM: u32 = 10;
+/// How often it may find it held where there is room for one more. Where the lock is held for more of the time, a change
+/// of hands at each call takes longer than what the threads gain by doing something else at the same time.
+const HELD: u32 = 4;
 
-/// The pauses after each. A thread that this has kept from the lock has had it since.
+/// The pauses after each try. A thread that this has kept from the lock has had it since.
 const PAUSES: u32 = 3;
 
-/// How often a thread that found the lock held tries again before it lets itself be put to sleep.
+/// How often a thread that found the lock held tries again before others count it as one that waits. Who takes turns at
+/// each call seldom has to try more often, and so writes nothing that the others read.
+const SOON: u32 = 4;
+
+/// How often it tries again after that before it lets itself be put to sleep.
 const TRIES: u32 = 40;
 
 /// The pause between two tries, in steps of `spin_loop`.
@@ -46,15 +52,16 @@ const PAUSE: u32 = 8;
 /// has room for it, for so long that a change of hands is next to nothing beside the calls which are made meanwhile.
 #[derive(Drop)]
 pub(crate) struct BriefLock<T> {
-    mutex: Mutex<T>,
-    /// How many threads wait for the lock, those apart that stay away.
-    waiting: AtomicU64,
-    /// How many more threads met others at the lock than found it free, since one last stayed away; never less than 0.
-    crowd: AtomicU64,
-    /// How often the next thread that stays away looks whether there is room for it.
-    turn: AtomicU64,
     /// Always zero: a thread that stays away sleeps on it, and no one wakes it.
     sleep: AtomicU64,
+    /// How often the next thread that stays away looks whether there is room for it. Who has the lock writes this.
+    turn: AtomicU64,
+    /// How many threads have tried the lock several times and wait for it, those apart that stay away.
+    waiting: AtomicU64,
+    /// How many more calls met others at the lock than found it free, since a thread last stayed away; never less than 0.
+    /// Who has the lock writes this, and it lies beside the lock: so it comes with the lock from processor to processor.
+    crowd: AtomicU64,
+    mutex: Mutex<T>,
 }
 
 /// Lets the time between two tries go by.
@@ -67,11 +74,11 @@ fn pause() {
 impl<T> BriefLock<T> {
     pub(crate) fn new(value: T) -> BriefLock<T> {
         BriefLock {
-            mutex: Mutex::new(value),
+            sleep: AtomicU64::new(0),
+            turn: AtomicU64::new(FIRST),
             waiting: AtomicU64::new(0),
             crowd: AtomicU64::new(0),
-            turn: AtomicU64::new(FIRST),
-            sleep: AtomicU64::new(0),
+            mutex: Mutex::new(value),
         }
     }
 
@@ -96,44 +103,54 @@ impl<T> BriefLock<T> {
         }
     }
 
-    /// Counts a thread that found the lock free: it met others even so where one waits for it meanwhile. What others count
-    /// at the same time stands. With the crowd its long turns end.
+    /// Counts a call that found the lock free and has it now: it met others even so where one waits for it meanwhile. With
+    /// the crowd its long turns end.
     fn note_free(&self) {
-        if self.waiting.load(Ordering::SeqCst) != 0 {
-            self.crowd.fetch_add(1, Ordering::SeqCst);
-            return;
-        }
         let crowd = self.crowd.load(Ordering::SeqCst);
-        if crowd != 0
-            && self
-                .crowd
-                .compare_exchange(crowd, crowd - 1, Ordering::SeqCst, Ordering::SeqCst)
-                .is_ok()
-            && crowd == 1
-        {
-            self.turn.store(FIRST, Ordering::SeqCst);
+        if self.waiting.load(Ordering::SeqCst) != 0 {
+            self.crowd.store(crowd.saturating_add(1), Ordering::SeqCst);
+        } else if crowd != 0 {
+            self.crowd.store(crowd - 1, Ordering::SeqCst);
+            if crowd == 1 {
+                self.turn.store(FIRST, Ordering::SeqCst);
+            }
         }
     }
 
-    /// Counts a thread that found it held; whether this one is to stay away. Of several at once only one is.
+    /// Counts a call that found it held and has it now; whether its thread is to stay away.
     fn note_held(&self) -> bool {
-        self.crowd.fetch_add(1, Ordering::SeqCst) >= CROWD - 1
-            && self.crowd.swap(AGAIN, Ordering::SeqCst) >= CROWD
+        let crowd = self.crowd.load(Ordering::SeqCst).saturating_add(1);
+        let crowded = crowd >= CROWD;
+        let counted = if crowded { AGAIN } else { crowd };
+        self.crowd.store(counted, Ordering::SeqCst);
+        crowded
     }
 
-    /// Whether the lock has room for one more thread: it is free most of the time.
+    /// Counts a turn of so many looks that has come to its end, for one that has the lock again: the next one soon stays
+    /// away in its place, and for longer.
+    fn note_turn(&self, looks: u64) {
+        let longer = looks.saturating_mul(2).min(LONGEST);
+        self.turn.store(longer, Ordering::SeqCst);
+        self.crowd.store(AGAIN, Ordering::SeqCst);
+    }
+
+    /// Whether the lock has room for one more thread: it is free most of the time. Each try that finds it free keeps it
+    /// from whoever has the turn, so this ends as soon as the answer is known.
     fn has_room(&self) -> bool {
-        let mut free = 0u32;
+        let mut held = 0u32;
         for _ in 0..GLANCES {
-            if let Some(guard) = self.try_lock() {
-                drop(guard);
-                free = free.saturating_add(1);
+            match self.try_lock() {
+                Some(guard) => drop(guard),
+                None => held = held.saturating_add(1),
+            }
+            if held > HELD {
+                return false;
             }
             for _ in 0..PAUSES {
                 pause();
             }
         }
-        free >= ROOM
+        true
     }
 
     /// Whether it has room after a sleep of so many microseconds.
@@ -155,37 +172,46 @@ impl<T> BriefLock<T> {
         true
     }
 
-    /// Stays away for a turn where threads meet at the lock again and again. At its end one of them soon stays away in its
-    /// place, and for longer.
-    fn give_way<R: Wait>(&self, rt: &R) {
-        if self.note_held() {
-            let turn = self.turn.load(Ordering::SeqCst);
-            if self.sit_out(rt, turn) {
-                let longer = turn.saturating_mul(2).min(LONGEST);
-                self.turn.store(longer, Ordering::SeqCst);
-                self.crowd.store(AGAIN, Ordering::SeqCst);
+    /// Tries so often whether the lock is free again.
+    fn try_often(&self, tries: u32) -> Option<MutexGuard<'_, T>> {
+        for _ in 0..tries {
+            pause();
+            if let Some(guard) = self.try_lock() {
+                return Some(guard);
             }
         }
+        None
     }
 
     /// Waits for the lock: by trying it for a while, then asleep.
     fn lock_soon<R: Wait>(&self, rt: &R) -> MutexGuard<'_, T> {
-        for _ in 0..TRIES {
-            if let Some(guard) = self.try_lock() {
-                return guard;
-            }
-            pause();
+        if let Some(guard) = self.try_often(SOON) {
+            return guard;
         }
-        self.mutex.lock(rt)
+        self.waiting.fetch_add(1, Ordering::SeqCst);
+        let guard = match self.try_often(TRIES) {
+            Some(guard) => guard,
+            None => self.mutex.lock(rt),
+        };
+        self.waiting.fetch_sub(1, Ordering::SeqCst);
+        guard
     }
 
-    /// Takes the lock that another thread had a moment ago.
+    /// Takes the lock that another thread had a moment ago. Where threads meet at it again and again, this one lets it go
+    /// for a turn first.
     #[inline(never)]
     fn lock_held<R: Wait>(&self, rt: &R) -> MutexGuard<'_, T> {
-        self.give_way(rt);
-        self.waiting.fetch_add(1, Ordering::SeqCst);
         let guard = self.lock_soon(rt);
-        self.waiting.fetch_sub(1, Ordering::SeqCst);
+        if !self.note_held() {
+            return guard;
+        }
+        let turn = self.turn.load(Ordering::SeqCst);
+        drop(guard);
+        let ended = self.sit_out(rt, turn);
+        let guard = self.lock_soon(rt);
+        if ended {
+            self.note_turn(turn);
+        }
         guard
     }
 }

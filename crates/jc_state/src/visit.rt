@@ -38,10 +38,11 @@ use std::mem;
 #[derive(Drop)]
 pub struct Visit<R: Rows, G: Ring> {
     alloc: Global,
-    cache: Box<CacheState<G>>,
-    rows: R,
-    notices: Notices,
+    // Each call writes these two, most calls nothing else here: they lie side by side.
     moment: u64,
+    cache: Box<CacheState<G>>,
+    notices: Notices,
+    rows: R,
 }
 
 impl<R: Rows, G: Ring> Model for Visit<R, G> {
