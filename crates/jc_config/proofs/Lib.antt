@@ -1,3 +1,4 @@
+pub mod Caches
 pub mod Documents
 pub mod Duplicates
 pub mod Limits

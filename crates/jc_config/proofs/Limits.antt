@@ -1,43 +1,23 @@
 -- What is read keeps to the limits of settings.
-use Rattle.std.proofs.Common.{◌≡◌, ℕ, ◌+◌, Bool, true, false, List, [], ◌∷◌, length, map, Option, Some, None, Ok, refl, sym, ap, ◌∙◌, subst, nat_le}
+use Rattle.std.proofs.Common.{◌≡◌, ℕ, ◌+◌, Bool, true, false, List, [], ◌∷◌, length, map, Option, Some, None, Ok, refl, sym, ap, ◌∙◌, nat_le}
 use Rattle.std.specs.Prelude.{if◌then◌else◌, ◌||◌}
 use Rattle.std.specs.List.{list_all, list_any}
 use Rattle.std.specs.Str.{bytes_eq}
 use Rattle.std.proofs.lemmas.List.Sums.{sum_by-cons}
 use Rattle.std.proofs.lemmas.Slice.Eq.{bytes_eq-Decides}
 use Rattle.std.proofs.lemmas.List.{length-map}
-use Rattle.toml.specs.Data.{Data, Items, no_items, item, get}
+use Rattle.toml.specs.Data.{Items}
 use Rattle.jc_model.specs.Lists.{distinct}
-use Rattle.jc_model.specs.Limits.{most_rows, most_listeners, most_caches}
-use Rattle.jc_config.specs.Faults.{config_member_name}
-use Rattle.jc_config.specs.Kinds.{loader_of, writer_of, wants_value_of}
+use Rattle.jc_model.specs.Limits.{most_caches}
 use Rattle.jc_config.specs.Limits.{few_processors, names_of_caches, total_capacity, within_limits}
-use Rattle.jc_config.specs.Members.{number, name_text, text_kind, processor_list, needed_table_member, table_member_or, optional, table_policy, no_other_entry}
-use Rattle.jc_config.specs.Config.{cache_of, caches_of, duplicate_from, total_of, fault_unless, check_names, check_totals}
-use Rattle.jc_config.specs.declared.fault.Member.TheVariants as members
+use Rattle.jc_config.specs.Config.{caches_of, duplicate_from, total_of, fault_unless, check_names, check_totals}
 use Rattle.jc_config.specs.declared.kinds.CacheSettings.{CacheSettings}
-use Rattle.jc_config.proofs.Readings.{bind_ok, ok_same, provided_ok, short_or}
+use Rattle.jc_config.proofs.Caches.{AllSound, sound_caches}
+use Rattle.jc_config.proofs.Readings.{bind_ok, provided_ok}
 
-few_cache : (n : ℕ) (d : Data) (c : CacheSettings) → cache_of n d ≡ Ok c → few_processors c.config ≡ true
-unfolding cache_of
-few_cache n d c e =
-    let (name, e1, k1) = bind_ok (needed_table_member name_text n members.Name d) _ c e in
-    let (capacity, e2, k2) = bind_ok (needed_table_member (number 1 most_rows) n members.Capacity d) _ c k1 in
-    let (policy, e3, k3) = bind_ok (table_policy n d) _ c k2 in
-    let (loader, e4, k4) = bind_ok (optional (text_kind loader_of) n members.Loader d) _ c k3 in
-    let (writer, e5, k5) = bind_ok (optional (text_kind writer_of) n members.Writer d) _ c k4 in
-    let (kinds, e6, k6) = bind_ok (table_member_or [] processor_list n members.Processors (get (config_member_name members.Processors) d)) _ c k5 in
-    let (listeners, e7, k7) = bind_ok (table_member_or 0 (number 0 most_listeners) n members.Listeners (get (config_member_name members.Listeners) d)) _ c k6 in
-    let (none, e8, k8) = bind_ok (no_other_entry n d) _ c k7 in
-    let made = ok_same _ c k8 in
-    subst (λ (x : CacheSettings). few_processors x.config ≡ true) made (rw (length-map kinds wants_value_of) (short_or n (get (config_member_name members.Processors) d) kinds e6))
-
-few_caches : (n : ℕ) (ds : Items) (cs : List CacheSettings) → caches_of n ds ≡ Ok cs → list_all few_processors (map (λ c. c.config) cs) ≡ true
-few_caches n no_items cs e = subst (λ (xs : List CacheSettings). list_all few_processors (map (λ c. c.config) xs) ≡ true) (ok_same [] cs e) refl
-few_caches n (item d ds) cs e =
-    let (c, one, k) = bind_ok (cache_of n d) _ cs e in
-    let (rest, more, last) = bind_ok (caches_of (n + 1) ds) _ cs k in
-    subst (λ (xs : List CacheSettings). list_all few_processors (map (λ c. c.config) xs) ≡ true) (ok_same (c ∷ rest) cs last) (rw (few_cache n d c one, few_caches (n + 1) ds rest more) refl)
+few_all : (cs : List CacheSettings) → AllSound cs → list_all few_processors (map (λ c. c.config) cs) ≡ true
+few_all [] sound = refl
+few_all (c ∷ cs) sound = rw (sound.0.processors, few_all cs sound.1) refl
 
 -- Names that no earlier one is equal to.
 
@@ -86,7 +66,7 @@ limits_kept n ds cs u read totals =
     rw (
       length-map cs (λ (c : CacheSettings). c.config),
       provided_ok (nat_le (length cs) most_caches) _ few e,
-      few_caches n ds cs read,
+      few_all cs (sound_caches n ds cs read),
       same_names cs,
       own_names [] 1 (map (λ c. c.config.name) cs) (checked_ok _ distinct f),
       same_rows cs,

@@ -7,8 +7,8 @@ ghost use Rattle.jc_json.specs.Totals.{CanOpenEach};
 use crate::line_numbers::NumberedLine;
 use crate::lines::push_lines;
 use crate::totals::push_lives;
-use jc_model::transcript::Transcript;
 use jc_script::Managed;
+use jc_transcript::Transcript;
 use std::alloc::{AllocError, Global};
 
 /// The report of a legal transcript as JSON, an object a line: for each line of the outline, in its order, what it came

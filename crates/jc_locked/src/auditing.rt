@@ -8,8 +8,7 @@ ghost use Rattle.jc_locked.specs.Accounts.{calls_of, times, own_of, IsLeastFrom,
 use crate::fault::CloseFault;
 use crate::keeping::MOST_SESSIONS;
 use jc_model::event::{End, Entry};
-use jc_model::exact::Exact;
-use jc_model::transcript::Transcript;
+use jc_transcript::{Exact, Transcript};
 
 /// What has a session's number, and the entries of its own calls.
 pub trait Logged {

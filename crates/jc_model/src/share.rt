@@ -9,7 +9,6 @@ use crate::event::{CacheId, End, Entry, Life};
 use crate::key::Key;
 use crate::keys::{Keys, Pairs};
 use crate::list::Sequence;
-use crate::transcript::Transcript;
 use crate::value::Value;
 use std::alloc::Global;
 
@@ -328,11 +327,5 @@ impl Share for Life {
             id: self.id,
             config,
         })
-    }
-}
-
-impl Share for Transcript {
-    fn share(&self) -> Result<Transcript, OutOfMemory> {
-        Transcript::share(self)
     }
 }

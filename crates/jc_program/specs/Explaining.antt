@@ -9,10 +9,10 @@ use Rattle.jc_explain.specs.Config as config
 use Rattle.jc_explain.specs.Script as script
 use Rattle.jc_explain.specs.Unread.{unread_line}
 use Rattle.jc_script.specs.declared.fault.ScriptFault.{ScriptFault}
-use Rattle.jc_runner.specs.declared.exit.fault.ProgramFault.{ProgramFault}
-use Rattle.jc_runner.specs.declared.exit.fault.ProgramFault.TheVariants.{ConfigRead, Config, NoCaches, TraceRead, Trace, Run}
-use Rattle.jc_runner.specs.declared.exit.fault.RunFault.{RunFault}
-use Rattle.jc_runner.specs.declared.exit.fault.RunFault.TheVariants.{Read, TooLong, Script, Entry, Open, Close, Write, Memory}
+use Rattle.jc_console.specs.declared.fault.ProgramFault.{ProgramFault}
+use Rattle.jc_console.specs.declared.fault.ProgramFault.TheVariants.{ConfigRead, Config, NoCaches, TraceRead, Trace, Run}
+use Rattle.jc_console.specs.declared.fault.RunFault.{RunFault}
+use Rattle.jc_console.specs.declared.fault.RunFault.TheVariants.{Read, TooLong, Script, Entry, Open, Close, Write, Memory}
 
 -- a path, and what the system answered for it
 pub record TellsUnread (text : List ℕ) : Type 0 where

@@ -3,13 +3,13 @@ use Rattle.std.specs.Prelude.{◌≡◌, ◌⊎◌, ℕ, List, Option, Some, Non
 use Rattle.clap.specs.Words.{Text}
 use Rattle.jc_explain.specs.declared.kept.Kept.{Kept}
 use Rattle.jc_runner.specs.Program.{ProgramEnds}
-use Rattle.jc_runner.specs.declared.exit.Ended.{Ended}
-use Rattle.jc_runner.specs.declared.exit.Ending.{Ending}
-use Rattle.jc_runner.specs.declared.exit.Ending.TheVariants.{Explained}
-use Rattle.jc_runner.specs.declared.exit.WordsFault.{WordsFault}
+use Rattle.jc_console.specs.declared.ending.Ended.{Ended}
+use Rattle.jc_console.specs.declared.ending.Ending.{Ending}
+use Rattle.jc_console.specs.declared.ending.Ending.TheVariants.{Explained}
+use Rattle.jc_console.specs.declared.ending.WordsFault.{WordsFault}
 use Rattle.jc_runner.specs.declared.command.streams.Opened.{Opened}
 use Rattle.jc_runner.specs.declared.command.streams.Standard.{Standard}
-use Rattle.jc_runner.specs.declared.input.Watched.{Watched}
+use Rattle.jc_console.specs.declared.input.Watched.{Watched}
 use Rattle.jc_program.specs.Explaining.{TellsFault}
 
 -- the bytes that a file kept, or else standard input

@@ -32,11 +32,11 @@ use jc_model::copies::Copies;
 use jc_model::event::{CacheId, Cause, CreateRefusal, Entry, Step};
 use jc_model::key::Key;
 use jc_model::list::Sequence;
-use jc_model::transcript::Transcript;
 use jc_model::value::Value;
 use jc_ops::step::reply::found;
 use jc_ring::ring::Ring;
 use jc_rows::rows::Rows;
+use jc_transcript::Transcript;
 use std::alloc::Global;
 use std::marker::Model;
 

@@ -1,7 +1,6 @@
 //! The memory of the table alone: room for rows, and twice the buckets, are refused in turn. What displaces rows, or
 //! brings them into the stash, takes none.
 
-use crate::memory::{MOST_LEFT, Memory, STEP};
 use crate::placer::ByCase;
 use crate::trouble::Trouble;
 use jc_cuckoo::cuckoo::Cuckoo;
@@ -11,6 +10,7 @@ use jc_model::config::Expiry;
 use jc_model::event::CacheId;
 use jc_model::key::Key;
 use jc_rows::rows::Rows;
+use jc_scarcity::{MOST_LEFT, Memory, STEP};
 use std::alloc::Global;
 
 type Table = Cuckoo<ByCase, NoMirror>;
@@ -150,7 +150,8 @@ impl Filling {
             memory.leave(bytes)?;
             self.put(DOUBLING)?;
             if self.table.shape().buckets > BUCKETS {
-                return memory.see_refused(refusals, LEAST_REFUSALS);
+                memory.see_refused(refusals, LEAST_REFUSALS)?;
+                return Ok(());
             }
             refusals = refusals.saturating_add(1);
             self.see(stashed, DOUBLING + 1)?;

@@ -1,6 +1,7 @@
 //! Why a row is not as it should be.
 
 use jc_model::OutOfMemory;
+use jc_scarcity::Fault;
 use std::alloc::AllocFailed;
 
 /// What a row comes to where it is not as it should be.
@@ -33,6 +34,17 @@ pub enum Trouble {
 impl From<OutOfMemory> for Trouble {
     fn from(_: OutOfMemory) -> Trouble {
         Trouble::Memory
+    }
+}
+
+impl From<Fault> for Trouble {
+    fn from(fault: Fault) -> Trouble {
+        match fault {
+            Fault::OutOfMemory => Trouble::Memory,
+            Fault::NotTaken => Trouble::NotTaken,
+            Fault::NoSpare => Trouble::NoSpare,
+            Fault::NotRefused => Trouble::NotRefused,
+        }
     }
 }
 

@@ -31,8 +31,8 @@ use Rattle.jc_runner.specs.Hooks.{AreSuited, CannotOpen}
 use Rattle.jc_runner.proofs.Suiting.{suited, each_suits}
 use Rattle.jc_runner.specs.Forms.{report_in}
 use Rattle.jc_runner.specs.Together.{stated_of, refusals_of, Gathers, GathersSo}
-use Rattle.jc_runner.specs.declared.output.form.Form.{Form}
-use Rattle.jc_runner.specs.declared.exit.fault.RunFault.{RunFault}
+use Rattle.jc_runner.specs.declared.form.Form.{Form}
+use Rattle.jc_console.specs.declared.fault.RunFault.{RunFault}
 
 -- Why a shared manager does not open.
 

@@ -12,12 +12,12 @@ use Rattle.jc_hooks.specs.declared.loader.Loaded.{Loaded}
 use Rattle.jc_script.specs.declared.line.LineCall.{LineCall}
 use Rattle.jc_threads.specs.declared.fault.WorkFault.{WorkFault}
 use Rattle.jc_threads.specs.declared.fault.WorkFault.TheVariants.{Close, OutOfMemory}
-use Rattle.jc_runner.specs.Faults.{of_work}
+use Rattle.jc_console.specs.Faults.{of_work}
 use Rattle.jc_runner.specs.Halfway.{Replies, RepliesAt}
 use Rattle.jc_runner.specs.Hooks.{HasNoHooks}
-use Rattle.jc_runner.specs.Streams.{IsOfThreads}
-use Rattle.jc_runner.specs.declared.exit.fault.RunFault.{RunFault}
-use Rattle.jc_runner.specs.declared.exit.fault.RunFault.TheVariants as run
+use Rattle.jc_console.specs.Streams.{IsOfThreads}
+use Rattle.jc_console.specs.declared.fault.RunFault.{RunFault}
+use Rattle.jc_console.specs.declared.fault.RunFault.TheVariants as run
 use Rattle.jc_runner.proofs.Hearing.{none_heard}
 
 pub map_set_same : {A B : Type 0} (f : A → B) (xs : List A) (k : ℕ) (d x : A) → f x ≡ f (get_or xs k d) → map f (set xs k x) ≡ map f xs

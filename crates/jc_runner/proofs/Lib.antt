@@ -1,8 +1,6 @@
-pub mod Meters
 pub mod Playing
 pub mod Pushed
 pub mod Opening
-pub mod Known
 pub mod Answered
 pub mod Hearing
 pub mod Reached

@@ -7,11 +7,11 @@ use Rattle.jc_model.specs.declared.config.CacheConfig.{CacheConfig}
 use Rattle.jc_words.specs.Program.{is_input}
 use Rattle.jc_words.specs.declared.run.Format.{Format}
 use Rattle.jc_runner.specs.Program.{ConfigFrom, ScriptFrom, LinesFrom}
-use Rattle.jc_runner.specs.declared.exit.fault.ProgramFault.{ProgramFault}
-use Rattle.jc_runner.specs.declared.exit.fault.RunFault.{RunFault}
-use Rattle.jc_runner.specs.declared.exit.fault.RunFault.TheVariants.{Write}
-use Rattle.jc_runner.specs.declared.input.Watched.{Watched}
-use Rattle.jc_runner.specs.declared.output.WatchedWriter.{WatchedWriter}
+use Rattle.jc_console.specs.declared.fault.ProgramFault.{ProgramFault}
+use Rattle.jc_console.specs.declared.fault.RunFault.{RunFault}
+use Rattle.jc_console.specs.declared.fault.RunFault.TheVariants.{Write}
+use Rattle.jc_console.specs.declared.input.Watched.{Watched}
+use Rattle.jc_console.specs.declared.output.WatchedWriter.{WatchedWriter}
 
 pub keeps_same : (a : Option (List ℕ)) → Keeps a a
 keeps_same None = tt

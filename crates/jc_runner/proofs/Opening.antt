@@ -1,17 +1,13 @@
 -- A configuration that was read opens a manager, and the callbacks that it names are those that its caches are to have.
 use Rattle.std.proofs.Common.{◌≡◌, ℕ, zero, suc, ◌+◌, ◌≤◌, Bool, true, false, List, [], ◌∷◌, ◌++◌, length, map, Option, Some, None, Ok, refl, sym, ap, ◌∙◌, subst, arith, nat_le}
-use Rattle.std.specs.Prelude.{◌||◌, ◌&&◌, ltb, if◌then◌else◌, is_some, sum, ⊤}
+use Rattle.std.specs.Prelude.{◌||◌, ltb, if◌then◌else◌, is_some, sum}
 use Rattle.std.specs.Option.{ok_or}
 use Rattle.std.specs.List.{list_any, fold}
 use Rattle.std.specs.Str.{bytes_eq}
 use Rattle.std.proofs.lemmas.Bool.Decides.{nat_tests}
 use Rattle.std.proofs.lemmas.List.{length-map, length-replicate}
-use Rattle.toml.specs.Data.{Data, Items, no_items, item, get}
-use Rattle.jc_config.specs.Config.{document_of, tables_of, cache_of, caches_of, check_totals, check_names, duplicate_from, total_of, fault_unless, configuration_in}
-use Rattle.jc_config.specs.Faults.{config_member_name}
-use Rattle.jc_config.specs.Kinds.{loader_of, writer_of, wants_value_of}
-use Rattle.jc_config.specs.Members.{whole_number, number, name_text, text_kind, processor_list, needed_table_member, table_member_or, optional, table_policy, no_other_entry}
-use Rattle.jc_config.specs.declared.fault.Member.TheVariants as members
+use Rattle.jc_config.specs.Config.{document_of, tables_of, caches_of, check_totals, check_names, duplicate_from, total_of, fault_unless, configuration_in}
+use Rattle.jc_config.specs.Kinds.{wants_value_of}
 use Rattle.jc_config.specs.declared.fault.ConfigFault.TheVariants.{NotToml}
 use Rattle.jc_config.specs.declared.kinds.CacheSettings.{CacheSettings}
 use Rattle.jc_config.specs.declared.kinds.Configuration.{Configuration}
@@ -22,79 +18,19 @@ use Rattle.jc_config.specs.declared.kinds.WriterKind.{WriterKind}
 use Rattle.jc_config.specs.declared.kinds.WriterKind.TheVariants.{Check}
 use Rattle.jc_config.specs.declared.kinds.ProcessorKind.{ProcessorKind}
 use Rattle.jc_config.specs.declared.kinds.ProcessorKind.TheVariants as kind
-use Rattle.jc_config.proofs.Readings.{bind_ok, ok_same, provided_ok, ok_or_some, then_some, some_same, if_some, short_or}
+use Rattle.jc_config.proofs.Caches.{Sound, AllSound, sound_caches}
+use Rattle.jc_config.proofs.Readings.{bind_ok, ok_same, provided_ok}
 use Rattle.jc_engine.specs.Opening.{is_taken, refusal_from, capacities, open_refusal}
 use Rattle.jc_model.specs.Refusals.{broken_limit}
 use Rattle.jc_hooks.specs.Processors.{wants_of}
 use Rattle.jc_model.specs.Limits.{most_rows, most_listeners, most_processors, most_caches, most_rows_together, text_bytes}
 use Rattle.jc_model.specs.declared.config.CacheConfig.{CacheConfig}
-use Rattle.jc_hooks.specs.Suits.{Suits}
-use Rattle.jc_hooks.specs.Suits.{AllSuit}
+use Rattle.jc_hooks.specs.Suits.{Suits, AllSuit}
 use Rattle.jc_runner.specs.Naming.{ProgramHooks, loader_named, writer_named, processor_named, fresh_listener, AreHooksNamed, AllHooksNamed}
 use Rattle.jc_runner.specs.Opens.{HasKinds, AllHaveKinds, CanOpenConfiguration}
 
-both : (a b : Bool) → (a && b) ≡ true → (a ≡ true) × (b ≡ true)
-both true b e = (refl, e)
-both false b e = absurd cc
-
 not_above : (m n : ℕ) → nat_le m n ≡ true → ltb n m ≡ false
 not_above m n e = grind (arith, nat_tests)
-
--- The members of a table.
-
-number_within : (low high : ℕ) (d : Data) (v : ℕ) → number low high d ≡ Some v → (nat_le low v ≡ true) × (nat_le v high ≡ true)
-number_within low high d v e =
-    let (n, found) = then_some (λ n. if nat_le low n && nat_le n high then Some n else None) (whole_number d) v e in
-    let (test, same) = if_some (nat_le low n && nat_le n high) (Some n) v found in
-    both (nat_le low v) (nat_le v high) (subst (λ m. (nat_le low m && nat_le m high) ≡ true) (some_same n v same) test)
-
-capacity_within : (n : ℕ) (d : Data) (v : ℕ) → needed_table_member (number 1 most_rows) n members.Capacity d ≡ Ok v → (nat_le 1 v ≡ true) × (nat_le v most_rows ≡ true)
-capacity_within n d v e =
-    let (x, found) = then_some (number 1 most_rows) (get (config_member_name members.Capacity) d) v (ok_or_some _ _ v e) in
-    number_within 1 most_rows x v found
-
-listeners_within : (n : ℕ) (o : Option Data) (v : ℕ) → table_member_or 0 (number 0 most_listeners) n members.Listeners o ≡ Ok v → nat_le v most_listeners ≡ true
-listeners_within n None v e = rw (← ok_same 0 v e) refl
-listeners_within n (Some d) v e = (number_within 0 most_listeners d v (ok_or_some _ _ v e)).1
-
--- One cache.
-
-record Sound (c : CacheSettings) : Type 0 where
-  some : nat_le 1 c.config.capacity ≡ true
-  most : nat_le c.config.capacity most_rows ≡ true
-  listeners : nat_le c.config.listeners most_listeners ≡ true
-  processors : nat_le (length c.config.processors) most_processors ≡ true
-  kinds : HasKinds c.config c.hooks
-
-sound_cache : (n : ℕ) (d : Data) (c : CacheSettings) → cache_of n d ≡ Ok c → Sound c
-unfolding cache_of
-sound_cache n d c e =
-    let (name, e1, k1) = bind_ok (needed_table_member name_text n members.Name d) _ c e in
-    let (capacity, e2, k2) = bind_ok (needed_table_member (number 1 most_rows) n members.Capacity d) _ c k1 in
-    let (policy, e3, k3) = bind_ok (table_policy n d) _ c k2 in
-    let (loader, e4, k4) = bind_ok (optional (text_kind loader_of) n members.Loader d) _ c k3 in
-    let (writer, e5, k5) = bind_ok (optional (text_kind writer_of) n members.Writer d) _ c k4 in
-    let (kinds, e6, k6) = bind_ok (table_member_or [] processor_list n members.Processors (get (config_member_name members.Processors) d)) _ c k5 in
-    let (listeners, e7, k7) = bind_ok (table_member_or 0 (number 0 most_listeners) n members.Listeners (get (config_member_name members.Listeners) d)) _ c k6 in
-    let (none, e8, k8) = bind_ok (no_other_entry n d) _ c k7 in
-    subst Sound (ok_same _ c k8) (record {
-      some = (capacity_within n d capacity e2).0;
-      most = (capacity_within n d capacity e2).1;
-      listeners = listeners_within n (get (config_member_name members.Listeners) d) listeners e7;
-      processors = rw (length-map kinds wants_value_of) (short_or n (get (config_member_name members.Processors) d) kinds e6);
-      kinds = record { loads = refl; writes = refl; processes = refl };
-    })
-
-abbrev AllSound : List CacheSettings → Type 0
-AllSound [] = ⊤
-AllSound (c ∷ cs) = Sound c × AllSound cs
-
-sound_caches : (n : ℕ) (ds : Items) (cs : List CacheSettings) → caches_of n ds ≡ Ok cs → AllSound cs
-sound_caches n no_items cs e = subst AllSound (ok_same [] cs e) tt
-sound_caches n (item d ds) cs e =
-    let (c, one, k) = bind_ok (cache_of n d) _ cs e in
-    let (rest, more, last) = bind_ok (caches_of (n + 1) ds) _ cs k in
-    subst AllSound (ok_same (c ∷ rest) cs last) (sound_cache n d c one, sound_caches (n + 1) ds rest more)
 
 -- The manager refuses none of them.
 
@@ -139,7 +75,7 @@ total_is_sum cs = omega (arith, sum_from 0 cs)
 
 all_kinds : (cs : List CacheSettings) → AllSound cs → AllHaveKinds (map (λ c. c.config) cs) (map (λ c. c.hooks) cs)
 all_kinds [] s = tt
-all_kinds (c ∷ cs) s = (s.0.kinds, all_kinds cs s.1)
+all_kinds (c ∷ cs) s = (record { loads = s.0.loads; writes = s.0.writes; processes = s.0.processes }, all_kinds cs s.1)
 
 opens_none : (cs : List CacheSettings) (u : Unit {0}) → AllSound cs → check_totals cs ≡ Ok u → open_refusal (map (λ c. c.config) cs) ≡ None
 opens_none cs u sound e =

@@ -18,19 +18,19 @@ use Rattle.jc_script.specs.declared.fault.ScriptFault.{ScriptFault}
 use Rattle.jc_words.specs.declared.run.Format.{Format}
 use Rattle.jc_runner.specs.Forms.{form_of}
 use Rattle.jc_runner.specs.Hooks.{CannotOpen}
-use Rattle.jc_runner.specs.Meters.{next_count}
+use Rattle.jc_console.specs.Meters.{next_count}
 use Rattle.jc_runner.specs.Naming.{ProgramHooks, AllHooksNamed, heard_by}
 use Rattle.jc_runner.specs.Opens.{CanOpenConfiguration}
 use Rattle.jc_runner.specs.Program.{ReportsSerially, GathersFromWorkers, RunEnds}
 use Rattle.jc_runner.specs.Reports.{ReportsOf}
-use Rattle.jc_runner.specs.Streams.{WritesFront, IsOfThreads, IsOfStrictness, HasRun}
+use Rattle.jc_console.specs.Streams.{WritesFront, IsOfThreads, IsOfStrictness, HasRun}
 use Rattle.jc_runner.specs.Strictness.{HasNoStray, HasStray}
 use Rattle.jc_runner.specs.Together.{stated_of, GathersSo}
-use Rattle.jc_runner.specs.declared.exit.fault.RunFault.{RunFault}
-use Rattle.jc_runner.specs.declared.exit.fault.RunFault.TheVariants as run
-use Rattle.jc_runner.specs.declared.output.form.Form.{Form}
-use Rattle.jc_runner.specs.declared.input.Watched.{Watched}
-use Rattle.jc_runner.specs.declared.output.WatchedWriter.{WatchedWriter}
+use Rattle.jc_console.specs.declared.fault.RunFault.{RunFault}
+use Rattle.jc_console.specs.declared.fault.RunFault.TheVariants as run
+use Rattle.jc_runner.specs.declared.form.Form.{Form}
+use Rattle.jc_console.specs.declared.input.Watched.{Watched}
+use Rattle.jc_console.specs.declared.output.WatchedWriter.{WatchedWriter}
 use Rattle.jc_runner.proofs.Opening.{all_named_suit}
 use Rattle.jc_runner.proofs.Suiting.{suited}
 

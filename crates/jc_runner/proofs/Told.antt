@@ -29,11 +29,11 @@ use Rattle.jc_json.specs.Report.{json}
 use Rattle.jc_words.specs.declared.run.Format.{Format}
 use Rattle.jc_runner.specs.Alone.{line_of_entry, alone_from}
 use Rattle.jc_runner.specs.Forms.{form_of, report_in, IsToldIn}
-use Rattle.jc_runner.specs.declared.output.form.Form.{Form}
-use Rattle.jc_runner.specs.declared.output.form.Form.TheVariants as form
+use Rattle.jc_runner.specs.declared.form.Form.{Form}
+use Rattle.jc_runner.specs.declared.form.Form.TheVariants as form
 use Rattle.jc_runner.specs.Halfway.{lives_now, as_read, NoneOpen, IsAtRest, LifeGoesOn, Halfway}
 use Rattle.jc_runner.specs.Reports.{Reports, ReportsOf}
-use Rattle.jc_runner.specs.Streams.{IsAll}
+use Rattle.jc_console.specs.Streams.{IsAll}
 use Rattle.jc_runner.proofs.Hearing.{nothing_heard}
 use Rattle.jc_model.specs.Places.{at_place}
 

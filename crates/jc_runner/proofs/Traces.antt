@@ -6,14 +6,14 @@ use Rattle.jc_replay.specs.Table.{as_table, replay_table}
 use Rattle.jc_replay.specs.Hits.{ratios_of}
 use Rattle.jc_replay.specs.declared.fault.ReplayFault.TheVariants as replay
 use Rattle.jc_replay.proofs.Traces.{too_long}
-use Rattle.jc_runner.specs.Faults.{of_trace}
+use Rattle.jc_console.specs.Faults.{of_trace}
 use Rattle.jc_runner.specs.Program.{TraceEnds}
-use Rattle.jc_runner.specs.Streams.{IsOfReading}
-use Rattle.jc_runner.specs.Watching.{ReadFails}
-use Rattle.jc_runner.specs.declared.exit.fault.RunFault.{RunFault}
-use Rattle.jc_runner.specs.declared.exit.fault.RunFault.TheVariants as run
-use Rattle.jc_runner.specs.declared.input.Watched.{Watched}
-use Rattle.jc_runner.specs.declared.output.WatchedWriter.{WatchedWriter}
+use Rattle.jc_console.specs.Streams.{IsOfReading}
+use Rattle.jc_console.specs.Watching.{ReadFails}
+use Rattle.jc_console.specs.declared.fault.RunFault.{RunFault}
+use Rattle.jc_console.specs.declared.fault.RunFault.TheVariants as run
+use Rattle.jc_console.specs.declared.input.Watched.{Watched}
+use Rattle.jc_console.specs.declared.output.WatchedWriter.{WatchedWriter}
 use Rattle.jc_runner.proofs.Named.{keeps_same}
 
 long_table : (trace capacities : List ℕ) → text_bytes < length trace → replay_table trace capacities ≡ Err replay.TooLong

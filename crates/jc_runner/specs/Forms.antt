@@ -13,8 +13,8 @@ use Rattle.jc_report.specs.Report as report
 use Rattle.jc_words.specs.declared.run.Format.{Format}
 use Rattle.jc_words.specs.declared.run.Format.TheVariants as format
 use Rattle.jc_runner.specs.Alone.{alone}
-use Rattle.jc_runner.specs.declared.output.form.Form.{Form}
-use Rattle.jc_runner.specs.declared.output.form.Form.TheVariants as form
+use Rattle.jc_runner.specs.declared.form.Form.{Form}
+use Rattle.jc_runner.specs.declared.form.Form.TheVariants as form
 
 -- as JSON the lines are told by their numbers in the script
 abbrev pub form_of : Format → List ℕ → List Line → Form

@@ -1,9 +1,5 @@
-pub mod Meters
-pub mod Streams
-pub mod Watching
 pub mod Texts
 pub mod Strictness
-pub mod Faults
 pub mod Demonstration
 pub mod Alone
 pub mod Answering
@@ -15,7 +11,6 @@ pub mod Reports
 pub mod Together
 pub mod Apart
 pub mod Disks
-pub mod Endings
 pub mod Naming
 pub mod Opens
 pub mod Program

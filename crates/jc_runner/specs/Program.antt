@@ -23,28 +23,28 @@ use Rattle.jc_words.specs.declared.run.Format.TheVariants as format
 use Rattle.jc_words.specs.declared.run.Run.{Run}
 use Rattle.jc_runner.specs.Demonstration.{demonstration_caches}
 use Rattle.jc_runner.specs.Disks.{IsFileFound, FailsToOpen, AsksForPath}
-use Rattle.jc_runner.specs.Endings.{ending_of, memory_ending, HasStatus, SaysSo, Leaves}
+use Rattle.jc_console.specs.Endings.{ending_of, memory_ending, HasStatus, SaysSo, Leaves}
 use Rattle.jc_runner.specs.Forms.{form_of}
-use Rattle.jc_runner.specs.Meters.{most_reads, AddsAtMost}
+use Rattle.jc_console.specs.Meters.{most_reads, AddsAtMost}
 use Rattle.jc_runner.specs.Naming.{ProgramHooks, AllHooksNamed, heard_by}
 use Rattle.jc_runner.specs.Reports.{ReportsOf}
 use Rattle.jc_runner.specs.Strictness.{HasNoStray, HasStray}
 use Rattle.jc_runner.specs.Texts.{IsConfiguration, ConfigHasFault, ScriptIsGood, ScriptHasFault}
 use Rattle.jc_runner.specs.Together.{stated_of, GathersSo}
-use Rattle.jc_runner.specs.Watching.{unread_reader, InputIsTooLong, ReadFails, AddsText, AddsFront, AddsNothing, WriteFails}
-use Rattle.jc_runner.specs.declared.exit.Ended.{Ended}
-use Rattle.jc_runner.specs.declared.exit.Ending.{Ending}
-use Rattle.jc_runner.specs.declared.exit.Ending.TheVariants.{Refused, Mistaken, NotText}
-use Rattle.jc_runner.specs.declared.exit.WordsFault.{WordsFault}
-use Rattle.jc_runner.specs.declared.exit.WordsFault.TheVariants as fault
-use Rattle.jc_runner.specs.declared.exit.fault.ProgramFault.{ProgramFault}
-use Rattle.jc_runner.specs.declared.exit.fault.ProgramFault.TheVariants as program
-use Rattle.jc_runner.specs.declared.exit.fault.RunFault.{RunFault}
-use Rattle.jc_runner.specs.declared.exit.fault.RunFault.TheVariants as run
+use Rattle.jc_console.specs.Watching.{unread_reader, InputIsTooLong, ReadFails, AddsText, AddsFront, AddsNothing, WriteFails}
+use Rattle.jc_console.specs.declared.ending.Ended.{Ended}
+use Rattle.jc_console.specs.declared.ending.Ending.{Ending}
+use Rattle.jc_console.specs.declared.ending.Ending.TheVariants.{Refused, Mistaken, NotText}
+use Rattle.jc_console.specs.declared.ending.WordsFault.{WordsFault}
+use Rattle.jc_console.specs.declared.ending.WordsFault.TheVariants as fault
+use Rattle.jc_console.specs.declared.fault.ProgramFault.{ProgramFault}
+use Rattle.jc_console.specs.declared.fault.ProgramFault.TheVariants as program
+use Rattle.jc_console.specs.declared.fault.RunFault.{RunFault}
+use Rattle.jc_console.specs.declared.fault.RunFault.TheVariants as run
 use Rattle.jc_runner.specs.declared.command.streams.Opened.{Opened}
 use Rattle.jc_runner.specs.declared.command.streams.Standard.{Standard}
-use Rattle.jc_runner.specs.declared.input.Watched.{Watched}
-use Rattle.jc_runner.specs.declared.output.WatchedWriter.{WatchedWriter}
+use Rattle.jc_console.specs.declared.input.Watched.{Watched}
+use Rattle.jc_console.specs.declared.output.WatchedWriter.{WatchedWriter}
 
 -- the report of a script, with fresh callbacks of the kinds that the configuration names, of which this is true
 pub record ReportsSerially (format : Format) (c : Configuration) (script : List ℕ) (IsSo : List ℕ → Type 0) : Type 0 where

@@ -19,8 +19,8 @@ use Rattle.jc_runner.specs.Answering.{HeardAt}
 use Rattle.jc_script.specs.declared.line.LineCall.{LineCall}
 use Rattle.jc_words.specs.declared.run.Format.{Format}
 use Rattle.jc_runner.specs.Forms.{form_of, IsToldIn}
-use Rattle.jc_runner.specs.declared.input.Watched.{Watched}
-use Rattle.jc_runner.specs.declared.output.form.Form.{Form}
+use Rattle.jc_console.specs.declared.input.Watched.{Watched}
+use Rattle.jc_runner.specs.declared.form.Form.{Form}
 
 module _ {L W P K : Type 0} (load_of : L → List ℕ → Loaded) (may : W → List (Request × Answer) → Type 0) (verdict_of : P → Option (List ℕ) → List ℕ → Result Verdict ProcessorFault) (state_after : K → List Notice → List ℕ) where
   -- the entries of a life alone, its callbacks having answered their requests, and what they state afterwards

@@ -7,12 +7,12 @@ use Rattle.jc_config.specs.declared.kinds.Configuration.{Configuration}
 use Rattle.jc_model.specs.declared.config.CacheConfig.{CacheConfig}
 use Rattle.jc_script.specs.declared.fault.ScriptFault.{ScriptFault}
 use Rattle.jc_script.specs.Script.{lines}
-use Rattle.jc_runner.specs.Watching.{InputIsTooLong}
-use Rattle.jc_runner.specs.declared.exit.fault.ProgramFault.{ProgramFault}
-use Rattle.jc_runner.specs.declared.exit.fault.ProgramFault.TheVariants.{Config}
-use Rattle.jc_runner.specs.declared.exit.fault.RunFault.{RunFault}
-use Rattle.jc_runner.specs.declared.exit.fault.RunFault.TheVariants.{Script, Entry}
-use Rattle.jc_runner.specs.declared.input.Watched.{Watched}
+use Rattle.jc_console.specs.Watching.{InputIsTooLong}
+use Rattle.jc_console.specs.declared.fault.ProgramFault.{ProgramFault}
+use Rattle.jc_console.specs.declared.fault.ProgramFault.TheVariants.{Config}
+use Rattle.jc_console.specs.declared.fault.RunFault.{RunFault}
+use Rattle.jc_console.specs.declared.fault.RunFault.TheVariants.{Script, Entry}
+use Rattle.jc_console.specs.declared.input.Watched.{Watched}
 
 module _ {R : Type 0} (remaining : R → Option (List ℕ)) where
   abbrev pub IsConfiguration : Watched R → Configuration → Type 0

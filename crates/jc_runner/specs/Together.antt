@@ -16,7 +16,7 @@ use Rattle.jc_threads.specs.Lines.{AreCallsMade}
 use Rattle.jc_threads.specs.Managing.{AreManaged}
 use Rattle.jc_runner.specs.Forms.{report_in}
 use Rattle.jc_runner.specs.Hooks.{AreSuited, CannotOpen}
-use Rattle.jc_runner.specs.declared.output.form.Form.{Form}
+use Rattle.jc_runner.specs.declared.form.Form.{Form}
 use Rattle.jc_runner.specs.declared.threaded_run.Setup.{Setup}
 
 -- why each of these lines was refused, if it was

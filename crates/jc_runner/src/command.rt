@@ -9,16 +9,15 @@ pub mod words;
 
 use crate::command::demonstration::demonstrate;
 use crate::command::streams::{Opened, Standard};
-use crate::exit::fault::{ProgramFault, RunFault};
-use crate::exit::{Ended, Ending, WordsFault, ending_of, say};
 use crate::files::check::check_files;
 use crate::files::disk::Disk;
 use crate::files::replay::replay_file;
 use crate::files::run_files;
-use crate::input::Watched;
-use crate::output::WatchedWriter;
 use clap::Error;
 use clap::error::ErrorKind;
+use jc_console::{
+    Ended, Ending, ProgramFault, RunFault, Watched, WatchedWriter, WordsFault, ending_of, say,
+};
 use jc_model::OutOfMemory;
 use jc_words::{Asked, asks_to_explain, mistake_text, read_words};
 use std::alloc::Global;

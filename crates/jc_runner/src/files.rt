@@ -1,10 +1,10 @@
 //! The two files of a run: the configuration, and the script that is played with its callbacks.
 ghost use Rattle.std.specs.Prelude.{◌≡◌, ◌≢◌, ◌<◌, ℕ, true, false, List, IfOk, IfErr, Ok, Err, string_bytes};
 ghost use Rattle.jc_runner.specs.Disks.{AsksForPath, FailsToOpen};
-ghost use Rattle.jc_runner.specs.Meters.{most_reads, AddsAtMost};
+ghost use Rattle.jc_console.specs.Meters.{most_reads, AddsAtMost};
 ghost use Rattle.jc_runner.specs.Opens.{CanOpenConfiguration};
 ghost use Rattle.jc_runner.specs.Program.{RunEnds, ConfigEnds, ScriptEnds, FilesEnd, allowed_config, IsUnreadFile, ConfigAt, AskedScriptEnds};
-ghost use Rattle.jc_runner.specs.declared.exit.fault.RunFault.TheVariants.{Read, Memory};
+ghost use Rattle.jc_console.specs.declared.fault.RunFault.TheVariants.{Read, Memory};
 
 pub mod check;
 pub mod configuration;
@@ -13,15 +13,13 @@ pub mod replay;
 
 use crate::callbacks::named::all_hooks;
 use crate::command::streams::Opened;
-use crate::exit::fault::{ProgramFault, RunFault};
 use crate::files::configuration::read_configuration;
 use crate::files::disk::{Disk, OpenFault};
-use crate::input::{Watched, read_bytes};
-use crate::output::WatchedWriter;
-use crate::output::form::form_of;
+use crate::form::form_of;
 use crate::serial_run::{lines_of, serial_as, strictly};
 use crate::threaded_run::{Crew, Setup, threaded_as};
 use jc_config::Configuration;
+use jc_console::{ProgramFault, RunFault, Watched, WatchedWriter, read_bytes};
 use jc_threads::OpenGate;
 use jc_words::{Format, Run, is_input};
 use std::alloc::Global;

@@ -11,7 +11,7 @@ ghost use Rattle.jc_locked.specs.Stated.{Stated};
 ghost use Rattle.jc_runner.specs.Apart.{HaveOneCallerEach, TellsAlone, AnswerAlike};
 ghost use Rattle.jc_runner.specs.Reports.{Reports};
 ghost use Rattle.jc_runner.specs.Together.{IsMade};
-ghost use Rattle.jc_runner.specs.declared.output.form.Form.TheVariants as form;
+ghost use Rattle.jc_runner.specs.declared.form.Form.TheVariants as form;
 
 use jc_hooks::{Hearer, Loader, Processor, Writer};
 

@@ -4,11 +4,9 @@
 
 mod callbacks;
 mod command;
-mod exit;
 mod files;
-mod input;
+mod form;
 mod laws;
-mod output;
 mod serial_run;
 mod threaded_run;
 
@@ -17,17 +15,17 @@ pub use command::demonstration::demonstration;
 pub use command::streams::{Opened, Standard};
 pub use command::words::words_of;
 pub use command::{heed, program};
-pub use exit::fault::{ProgramFault, RunFault, write_fault};
-pub use exit::{Ended, Ending, WordsFault, greet, say};
 pub use files::check::check_files;
 pub use files::configuration::read_configuration;
 pub use files::disk::{Disk, HostDisk, OpenFault, open_fault};
 pub use files::replay::replay_file;
 pub use files::run_files;
-pub use input::{Watched, read_bytes};
+pub use form::Form;
+pub use jc_console::{
+    Ended, Ending, ProgramFault, RunFault, Watched, WatchedWriter, WordsFault, greet, read_bytes,
+    say, write_fault,
+};
 pub use jc_words::{Asked, Check, Format, Replay, Run, read_words};
 pub use laws::{alone_is_one_report, apart_is_alone, serial_is_alone};
-pub use output::WatchedWriter;
-pub use output::form::Form;
 pub use serial_run::{report_on, serial};
 pub use threaded_run::{Crew, Setup, threaded};

@@ -69,11 +69,13 @@ pub trait Caches {
     fn refresh<R: Wait>(&mut self, rt: &R) -> Result<(), OutOfMemory>
         ensures { Refreshes self.old self.new result };
 
-    /// The live cache with this name, whose spread is `spread`. Call `find`.
+    /// The live cache with this name, sought on the way that these bits tell, from the lowest up: `find` takes them
+    /// from the name.
     fn find_by<R: Wait>(&self, rt: &R, spread: u32, name: &Key) -> Option<Self::Id>
         ensures { Finds spread name.now result };
 
-    /// Creates a cache, whose name's spread is `spread`, as `Session::create`. Call `create`.
+    /// Creates a cache on the way that these bits tell, from the lowest up, as `Session::create`: `create` takes them
+    /// from its name. Who picks them otherwise gives equal names equal bits.
     fn create_by<R: Wait>(
         &self,
         rt: &R,

@@ -23,9 +23,9 @@ use jc_locked::locked::Locked;
 use jc_locked::name::Name;
 use jc_model::event::CacheId;
 use jc_model::key::Key;
-use jc_model::transcript::Transcript;
 use jc_recorded::journal::all_calls::AllCalls;
 use jc_recorded::journal::open_calls::OpenCalls;
+use jc_transcript::Transcript;
 use std::alloc::Global;
 use std::sync::{Mutex, Wait};
 

@@ -38,7 +38,7 @@ use std::mem;
 #[derive(Drop)]
 pub struct Visit<R: Rows, G: Ring> {
     alloc: Global,
-    // Each call writes these two, most calls nothing else here: they lie side by side.
+    // Most calls write these two and nothing else here: they lie side by side.
     moment: u64,
     cache: Box<CacheState<G>>,
     notices: Notices,

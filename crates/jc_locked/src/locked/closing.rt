@@ -8,8 +8,9 @@ use super::Locked;
 use crate::auditing::{Logged, audit};
 use crate::fault::CloseFault;
 use crate::name::Name;
-use jc_model::transcript::Transcript;
+use jc_model::share::Share;
 use jc_recorded::journal::all_calls::AllCalls;
+use jc_transcript::Transcript;
 
 impl<N: Name> Locked<N, AllCalls> {
     /// Whether the manager is open yet, and the logs account for the transcript.

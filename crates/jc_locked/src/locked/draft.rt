@@ -4,8 +4,8 @@ ghost use Rattle.jc_locked.specs.Finding.{entry_ended_by, IsOfCall};
 
 use jc_model::call::{Answer, Notice, Reply};
 use jc_model::event::{End, Entry};
-use jc_model::exact::Exact;
 use jc_model::list::Sequence;
+use jc_transcript::Exact;
 
 /// Whether two lists are the same.
 fn are_same<T: Exact>(left: &[T], right: &[T]) -> bool

@@ -13,8 +13,8 @@ use jc_model::call::{Answer, Call, Notice, Reply};
 use jc_model::config::CacheConfig;
 use jc_model::event::{CacheId, End, Entry, Step};
 use jc_model::list::Sequence;
-use jc_model::transcript::Transcript;
 use jc_state::notices::Notices;
+use jc_transcript::Transcript;
 use std::alloc::Global;
 use std::collections::HashMap;
 

@@ -15,7 +15,7 @@ use jc_model::config::CacheConfig;
 use jc_model::event::{CacheId, End, Entry, Life, Step};
 use jc_model::list::Sequence;
 use jc_model::share::Share;
-use jc_model::transcript::Transcript;
+use jc_transcript::Transcript;
 use std::alloc::Global;
 use std::collections::HashMap;
 

@@ -2,16 +2,14 @@
 ghost use Rattle.std.specs.Prelude.{◌≡◌, ◌≢◌, ◌≤◌, true, false, IfOk, Err, length};
 ghost use Rattle.jc_model.specs.Limits.{key_bytes};
 ghost use Rattle.jc_runner.specs.Demonstration.{demonstration_caches};
-ghost use Rattle.jc_runner.specs.Meters.{most_reads, AddsAtMost};
+ghost use Rattle.jc_console.specs.Meters.{most_reads, AddsAtMost};
 ghost use Rattle.jc_runner.specs.Program.{RunEnds, no_kinds, demonstration as demonstration_read};
-ghost use Rattle.jc_runner.specs.declared.exit.fault.RunFault.TheVariants.{Read};
+ghost use Rattle.jc_console.specs.declared.fault.RunFault.TheVariants.{Read};
 ghost use Rattle.jc_words.specs.declared.run.Format.TheVariants as formats;
 
-use crate::exit::fault::RunFault;
 use crate::files::play;
-use crate::input::Watched;
-use crate::output::WatchedWriter;
 use jc_config::{Configuration, HookKinds, Settings, plain_cache};
+use jc_console::{RunFault, Watched, WatchedWriter};
 use jc_model::OutOfMemory;
 use jc_model::config::Policy;
 use jc_model::key::Key;

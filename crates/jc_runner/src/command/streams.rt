@@ -1,10 +1,9 @@
 //! The files that the program opens, and its standard streams.
 
 ghost use Rattle.std.specs.Prelude.{◌≡◌, None};
-ghost use Rattle.jc_runner.specs.Watching.{unread_reader, unused_writer};
+ghost use Rattle.jc_console.specs.Watching.{unread_reader, unused_writer};
 
-use crate::input::Watched;
-use crate::output::WatchedWriter;
+use jc_console::{Watched, WatchedWriter};
 use std::io::{Read, Write};
 
 /// The files of a run, as far as they were opened, and how they were read.

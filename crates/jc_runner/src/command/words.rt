@@ -3,8 +3,8 @@ ghost use Rattle.std.specs.Prelude.{◌≡◌, ◌≢◌, ◌⊎◌, IfErr};
 ghost use Rattle.std.specs.IoError.{error_kind};
 ghost use Rattle.jc_runner.specs.Given.{IsOfNoText};
 
-use crate::exit::WordsFault;
 use crate::files::disk::is_of_memory;
+use jc_console::WordsFault;
 use jc_words::told_of_words;
 use std::env;
 use std::env::Env;

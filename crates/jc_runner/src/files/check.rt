@@ -1,17 +1,16 @@
 //! A check of the two files of a run, which runs nothing.
 ghost use Rattle.std.specs.Prelude.{◌≡◌, ◌≢◌, ℕ, List, Err};
 ghost use Rattle.jc_runner.specs.Disks.{AsksForPath};
-ghost use Rattle.jc_runner.specs.Meters.{most_reads, AddsAtMost};
+ghost use Rattle.jc_console.specs.Meters.{most_reads, AddsAtMost};
 ghost use Rattle.jc_runner.specs.Program.{LinesEnd, ScriptRead, CheckEnds, LinesAt};
-ghost use Rattle.jc_runner.specs.declared.exit.fault.RunFault.TheVariants.{Read};
+ghost use Rattle.jc_console.specs.declared.fault.RunFault.TheVariants.{Read};
 
 use crate::command::streams::Opened;
-use crate::exit::fault::{ProgramFault, RunFault};
 use crate::files::disk::Disk;
 use crate::files::{configured_from, open_script, require_caches};
-use crate::input::{Watched, read_bytes};
 use crate::serial_run::{lines_of, strictly};
 use jc_config::Settings;
+use jc_console::{ProgramFault, RunFault, Watched, read_bytes};
 use jc_words::{Check, is_input};
 use std::alloc::Global;
 use std::io::Read;

@@ -2,16 +2,15 @@
 ghost use Rattle.std.specs.Prelude.{◌≡◌, ◌≢◌, IfOk, IfErr, OnOk, Ok, Err};
 ghost use Rattle.std.specs.Io.KnownBytes.{IsAtEnd};
 ghost use Rattle.jc_config.specs.Config.{configuration_in};
-ghost use Rattle.jc_runner.specs.Meters.{most_reads, AddsAtMost};
+ghost use Rattle.jc_console.specs.Meters.{most_reads, AddsAtMost};
 ghost use Rattle.jc_runner.specs.Opens.{CanOpenConfiguration};
-ghost use Rattle.jc_runner.specs.Streams.{IsOfConfiguring};
+ghost use Rattle.jc_console.specs.Streams.{IsOfConfiguring};
 ghost use Rattle.jc_runner.specs.Texts.{IsConfiguration, ConfigHasFault, FaultIsOfLength, IfConfigFault};
-ghost use Rattle.jc_runner.specs.Watching.{ReadsAll, ReadFails};
-ghost use Rattle.jc_runner.specs.declared.exit.fault.ProgramFault.TheVariants.{ConfigRead};
+ghost use Rattle.jc_console.specs.Watching.{ReadsAll, ReadFails};
+ghost use Rattle.jc_console.specs.declared.fault.ProgramFault.TheVariants.{ConfigRead};
 
-use crate::exit::fault::{ProgramFault, RunFault};
-use crate::input::{Watched, read_bytes};
 use jc_config::{ConfigFault, Configuration, read_config};
+use jc_console::{ProgramFault, RunFault, Watched, read_bytes};
 use std::alloc::Global;
 use std::io::Read;
 

@@ -3,17 +3,15 @@ ghost use Rattle.std.specs.Prelude.{◌≡◌, ◌≢◌, ℕ, List, IfOk, IfErr
 ghost use Rattle.std.specs.List.{All};
 ghost use Rattle.jc_replay.specs.Hits.{IsCapacity};
 ghost use Rattle.jc_runner.specs.Disks.{AsksForPath, FailsToOpen};
-ghost use Rattle.jc_runner.specs.Faults.{of_trace, of_replay};
-ghost use Rattle.jc_runner.specs.Meters.{most_reads, AddsAtMost};
+ghost use Rattle.jc_console.specs.Faults.{of_trace, of_replay};
+ghost use Rattle.jc_console.specs.Meters.{most_reads, AddsAtMost};
 ghost use Rattle.jc_runner.specs.Program.{TraceEnds, TraceFileEnds, ReplayEnds, IsUnreadFile};
-ghost use Rattle.jc_runner.specs.declared.exit.fault.ProgramFault.TheVariants.{TraceRead};
+ghost use Rattle.jc_console.specs.declared.fault.ProgramFault.TheVariants.{TraceRead};
 
 use crate::command::streams::Opened;
-use crate::exit::fault::{ProgramFault, RunFault};
 use crate::files::disk::Disk;
 use crate::files::open_script;
-use crate::input::{Watched, read_bytes};
-use crate::output::{WatchedWriter, write_text};
+use jc_console::{ProgramFault, RunFault, Watched, WatchedWriter, read_bytes, write_text};
 use jc_replay::{ReplayFault, replay_table};
 use jc_words::{Replay, is_input};
 use std::alloc::Global;

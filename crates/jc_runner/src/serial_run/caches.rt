@@ -4,9 +4,9 @@ ghost use Rattle.jc_model.specs.declared.event.Life.{Life as Lived};
 ghost use Rattle.jc_script.specs.declared.line.Line.TheVariants as lines;
 ghost use Rattle.jc_script.specs.Named.{IsLive};
 ghost use Rattle.jc_runner.specs.Halfway.{lives_now, as_read, IsAtRest, refusal_now, CreatesCache, DestroysCache, NotesLine};
-ghost use Rattle.jc_runner.specs.declared.exit.fault.RunFault.TheVariants as faults;
+ghost use Rattle.jc_console.specs.declared.fault.RunFault.TheVariants as faults;
 
-use crate::exit::fault::RunFault;
+use jc_console::RunFault;
 use jc_model::config::CacheConfig;
 use jc_model::event::{CacheId, CreateRefusal, Life};
 use jc_model::key::Key;

@@ -3,10 +3,10 @@ ghost use Rattle.std.specs.Prelude.{◌≡◌, Some, IfOk, IfErr, OnOk};
 ghost use Rattle.jc_model.specs.declared.event.Event.TheVariants.{Answer as Answered};
 ghost use Rattle.jc_runner.specs.Halfway.{event_of, CanMove, IsLineReady, Replies, RepliesAt, BeginsLineCall, HandsAnswer};
 ghost use Rattle.jc_runner.specs.Hooks.{asked_of, AreKept};
-ghost use Rattle.jc_runner.specs.declared.exit.fault.RunFault.TheVariants as faults;
+ghost use Rattle.jc_console.specs.declared.fault.RunFault.TheVariants as faults;
 
 use crate::callbacks::{answer, no_hooks};
-use crate::exit::fault::RunFault;
+use jc_console::RunFault;
 use jc_hooks::{CacheHooks, Hearer, Loader, Processor, Writer};
 use jc_model::call::Answer;
 use jc_model::event::{CacheId, Cause, Step};

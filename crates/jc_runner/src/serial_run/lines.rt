@@ -6,11 +6,11 @@ ghost use Rattle.jc_script.specs.declared.line.Line.{Line as ScriptLine};
 ghost use Rattle.jc_script.specs.Named.{Names, AllName};
 ghost use Rattle.jc_runner.specs.Halfway.{lives_now, as_read, IsAtRest, RunsLine, Halfway, NotesLine};
 ghost use Rattle.jc_runner.specs.Hooks.{AreKept};
-ghost use Rattle.jc_runner.specs.declared.exit.fault.RunFault.TheVariants as faults;
+ghost use Rattle.jc_console.specs.declared.fault.RunFault.TheVariants as faults;
 
-use crate::exit::fault::RunFault;
 use crate::serial_run::caches::{run_create, run_destroy};
 use crate::serial_run::calls::run_call;
+use jc_console::RunFault;
 use jc_hooks::{CacheHooks, Hearer, Loader, Processor, Writer};
 use jc_recorded::recorded::Recorded;
 use jc_ring::ring::Ring;

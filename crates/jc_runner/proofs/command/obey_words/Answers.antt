@@ -3,9 +3,9 @@ use Rattle.std.proofs.lemmas.Bool.{false≢true}
 use Rattle.jc_runner.proofs.Pushed.{of_some, none_of, not_both}
 use Rattle.jc_words.specs.Program.{AsksFor, MayRefuse}
 use Rattle.jc_words.specs.declared.asked.Asked.{Asked}
-use Rattle.jc_runner.specs.Endings.{ending_of}
+use Rattle.jc_console.specs.Endings.{ending_of}
 use Rattle.jc_runner.specs.Program.{RefusesSo, as_program, plays, runs, checks, replays, refuses}
-use Rattle.jc_runner.specs.declared.exit.fault.RunFault.{RunFault}
+use Rattle.jc_console.specs.declared.fault.RunFault.{RunFault}
 use Rattle.jc_runner.proofs.command.obey_words.Goals as goal
 
 abbrev shown : List (Bor (List ℕ)) → List (List ℕ)

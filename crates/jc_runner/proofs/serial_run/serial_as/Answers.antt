@@ -2,7 +2,7 @@ use Rattle.std.proofs.Common.{◌≡◌, ◌∙◌, List, ℕ, None, ap₂, sym,
 use Rattle.std.specs.Io.KnownBytes.{Appends}
 use Rattle.std.proofs.lemmas.Result.{on_ok_weaker}
 use Rattle.jc_runner.specs.Forms.{form_of}
-use Rattle.jc_runner.specs.Streams.{WritesFront}
+use Rattle.jc_console.specs.Streams.{WritesFront}
 use Rattle.jc_strict.specs.Stray.{stray_line}
 use Rattle.jc_runner.proofs.Named.{keeps_on, ok_both}
 use Rattle.jc_runner.proofs.Told.{of_all, good_of_all, reports_of_all}

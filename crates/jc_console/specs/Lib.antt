@@ -1,0 +1,5 @@
+pub mod Meters
+pub mod Streams
+pub mod Watching
+pub mod Faults
+pub mod Endings

@@ -1,0 +1,60 @@
+//! The form of a report: text or JSON.
+ghost use Rattle.std.specs.Prelude.{◌≡◌, IfOk, string_bytes};
+ghost use Rattle.jc_json.specs.Totals.{CanOpenEach};
+ghost use Rattle.jc_model.specs.Legal.{IsLegal};
+ghost use Rattle.jc_runner.specs.Forms.{form_of, report_in};
+
+use jc_json::{NumberedLine, outline};
+use jc_model::list::Sequence;
+use jc_report::report;
+use jc_script::{Line, Managed};
+use jc_transcript::Transcript;
+use jc_words::Format;
+use std::alloc::{AllocError, Global};
+
+/// As text, or as JSON, which tells the lines by their numbers in the script.
+#[derive(Drop)]
+pub enum Form {
+    Text,
+    Json(Sequence<NumberedLine>),
+}
+
+/// The form of a report of these lines of a script.
+pub(crate) fn form_of(
+    alloc: Global,
+    format: Format,
+    bytes: &[u8],
+    lines: &[Line],
+) -> Result<Form, AllocError>
+    ensures { IfOk result (λ form. form ≡ form_of format bytes.now lines.now) }
+{
+    match format {
+        Format::Text => Ok(Form::Text),
+        Format::Json => {
+            let outline = outline(alloc, bytes, lines)?;
+            Ok(Form::Json(Sequence::new(outline)))
+        }
+    }
+}
+
+/// The report in that form. `first` is how many caches the manager was opened with.
+pub(crate) fn report_in(
+    alloc: Global,
+    form: &Form,
+    first: u32,
+    transcript: &Transcript,
+    managed: &[Managed],
+    seed: u64,
+) -> Result<String, AllocError>
+    requires legal { IsLegal transcript.now }
+    requires opens { CanOpenEach transcript.now.lives }
+    ensures { IfOk result (λ s.
+        string_bytes s ≡ report_in form.now first transcript.now managed.now) }
+{
+    match form {
+        Form::Text => report(alloc, transcript, managed),
+        Form::Json(outline) => {
+            jc_json::report(alloc, outline.items(), first, transcript, managed, seed)
+        }
+    }
+}
