@@ -70,9 +70,9 @@ def our_words(jc_bench, case, tries):
 
 def our_other_ways(ours, threads):
     """The words for managers that keep their open calls alone: one, and several, each thread on a cache of its own."""
-    several = {"two managers": "2"} | ({"four managers": "4"} if threads == 4 else {})
-    apart = [*ours, "--caches", "4", "--apart", "--shards"]
-    return {"open calls": [*ours, "--open"]} | {name: [*apart, count] for name, count in several.items()}
+    several = {"two managers": 2} | ({"four managers": 4} if threads == 4 else {})
+    apart = lambda count: [*ours, "--apart", "--caches", str(max(threads, count)), "--shards", str(count)]
+    return {"open calls": [*ours, "--open"]} | {name: apart(count) for name, count in several.items()}
 
 
 def peer_words(words, case, tries):

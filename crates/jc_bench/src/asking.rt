@@ -1,6 +1,5 @@
 //! What one thread does, and what comes of it.
 use crate::caches::put;
-use crate::seats::Seats;
 use crate::words::Kind;
 use jc_index::lookup::Lookup;
 use jc_model::call::Call;
@@ -102,26 +101,13 @@ fn following(number: u64) -> u64 {
         .wrapping_add(1_442_695_040_888_963_407)
 }
 
-/// The caches that a thread asks, by number.
-#[derive(Clone, Copy)]
-pub struct Span {
-    pub first: u32,
-    pub count: u32,
-}
-
-/// The cache that a number picks, by its uppermost bits.
-fn cache_picked(caches: Span, number: u64) -> u32 {
-    let place = ((number >> 48) % caches.count.max(1) as u64) as u32;
-    caches.first.wrapping_add(place)
-}
-
-/// The key that a number picks, by its upper bits.
-fn picked(keys: &[Key], number: u64) -> Option<&Key> {
-    let count = keys.len() as u64;
+/// What a number picks of these.
+fn picked<T>(items: &[T], number: u64) -> Option<&T> {
+    let count = items.len() as u64;
     if count == 0 {
         return None;
     }
-    keys.get(((number >> 33) % count) as usize)
+    items.get((number % count) as usize)
 }
 
 /// What a session does again and again.
@@ -136,21 +122,21 @@ pub struct Task {
     pub first: u64,
 }
 
-/// Does its task, each time for one of the keys of one of the caches.
-pub fn ask_often<S: Seats, R: Wait>(
+/// Does its task, each time for one of the keys of one of the caches, which upper bits of a number pick.
+pub fn ask_often<C: Caches, R: Wait>(
     rt: &R,
     alloc: Global,
-    seat: &mut S::Seat,
+    seat: &mut C,
     task: Task,
-    (caches, keys): (Span, &[Key]),
+    (caches, keys): (&[C::Id], &[Key]),
     counts: &mut Counts,
 ) {
     let mut number = task.first;
     for _ in 0..task.calls {
         number = following(number);
-        if let Some(key) = picked(keys, number) {
-            let cache = S::id(cache_picked(caches, number));
-            counts.add(ask(rt, alloc, seat, task.kind, cache, key));
+        let cache = picked(caches, number >> 48);
+        if let (Some(cache), Some(key)) = (cache, picked(keys, number >> 33)) {
+            counts.add(ask(rt, alloc, seat, task.kind, *cache, key));
         }
         for _ in 0..task.between {
             spin_loop();

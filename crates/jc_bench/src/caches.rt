@@ -1,14 +1,13 @@
 //! The managers that are measured: caches without callbacks, filled.
 use crate::fault::Fault;
-use crate::seats::Seats;
-use crate::words::Size;
+use crate::words::{Managers, Size};
 use jc_config::plain_cache;
 use jc_hooks::{Unasked, UnaskedHooks, hooks_by_hand};
 use jc_model::call::Call;
-use jc_model::config::Policy;
+use jc_model::config::{CacheConfig, Policy};
 use jc_model::key::Key;
 use jc_model::value::Value;
-use jc_shards::Caches;
+use jc_shards::{Caches, Dealing, Quota, find};
 use jc_shared::{Keeping, Shared};
 use std::alloc::Global;
 use std::sync::Wait;
@@ -42,24 +41,60 @@ static STASHED: [&str; 12] = [
     "iBYmx", "iXlqW",
 ];
 
-/// A manager of so many empty caches, whose table places rows under the seed 0.
-pub fn opened<J: Keeping>(alloc: Global, caches: u32) -> Result<Unnamed<J>, Fault> {
-    let capacity = MOST_ROWS.min(CAPACITY / caches.max(1));
-    let mut configs = Vec::new(alloc);
+/// How often a dealing is sought.
+const TRIES: u32 = 100_000;
+
+/// Caches before there are managers that have them.
+#[derive(Drop)]
+pub struct Planned {
+    pub names: Vec<Key>,
+    pub configs: Vec<CacheConfig>,
+    pub dealing: Dealing,
+}
+
+/// So many caches, dealt out evenly to these managers.
+pub fn planned(alloc: Global, caches: u32, managers: Managers) -> Result<Planned, Fault> {
+    let names = numbered(alloc, "cache", caches)?;
+    let (levels, most) = managers.shares(caches);
+    let quota = Quota {
+        levels,
+        most: most as usize,
+    };
+    let first = Dealing::new(0);
+    let Some(dealing) = first.first_even(alloc, TRIES, quota, names.as_slice())? else {
+        return Err(Fault::Refused);
+    };
+    let capacity = MOST_ROWS.min(CAPACITY / most.max(1));
+    let mut configs = Vec::with_capacity(alloc, names.len())?;
+    for name in &names {
+        configs.push(plain_cache(alloc, *name, capacity, Policy::Eternal))?;
+    }
+    Ok(Planned {
+        names,
+        configs,
+        dealing,
+    })
+}
+
+/// A manager of these caches, empty, whose table places rows under the seed 0.
+pub fn opened<J: Keeping>(alloc: Global, configs: Vec<CacheConfig>) -> Result<Unnamed<J>, Fault> {
     let mut hooks: Vec<UnaskedHooks> = Vec::new(alloc);
-    for name in numbered(alloc, "cache", caches)? {
-        let config = plain_cache(alloc, name, capacity, Policy::Eternal);
-        hooks.push(hooks_by_hand(alloc, &config)?)?;
-        configs.push(config)?;
+    for config in &configs {
+        hooks.push(hooks_by_hand(alloc, config)?)?;
     }
     Ok(Shared::open(alloc, configs, hooks, 0)?)
 }
 
-/// Two of them, between which so many caches are dealt out.
-pub fn opened_two<J: Keeping>(alloc: Global, caches: u32) -> Result<Unnamed2<J>, Fault> {
-    let each = caches.div_ceil(2);
-    let first = opened(alloc, each)?;
-    match opened(alloc, each) {
+/// Two of them, which the dealing tells apart at this level.
+pub fn opened_two<J: Keeping>(
+    alloc: Global,
+    dealing: Dealing,
+    level: u32,
+    configs: Vec<CacheConfig>,
+) -> Result<Unnamed2<J>, Fault> {
+    let (left, right) = dealing.deal(alloc, level, configs)?;
+    let first = opened(alloc, left)?;
+    match opened(alloc, right) {
         Ok(second) => Ok(Unnamed2 { first, second }),
         Err(fault) => {
             drop(first);
@@ -68,11 +103,15 @@ pub fn opened_two<J: Keeping>(alloc: Global, caches: u32) -> Result<Unnamed2<J>,
     }
 }
 
-/// Two times two of them, between which so many caches are dealt out.
-pub fn opened_four<J: Keeping>(alloc: Global, caches: u32) -> Result<Unnamed4<J>, Fault> {
-    let each = caches.div_ceil(2);
-    let left = opened_two(alloc, each)?;
-    match opened_two(alloc, each) {
+/// Two times two of them.
+pub fn opened_four<J: Keeping>(
+    alloc: Global,
+    dealing: Dealing,
+    configs: Vec<CacheConfig>,
+) -> Result<Unnamed4<J>, Fault> {
+    let (left, right) = dealing.deal(alloc, 0, configs)?;
+    let left = opened_two(alloc, dealing, 1, left)?;
+    match opened_two(alloc, dealing, 1, right) {
         Ok(right) => Ok(Unnamed4 { left, right }),
         Err(fault) => {
             drop(left);
@@ -104,23 +143,42 @@ pub fn put<C: Caches, R: Wait>(
     Ok(())
 }
 
-/// Puts the rows that a run begins with.
-pub fn fill<S: Seats, R: Wait>(
+/// The ids of the caches with these names.
+pub fn found<C: Caches, R: Wait>(
     rt: &R,
     alloc: Global,
-    seat: &mut S::Seat,
+    seat: &C,
+    dealing: Dealing,
+    names: &[Key],
+) -> Result<Vec<C::Id>, Fault> {
+    let mut ids = Vec::with_capacity(alloc, names.len())?;
+    for name in names {
+        let Some(id) = find(seat, rt, dealing, name) else {
+            return Err(Fault::Refused);
+        };
+        ids.push(id)?;
+    }
+    Ok(ids)
+}
+
+/// Puts the rows that a run begins with.
+pub fn fill<C: Caches, R: Wait>(
+    rt: &R,
+    alloc: Global,
+    seat: &mut C,
+    caches: &[C::Id],
     size: Size,
 ) -> Result<(), Fault> {
-    if size.stashed {
+    if let (true, [first, ..]) = (size.stashed, caches) {
         for text in &STASHED {
             let key = Key::from_text(text)?;
-            put(rt, alloc, seat, S::id(0), &key)?;
+            put(rt, alloc, seat, *first, &key)?;
         }
     }
     let keys = numbered(alloc, "key", size.rows)?;
-    for cache in 0..size.caches {
+    for cache in caches {
         for key in &keys {
-            put(rt, alloc, seat, S::id(cache), key)?;
+            put(rt, alloc, seat, *cache, key)?;
         }
     }
     Ok(())

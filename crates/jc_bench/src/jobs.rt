@@ -1,23 +1,36 @@
 //! The threads of a run, each with a session of its own.
-use crate::asking::{Counts, Span, Task, WRITTEN, ask_often, write_meanwhile};
-use crate::caches::{fill, numbered};
+use crate::asking::{Counts, Task, WRITTEN, ask_often, write_meanwhile};
+use crate::caches::{fill, found, numbered};
 use crate::fault::Fault;
 use crate::seats::Seats;
 use crate::timing::Moment;
 use crate::words::{Kind, Size};
 use jc_model::key::Key;
+use jc_shards::{Dealing, find};
 use std::alloc::Global;
 use std::sync::Wait;
 use std::sync::atomic::{AtomicU32, Ordering};
 use std::thread::{Threads, map_vec};
 use std::time::{Clock, CpuClock};
 
+/// What all threads do.
+#[derive(Clone, Copy)]
+pub struct Run<'a> {
+    /// The names of all caches.
+    pub names: &'a [Key],
+    pub dealing: Dealing,
+    pub kind: Kind,
+    pub size: Size,
+}
+
 /// What one thread is given.
 #[derive(Drop)]
 struct Job<'a, S: Seats> {
     seats: &'a S,
+    dealing: Dealing,
     kind: Kind,
-    caches: Span,
+    /// The names of the caches that it asks.
+    caches: &'a [Key],
     keys: &'a [Key],
     size: Size,
     /// The number that its picks follow.
@@ -45,8 +58,11 @@ fn ask_in_session<S: Seats, R: Wait>(
     let Ok(mut seat) = job.seats.seat(rt) else {
         return false;
     };
-    let asked = (job.caches, job.keys);
-    ask_often::<S, R>(rt, alloc, &mut seat, task, asked, counts);
+    let Ok(caches) = found(rt, alloc, &seat, job.dealing, job.caches) else {
+        return false;
+    };
+    let asked = (caches.as_slice(), job.keys);
+    ask_often(rt, alloc, &mut seat, task, asked, counts);
     true
 }
 
@@ -73,8 +89,12 @@ fn write_in_session<S: Seats, R: Wait>(
     job: &Job<'_, S>,
     counts: &mut Counts,
 ) {
-    if let Ok(mut seat) = job.seats.seat(rt) {
-        write_meanwhile(rt, alloc, &mut seat, S::id(0), job.keys, job.busy, counts);
+    let Ok(mut seat) = job.seats.seat(rt) else {
+        return;
+    };
+    let [name, ..] = job.caches else { return };
+    if let Some(cache) = find(&seat, rt, job.dealing, name) {
+        write_meanwhile(rt, alloc, &mut seat, cache, job.keys, job.busy, counts);
     }
 }
 
@@ -114,35 +134,35 @@ fn keys_of(alloc: Global, kind: Kind, size: Size) -> Result<Keys, Fault> {
 }
 
 /// The caches of the thread with this number: all, or one of its own as far as there are enough.
-fn caches_of(size: Size, number: u32) -> Span {
-    if size.apart {
-        Span {
-            first: number % size.caches.max(1),
-            count: 1,
-        }
-    } else {
-        Span {
-            first: 0,
-            count: size.caches,
-        }
+fn caches_of(run: Run<'_>, number: u32) -> &[Key] {
+    if !run.size.apart {
+        return run.names;
     }
+    let at = (number % run.size.caches.max(1)) as usize;
+    run.names.get(at..at + 1).unwrap_or(run.names)
 }
 
-/// A job for each thread.
+/// A job for each thread. Writers ask the first cache.
 fn jobs<'a, S: Seats>(
     alloc: Global,
     seats: &'a S,
-    (kind, size): (Kind, Size),
+    run: Run<'a>,
     keys: &'a Keys,
     busy: &'a AtomicU32,
 ) -> Result<Vec<Job<'a, S>>, Fault> {
     let mut jobs = Vec::new(alloc);
+    let size = run.size;
     for number in 0..size.threads.wrapping_add(size.writers) {
         let asks = number < size.threads;
         jobs.push(Job {
             seats,
-            kind: if asks { kind } else { Kind::Write },
-            caches: caches_of(size, number),
+            dealing: run.dealing,
+            kind: if asks { run.kind } else { Kind::Write },
+            caches: if asks {
+                caches_of(run, number)
+            } else {
+                run.names
+            },
             keys: if asks {
                 keys.asked.as_slice()
             } else {
@@ -161,10 +181,11 @@ fn fill_caches<S: Seats, R: Wait>(
     rt: &R,
     alloc: Global,
     seats: &S,
-    size: Size,
+    run: Run<'_>,
 ) -> Result<(), Fault> {
     let mut seat = seats.seat(rt)?;
-    fill::<S, R>(rt, alloc, &mut seat, size)
+    let caches = found(rt, alloc, &seat, run.dealing, run.names)?;
+    fill(rt, alloc, &mut seat, caches.as_slice(), run.size)
 }
 
 /// Fills the caches, and does it on all threads. The result has what each thread did, the writers last.
@@ -172,12 +193,11 @@ pub fn time_threads<S: Seats + Send + Sync, R: Threads + Wait + Clock + CpuClock
     rt: &R,
     alloc: Global,
     seats: &S,
-    kind: Kind,
-    size: Size,
+    run: Run<'_>,
 ) -> Result<Vec<Done>, Fault> {
-    fill_caches(rt, alloc, seats, size)?;
-    let keys = keys_of(alloc, kind, size)?;
-    let busy = AtomicU32::new(size.threads);
-    let jobs = jobs(alloc, seats, (kind, size), &keys, &busy)?;
+    fill_caches(rt, alloc, seats, run)?;
+    let keys = keys_of(alloc, run.kind, run.size)?;
+    let busy = AtomicU32::new(run.size.threads);
+    let jobs = jobs(alloc, seats, run, &keys, &busy)?;
     Ok(map_vec(rt, jobs, &|job| work(rt, alloc, job))?)
 }

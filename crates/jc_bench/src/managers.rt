@@ -5,9 +5,11 @@
 ghost use Rattle.std.specs.Prelude.{◌≡◌};
 ghost use Rattle.jc_locked.specs.Stated.{stated_by_hand};
 
-use crate::caches::{Unnamed, Unnamed2, Unnamed4, opened, opened_four, opened_two};
+use crate::caches::{
+    Planned, Unnamed, Unnamed2, Unnamed4, opened, opened_four, opened_two, planned,
+};
 use crate::fault::Fault;
-use crate::jobs::{Done, time_threads};
+use crate::jobs::{Done, Run, time_threads};
 use crate::seats::{Both, One, Seats};
 use crate::words::{Kind, Managers, Size};
 use jc_shared::{AllCalls, Keeping, Name, OpenCalls, OwnCalls};
@@ -22,7 +24,7 @@ fn played_one<
     N: Name + Send + Sync,
     J: Keeping + Send,
     R: Threads + Wait + Clock + CpuClock + Sync,
->(rt: &R, alloc: Global, unnamed: Unnamed<J>, kind: Kind, size: Size) -> Result<Vec<Done>, Fault>
+>(rt: &R, alloc: Global, unnamed: Unnamed<J>, run: Run<'_>) -> Result<Vec<Done>, Fault>
 where
     J::Own: Send,
     J::Held: Send,
@@ -32,7 +34,7 @@ where
     requires index { unnamed.index ≡ N.index }
 {
     let manager = unnamed.named::<N>();
-    let done = time_threads(rt, alloc, &One { manager: &manager }, kind, size);
+    let done = time_threads(rt, alloc, &One { manager: &manager }, run);
     manager.discard();
     done
 }
@@ -42,15 +44,14 @@ fn named_one<J: Keeping + Send, R: Threads + Wait + Clock + CpuClock + Sync>(
     rt: &R,
     alloc: Global,
     unnamed: Unnamed<J>,
-    kind: Kind,
-    size: Size,
+    run: Run<'_>,
 ) -> Result<Vec<Done>, Fault>
 where
     J::Own: Send,
     J::Held: Send,
     <J::Own as OwnCalls>::Kept: Send,
 {
-    played_one::<Brand, J, R>(rt, alloc, unnamed, kind, size)
+    played_one::<Brand, J, R>(rt, alloc, unnamed, run)
 }
 
 /// Over a pair, and two more beside it, as one.
@@ -64,14 +65,13 @@ fn time_beside<
     alloc: Global,
     pair: &S,
     (left, right): (&A, &B),
-    kind: Kind,
-    size: Size,
+    run: Run<'_>,
 ) -> Result<Vec<Done>, Fault> {
     let seats = Both {
         left: pair,
         right: &Both { left, right },
     };
-    time_threads(rt, alloc, &seats, kind, size)
+    time_threads(rt, alloc, &seats, run)
 }
 
 /// Over a pair, and two managers beside it under these names.
@@ -81,14 +81,7 @@ fn played_beside<
     B: Name + Send + Sync,
     J: Keeping + Send,
     R: Threads + Wait + Clock + CpuClock + Sync,
->(
-    rt: &R,
-    alloc: Global,
-    pair: &S,
-    unnamed: Unnamed2<J>,
-    kind: Kind,
-    size: Size,
-) -> Result<Vec<Done>, Fault>
+>(rt: &R, alloc: Global, pair: &S, unnamed: Unnamed2<J>, run: Run<'_>) -> Result<Vec<Done>, Fault>
 where
     J::Own: Send,
     J::Held: Send,
@@ -107,8 +100,7 @@ where
         alloc,
         pair,
         (&One { manager: &first }, &One { manager: &second }),
-        kind,
-        size,
+        run,
     );
     first.discard();
     second.discard();
@@ -120,20 +112,13 @@ fn named_beside<
     S: Seats + Send + Sync,
     J: Keeping + Send,
     R: Threads + Wait + Clock + CpuClock + Sync,
->(
-    rt: &R,
-    alloc: Global,
-    pair: &S,
-    unnamed: Unnamed2<J>,
-    kind: Kind,
-    size: Size,
-) -> Result<Vec<Done>, Fault>
+>(rt: &R, alloc: Global, pair: &S, unnamed: Unnamed2<J>, run: Run<'_>) -> Result<Vec<Done>, Fault>
 where
     J::Own: Send,
     J::Held: Send,
     <J::Own as OwnCalls>::Kept: Send,
 {
-    played_beside::<S, Brand, Brand, J, R>(rt, alloc, pair, unnamed, kind, size)
+    played_beside::<S, Brand, Brand, J, R>(rt, alloc, pair, unnamed, run)
 }
 
 /// Over two as one, and two more beside them where there are any.
@@ -147,8 +132,7 @@ fn time_two<
     alloc: Global,
     (left, right): (&A, &B),
     others: Option<Unnamed2<J>>,
-    kind: Kind,
-    size: Size,
+    run: Run<'_>,
 ) -> Result<Vec<Done>, Fault>
 where
     J::Own: Send,
@@ -157,8 +141,8 @@ where
 {
     let pair = Both { left, right };
     match others {
-        Some(others) => named_beside(rt, alloc, &pair, others, kind, size),
-        None => time_threads(rt, alloc, &pair, kind, size),
+        Some(others) => named_beside(rt, alloc, &pair, others, run),
+        None => time_threads(rt, alloc, &pair, run),
     }
 }
 
@@ -173,8 +157,7 @@ fn played_two<
     alloc: Global,
     unnamed: Unnamed2<J>,
     others: Option<Unnamed2<J>>,
-    kind: Kind,
-    size: Size,
+    run: Run<'_>,
 ) -> Result<Vec<Done>, Fault>
 where
     J::Own: Send,
@@ -194,8 +177,7 @@ where
         alloc,
         (&One { manager: &first }, &One { manager: &second }),
         others,
-        kind,
-        size,
+        run,
     );
     first.discard();
     second.discard();
@@ -208,10 +190,9 @@ fn named_two<R: Threads + Wait + Clock + CpuClock + Sync>(
     alloc: Global,
     unnamed: Unnamed2<OpenCalls>,
     others: Option<Unnamed2<OpenCalls>>,
-    kind: Kind,
-    size: Size,
+    run: Run<'_>,
 ) -> Result<Vec<Done>, Fault> {
-    played_two::<Brand, Brand, OpenCalls, R>(rt, alloc, unnamed, others, kind, size)
+    played_two::<Brand, Brand, OpenCalls, R>(rt, alloc, unnamed, others, run)
 }
 
 /// Over one manager that keeps its open calls alone.
@@ -219,10 +200,9 @@ fn play_open<R: Threads + Wait + Clock + CpuClock + Sync>(
     rt: &R,
     alloc: Global,
     unnamed: Unnamed<OpenCalls>,
-    kind: Kind,
-    size: Size,
+    run: Run<'_>,
 ) -> Result<Vec<Done>, Fault> {
-    named_one::<OpenCalls, R>(rt, alloc, unnamed, kind, size)
+    named_one::<OpenCalls, R>(rt, alloc, unnamed, run)
 }
 
 /// Does one kind on managers of its own. The result has what each thread did, the writers last.
@@ -233,16 +213,27 @@ pub fn play<R: Threads + Wait + Clock + CpuClock + Sync>(
     size: Size,
     managers: Managers,
 ) -> Result<Vec<Done>, Fault> {
-    let caches = size.caches;
+    let Planned {
+        names,
+        configs,
+        dealing,
+    } = planned(alloc, size.caches, managers)?;
+    let run = Run {
+        names: names.as_slice(),
+        dealing,
+        kind,
+        size,
+    };
     match managers {
-        Managers::AllCalls => {
-            named_one::<AllCalls, R>(rt, alloc, opened(alloc, caches)?, kind, size)
+        Managers::AllCalls => named_one::<AllCalls, R>(rt, alloc, opened(alloc, configs)?, run),
+        Managers::OpenCalls => play_open(rt, alloc, opened(alloc, configs)?, run),
+        Managers::Two => {
+            let two = opened_two(alloc, dealing, 0, configs)?;
+            named_two(rt, alloc, two, None, run)
         }
-        Managers::OpenCalls => play_open(rt, alloc, opened(alloc, caches)?, kind, size),
-        Managers::Two => named_two(rt, alloc, opened_two(alloc, caches)?, None, kind, size),
         Managers::Four => {
-            let Unnamed4 { left, right } = opened_four(alloc, caches)?;
-            named_two(rt, alloc, left, Some(right), kind, size)
+            let Unnamed4 { left, right } = opened_four(alloc, dealing, configs)?;
+            named_two(rt, alloc, left, Some(right), run)
         }
     }
 }

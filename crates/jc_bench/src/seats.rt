@@ -1,20 +1,14 @@
 //! From which managers threads take their sessions.
-use jc_model::event::CacheId;
-use jc_shards::{Caches, Pair, Shard, Side, Unasking};
+use jc_shards::{Caches, Pair, Shard, Unasking};
 use jc_shared::{Keeping, Name, SessionRefusal};
 use std::sync::Wait;
 
 /// One manager, or several.
 pub trait Seats {
-    type Id: Copy + Send + Sync;
-
-    type Seat: Caches<Id = Self::Id> + Drop + Send;
+    type Seat: Caches + Drop + Send;
 
     /// A session, or one of each manager.
     fn seat<R: Wait>(&self, rt: &R) -> Result<Self::Seat, SessionRefusal>;
-
-    /// The id of the cache with this number.
-    fn id(number: u32) -> Self::Id;
 }
 
 /// One manager.
@@ -27,20 +21,14 @@ impl<'a, N: Name + Send + Sync, J: Keeping + Send> Seats for One<'a, N, J>
 where
     J::Own: Send,
 {
-    type Id = CacheId;
-
     type Seat = Shard<'a, N, J>;
 
     fn seat<R: Wait>(&self, rt: &R) -> Result<Shard<'a, N, J>, SessionRefusal> {
         Shard::new(rt, self.manager)
     }
-
-    fn id(number: u32) -> CacheId {
-        CacheId::new(number)
-    }
 }
 
-/// Two of them, between which the caches are dealt out: those with even numbers are of the first.
+/// Two of them, between which the caches are dealt out.
 #[derive(Drop)]
 pub struct Both<'a, A, B> {
     pub left: &'a A,
@@ -48,8 +36,6 @@ pub struct Both<'a, A, B> {
 }
 
 impl<'a, A: Seats, B: Seats> Seats for Both<'a, A, B> {
-    type Id = Side<A::Id, B::Id>;
-
     type Seat = Pair<A::Seat, B::Seat>;
 
     fn seat<R: Wait>(&self, rt: &R) -> Result<Pair<A::Seat, B::Seat>, SessionRefusal> {
@@ -57,12 +43,5 @@ impl<'a, A: Seats, B: Seats> Seats for Both<'a, A, B> {
             left: self.left.seat(rt)?,
             right: self.right.seat(rt)?,
         })
-    }
-
-    fn id(number: u32) -> Side<A::Id, B::Id> {
-        if number % 2 == 0 {
-            return Side::Left(A::id(number / 2));
-        }
-        Side::Right(B::id(number / 2))
     }
 }

@@ -84,6 +84,17 @@ pub enum Managers {
     Four,
 }
 
+impl Managers {
+    /// How many levels of pairs there are over them, and how many of so many caches each has at most.
+    pub fn shares(self, caches: u32) -> (u32, u32) {
+        match self {
+            Managers::AllCalls | Managers::OpenCalls => (0, caches),
+            Managers::Two => (1, caches.div_ceil(2)),
+            Managers::Four => (2, caches.div_ceil(4)),
+        }
+    }
+}
+
 /// What the words ask for: these kinds, one after the other, each on managers of its own.
 #[derive(Drop)]
 pub struct Asked {

@@ -2,11 +2,13 @@
 ghost use Rattle.std.specs.Prelude.{◌≡◌};
 ghost use Rattle.jc_locked.specs.Stated.{stated_by_hand};
 
+use crate::carrying::carries;
 use jc_hooks::{Unasked, hooks_by_hand};
 use jc_index::lookup::Lookup;
 use jc_model::call::{Call, Reply};
+use jc_model::config::CacheConfig;
 use jc_model::event::{CacheId, CreateRefusal};
-use jc_shards::{Caches, Pair, Shard, Side, Unasking, create, find, is_right};
+use jc_shards::{Caches, Dealing, Pair, Quota, Shard, Side, Unasking, create, find};
 use jc_shared::{CallFault, CreateFault, Name, OpenCalls, Shared};
 use jc_trials::{Trouble, is, key, plain_cache, value_of};
 use std::alloc::Global;
@@ -17,17 +19,22 @@ type Opened = Shared<Unasked, Unasked, Unasked, Unasked, OpenCalls>;
 
 type Half<N> = Unasking<N, OpenCalls>;
 
-/// Two managers without caches.
+/// Two managers.
 #[derive(Drop)]
 struct Halves {
     left: Opened,
     right: Opened,
 }
 
-/// A name for each half. Each step of FNV-1a multiplies by an odd number, so a hash is odd where the offset basis, which
-/// is odd, and all bytes have an odd number of odd ones among them: of `a`, an odd byte behind four zero bytes of an id,
-/// it is even, of `b` odd.
-static NAMES: [&str; 2] = ["a", "b"];
+/// The seed of the dealing. Under 0 and 1 both of `NAMES` go to one half.
+const SEED: u64 = 2;
+
+/// A name for each half, the left first. Where names go is told by the `DefaultHasher` of Rust's own std over the seed's
+/// eight bytes and the name's: its hash is even or odd.
+static NAMES: [&str; 2] = ["b", "a"];
+
+/// The caches of the opening, that of the left half first.
+static OPENED: [&str; 2] = ["users", "orders"];
 
 /// Whether a cache goes where its name says, is found there alone, and gets the calls that are made on it.
 fn lives<A: Name, B: Name, R: Wait>(
@@ -37,6 +44,7 @@ fn lives<A: Name, B: Name, R: Wait>(
     caches: &mut Pair<Shard<'_, A>, Shard<'_, B>>,
     text: &str,
 ) -> Result<[bool; 9], Trouble> {
+    let dealing = Dealing::new(SEED);
     let (name, x) = (key(text)?, key("x")?);
     let (one, same) = (value_of(alloc, text)?, value_of(alloc, text)?);
     let (config, second) = (plain_cache(alloc, text, 4)?, plain_cache(alloc, text, 4)?);
@@ -44,14 +52,14 @@ fn lives<A: Name, B: Name, R: Wait>(
         hooks_by_hand(alloc, &config)?,
         hooks_by_hand(alloc, &second)?,
     );
-    let Ok(id) = create(caches, rt, config, hooks) else {
+    let Ok(id) = create(caches, rt, dealing, config, hooks) else {
         return Err(Trouble::Unexpected);
     };
-    let goes_right = is_right(0, &name);
-    let again = create(caches, rt, second, none);
+    let goes_right = dealing.is_right(0, &name);
+    let again = create(caches, rt, dealing, second, none);
     Ok([
         matches!(id, Side::Right(_)) == goes_right,
-        find(caches, rt, &name) == Some(id),
+        find(caches, rt, dealing, &name) == Some(id),
         left.cache(rt, &name).is_some() != goes_right,
         right.cache(rt, &name).is_some() == goes_right,
         is(
@@ -75,28 +83,47 @@ fn goes<A: Name, B: Name, R: Wait>(
     going: &str,
     staying: &str,
 ) -> Result<[bool; 5], Trouble> {
+    let dealing = Dealing::new(SEED);
     let (name, other, x) = (key(going)?, key(staying)?, key("x")?);
-    let Some(id) = find(caches, rt, &name) else {
+    let Some(id) = find(caches, rt, dealing, &name) else {
         return Err(Trouble::Unexpected);
     };
     Ok([
         caches.destroy(rt, id) == Ok(()),
-        find(caches, rt, &name).is_none(),
+        find(caches, rt, dealing, &name).is_none(),
         is(
             caches.call(rt, id, 0, Call::Get(x)),
             Err(CallFault::NoSuchCache),
         ),
-        find(caches, rt, &other).is_some(),
+        find(caches, rt, dealing, &other).is_some(),
         caches.refresh(rt).is_ok(),
+    ])
+}
+
+/// Whether the caches of the opening are found where they were dealt out to, and nowhere else.
+fn are_found<A: Name, B: Name, R: Wait>(
+    rt: &R,
+    caches: &Pair<Shard<'_, A>, Shard<'_, B>>,
+) -> Result<[bool; 4], Trouble> {
+    let dealing = Dealing::new(SEED);
+    let (left, right) = (key(OPENED[0])?, key(OPENED[1])?);
+    let first = CacheId::new(0);
+    Ok([
+        find(caches, rt, dealing, &left) == Some(Side::Left(first)),
+        find(caches, rt, dealing, &right) == Some(Side::Right(first)),
+        caches.left.manager.cache(rt, &right).is_none(),
+        caches.right.manager.cache(rt, &left).is_none(),
     ])
 }
 
 /// What came of it.
 #[derive(Drop)]
 struct Seen {
+    found: [bool; 4],
     lived: [[bool; 9]; 2],
     gone: [bool; 5],
     right: [bool; 2],
+    carried: [[bool; 5]; 2],
 }
 
 fn named<A: Name, B: Name, R: Wait>(rt: &R, alloc: Global, halves: Halves) -> Result<Seen, Trouble>
@@ -113,13 +140,23 @@ fn named<A: Name, B: Name, R: Wait>(rt: &R, alloc: Global, halves: Halves) -> Re
         left: Shard::new(rt, &left)?,
         right: Shard::new(rt, &right)?,
     };
+    let found = are_found(rt, &caches)?;
     let first = lives(rt, alloc, (&left, &right), &mut caches, NAMES[0])?;
     let second = lives(rt, alloc, (&left, &right), &mut caches, NAMES[1])?;
     let gone = goes(rt, &mut caches, NAMES[0], NAMES[1])?;
+    let (dealing, opened) = (Dealing::new(SEED), CacheId::new(0));
     Ok(Seen {
+        found,
         lived: [first, second],
         gone,
-        right: [is_right(0, &key(NAMES[0])?), is_right(0, &key(NAMES[1])?)],
+        right: [
+            dealing.is_right(0, &key(NAMES[0])?),
+            dealing.is_right(0, &key(NAMES[1])?),
+        ],
+        carried: [
+            carries(rt, alloc, &mut caches, Side::Left(opened))?,
+            carries(rt, alloc, &mut caches, Side::Right(opened))?,
+        ],
     })
 }
 
@@ -128,20 +165,55 @@ fn observe<R: Wait>(rt: &R, alloc: Global, halves: Halves) -> Result<Seen, Troub
     named::<Brand, Brand, R>(rt, alloc, halves)
 }
 
-fn opened(alloc: Global) -> Result<Opened, Trouble> {
-    Ok(Shared::open(alloc, Vec::new(alloc), Vec::new(alloc), 7)?)
+/// A manager of these caches.
+fn opened(alloc: Global, configs: Vec<CacheConfig>) -> Result<Opened, Trouble> {
+    let mut hooks = Vec::new(alloc);
+    for config in &configs {
+        hooks.push(hooks_by_hand(alloc, config)?)?;
+    }
+    Ok(Shared::open(alloc, configs, hooks, 7)?)
+}
+
+/// Two managers with a cache each, which loads.
+fn dealt(alloc: Global) -> Result<Halves, Trouble> {
+    let mut configs = Vec::new(alloc);
+    for text in &OPENED {
+        let mut config = plain_cache(alloc, text, 4)?;
+        config.loader = true;
+        configs.push(config)?;
+    }
+    let (left, right) = Dealing::new(SEED).deal(alloc, 0, configs)?;
+    let left = opened(alloc, left)?;
+    match opened(alloc, right) {
+        Ok(right) => Ok(Halves { left, right }),
+        Err(trouble) => {
+            drop(left);
+            Err(trouble)
+        }
+    }
 }
 
 #[test]
 fn caches_go_to_the_half_of_their_name(rt: HostRuntime) -> Result<(), Trouble> {
     let alloc = rt.alloc();
-    let halves = Halves {
-        left: opened(alloc)?,
-        right: opened(alloc)?,
-    };
-    let seen = observe(&rt, alloc, halves)?;
+    let seen = observe(&rt, alloc, dealt(alloc)?)?;
+    assert_eq!(rt; seen.found, [true; 4]);
     assert_eq!(rt; seen.lived, [[true; 9]; 2]);
     assert_eq!(rt; seen.gone, [true; 5]);
     assert_eq!(rt; seen.right, [false, true]);
+    assert_eq!(rt; seen.carried, [[true; 5]; 2]);
+    Ok(())
+}
+
+#[test]
+fn a_dealing_that_keeps_to_a_quota_is_found(rt: HostRuntime) -> Result<(), Trouble> {
+    let alloc = rt.alloc();
+    let names = [key(NAMES[0])?, key(NAMES[1])?];
+    let quota = Quota { levels: 1, most: 1 };
+    let first = Dealing::new(0);
+    let found = first.first_even(alloc, 3, quota, &names)?;
+    assert!(rt; found == Some(Dealing::new(SEED)));
+    assert!(rt; first.first_even(alloc, 2, quota, &names)?.is_none());
+    assert!(rt; first.is_even(alloc, Quota { levels: 1, most: 2 }, &names)?);
     Ok(())
 }

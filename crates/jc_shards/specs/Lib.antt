@@ -1,3 +1,3 @@
+pub mod ByHand
 pub mod Halves
 pub mod Sharding
-pub mod Spread

@@ -70,12 +70,12 @@ pub trait Caches {
         ensures { Refreshes self.old self.new result };
 
     /// The live cache with this name, sought on the way that these bits tell, from the lowest up: `find` takes them
-    /// from the name.
+    /// from a dealing.
     fn find_by<R: Wait>(&self, rt: &R, spread: u32, name: &Key) -> Option<Self::Id>
         ensures { Finds spread name.now result };
 
     /// Creates a cache on the way that these bits tell, from the lowest up, as `Session::create`: `create` takes them
-    /// from its name. Who picks them otherwise gives equal names equal bits.
+    /// from a dealing. Who picks them otherwise gives equal names equal bits.
     fn create_by<R: Wait>(
         &self,
         rt: &R,

@@ -1,7 +1,7 @@
 //! Two halves, each with caches of its own.
 ghost use Rattle.std.specs.Prelude.{◌≡◌};
 ghost use Rattle.jc_shards.specs.Halves.{first_error, IsMadeInHalf};
-ghost use Rattle.jc_shards.specs.Spread.{goes_right};
+ghost use Rattle.jc_dealing.specs.Dealing.{goes_right};
 
 use crate::caches::{Caches, LentCalls};
 use crate::side::Side;
