@@ -53,7 +53,7 @@ pub struct Planned {
 }
 
 /// So many caches, dealt out evenly to these managers.
-pub fn planned(alloc: Global, caches: u32, managers: Managers) -> Result<Planned, Fault> {
+pub fn dealt_evenly(alloc: Global, caches: u32, managers: Managers) -> Result<Planned, Fault> {
     let names = numbered(alloc, "cache", caches)?;
     let (levels, most) = managers.shares(caches);
     let quota = Quota {

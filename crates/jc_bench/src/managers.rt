@@ -6,7 +6,7 @@ ghost use Rattle.std.specs.Prelude.{◌≡◌};
 ghost use Rattle.jc_locked.specs.Stated.{stated_by_hand};
 
 use crate::caches::{
-    Planned, Unnamed, Unnamed2, Unnamed4, opened, opened_four, opened_two, planned,
+    Planned, Unnamed, Unnamed2, Unnamed4, dealt_evenly, opened, opened_four, opened_two,
 };
 use crate::fault::Fault;
 use crate::jobs::{Done, Run, time_threads};
@@ -217,7 +217,7 @@ pub fn play<R: Threads + Wait + Clock + CpuClock + Sync>(
         names,
         configs,
         dealing,
-    } = planned(alloc, size.caches, managers)?;
+    } = dealt_evenly(alloc, size.caches, managers)?;
     let run = Run {
         names: names.as_slice(),
         dealing,
