@@ -41,20 +41,29 @@ static STASHED: [&str; 12] = [
     "iBYmx", "iXlqW",
 ];
 
+/// The front of the caches' names.
+const CACHE: &str = "cache";
+
 /// How often a dealing is sought.
 const TRIES: u32 = 100_000;
 
 /// Caches before there are managers that have them.
 #[derive(Drop)]
 pub struct Planned {
-    pub names: Vec<Key>,
     pub configs: Vec<CacheConfig>,
     pub dealing: Dealing,
 }
 
+/// Caches one behind the other, by number.
+#[derive(Clone, Copy)]
+pub struct Span {
+    pub first: u32,
+    pub count: u32,
+}
+
 /// So many caches, dealt out evenly to these managers.
 pub fn dealt_evenly(alloc: Global, caches: u32, managers: Managers) -> Result<Planned, Fault> {
-    let names = numbered(alloc, "cache", caches)?;
+    let names = numbered(alloc, CACHE, caches)?;
     let (levels, most) = managers.shares(caches);
     let quota = Quota {
         levels,
@@ -69,11 +78,7 @@ pub fn dealt_evenly(alloc: Global, caches: u32, managers: Managers) -> Result<Pl
     for name in &names {
         configs.push(plain_cache(alloc, *name, capacity, Policy::Eternal))?;
     }
-    Ok(Planned {
-        names,
-        configs,
-        dealing,
-    })
+    Ok(Planned { configs, dealing })
 }
 
 /// A manager of these caches, empty, whose table places rows under the seed 0.
@@ -120,12 +125,17 @@ pub fn opened_four<J: Keeping>(
     }
 }
 
+/// The key with this front and number.
+fn numbered_key(alloc: Global, front: &str, number: u32) -> Result<Key, Fault> {
+    let text = format!(in alloc; "{front}-{number:06}")?;
+    Ok(Key::from_text(text.as_str())?)
+}
+
 /// The keys with this front and the numbers from 0 on.
 pub fn numbered(alloc: Global, front: &str, count: u32) -> Result<Vec<Key>, Fault> {
     let mut keys = Vec::with_capacity(alloc, count as usize)?;
     for number in 0..count {
-        let text = format!(in alloc; "{front}-{number:06}")?;
-        keys.push(Key::from_text(text.as_str())?)?;
+        keys.push(numbered_key(alloc, front, number)?)?;
     }
     Ok(keys)
 }
@@ -143,17 +153,19 @@ pub fn put<C: Caches, R: Wait>(
     Ok(())
 }
 
-/// The ids of the caches with these names.
+/// The ids of these caches.
 pub fn found<C: Caches, R: Wait>(
     rt: &R,
     alloc: Global,
     seat: &C,
     dealing: Dealing,
-    names: &[Key],
+    caches: Span,
 ) -> Result<Vec<C::Id>, Fault> {
-    let mut ids = Vec::with_capacity(alloc, names.len())?;
-    for name in names {
-        let Some(id) = find(seat, rt, dealing, name) else {
+    let mut ids = Vec::with_capacity(alloc, caches.count as usize)?;
+    for place in 0..caches.count {
+        let number = caches.first.wrapping_add(place);
+        let name = numbered_key(alloc, CACHE, number)?;
+        let Some(id) = find(seat, rt, dealing, &name) else {
             return Err(Fault::Refused);
         };
         ids.push(id)?;

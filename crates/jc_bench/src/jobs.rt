@@ -1,12 +1,12 @@
 //! The threads of a run, each with a session of its own.
 use crate::asking::{Counts, Task, WRITTEN, ask_often, write_meanwhile};
-use crate::caches::{fill, found, numbered};
+use crate::caches::{Span, fill, found, numbered};
 use crate::fault::Fault;
 use crate::seats::Seats;
 use crate::timing::Moment;
 use crate::words::{Kind, Size};
 use jc_model::key::Key;
-use jc_shards::{Dealing, find};
+use jc_shards::Dealing;
 use std::alloc::Global;
 use std::sync::Wait;
 use std::sync::atomic::{AtomicU32, Ordering};
@@ -15,9 +15,7 @@ use std::time::{Clock, CpuClock};
 
 /// What all threads do.
 #[derive(Clone, Copy)]
-pub struct Run<'a> {
-    /// The names of all caches.
-    pub names: &'a [Key],
+pub struct Run {
     pub dealing: Dealing,
     pub kind: Kind,
     pub size: Size,
@@ -29,8 +27,7 @@ struct Job<'a, S: Seats> {
     seats: &'a S,
     dealing: Dealing,
     kind: Kind,
-    /// The names of the caches that it asks.
-    caches: &'a [Key],
+    caches: Span,
     keys: &'a [Key],
     size: Size,
     /// The number that its picks follow.
@@ -92,9 +89,11 @@ fn write_in_session<S: Seats, R: Wait>(
     let Ok(mut seat) = job.seats.seat(rt) else {
         return;
     };
-    let [name, ..] = job.caches else { return };
-    if let Some(cache) = find(&seat, rt, job.dealing, name) {
-        write_meanwhile(rt, alloc, &mut seat, cache, job.keys, job.busy, counts);
+    let Ok(caches) = found(rt, alloc, &seat, job.dealing, job.caches) else {
+        return;
+    };
+    if let [cache, ..] = caches.as_slice() {
+        write_meanwhile(rt, alloc, &mut seat, *cache, job.keys, job.busy, counts);
     }
 }
 
@@ -133,25 +132,36 @@ fn keys_of(alloc: Global, kind: Kind, size: Size) -> Result<Keys, Fault> {
     })
 }
 
-/// The caches of the thread with this number: all, or one of its own as far as there are enough.
-fn caches_of(run: Run<'_>, number: u32) -> &[Key] {
-    if !run.size.apart {
-        return run.names;
+/// All caches.
+fn all_caches(size: Size) -> Span {
+    Span {
+        first: 0,
+        count: size.caches,
     }
-    let at = (number % run.size.caches.max(1)) as usize;
-    run.names.get(at..at + 1).unwrap_or(run.names)
+}
+
+/// The caches of the thread with this number: all, or one of its own as far as there are enough.
+fn caches_of(size: Size, number: u32) -> Span {
+    if size.apart {
+        Span {
+            first: number % size.caches.max(1),
+            count: 1,
+        }
+    } else {
+        all_caches(size)
+    }
 }
 
 /// A job for each thread. Writers ask the first cache.
 fn jobs<'a, S: Seats>(
     alloc: Global,
     seats: &'a S,
-    run: Run<'a>,
+    run: Run,
     keys: &'a Keys,
     busy: &'a AtomicU32,
 ) -> Result<Vec<Job<'a, S>>, Fault> {
-    let mut jobs = Vec::new(alloc);
     let size = run.size;
+    let mut jobs = Vec::new(alloc);
     for number in 0..size.threads.wrapping_add(size.writers) {
         let asks = number < size.threads;
         jobs.push(Job {
@@ -159,9 +169,9 @@ fn jobs<'a, S: Seats>(
             dealing: run.dealing,
             kind: if asks { run.kind } else { Kind::Write },
             caches: if asks {
-                caches_of(run, number)
+                caches_of(size, number)
             } else {
-                run.names
+                all_caches(size)
             },
             keys: if asks {
                 keys.asked.as_slice()
@@ -177,14 +187,9 @@ fn jobs<'a, S: Seats>(
 }
 
 /// Fills the caches, in a session that ends with that.
-fn fill_caches<S: Seats, R: Wait>(
-    rt: &R,
-    alloc: Global,
-    seats: &S,
-    run: Run<'_>,
-) -> Result<(), Fault> {
+fn fill_caches<S: Seats, R: Wait>(rt: &R, alloc: Global, seats: &S, run: Run) -> Result<(), Fault> {
     let mut seat = seats.seat(rt)?;
-    let caches = found(rt, alloc, &seat, run.dealing, run.names)?;
+    let caches = found(rt, alloc, &seat, run.dealing, all_caches(run.size))?;
     fill(rt, alloc, &mut seat, caches.as_slice(), run.size)
 }
 
@@ -193,7 +198,7 @@ pub fn time_threads<S: Seats + Send + Sync, R: Threads + Wait + Clock + CpuClock
     rt: &R,
     alloc: Global,
     seats: &S,
-    run: Run<'_>,
+    run: Run,
 ) -> Result<Vec<Done>, Fault> {
     fill_caches(rt, alloc, seats, run)?;
     let keys = keys_of(alloc, run.kind, run.size)?;

@@ -24,7 +24,7 @@ fn played_one<
     N: Name + Send + Sync,
     J: Keeping + Send,
     R: Threads + Wait + Clock + CpuClock + Sync,
->(rt: &R, alloc: Global, unnamed: Unnamed<J>, run: Run<'_>) -> Result<Vec<Done>, Fault>
+>(rt: &R, alloc: Global, unnamed: Unnamed<J>, run: Run) -> Result<Vec<Done>, Fault>
 where
     J::Own: Send,
     J::Held: Send,
@@ -44,7 +44,7 @@ fn named_one<J: Keeping + Send, R: Threads + Wait + Clock + CpuClock + Sync>(
     rt: &R,
     alloc: Global,
     unnamed: Unnamed<J>,
-    run: Run<'_>,
+    run: Run,
 ) -> Result<Vec<Done>, Fault>
 where
     J::Own: Send,
@@ -60,13 +60,7 @@ fn time_beside<
     A: Seats + Send + Sync,
     B: Seats + Send + Sync,
     R: Threads + Wait + Clock + CpuClock + Sync,
->(
-    rt: &R,
-    alloc: Global,
-    pair: &S,
-    (left, right): (&A, &B),
-    run: Run<'_>,
-) -> Result<Vec<Done>, Fault> {
+>(rt: &R, alloc: Global, pair: &S, (left, right): (&A, &B), run: Run) -> Result<Vec<Done>, Fault> {
     let seats = Both {
         left: pair,
         right: &Both { left, right },
@@ -81,7 +75,7 @@ fn played_beside<
     B: Name + Send + Sync,
     J: Keeping + Send,
     R: Threads + Wait + Clock + CpuClock + Sync,
->(rt: &R, alloc: Global, pair: &S, unnamed: Unnamed2<J>, run: Run<'_>) -> Result<Vec<Done>, Fault>
+>(rt: &R, alloc: Global, pair: &S, unnamed: Unnamed2<J>, run: Run) -> Result<Vec<Done>, Fault>
 where
     J::Own: Send,
     J::Held: Send,
@@ -112,7 +106,7 @@ fn named_beside<
     S: Seats + Send + Sync,
     J: Keeping + Send,
     R: Threads + Wait + Clock + CpuClock + Sync,
->(rt: &R, alloc: Global, pair: &S, unnamed: Unnamed2<J>, run: Run<'_>) -> Result<Vec<Done>, Fault>
+>(rt: &R, alloc: Global, pair: &S, unnamed: Unnamed2<J>, run: Run) -> Result<Vec<Done>, Fault>
 where
     J::Own: Send,
     J::Held: Send,
@@ -132,7 +126,7 @@ fn time_two<
     alloc: Global,
     (left, right): (&A, &B),
     others: Option<Unnamed2<J>>,
-    run: Run<'_>,
+    run: Run,
 ) -> Result<Vec<Done>, Fault>
 where
     J::Own: Send,
@@ -157,7 +151,7 @@ fn played_two<
     alloc: Global,
     unnamed: Unnamed2<J>,
     others: Option<Unnamed2<J>>,
-    run: Run<'_>,
+    run: Run,
 ) -> Result<Vec<Done>, Fault>
 where
     J::Own: Send,
@@ -190,7 +184,7 @@ fn named_two<R: Threads + Wait + Clock + CpuClock + Sync>(
     alloc: Global,
     unnamed: Unnamed2<OpenCalls>,
     others: Option<Unnamed2<OpenCalls>>,
-    run: Run<'_>,
+    run: Run,
 ) -> Result<Vec<Done>, Fault> {
     played_two::<Brand, Brand, OpenCalls, R>(rt, alloc, unnamed, others, run)
 }
@@ -200,7 +194,7 @@ fn play_open<R: Threads + Wait + Clock + CpuClock + Sync>(
     rt: &R,
     alloc: Global,
     unnamed: Unnamed<OpenCalls>,
-    run: Run<'_>,
+    run: Run,
 ) -> Result<Vec<Done>, Fault> {
     named_one::<OpenCalls, R>(rt, alloc, unnamed, run)
 }
@@ -213,13 +207,8 @@ pub fn play<R: Threads + Wait + Clock + CpuClock + Sync>(
     size: Size,
     managers: Managers,
 ) -> Result<Vec<Done>, Fault> {
-    let Planned {
-        names,
-        configs,
-        dealing,
-    } = dealt_evenly(alloc, size.caches, managers)?;
+    let Planned { configs, dealing } = dealt_evenly(alloc, size.caches, managers)?;
     let run = Run {
-        names: names.as_slice(),
         dealing,
         kind,
         size,
