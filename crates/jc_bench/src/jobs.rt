@@ -25,7 +25,7 @@ pub struct Run {
 #[derive(Drop)]
 struct Job<'a, S: Seats> {
     seats: &'a S,
-    dealing: Dealing,
+    dealing: &'a Dealing,
     kind: Kind,
     caches: Span,
     keys: &'a [Key],
@@ -55,7 +55,7 @@ fn ask_in_session<S: Seats, R: Wait>(
     let Ok(mut seat) = job.seats.seat(rt) else {
         return false;
     };
-    let Ok(caches) = found(rt, alloc, &seat, job.dealing, job.caches) else {
+    let Ok(caches) = found(rt, alloc, &seat, *job.dealing, job.caches) else {
         return false;
     };
     let asked = (caches.as_slice(), job.keys);
@@ -89,7 +89,7 @@ fn write_in_session<S: Seats, R: Wait>(
     let Ok(mut seat) = job.seats.seat(rt) else {
         return;
     };
-    let Ok(caches) = found(rt, alloc, &seat, job.dealing, job.caches) else {
+    let Ok(caches) = found(rt, alloc, &seat, *job.dealing, job.caches) else {
         return;
     };
     if let [cache, ..] = caches.as_slice() {
@@ -156,7 +156,7 @@ fn caches_of(size: Size, number: u32) -> Span {
 fn jobs<'a, S: Seats>(
     alloc: Global,
     seats: &'a S,
-    run: Run,
+    run: &'a Run,
     keys: &'a Keys,
     busy: &'a AtomicU32,
 ) -> Result<Vec<Job<'a, S>>, Fault> {
@@ -166,7 +166,7 @@ fn jobs<'a, S: Seats>(
         let asks = number < size.threads;
         jobs.push(Job {
             seats,
-            dealing: run.dealing,
+            dealing: &run.dealing,
             kind: if asks { run.kind } else { Kind::Write },
             caches: if asks {
                 caches_of(size, number)
@@ -203,6 +203,6 @@ pub fn time_threads<S: Seats + Send + Sync, R: Threads + Wait + Clock + CpuClock
     fill_caches(rt, alloc, seats, run)?;
     let keys = keys_of(alloc, run.kind, run.size)?;
     let busy = AtomicU32::new(run.size.threads);
-    let jobs = jobs(alloc, seats, run, &keys, &busy)?;
+    let jobs = jobs(alloc, seats, &run, &keys, &busy)?;
     Ok(map_vec(rt, jobs, &|job| work(rt, alloc, job))?)
 }

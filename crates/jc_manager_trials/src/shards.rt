@@ -122,8 +122,39 @@ struct Seen {
     found: [bool; 4],
     lived: [[bool; 9]; 2],
     gone: [bool; 5],
-    right: [bool; 2],
     carried: [[bool; 5]; 2],
+}
+
+/// What comes of calls by hand on the caches of the opening.
+fn both_carry<A: Name, B: Name, R: Wait>(
+    rt: &R,
+    alloc: Global,
+    caches: &mut Pair<Shard<'_, A>, Shard<'_, B>>,
+) -> Result<[[bool; 5]; 2], Trouble> {
+    let first = CacheId::new(0);
+    let left = carries(rt, alloc, caches, Side::Left(first))?;
+    let right = carries(rt, alloc, caches, Side::Right(first))?;
+    Ok([left, right])
+}
+
+/// What comes of calls on all four caches.
+fn see<A: Name, B: Name, R: Wait>(
+    rt: &R,
+    alloc: Global,
+    halves: (&Half<A>, &Half<B>),
+    caches: &mut Pair<Shard<'_, A>, Shard<'_, B>>,
+) -> Result<Seen, Trouble> {
+    let found = are_found(rt, caches)?;
+    let first = lives(rt, alloc, halves, caches, NAMES[0])?;
+    let second = lives(rt, alloc, halves, caches, NAMES[1])?;
+    let gone = goes(rt, caches, NAMES[0], NAMES[1])?;
+    let carried = both_carry(rt, alloc, caches)?;
+    Ok(Seen {
+        found,
+        lived: [first, second],
+        gone,
+        carried,
+    })
 }
 
 fn named<A: Name, B: Name, R: Wait>(rt: &R, alloc: Global, halves: Halves) -> Result<Seen, Trouble>
@@ -140,24 +171,7 @@ fn named<A: Name, B: Name, R: Wait>(rt: &R, alloc: Global, halves: Halves) -> Re
         left: Shard::new(rt, &left)?,
         right: Shard::new(rt, &right)?,
     };
-    let found = are_found(rt, &caches)?;
-    let first = lives(rt, alloc, (&left, &right), &mut caches, NAMES[0])?;
-    let second = lives(rt, alloc, (&left, &right), &mut caches, NAMES[1])?;
-    let gone = goes(rt, &mut caches, NAMES[0], NAMES[1])?;
-    let (dealing, opened) = (Dealing::new(SEED), CacheId::new(0));
-    Ok(Seen {
-        found,
-        lived: [first, second],
-        gone,
-        right: [
-            dealing.is_right(0, &key(NAMES[0])?),
-            dealing.is_right(0, &key(NAMES[1])?),
-        ],
-        carried: [
-            carries(rt, alloc, &mut caches, Side::Left(opened))?,
-            carries(rt, alloc, &mut caches, Side::Right(opened))?,
-        ],
-    })
+    see(rt, alloc, (&left, &right), &mut caches)
 }
 
 /// The same, under names that this call picks.
@@ -200,7 +214,6 @@ fn caches_go_to_the_half_of_their_name(rt: HostRuntime) -> Result<(), Trouble> {
     assert_eq!(rt; seen.found, [true; 4]);
     assert_eq!(rt; seen.lived, [[true; 9]; 2]);
     assert_eq!(rt; seen.gone, [true; 5]);
-    assert_eq!(rt; seen.right, [false, true]);
     assert_eq!(rt; seen.carried, [[true; 5]; 2]);
     Ok(())
 }
@@ -213,6 +226,8 @@ fn a_dealing_that_keeps_to_a_quota_is_found(rt: HostRuntime) -> Result<(), Troub
     let first = Dealing::new(0);
     let found = first.first_even(alloc, 3, quota, &names)?;
     assert!(rt; found == Some(Dealing::new(SEED)));
+    assert!(rt; !Dealing::new(SEED).is_right(0, &names[0]));
+    assert!(rt; Dealing::new(SEED).is_right(0, &names[1]));
     assert!(rt; first.first_even(alloc, 2, quota, &names)?.is_none());
     assert!(rt; first.is_even(alloc, Quota { levels: 1, most: 2 }, &names)?);
     Ok(())
