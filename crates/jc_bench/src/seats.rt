@@ -1,11 +1,14 @@
 //! From which managers threads take their sessions.
-use jc_shards::{Caches, Pair, Shard, Unasking};
+use jc_model::event::CacheId;
+use jc_shards::{Caches, Pair, Shard, Side, Unasking};
 use jc_shared::{Keeping, Name, SessionRefusal};
 use std::sync::Wait;
 
 /// One manager, or several.
 pub trait Seats {
-    type Seat: Caches + Drop + Send;
+    type Id: Copy + Send + Sync;
+
+    type Seat: Caches<Id = Self::Id> + Drop + Send;
 
     /// A session, or one of each manager.
     fn seat<R: Wait>(&self, rt: &R) -> Result<Self::Seat, SessionRefusal>;
@@ -21,6 +24,8 @@ impl<'a, N: Name + Send + Sync, J: Keeping + Send> Seats for One<'a, N, J>
 where
     J::Own: Send,
 {
+    type Id = CacheId;
+
     type Seat = Shard<'a, N, J>;
 
     fn seat<R: Wait>(&self, rt: &R) -> Result<Shard<'a, N, J>, SessionRefusal> {
@@ -36,6 +41,8 @@ pub struct Both<'a, A, B> {
 }
 
 impl<'a, A: Seats, B: Seats> Seats for Both<'a, A, B> {
+    type Id = Side<A::Id, B::Id>;
+
     type Seat = Pair<A::Seat, B::Seat>;
 
     fn seat<R: Wait>(&self, rt: &R) -> Result<Pair<A::Seat, B::Seat>, SessionRefusal> {
