@@ -49,7 +49,7 @@ fn ends<C: CallsByHand, R: Wait>(
 
 /// Whether a call asks for its key, is answered and has its row, and another is given up; other calls on the cache are
 /// told `Busy` while one waits.
-pub fn carries<C: CallsByHand, R: Wait>(
+fn carries<C: CallsByHand, R: Wait>(
     rt: &R,
     alloc: Global,
     caches: &mut C,
@@ -64,4 +64,16 @@ pub fn carries<C: CallsByHand, R: Wait>(
     let other = pending_get(rt, caches, id, "y")?;
     let given_up = caches.give_up(rt, other).is_ok();
     Ok([asks, busy, ended, given_up, caches.contains(rt, id, &x, 0)])
+}
+
+/// The same of two caches.
+pub fn both_carry<C: CallsByHand, R: Wait>(
+    rt: &R,
+    alloc: Global,
+    caches: &mut C,
+    (left, right): (C::Id, C::Id),
+) -> Result<[[bool; 5]; 2], Trouble> {
+    let first = carries(rt, alloc, caches, left)?;
+    let second = carries(rt, alloc, caches, right)?;
+    Ok([first, second])
 }

@@ -2,7 +2,7 @@
 ghost use Rattle.std.specs.Prelude.{◌≡◌};
 ghost use Rattle.jc_locked.specs.Stated.{stated_by_hand};
 
-use crate::carrying::carries;
+use crate::carrying::both_carry;
 use jc_hooks::{Unasked, hooks_by_hand};
 use jc_index::lookup::Lookup;
 use jc_model::call::{Call, Reply};
@@ -125,18 +125,6 @@ struct Seen {
     carried: [[bool; 5]; 2],
 }
 
-/// What comes of calls by hand on the caches of the opening.
-fn both_carry<A: Name, B: Name, R: Wait>(
-    rt: &R,
-    alloc: Global,
-    caches: &mut Pair<Shard<'_, A>, Shard<'_, B>>,
-) -> Result<[[bool; 5]; 2], Trouble> {
-    let first = CacheId::new(0);
-    let left = carries(rt, alloc, caches, Side::Left(first))?;
-    let right = carries(rt, alloc, caches, Side::Right(first))?;
-    Ok([left, right])
-}
-
 /// What comes of calls on all four caches.
 fn see<A: Name, B: Name, R: Wait>(
     rt: &R,
@@ -148,7 +136,8 @@ fn see<A: Name, B: Name, R: Wait>(
     let first = lives(rt, alloc, halves, caches, NAMES[0])?;
     let second = lives(rt, alloc, halves, caches, NAMES[1])?;
     let gone = goes(rt, caches, NAMES[0], NAMES[1])?;
-    let carried = both_carry(rt, alloc, caches)?;
+    let ids = (Side::Left(CacheId::new(0)), Side::Right(CacheId::new(0)));
+    let carried = both_carry(rt, alloc, caches, ids)?;
     Ok(Seen {
         found,
         lived: [first, second],
@@ -221,13 +210,14 @@ fn caches_go_to_the_half_of_their_name(rt: HostRuntime) -> Result<(), Trouble> {
 #[test]
 fn a_dealing_that_keeps_to_a_quota_is_found(rt: HostRuntime) -> Result<(), Trouble> {
     let alloc = rt.alloc();
-    let names = [key(NAMES[0])?, key(NAMES[1])?];
+    let (left, right) = (key(NAMES[0])?, key(NAMES[1])?);
+    let names = [left, right];
     let quota = Quota { levels: 1, most: 1 };
-    let first = Dealing::new(0);
+    let (first, wanted) = (Dealing::new(0), Dealing::new(SEED));
     let found = first.first_even(alloc, 3, quota, &names)?;
-    assert!(rt; found == Some(Dealing::new(SEED)));
-    assert!(rt; !Dealing::new(SEED).is_right(0, &names[0]));
-    assert!(rt; Dealing::new(SEED).is_right(0, &names[1]));
+    assert!(rt; found == Some(wanted));
+    assert!(rt; !wanted.is_right(0, &left));
+    assert!(rt; wanted.is_right(0, &right));
     assert!(rt; first.first_even(alloc, 2, quota, &names)?.is_none());
     assert!(rt; first.is_even(alloc, Quota { levels: 1, most: 2 }, &names)?);
     Ok(())
