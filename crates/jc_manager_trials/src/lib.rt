@@ -3,8 +3,6 @@
 #![tactic(auto)]
 
 #[cfg(test)]
-mod carrying;
-#[cfg(test)]
 mod closing;
 #[cfg(test)]
 mod coming;

@@ -2,7 +2,6 @@
 ghost use Rattle.std.specs.Prelude.{◌≡◌};
 ghost use Rattle.jc_locked.specs.Stated.{stated_by_hand};
 
-use crate::carrying::both_carry;
 use jc_hooks::{Unasked, hooks_by_hand};
 use jc_index::lookup::Lookup;
 use jc_model::call::{Call, Reply};
@@ -122,28 +121,19 @@ struct Seen {
     found: [bool; 4],
     lived: [[bool; 9]; 2],
     gone: [bool; 5],
-    carried: [[bool; 5]; 2],
 }
 
-/// What comes of calls on all four caches.
-fn see<A: Name, B: Name, R: Wait>(
+/// What comes of caches that are created, and of one that goes.
+fn come<A: Name, B: Name, R: Wait>(
     rt: &R,
     alloc: Global,
     halves: (&Half<A>, &Half<B>),
     caches: &mut Pair<Shard<'_, A>, Shard<'_, B>>,
-) -> Result<Seen, Trouble> {
-    let found = are_found(rt, caches)?;
+) -> Result<([[bool; 9]; 2], [bool; 5]), Trouble> {
     let first = lives(rt, alloc, halves, caches, NAMES[0])?;
     let second = lives(rt, alloc, halves, caches, NAMES[1])?;
     let gone = goes(rt, caches, NAMES[0], NAMES[1])?;
-    let ids = (Side::Left(CacheId::new(0)), Side::Right(CacheId::new(0)));
-    let carried = both_carry(rt, alloc, caches, ids)?;
-    Ok(Seen {
-        found,
-        lived: [first, second],
-        gone,
-        carried,
-    })
+    Ok(([first, second], gone))
 }
 
 fn named<A: Name, B: Name, R: Wait>(rt: &R, alloc: Global, halves: Halves) -> Result<Seen, Trouble>
@@ -160,7 +150,9 @@ fn named<A: Name, B: Name, R: Wait>(rt: &R, alloc: Global, halves: Halves) -> Re
         left: Shard::new(rt, &left)?,
         right: Shard::new(rt, &right)?,
     };
-    see(rt, alloc, (&left, &right), &mut caches)
+    let found = are_found(rt, &caches)?;
+    let (lived, gone) = come(rt, alloc, (&left, &right), &mut caches)?;
+    Ok(Seen { found, lived, gone })
 }
 
 /// The same, under names that this call picks.
@@ -177,13 +169,11 @@ fn opened(alloc: Global, configs: Vec<CacheConfig>) -> Result<Opened, Trouble> {
     Ok(Shared::open(alloc, configs, hooks, 7)?)
 }
 
-/// Two managers with a cache each, which loads.
+/// Two managers with a cache each.
 fn dealt(alloc: Global) -> Result<Halves, Trouble> {
     let mut configs = Vec::new(alloc);
     for text in &OPENED {
-        let mut config = plain_cache(alloc, text, 4)?;
-        config.loader = true;
-        configs.push(config)?;
+        configs.push(plain_cache(alloc, text, 4)?)?;
     }
     let (left, right) = Dealing::new(SEED).deal(alloc, 0, configs)?;
     let left = opened(alloc, left)?;
@@ -203,7 +193,6 @@ fn caches_go_to_the_half_of_their_name(rt: HostRuntime) -> Result<(), Trouble> {
     assert_eq!(rt; seen.found, [true; 4]);
     assert_eq!(rt; seen.lived, [[true; 9]; 2]);
     assert_eq!(rt; seen.gone, [true; 5]);
-    assert_eq!(rt; seen.carried, [[true; 5]; 2]);
     Ok(())
 }
 
