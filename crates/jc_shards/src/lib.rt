@@ -1,7 +1,8 @@
 //! Several managers as one, for threads that ask different caches: each manager has a table and a lock of its own.
 //!
 //! A caller has a session of each, and a tree over them that hands each call on to the manager that has its cache. A
-//! new cache goes where a dealing picks for its name, so that no two live caches have one name.
+//! new cache goes where a dealing picks for its name: so no two live caches have one name where all callers have one
+//! dealing, by which the caches of the opening were dealt out too.
 #![tactic(auto)]
 
 mod by_hand;

@@ -9,7 +9,8 @@ use jc_model::key::Key;
 use jc_shared::CreateFault;
 use std::sync::Wait;
 
-/// The live cache with this name, in the manager that the dealing picks for it.
+/// The live cache with this name, in the manager that the dealing picks for it. One that was created or opened under
+/// another dealing may stand elsewhere.
 pub fn find<C: Caches, R: Wait>(caches: &C, rt: &R, dealing: Dealing, name: &Key) -> Option<C::Id>
     ensures { C.Finds (spread_of dealing name.now) name.now result }
 {
@@ -18,7 +19,7 @@ pub fn find<C: Caches, R: Wait>(caches: &C, rt: &R, dealing: Dealing, name: &Key
 
 /// Creates a cache with these callbacks, in the manager that the dealing picks for its name. Refused as
 /// `Session::create` there; configuration and callbacks are handed back then. No two managers have caches of one name
-/// where each was created so, or dealt out by `Dealing::deal` and opened.
+/// where each was created so under this same dealing, or dealt out by its `deal` and opened.
 pub fn create<C: Caches, R: Wait>(
     caches: &C,
     rt: &R,
