@@ -2,32 +2,16 @@
 use crate::fault::Fault;
 use crate::words::{Managers, Size};
 use jc_config::plain_cache;
-use jc_hooks::{Unasked, UnaskedHooks, hooks_by_hand};
 use jc_model::call::Call;
 use jc_model::config::{CacheConfig, Policy};
 use jc_model::key::Key;
 use jc_model::value::Value;
-use jc_shards::{Caches, Dealing, Quota, find};
-use jc_shared::{Keeping, Shared};
+use jc_shards::{Caches, Dealing, Quota, Twins, find, open_two};
 use std::alloc::Global;
 use std::sync::Wait;
 
-/// A manager before it has a name.
-pub type Unnamed<J> = Shared<Unasked, Unasked, Unasked, Unasked, J>;
-
-/// Two managers before they have names.
-#[derive(Drop)]
-pub struct Unnamed2<J: Keeping> {
-    pub first: Unnamed<J>,
-    pub second: Unnamed<J>,
-}
-
-/// Two times two of them.
-#[derive(Drop)]
-pub struct Unnamed4<J: Keeping> {
-    pub left: Unnamed2<J>,
-    pub right: Unnamed2<J>,
-}
+/// Places rows in all tables.
+pub const SEED: u64 = 0;
 
 /// The most rows that all caches may have together.
 const CAPACITY: u32 = 262_144;
@@ -81,46 +65,19 @@ pub fn dealt_evenly(alloc: Global, caches: u32, managers: Managers) -> Result<Pl
     Ok(Planned { configs, dealing })
 }
 
-/// A manager of these caches, empty, whose table places rows under the seed 0.
-pub fn opened<J: Keeping>(alloc: Global, configs: Vec<CacheConfig>) -> Result<Unnamed<J>, Fault> {
-    let mut hooks: Vec<UnaskedHooks> = Vec::new(alloc);
-    for config in &configs {
-        hooks.push(hooks_by_hand(alloc, config)?)?;
-    }
-    Ok(Shared::open(alloc, configs, hooks, 0)?)
-}
-
-/// Two of them, which the dealing tells apart at this level.
-pub fn opened_two<J: Keeping>(
-    alloc: Global,
-    dealing: Dealing,
-    level: u32,
-    configs: Vec<CacheConfig>,
-) -> Result<Unnamed2<J>, Fault> {
-    let (left, right) = dealing.deal(alloc, level, configs)?;
-    let first = opened(alloc, left)?;
-    match opened(alloc, right) {
-        Ok(second) => Ok(Unnamed2 { first, second }),
-        Err(fault) => {
-            drop(first);
-            Err(fault)
-        }
-    }
-}
-
-/// Two times two of them.
-pub fn opened_four<J: Keeping>(
+/// Two times two managers.
+pub fn opened_four(
     alloc: Global,
     dealing: Dealing,
     configs: Vec<CacheConfig>,
-) -> Result<Unnamed4<J>, Fault> {
+) -> Result<(Twins, Twins), Fault> {
     let (left, right) = dealing.deal(alloc, 0, configs)?;
-    let left = opened_two(alloc, dealing, 1, left)?;
-    match opened_two(alloc, dealing, 1, right) {
-        Ok(right) => Ok(Unnamed4 { left, right }),
-        Err(fault) => {
+    let left = open_two(alloc, dealing, 1, left, SEED)?;
+    match open_two(alloc, dealing, 1, right, SEED) {
+        Ok(right) => Ok((left, right)),
+        Err(refusal) => {
             drop(left);
-            Err(fault)
+            Err(Fault::from(refusal))
         }
     }
 }

@@ -3,6 +3,7 @@ use clap::Error;
 use jc_model::OutOfMemory;
 use jc_model::key::KeyFault;
 use jc_model::value::ValueFault;
+use jc_shards::HalfRefusal;
 use jc_shared::{CallFault, SessionRefusal, SharedRefusal};
 use std::alloc::AllocFailed;
 use std::io;
@@ -87,6 +88,12 @@ impl From<SessionRefusal> for Fault {
 
 impl From<SharedRefusal> for Fault {
     fn from(_: SharedRefusal) -> Fault {
+        Fault::Refused
+    }
+}
+
+impl From<HalfRefusal> for Fault {
+    fn from(_: HalfRefusal) -> Fault {
         Fault::Refused
     }
 }

@@ -2,16 +2,14 @@
 //!
 //! What names one is generic in its journal: that a journal may go to another thread is a bound there, and for the
 //! prover nothing to search for.
-ghost use Rattle.std.specs.Prelude.{◌≡◌};
-ghost use Rattle.jc_locked.specs.Stated.{stated_by_hand};
+ghost use Rattle.jc_shards.specs.Naming.{IsUnder};
 
-use crate::caches::{
-    Planned, Unnamed, Unnamed2, Unnamed4, dealt_evenly, opened, opened_four, opened_two,
-};
+use crate::caches::{Planned, SEED, dealt_evenly, opened_four};
 use crate::fault::Fault;
 use crate::jobs::{Done, Run, time_threads};
-use crate::seats::{Both, One, Seats};
+use crate::seats::{Several, Single};
 use crate::words::{Kind, Managers, Size};
+use jc_shards::{Both, One, Seats, Twins, Unnamed, open, open_two};
 use jc_shared::{AllCalls, Keeping, Name, OpenCalls, OwnCalls};
 use std::alloc::Global;
 use std::marker::Brand;
@@ -29,12 +27,10 @@ where
     J::Own: Send,
     J::Held: Send,
     <J::Own as OwnCalls>::Kept: Send,
-    requires configs { unnamed.configs ≡ N.configs }
-    requires stated { stated_by_hand unnamed.shared ≡ N.stated }
-    requires index { unnamed.index ≡ N.index }
+    requires { IsUnder unnamed N.configs N.stated N.index }
 {
     let manager = unnamed.named::<N>();
-    let done = time_threads(rt, alloc, &One { manager: &manager }, run);
+    let done = time_threads(rt, alloc, &Single { manager: &manager }, run);
     manager.discard();
     done
 }
@@ -54,6 +50,16 @@ where
     played_one::<Brand, J, R>(rt, alloc, unnamed, run)
 }
 
+/// Over two managers, or more, as one.
+fn time_both<
+    A: Seats + Send + Sync,
+    B: Seats + Send + Sync,
+    R: Threads + Wait + Clock + CpuClock + Sync,
+>(rt: &R, alloc: Global, (left, right): (&A, &B), run: Run) -> Result<Vec<Done>, Fault> {
+    let seats = Both { left, right };
+    time_threads(rt, alloc, &Several { seats: &seats }, run)
+}
+
 /// Over a pair, and two more beside it, as one.
 fn time_beside<
     S: Seats + Send + Sync,
@@ -61,11 +67,7 @@ fn time_beside<
     B: Seats + Send + Sync,
     R: Threads + Wait + Clock + CpuClock + Sync,
 >(rt: &R, alloc: Global, pair: &S, (left, right): (&A, &B), run: Run) -> Result<Vec<Done>, Fault> {
-    let seats = Both {
-        left: pair,
-        right: &Both { left, right },
-    };
-    time_threads(rt, alloc, &seats, run)
+    time_both(rt, alloc, (pair, &Both { left, right }), run)
 }
 
 /// Over a pair, and two managers beside it under these names.
@@ -73,70 +75,49 @@ fn played_beside<
     S: Seats + Send + Sync,
     A: Name + Send + Sync,
     B: Name + Send + Sync,
-    J: Keeping + Send,
     R: Threads + Wait + Clock + CpuClock + Sync,
->(rt: &R, alloc: Global, pair: &S, unnamed: Unnamed2<J>, run: Run) -> Result<Vec<Done>, Fault>
-where
-    J::Own: Send,
-    J::Held: Send,
-    <J::Own as OwnCalls>::Kept: Send,
-    requires first { (unnamed.first.configs ≡ A.configs)
-        × (stated_by_hand unnamed.first.shared ≡ A.stated)
-        × (unnamed.first.index ≡ A.index) }
-    requires second { (unnamed.second.configs ≡ B.configs)
-        × (stated_by_hand unnamed.second.shared ≡ B.stated)
-        × (unnamed.second.index ≡ B.index) }
+>(rt: &R, alloc: Global, pair: &S, twins: Twins, run: Run) -> Result<Vec<Done>, Fault>
+    requires left { IsUnder twins.left A.configs A.stated A.index }
+    requires right { IsUnder twins.right B.configs B.stated B.index }
 {
-    let Unnamed2 { first, second } = unnamed;
-    let (first, second) = (first.named::<A>(), second.named::<B>());
-    let done = time_beside(
-        rt,
-        alloc,
-        pair,
-        (&One { manager: &first }, &One { manager: &second }),
-        run,
-    );
-    first.discard();
-    second.discard();
+    let Twins { left, right } = twins;
+    let (left, right) = (left.named::<A>(), right.named::<B>());
+    let seats = (&One { manager: &left }, &One { manager: &right });
+    let done = time_beside(rt, alloc, pair, seats, run);
+    left.discard();
+    right.discard();
     done
 }
 
 /// The same, under names that this call picks.
-fn named_beside<
-    S: Seats + Send + Sync,
-    J: Keeping + Send,
-    R: Threads + Wait + Clock + CpuClock + Sync,
->(rt: &R, alloc: Global, pair: &S, unnamed: Unnamed2<J>, run: Run) -> Result<Vec<Done>, Fault>
-where
-    J::Own: Send,
-    J::Held: Send,
-    <J::Own as OwnCalls>::Kept: Send,
-{
-    played_beside::<S, Brand, Brand, J, R>(rt, alloc, pair, unnamed, run)
+fn named_beside<S: Seats + Send + Sync, R: Threads + Wait + Clock + CpuClock + Sync>(
+    rt: &R,
+    alloc: Global,
+    pair: &S,
+    twins: Twins,
+    run: Run,
+) -> Result<Vec<Done>, Fault> {
+    played_beside::<S, Brand, Brand, R>(rt, alloc, pair, twins, run)
 }
 
 /// Over two as one, and two more beside them where there are any.
 fn time_two<
     A: Seats + Send + Sync,
     B: Seats + Send + Sync,
-    J: Keeping + Send,
     R: Threads + Wait + Clock + CpuClock + Sync,
 >(
     rt: &R,
     alloc: Global,
-    (left, right): (&A, &B),
-    others: Option<Unnamed2<J>>,
+    seats: (&A, &B),
+    others: Option<Twins>,
     run: Run,
-) -> Result<Vec<Done>, Fault>
-where
-    J::Own: Send,
-    J::Held: Send,
-    <J::Own as OwnCalls>::Kept: Send,
-{
-    let pair = Both { left, right };
+) -> Result<Vec<Done>, Fault> {
     match others {
-        Some(others) => named_beside(rt, alloc, &pair, others, run),
-        None => time_threads(rt, alloc, &pair, run),
+        Some(others) => {
+            let (left, right) = seats;
+            named_beside(rt, alloc, &Both { left, right }, others, run)
+        }
+        None => time_both(rt, alloc, seats, run),
     }
 }
 
@@ -144,56 +125,36 @@ where
 fn played_two<
     A: Name + Send + Sync,
     B: Name + Send + Sync,
-    J: Keeping + Send,
     R: Threads + Wait + Clock + CpuClock + Sync,
->(
-    rt: &R,
-    alloc: Global,
-    unnamed: Unnamed2<J>,
-    others: Option<Unnamed2<J>>,
-    run: Run,
-) -> Result<Vec<Done>, Fault>
-where
-    J::Own: Send,
-    J::Held: Send,
-    <J::Own as OwnCalls>::Kept: Send,
-    requires first { (unnamed.first.configs ≡ A.configs)
-        × (stated_by_hand unnamed.first.shared ≡ A.stated)
-        × (unnamed.first.index ≡ A.index) }
-    requires second { (unnamed.second.configs ≡ B.configs)
-        × (stated_by_hand unnamed.second.shared ≡ B.stated)
-        × (unnamed.second.index ≡ B.index) }
+>(rt: &R, alloc: Global, twins: Twins, others: Option<Twins>, run: Run) -> Result<Vec<Done>, Fault>
+    requires left { IsUnder twins.left A.configs A.stated A.index }
+    requires right { IsUnder twins.right B.configs B.stated B.index }
 {
-    let Unnamed2 { first, second } = unnamed;
-    let (first, second) = (first.named::<A>(), second.named::<B>());
-    let done = time_two(
-        rt,
-        alloc,
-        (&One { manager: &first }, &One { manager: &second }),
-        others,
-        run,
-    );
-    first.discard();
-    second.discard();
+    let Twins { left, right } = twins;
+    let (left, right) = (left.named::<A>(), right.named::<B>());
+    let seats = (&One { manager: &left }, &One { manager: &right });
+    let done = time_two(rt, alloc, seats, others, run);
+    left.discard();
+    right.discard();
     done
 }
 
-/// The same over managers that keep their open calls alone, under names that this call picks.
+/// The same, under names that this call picks.
 fn named_two<R: Threads + Wait + Clock + CpuClock + Sync>(
     rt: &R,
     alloc: Global,
-    unnamed: Unnamed2<OpenCalls>,
-    others: Option<Unnamed2<OpenCalls>>,
+    twins: Twins,
+    others: Option<Twins>,
     run: Run,
 ) -> Result<Vec<Done>, Fault> {
-    played_two::<Brand, Brand, OpenCalls, R>(rt, alloc, unnamed, others, run)
+    played_two::<Brand, Brand, R>(rt, alloc, twins, others, run)
 }
 
 /// Over one manager that keeps its open calls alone.
 fn play_open<R: Threads + Wait + Clock + CpuClock + Sync>(
     rt: &R,
     alloc: Global,
-    unnamed: Unnamed<OpenCalls>,
+    unnamed: Unnamed,
     run: Run,
 ) -> Result<Vec<Done>, Fault> {
     named_one::<OpenCalls, R>(rt, alloc, unnamed, run)
@@ -214,15 +175,15 @@ pub fn play<R: Threads + Wait + Clock + CpuClock + Sync>(
         size,
     };
     match managers {
-        Managers::AllCalls => named_one::<AllCalls, R>(rt, alloc, opened(alloc, configs)?, run),
-        Managers::OpenCalls => play_open(rt, alloc, opened(alloc, configs)?, run),
+        Managers::AllCalls => named_one::<AllCalls, R>(rt, alloc, open(alloc, configs, SEED)?, run),
+        Managers::OpenCalls => play_open(rt, alloc, open(alloc, configs, SEED)?, run),
         Managers::Two => {
-            let two = opened_two(alloc, dealing, 0, configs)?;
-            named_two(rt, alloc, two, None, run)
+            let twins = open_two(alloc, dealing, 0, configs, SEED)?;
+            named_two(rt, alloc, twins, None, run)
         }
         Managers::Four => {
-            let Unnamed4 { left, right } = opened_four(alloc, dealing, configs)?;
-            named_two(rt, alloc, left, Some(right), run)
+            let (twins, others) = opened_four(alloc, dealing, configs)?;
+            named_two(rt, alloc, twins, Some(others), run)
         }
     }
 }

@@ -1,26 +1,26 @@
-//! From which managers threads take their sessions.
+//! From which managers threads take their seats.
 use jc_model::event::CacheId;
-use jc_shards::{Caches, Pair, Shard, Side, Unasking};
+use jc_shards::{Caches, Seats, Shard, Unasking};
 use jc_shared::{Keeping, Name, SessionRefusal};
 use std::sync::Wait;
 
-/// One manager, or several.
-pub trait Seats {
+/// Managers of any kind.
+pub trait Source {
     type Id: Copy + Send + Sync;
 
     type Seat: Caches<Id = Self::Id> + Drop + Send;
 
-    /// A session, or one of each manager.
+    /// A new seat.
     fn seat<R: Wait>(&self, rt: &R) -> Result<Self::Seat, SessionRefusal>;
 }
 
-/// One manager.
+/// One manager, whatever it keeps of its calls.
 #[derive(Drop)]
-pub struct One<'a, N: Name, J: Keeping> {
+pub struct Single<'a, N: Name, J: Keeping> {
     pub manager: &'a Unasking<N, J>,
 }
 
-impl<'a, N: Name + Send + Sync, J: Keeping + Send> Seats for One<'a, N, J>
+impl<'a, N: Name + Send + Sync, J: Keeping + Send> Source for Single<'a, N, J>
 where
     J::Own: Send,
 {
@@ -33,22 +33,18 @@ where
     }
 }
 
-/// Two of them, between which the caches are dealt out.
+/// Several, which keep their open calls alone.
 #[derive(Drop)]
-pub struct Both<'a, A, B> {
-    pub left: &'a A,
-    pub right: &'a B,
+pub struct Several<'a, S> {
+    pub seats: &'a S,
 }
 
-impl<'a, A: Seats, B: Seats> Seats for Both<'a, A, B> {
-    type Id = Side<A::Id, B::Id>;
+impl<S: Seats> Source for Several<'_, S> {
+    type Id = S::Id;
 
-    type Seat = Pair<A::Seat, B::Seat>;
+    type Seat = S::Seat;
 
-    fn seat<R: Wait>(&self, rt: &R) -> Result<Pair<A::Seat, B::Seat>, SessionRefusal> {
-        Ok(Pair {
-            left: self.left.seat(rt)?,
-            right: self.right.seat(rt)?,
-        })
+    fn seat<R: Wait>(&self, rt: &R) -> Result<S::Seat, SessionRefusal> {
+        self.seats.seat(rt)
     }
 }

@@ -1,29 +1,20 @@
 //! Caches in two managers that are asked as one: where names go, and that no half learns of the other's caches.
-ghost use Rattle.std.specs.Prelude.{◌≡◌};
-ghost use Rattle.jc_locked.specs.Stated.{stated_by_hand};
+ghost use Rattle.jc_shards.specs.Naming.{IsUnder};
 
-use jc_hooks::{Unasked, hooks_by_hand};
+use jc_hooks::hooks_by_hand;
 use jc_index::lookup::Lookup;
 use jc_model::call::{Call, Reply};
-use jc_model::config::CacheConfig;
 use jc_model::event::{CacheId, CreateRefusal};
-use jc_shards::{Caches, Dealing, Pair, Quota, Shard, Side, Unasking, create, find};
-use jc_shared::{CallFault, CreateFault, Name, OpenCalls, Shared};
+use jc_shards::{
+    Caches, Dealing, Pair, Quota, Shard, Side, Twins, Unasking, create, find, open_two,
+};
+use jc_shared::{CallFault, CreateFault, Name, OpenCalls};
 use jc_trials::{Trouble, is, key, plain_cache, value_of};
 use std::alloc::Global;
 use std::marker::Brand;
 use std::sync::Wait;
 
-type Opened = Shared<Unasked, Unasked, Unasked, Unasked, OpenCalls>;
-
 type Half<N> = Unasking<N, OpenCalls>;
-
-/// Two managers.
-#[derive(Drop)]
-struct Halves {
-    left: Opened,
-    right: Opened,
-}
 
 /// The seed of the dealing. Under 0 and 1 both of `NAMES` go to one half.
 const SEED: u64 = 2;
@@ -136,15 +127,11 @@ fn come<A: Name, B: Name, R: Wait>(
     Ok(([first, second], gone))
 }
 
-fn named<A: Name, B: Name, R: Wait>(rt: &R, alloc: Global, halves: Halves) -> Result<Seen, Trouble>
-    requires left { (halves.left.configs ≡ A.configs)
-        × (stated_by_hand halves.left.shared ≡ A.stated)
-        × (halves.left.index ≡ A.index) }
-    requires right { (halves.right.configs ≡ B.configs)
-        × (stated_by_hand halves.right.shared ≡ B.stated)
-        × (halves.right.index ≡ B.index) }
+fn named<A: Name, B: Name, R: Wait>(rt: &R, alloc: Global, twins: Twins) -> Result<Seen, Trouble>
+    requires left { IsUnder twins.left A.configs A.stated A.index }
+    requires right { IsUnder twins.right B.configs B.stated B.index }
 {
-    let Halves { left, right } = halves;
+    let Twins { left, right } = twins;
     let (left, right) = (left.named::<A>(), right.named::<B>());
     let mut caches = Pair {
         left: Shard::new(rt, &left)?,
@@ -156,32 +143,21 @@ fn named<A: Name, B: Name, R: Wait>(rt: &R, alloc: Global, halves: Halves) -> Re
 }
 
 /// The same, under names that this call picks.
-fn observe<R: Wait>(rt: &R, alloc: Global, halves: Halves) -> Result<Seen, Trouble> {
-    named::<Brand, Brand, R>(rt, alloc, halves)
-}
-
-/// A manager of these caches.
-fn opened(alloc: Global, configs: Vec<CacheConfig>) -> Result<Opened, Trouble> {
-    let mut hooks = Vec::new(alloc);
-    for config in &configs {
-        hooks.push(hooks_by_hand(alloc, config)?)?;
-    }
-    Ok(Shared::open(alloc, configs, hooks, 7)?)
+fn observe<R: Wait>(rt: &R, alloc: Global, twins: Twins) -> Result<Seen, Trouble> {
+    named::<Brand, Brand, R>(rt, alloc, twins)
 }
 
 /// Two managers with a cache each.
-fn dealt(alloc: Global) -> Result<Halves, Trouble> {
+fn dealt(alloc: Global) -> Result<Twins, Trouble> {
     let mut configs = Vec::new(alloc);
     for text in &OPENED {
         configs.push(plain_cache(alloc, text, 4)?)?;
     }
-    let (left, right) = Dealing::new(SEED).deal(alloc, 0, configs)?;
-    let left = opened(alloc, left)?;
-    match opened(alloc, right) {
-        Ok(right) => Ok(Halves { left, right }),
-        Err(trouble) => {
-            drop(left);
-            Err(trouble)
+    match open_two(alloc, Dealing::new(SEED), 0, configs, 7) {
+        Ok(twins) => Ok(twins),
+        Err(refused) => {
+            drop(refused);
+            Err(Trouble::Unexpected)
         }
     }
 }

@@ -1,3 +1,6 @@
 pub mod ByHand
+pub mod Dealt
 pub mod Halves
+pub mod Naming
+pub mod Seating
 pub mod Sharding

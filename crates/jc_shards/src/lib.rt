@@ -8,7 +8,9 @@
 mod by_hand;
 mod caches;
 mod naming;
+mod opening;
 mod pair;
+mod seats;
 mod shard;
 mod side;
 
@@ -16,6 +18,8 @@ pub use by_hand::CallsByHand;
 pub use caches::{Caches, LentCalls};
 pub use jc_dealing::{Dealing, Quota};
 pub use naming::{create, find};
+pub use opening::{HalfRefusal, Twins, Unnamed, open, open_two};
 pub use pair::Pair;
+pub use seats::{Both, One, Seats};
 pub use shard::{Shard, Unasking};
 pub use side::Side;

@@ -3,7 +3,8 @@
 use jc_model::OutOfMemory;
 use jc_model::key::KeyFault;
 use jc_model::value::ValueFault;
-use jc_shared::{CallFault, SessionRefusal, SharedRefusal};
+use jc_shards::HalfRefusal;
+use jc_shared::{CallFault, SessionRefusal};
 use std::alloc::AllocFailed;
 use std::io;
 
@@ -13,10 +14,10 @@ pub enum Fault {
     Database(sqlite::Error),
     Key(KeyFault),
     Value(ValueFault),
-    Open(SharedRefusal),
+    Open(HalfRefusal),
     Session(SessionRefusal),
     Call(CallFault),
-    /// A call by hand came to something else than was expected.
+    /// The store or a call by hand came to something else than was expected.
     Unexpected,
     /// No thread could be started.
     NoThread,
@@ -42,8 +43,8 @@ impl From<ValueFault> for Fault {
     }
 }
 
-impl From<SharedRefusal> for Fault {
-    fn from(refusal: SharedRefusal) -> Fault {
+impl From<HalfRefusal> for Fault {
+    fn from(refusal: HalfRefusal) -> Fault {
         Fault::Open(refusal)
     }
 }

@@ -1,0 +1,27 @@
+-- Which caches two managers are opened with, and why they do not open.
+use Rattle.std.specs.Prelude.{◌≡◌, ℕ, Bool, true, false, List, Some, None, ⊤}
+use Rattle.jc_dealing.specs.Dealing.{of_left, of_right}
+use Rattle.jc_engine.specs.Opening.{open_refusal}
+use Rattle.jc_model.specs.declared.config.CacheConfig.{CacheConfig}
+use Rattle.jc_locked.specs.declared.fault.SharedRefusal.{SharedRefusal}
+use Rattle.jc_locked.specs.declared.fault.SharedRefusal.TheVariants.{Caches, HooksDiffer, OutOfMemory}
+use Rattle.jc_locked.specs.Opening.{HandedIn}
+use Rattle.jc_shards.specs.declared.opening.HalfRefusal.{HalfRefusal}
+
+-- what is wrong with the caches of one manager, if not want of memory
+abbrev pub IsRefusal : List CacheConfig → SharedRefusal → Type 0
+IsRefusal configs (Caches why) = open_refusal configs ≡ Some why
+IsRefusal configs (HooksDiffer cache) = ⊥
+IsRefusal configs OutOfMemory = ⊤
+
+-- the first has the caches of the left half at a level, the second those of the right
+pub record AreHalves {L P M Q : Type 0} (dealing level : ℕ) (configs : List CacheConfig) (left : HandedIn L P) (right : HandedIn M Q) : Type 0 where
+  pub left_are : left.configs ≡ of_left dealing level configs
+  pub right_are : right.configs ≡ of_right dealing level configs
+
+-- one of the halves is refused, the right only where nothing is wrong with the left
+abbrev pub IsHalfRefusal : ℕ → ℕ → List CacheConfig → HalfRefusal → Type 0
+IsHalfRefusal dealing level configs refused = at refused.right refused.refusal where
+  at : Bool → SharedRefusal → Type 0
+  at false refusal = IsRefusal (of_left dealing level configs) refusal
+  at true refusal = (open_refusal (of_left dealing level configs) ≡ None) × IsRefusal (of_right dealing level configs) refusal

@@ -1,0 +1,104 @@
+//! Opening managers whose callbacks nobody asks, and of which each has some of the caches.
+ghost use Rattle.std.specs.Prelude.{◌≡◌, None, IfOk, IfErr, OnOk};
+ghost use Rattle.jc_engine.specs.Opening.{open_refusal};
+ghost use Rattle.jc_hooks.specs.declared.unasked.Unasked.{Unasked as Silent};
+ghost use Rattle.jc_hooks.specs.Suits.{AllSuit};
+ghost use Rattle.jc_shards.specs.Dealt.{AreHalves, IsHalfRefusal, IsRefusal};
+
+use jc_dealing::Dealing;
+use jc_hooks::{Unasked, UnaskedHooks, hooks_by_hand};
+use jc_model::OutOfMemory;
+use jc_model::config::CacheConfig;
+use jc_shared::{Keeping, OpenCalls, Shared, SharedRefusal};
+use std::alloc::Global;
+
+/// A manager before it has a name, whose callbacks nobody asks.
+pub type Unnamed<J = OpenCalls> = Shared<Unasked, Unasked, Unasked, Unasked, J>;
+
+/// Two managers before they have names, between which caches are dealt out.
+#[derive(Drop)]
+pub struct Twins<J: Keeping = OpenCalls> {
+    pub left: Unnamed<J>,
+    pub right: Unnamed<J>,
+}
+
+/// Why two managers do not open: which half is refused, and as what. The refusal counts the caches of that half, in their
+/// order.
+#[derive(Debug, Drop, PartialEq, Eq)]
+pub struct HalfRefusal {
+    pub right: bool,
+    pub refusal: SharedRefusal,
+}
+
+/// Callbacks that suit these configurations.
+fn hooks_of(alloc: Global, configs: &[CacheConfig]) -> Result<Vec<UnaskedHooks>, OutOfMemory>
+    ensures { IfOk result (λ hooks. AllSuit (λ (p : Silent). p.wants) configs.now hooks.items) }
+{
+    let mut hooks = Vec::with_capacity(alloc, configs.len())?;
+    for config in configs {
+        hooks.push(hooks_by_hand(alloc, config)?)?;
+    }
+    Ok(hooks)
+}
+
+/// A manager of these caches over an empty table. The seed picks the places there.
+///
+/// Refused as `Caches` and `OutOfMemory`, as `Shared::open`; memory may be refused before the caches are looked at.
+pub fn open<J: Keeping>(
+    alloc: Global,
+    configs: Vec<CacheConfig>,
+    seed: u64,
+) -> Result<Unnamed<J>, SharedRefusal>
+    ensures configs { IfOk result (λ s. s.configs ≡ configs.items) }
+    ensures seed { IfOk result (λ s. s.seed ≡ seed) }
+    ensures opens { OnOk result (open_refusal configs.items ≡ None) }
+    ensures refused { IfErr result (IsRefusal configs.items) }
+{
+    match hooks_of(alloc, configs.as_slice()) {
+        Ok(hooks) => Shared::open(alloc, configs, hooks, seed),
+        Err(_) => {
+            drop(configs);
+            Err(SharedRefusal::OutOfMemory)
+        }
+    }
+}
+
+/// Two managers of the caches that the dealing gives each half at this level.
+///
+/// Refused as `open` of the left half, then of the right; memory may be refused before the caches are looked at.
+pub fn open_two<J: Keeping>(
+    alloc: Global,
+    dealing: Dealing,
+    level: u32,
+    configs: Vec<CacheConfig>,
+    seed: u64,
+) -> Result<Twins<J>, HalfRefusal>
+    ensures dealt { IfOk result (λ twins.
+        AreHalves dealing level configs.items twins.left twins.right) }
+    ensures refused { IfErr result (IsHalfRefusal dealing level configs.items) }
+{
+    let (left, right) = match dealing.deal(alloc, level, configs) {
+        Ok(halves) => halves,
+        Err(_) => return Err(refused(false, SharedRefusal::OutOfMemory)),
+    };
+    let left = match open(alloc, left, seed) {
+        Ok(left) => left,
+        Err(refusal) => {
+            drop(right);
+            return Err(refused(false, refusal));
+        }
+    };
+    match open(alloc, right, seed) {
+        Ok(right) => Ok(Twins { left, right }),
+        Err(refusal) => {
+            drop(left);
+            Err(refused(true, refusal))
+        }
+    }
+}
+
+fn refused(right: bool, refusal: SharedRefusal) -> HalfRefusal
+    ensures { result ≡ record { right = right; refusal = refusal } }
+{
+    HalfRefusal { right, refusal }
+}
