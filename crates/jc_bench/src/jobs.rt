@@ -2,11 +2,10 @@
 use crate::asking::{Counts, Task, WRITTEN, ask_often, write_meanwhile};
 use crate::caches::{Span, fill, found, numbered};
 use crate::fault::Fault;
-use crate::seats::Source;
 use crate::timing::Moment;
 use crate::words::{Kind, Size};
 use jc_model::key::Key;
-use jc_shards::Dealing;
+use jc_shards::{Dealing, Seats};
 use std::alloc::Global;
 use std::sync::Wait;
 use std::sync::atomic::{AtomicU32, Ordering};
@@ -23,7 +22,7 @@ pub struct Run {
 
 /// What one thread is given.
 #[derive(Drop)]
-struct Job<'a, S: Source> {
+struct Job<'a, S: Seats> {
     seats: &'a S,
     dealing: &'a Dealing,
     kind: Kind,
@@ -45,7 +44,7 @@ pub struct Done {
 }
 
 /// Does this task in a session of its own. Where none is given any more, it says so.
-fn ask_in_session<S: Source, R: Wait>(
+fn ask_in_session<S: Seats, R: Wait>(
     rt: &R,
     alloc: Global,
     job: &Job<'_, S>,
@@ -64,7 +63,7 @@ fn ask_in_session<S: Source, R: Wait>(
 }
 
 /// Asks in its sessions, one after the other.
-fn ask_in_turn<S: Source, R: Wait>(rt: &R, alloc: Global, job: &Job<'_, S>, counts: &mut Counts) {
+fn ask_in_turn<S: Seats, R: Wait>(rt: &R, alloc: Global, job: &Job<'_, S>, counts: &mut Counts) {
     let calls = job.size.calls / job.size.sessions.max(1);
     for turn in 0..job.size.sessions {
         let task = Task {
@@ -80,7 +79,7 @@ fn ask_in_turn<S: Source, R: Wait>(rt: &R, alloc: Global, job: &Job<'_, S>, coun
 }
 
 /// Writes in a session of its own, where it is given one.
-fn write_in_session<S: Source, R: Wait>(
+fn write_in_session<S: Seats, R: Wait>(
     rt: &R,
     alloc: Global,
     job: &Job<'_, S>,
@@ -97,7 +96,7 @@ fn write_in_session<S: Source, R: Wait>(
     }
 }
 
-fn work<S: Source, R: Wait + Clock + CpuClock>(rt: &R, alloc: Global, job: Job<'_, S>) -> Done {
+fn work<S: Seats, R: Wait + Clock + CpuClock>(rt: &R, alloc: Global, job: Job<'_, S>) -> Done {
     let mut counts = Counts::none();
     let began = Moment::now(rt);
     match job.kind {
@@ -153,7 +152,7 @@ fn caches_of(size: Size, number: u32) -> Span {
 }
 
 /// A job for each thread. Writers ask the first cache.
-fn jobs<'a, S: Source>(
+fn jobs<'a, S: Seats>(
     alloc: Global,
     seats: &'a S,
     run: &'a Run,
@@ -187,19 +186,14 @@ fn jobs<'a, S: Source>(
 }
 
 /// Fills the caches, in a session that ends with that.
-fn fill_caches<S: Source, R: Wait>(
-    rt: &R,
-    alloc: Global,
-    seats: &S,
-    run: Run,
-) -> Result<(), Fault> {
+fn fill_caches<S: Seats, R: Wait>(rt: &R, alloc: Global, seats: &S, run: Run) -> Result<(), Fault> {
     let mut seat = seats.seat(rt)?;
     let caches = found(rt, alloc, &seat, run.dealing, all_caches(run.size))?;
     fill(rt, alloc, &mut seat, caches.as_slice(), run.size)
 }
 
 /// Fills the caches, and does it on all threads. The result has what each thread did, the writers last.
-pub fn time_threads<S: Source + Send + Sync, R: Threads + Wait + Clock + CpuClock + Sync>(
+pub fn time_threads<S: Seats + Send + Sync, R: Threads + Wait + Clock + CpuClock + Sync>(
     rt: &R,
     alloc: Global,
     seats: &S,

@@ -11,7 +11,6 @@ mod fault;
 mod jobs;
 mod managers;
 mod report;
-mod seats;
 mod timing;
 mod words;
 

@@ -7,7 +7,6 @@ ghost use Rattle.jc_shards.specs.Naming.{IsUnder};
 use crate::caches::{Planned, SEED, dealt_evenly, opened_four};
 use crate::fault::Fault;
 use crate::jobs::{Done, Run, time_threads};
-use crate::seats::{Several, Single};
 use crate::words::{Kind, Managers, Size};
 use jc_shards::{Both, One, Seats, Twins, Unnamed, open, open_two};
 use jc_shared::{AllCalls, Keeping, Name, OpenCalls, OwnCalls};
@@ -30,7 +29,7 @@ where
     requires { IsUnder unnamed N.configs N.stated N.index }
 {
     let manager = unnamed.named::<N>();
-    let done = time_threads(rt, alloc, &Single { manager: &manager }, run);
+    let done = time_threads(rt, alloc, &One { manager: &manager }, run);
     manager.discard();
     done
 }
@@ -50,16 +49,6 @@ where
     played_one::<Brand, J, R>(rt, alloc, unnamed, run)
 }
 
-/// Over two managers, or more, as one.
-fn time_both<
-    A: Seats + Send + Sync,
-    B: Seats + Send + Sync,
-    R: Threads + Wait + Clock + CpuClock + Sync,
->(rt: &R, alloc: Global, (left, right): (&A, &B), run: Run) -> Result<Vec<Done>, Fault> {
-    let seats = Both { left, right };
-    time_threads(rt, alloc, &Several { seats: &seats }, run)
-}
-
 /// Over a pair, and two more beside it, as one.
 fn time_beside<
     S: Seats + Send + Sync,
@@ -67,7 +56,11 @@ fn time_beside<
     B: Seats + Send + Sync,
     R: Threads + Wait + Clock + CpuClock + Sync,
 >(rt: &R, alloc: Global, pair: &S, (left, right): (&A, &B), run: Run) -> Result<Vec<Done>, Fault> {
-    time_both(rt, alloc, (pair, &Both { left, right }), run)
+    let seats = Both {
+        left: pair,
+        right: &Both { left, right },
+    };
+    time_threads(rt, alloc, &seats, run)
 }
 
 /// Over a pair, and two managers beside it under these names.
@@ -75,49 +68,66 @@ fn played_beside<
     S: Seats + Send + Sync,
     A: Name + Send + Sync,
     B: Name + Send + Sync,
+    J: Keeping + Send,
     R: Threads + Wait + Clock + CpuClock + Sync,
->(rt: &R, alloc: Global, pair: &S, twins: Twins, run: Run) -> Result<Vec<Done>, Fault>
+>(rt: &R, alloc: Global, pair: &S, twins: Twins<J>, run: Run) -> Result<Vec<Done>, Fault>
+where
+    J::Own: Send,
+    J::Held: Send,
+    <J::Own as OwnCalls>::Kept: Send,
     requires left { IsUnder twins.left A.configs A.stated A.index }
     requires right { IsUnder twins.right B.configs B.stated B.index }
 {
     let Twins { left, right } = twins;
     let (left, right) = (left.named::<A>(), right.named::<B>());
-    let seats = (&One { manager: &left }, &One { manager: &right });
-    let done = time_beside(rt, alloc, pair, seats, run);
+    let done = time_beside(
+        rt,
+        alloc,
+        pair,
+        (&One { manager: &left }, &One { manager: &right }),
+        run,
+    );
     left.discard();
     right.discard();
     done
 }
 
 /// The same, under names that this call picks.
-fn named_beside<S: Seats + Send + Sync, R: Threads + Wait + Clock + CpuClock + Sync>(
-    rt: &R,
-    alloc: Global,
-    pair: &S,
-    twins: Twins,
-    run: Run,
-) -> Result<Vec<Done>, Fault> {
-    played_beside::<S, Brand, Brand, R>(rt, alloc, pair, twins, run)
+fn named_beside<
+    S: Seats + Send + Sync,
+    J: Keeping + Send,
+    R: Threads + Wait + Clock + CpuClock + Sync,
+>(rt: &R, alloc: Global, pair: &S, twins: Twins<J>, run: Run) -> Result<Vec<Done>, Fault>
+where
+    J::Own: Send,
+    J::Held: Send,
+    <J::Own as OwnCalls>::Kept: Send,
+{
+    played_beside::<S, Brand, Brand, J, R>(rt, alloc, pair, twins, run)
 }
 
 /// Over two as one, and two more beside them where there are any.
 fn time_two<
     A: Seats + Send + Sync,
     B: Seats + Send + Sync,
+    J: Keeping + Send,
     R: Threads + Wait + Clock + CpuClock + Sync,
 >(
     rt: &R,
     alloc: Global,
-    seats: (&A, &B),
-    others: Option<Twins>,
+    (left, right): (&A, &B),
+    others: Option<Twins<J>>,
     run: Run,
-) -> Result<Vec<Done>, Fault> {
+) -> Result<Vec<Done>, Fault>
+where
+    J::Own: Send,
+    J::Held: Send,
+    <J::Own as OwnCalls>::Kept: Send,
+{
+    let pair = Both { left, right };
     match others {
-        Some(others) => {
-            let (left, right) = seats;
-            named_beside(rt, alloc, &Both { left, right }, others, run)
-        }
-        None => time_both(rt, alloc, seats, run),
+        Some(others) => named_beside(rt, alloc, &pair, others, run),
+        None => time_threads(rt, alloc, &pair, run),
     }
 }
 
@@ -125,21 +135,37 @@ fn time_two<
 fn played_two<
     A: Name + Send + Sync,
     B: Name + Send + Sync,
+    J: Keeping + Send,
     R: Threads + Wait + Clock + CpuClock + Sync,
->(rt: &R, alloc: Global, twins: Twins, others: Option<Twins>, run: Run) -> Result<Vec<Done>, Fault>
+>(
+    rt: &R,
+    alloc: Global,
+    twins: Twins<J>,
+    others: Option<Twins<J>>,
+    run: Run,
+) -> Result<Vec<Done>, Fault>
+where
+    J::Own: Send,
+    J::Held: Send,
+    <J::Own as OwnCalls>::Kept: Send,
     requires left { IsUnder twins.left A.configs A.stated A.index }
     requires right { IsUnder twins.right B.configs B.stated B.index }
 {
     let Twins { left, right } = twins;
     let (left, right) = (left.named::<A>(), right.named::<B>());
-    let seats = (&One { manager: &left }, &One { manager: &right });
-    let done = time_two(rt, alloc, seats, others, run);
+    let done = time_two(
+        rt,
+        alloc,
+        (&One { manager: &left }, &One { manager: &right }),
+        others,
+        run,
+    );
     left.discard();
     right.discard();
     done
 }
 
-/// The same, under names that this call picks.
+/// The same over managers that keep their open calls alone, under names that this call picks.
 fn named_two<R: Threads + Wait + Clock + CpuClock + Sync>(
     rt: &R,
     alloc: Global,
@@ -147,7 +173,7 @@ fn named_two<R: Threads + Wait + Clock + CpuClock + Sync>(
     others: Option<Twins>,
     run: Run,
 ) -> Result<Vec<Done>, Fault> {
-    played_two::<Brand, Brand, R>(rt, alloc, twins, others, run)
+    played_two::<Brand, Brand, OpenCalls, R>(rt, alloc, twins, others, run)
 }
 
 /// Over one manager that keeps its open calls alone.

@@ -1,13 +1,12 @@
 //! From which managers threads take their sessions.
 ghost use Rattle.std.specs.Prelude.{IfOk, IfErr};
 
-use crate::by_hand::CallsByHand;
-use crate::caches::{Caches, LentCalls};
+use crate::caches::Caches;
 use crate::pair::Pair;
 use crate::shard::{Shard, Unasking};
 use crate::side::Side;
 use jc_model::event::CacheId;
-use jc_shared::{Name, OpenCalls, SessionRefusal};
+use jc_shared::{Keeping, Name, SessionRefusal};
 use std::sync::Wait;
 
 /// One manager, or several, from which each thread takes a seat.
@@ -18,7 +17,7 @@ pub trait Seats {
     type Id: Copy + Send + Sync;
 
     /// A session, or one of each manager.
-    type Seat: Caches<Id = Self::Id> + LentCalls + CallsByHand + Drop + Send;
+    type Seat: Caches<Id = Self::Id> + Drop + Send;
 
     /// Of a new seat.
     ghost IsNew: { Self.Seat → Type 0 };
@@ -32,26 +31,27 @@ pub trait Seats {
         ensures refused { IfErr result Refuses };
 }
 
-/// One manager.
+/// One manager, whatever it keeps of its calls.
 #[derive(Drop)]
-pub struct One<'a, N: Name> {
-    pub manager: &'a Unasking<N, OpenCalls>,
+pub struct One<'a, N: Name, J: Keeping> {
+    pub manager: &'a Unasking<N, J>,
 }
 
-impl<'a, N: Name + Send + Sync> Seats for One<'a, N> {
-    ghost use Rattle.std.specs.Prelude.{false};
-    ghost use Rattle.jc_locked.specs.Admitting.{after_round};
+impl<'a, N: Name + Send + Sync, J: Keeping + Send> Seats for One<'a, N, J>
+where
+    J::Own: Send,
+{
     ghost use Rattle.jc_shards.specs.Seating.{IsSeated, IsUnseated};
 
     type Id = CacheId;
 
-    type Seat = Shard<'a, N>;
+    type Seat = Shard<'a, N, J>;
 
-    ghost IsNew = { λ seat. IsSeated after_round false N.configs seat.session };
+    ghost IsNew = { λ seat. IsSeated J.after J.closes N.configs seat.session };
 
-    ghost Refuses = { IsUnseated after_round false };
+    ghost Refuses = { IsUnseated J.after J.closes };
 
-    fn seat<R: Wait>(&self, rt: &R) -> Result<Shard<'a, N>, SessionRefusal> {
+    fn seat<R: Wait>(&self, rt: &R) -> Result<Shard<'a, N, J>, SessionRefusal> {
         Shard::new(rt, self.manager)
     }
 }

@@ -1,8 +1,8 @@
-//! Calls whose answers are made where the calls are, and not by what is lent to them.
+//! A call whose answer is made where the call is, and not by what is lent to it.
 
 use crate::fault::Fault;
 use crate::queries::{Client, Query};
-use crate::store::{Places, call};
+use crate::store::{Seat, Store, call, user_cache};
 use crossbeam_channel::Sender;
 use jc_hooks::Loaded;
 use jc_model::OutOfMemory;
@@ -10,20 +10,18 @@ use jc_model::call::{Answer, Call, Reply};
 use jc_model::key::Key;
 use jc_model::value::Value;
 use jc_report::reply_text;
-use jc_shards::{CallsByHand, Seats};
-use jc_shared::{CallFault, Progress};
+use jc_shared::{CallFault, Name, PendingCall, Progress};
 use std::alloc::Global;
 use std::sync::Wait;
 use std::thread::{Threads, join};
 
 /// Begins to get a user whom the cache does not have. The call waits for its answer, and no lock is held meanwhile.
-fn begin<C: CallsByHand, R: Wait>(
+fn begin<N: Name, R: Wait>(
     rt: &R,
-    seat: &mut C,
-    users: C::Id,
+    seat: &mut Seat<'_, N>,
     name: Key,
-) -> Result<C::Pending, Fault> {
-    match seat.begin(rt, users, 2, Call::Get(name)) {
+) -> Result<PendingCall<N>, Fault> {
+    match seat.begin(rt, user_cache(), 2, Call::Get(name)) {
         Ok(Progress::Waits(pending)) => Ok(pending),
         Ok(Progress::Replied(reply)) => {
             drop(reply);
@@ -37,12 +35,12 @@ fn begin<C: CallsByHand, R: Wait>(
 }
 
 /// Hands the answer in. A call that it does not end is handed back.
-fn resume<C: CallsByHand, R: Wait>(
+fn resume<N: Name, R: Wait>(
     rt: &R,
-    seat: &mut C,
-    pending: C::Pending,
+    seat: &mut Seat<'_, N>,
+    pending: PendingCall<N>,
     answer: Answer,
-) -> Result<Reply, C::Pending> {
+) -> Result<Reply, PendingCall<N>> {
     match seat.resume(rt, pending, answer) {
         Ok(Progress::Replied(reply)) => Ok(reply),
         Ok(Progress::Waits(pending)) => Err(pending),
@@ -54,19 +52,18 @@ fn resume<C: CallsByHand, R: Wait>(
 }
 
 /// Whether another session finds the cache busy.
-fn meets_busy<S: Seats, R: Wait>(
+fn meets_busy<N: Name, R: Wait>(
     rt: &R,
     alloc: Global,
-    seats: &S,
-    places: Places<S::Id>,
+    store: &Store<N>,
     queries: &Sender<Query>,
     name: Key,
 ) -> bool {
     let mut client = Client { rt, alloc, queries };
-    let Ok(mut seat) = seats.seat(rt) else {
+    let Ok(mut seat) = store.session(rt) else {
         return false;
     };
-    let got = call(&mut seat, &mut client, places.users, 2, Call::Get(name));
+    let got = call(&mut seat, &mut client, 2, Call::Get(name));
     drop(seat);
     let busy = matches!(&got, Err(Fault::Call(CallFault::Busy)));
     drop(got);
@@ -74,18 +71,17 @@ fn meets_busy<S: Seats, R: Wait>(
 }
 
 /// The database's answer for a user, and whether a session of another thread finds the cache busy meanwhile.
-fn load_meanwhile<S: Seats + Send + Sync, R: Threads + Wait + Sync>(
+fn load_meanwhile<N: Name + Send + Sync, R: Threads + Wait + Sync>(
     rt: &R,
     alloc: Global,
-    seats: &S,
-    places: Places<S::Id>,
+    store: &Store<N>,
     queries: &Sender<Query>,
     name: Key,
 ) -> (Result<Loaded, OutOfMemory>, bool) {
     let client = Client { rt, alloc, queries };
     let (busy, loaded) = join(
         rt,
-        || meets_busy(rt, alloc, seats, places, queries, name),
+        || meets_busy(rt, alloc, store, queries, name),
         || client.load(&name),
     );
     (loaded, busy)
@@ -102,19 +98,18 @@ fn with_note(loaded: Result<Loaded, OutOfMemory>, note: Value) -> Answer {
 
 /// Gets eve, whom the database does not know. A call that has begun comes to its end: it is given up where the answer
 /// brings no reply.
-pub fn get_by_hand<S: Seats + Send + Sync, R: Threads + Wait + Sync>(
+pub fn get_by_hand<N: Name + Send + Sync, R: Threads + Wait + Sync>(
     rt: &R,
     alloc: Global,
-    seats: &S,
-    places: Places<S::Id>,
+    store: &Store<N>,
     queries: &Sender<Query>,
     lines: &mut Vec<String>,
 ) -> Result<(), Fault> {
     let eve = Key::from_text("eve")?;
     let note = Value::from_text(alloc, "is not in the database")?;
-    let mut seat = seats.seat(rt)?;
-    let pending = begin(rt, &mut seat, places.users, eve)?;
-    let (loaded, busy) = load_meanwhile(rt, alloc, seats, places, queries, eve);
+    let mut seat = store.session(rt)?;
+    let pending = begin(rt, &mut seat, eve)?;
+    let (loaded, busy) = load_meanwhile(rt, alloc, store, queries, eve);
     let reply = match resume(rt, &mut seat, pending, with_note(loaded, note)) {
         Ok(reply) => reply,
         Err(pending) => {
@@ -127,24 +122,5 @@ pub fn get_by_hand<S: Seats + Send + Sync, R: Threads + Wait + Sync>(
         "eve: {}, busy meanwhile: {busy}",
         reply_text(alloc, &reply)?
     )?)?;
-    Ok(())
-}
-
-/// Begins to get zoe, and gives that up: the cache takes other calls again.
-pub fn give_up_by_hand<S: Seats, R: Wait>(
-    rt: &R,
-    alloc: Global,
-    seats: &S,
-    places: Places<S::Id>,
-    queries: &Sender<Query>,
-    lines: &mut Vec<String>,
-) -> Result<(), Fault> {
-    let zoe = Key::from_text("zoe")?;
-    let mut seat = seats.seat(rt)?;
-    let pending = begin(rt, &mut seat, places.users, zoe)?;
-    drop(seat.give_up(rt, pending)?);
-    drop(seat);
-    let busy = meets_busy(rt, alloc, seats, places, queries, zoe);
-    lines.push(format!(in alloc; "zoe, given up: busy afterwards: {busy}")?)?;
     Ok(())
 }

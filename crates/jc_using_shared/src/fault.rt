@@ -3,8 +3,7 @@
 use jc_model::OutOfMemory;
 use jc_model::key::KeyFault;
 use jc_model::value::ValueFault;
-use jc_shards::HalfRefusal;
-use jc_shared::{CallFault, SessionRefusal};
+use jc_shared::{CallFault, SessionRefusal, SharedRefusal};
 use std::alloc::AllocFailed;
 use std::io;
 
@@ -14,10 +13,10 @@ pub enum Fault {
     Database(sqlite::Error),
     Key(KeyFault),
     Value(ValueFault),
-    Open(HalfRefusal),
+    Open(SharedRefusal),
     Session(SessionRefusal),
     Call(CallFault),
-    /// The store or a call by hand came to something else than was expected.
+    /// A call by hand came to something else than was expected.
     Unexpected,
     /// No thread could be started.
     NoThread,
@@ -43,8 +42,8 @@ impl From<ValueFault> for Fault {
     }
 }
 
-impl From<HalfRefusal> for Fault {
-    fn from(refusal: HalfRefusal) -> Fault {
+impl From<SharedRefusal> for Fault {
+    fn from(refusal: SharedRefusal) -> Fault {
         Fault::Open(refusal)
     }
 }

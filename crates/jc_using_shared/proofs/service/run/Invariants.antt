@@ -1,16 +1,12 @@
-use Rattle.jc_locked.specs.Stated.{stated_by_hand}
+use Rattle.std.specs.Prelude.{Err}
+use Rattle.std.proofs.Common.{map}
+use Rattle.jc_hooks.specs.declared.loader.Loaded.TheVariants.{Failed}
+use Rattle.jc_locked.specs.Stated.{stated_by}
 use Rattle.jc_using_shared.proofs.service.run.Given as goal
 
-abbrev pub ghosts-run_named-A-Name : goal.ghosts-run_named-A-Name
-ghosts-run_named-A-Name g a = record {
-  configs = a.store.twins.left.configs;
-  stated = stated_by_hand a.store.twins.left.shared;
-  index = a.store.twins.left.index;
-}
-
-abbrev pub ghosts-run_named-B-Name : goal.ghosts-run_named-B-Name
-ghosts-run_named-B-Name g a = record {
-  configs = a.store.twins.right.configs;
-  stated = stated_by_hand a.store.twins.right.shared;
-  index = a.store.twins.right.index;
+abbrev pub ghosts-run_named : goal.ghosts-run_named
+ghosts-run_named g a = record {
+  configs = a.unnamed.configs;
+  stated = map (stated_by (λ _ _. Failed) (λ _ _ _. Err (record {}))) a.unnamed.shared;
+  index = a.unnamed.index;
 }
