@@ -79,26 +79,31 @@ pub fn open_two<J: Keeping>(
 {
     let (left, right) = match dealing.deal(alloc, level, configs) {
         Ok(halves) => halves,
-        Err(_) => return Err(refused(false, SharedRefusal::OutOfMemory)),
+        Err(_) => {
+            return Err(HalfRefusal {
+                right: false,
+                refusal: SharedRefusal::OutOfMemory,
+            });
+        }
     };
     let left = match open(alloc, left, seed) {
         Ok(left) => left,
         Err(refusal) => {
             drop(right);
-            return Err(refused(false, refusal));
+            return Err(HalfRefusal {
+                right: false,
+                refusal,
+            });
         }
     };
     match open(alloc, right, seed) {
         Ok(right) => Ok(Twins { left, right }),
         Err(refusal) => {
             drop(left);
-            Err(refused(true, refusal))
+            Err(HalfRefusal {
+                right: true,
+                refusal,
+            })
         }
     }
-}
-
-fn refused(right: bool, refusal: SharedRefusal) -> HalfRefusal
-    ensures { result ≡ record { right = right; refusal = refusal } }
-{
-    HalfRefusal { right, refusal }
 }
