@@ -14,10 +14,16 @@ IsRefusal configs (Caches why) = open_refusal configs ≡ Some why
 IsRefusal configs (HooksDiffer cache) = ⊥
 IsRefusal configs OutOfMemory = ⊤
 
+-- a manager has these caches, with which one opens, and places rows under this seed
+pub record HasOpened {L P : Type 0} (configs : List CacheConfig) (seed : ℕ) (manager : HandedIn L P) : Type 0 where
+  pub configs_are : manager.configs ≡ configs
+  pub opens : open_refusal configs ≡ None
+  pub seed_is : manager.seed ≡ seed
+
 -- the first has the caches of the left half at a level, the second those of the right
-pub record AreHalves {L P M Q : Type 0} (dealing level : ℕ) (configs : List CacheConfig) (left : HandedIn L P) (right : HandedIn M Q) : Type 0 where
-  pub left_are : left.configs ≡ of_left dealing level configs
-  pub right_are : right.configs ≡ of_right dealing level configs
+pub record AreHalves {L P M Q : Type 0} (dealing level : ℕ) (configs : List CacheConfig) (seed : ℕ) (left : HandedIn L P) (right : HandedIn M Q) : Type 0 where
+  pub left_has : HasOpened (of_left dealing level configs) seed left
+  pub right_has : HasOpened (of_right dealing level configs) seed right
 
 -- one of the halves is refused, the right only where nothing is wrong with the left
 abbrev pub IsHalfRefusal : ℕ → ℕ → List CacheConfig → HalfRefusal → Type 0

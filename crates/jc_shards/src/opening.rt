@@ -1,9 +1,8 @@
 //! Opening managers whose callbacks nobody asks, and of which each has some of the caches.
-ghost use Rattle.std.specs.Prelude.{◌≡◌, None, IfOk, IfErr, OnOk};
-ghost use Rattle.jc_engine.specs.Opening.{open_refusal};
+ghost use Rattle.std.specs.Prelude.{IfOk, IfErr};
 ghost use Rattle.jc_hooks.specs.declared.unasked.Unasked.{Unasked as Silent};
 ghost use Rattle.jc_hooks.specs.Suits.{AllSuit};
-ghost use Rattle.jc_shards.specs.Dealt.{AreHalves, IsHalfRefusal, IsRefusal};
+ghost use Rattle.jc_shards.specs.Dealt.{AreHalves, HasOpened, IsHalfRefusal, IsRefusal};
 
 use jc_dealing::Dealing;
 use jc_hooks::{Unasked, UnaskedHooks, hooks_by_hand};
@@ -49,9 +48,7 @@ pub fn open<J: Keeping>(
     configs: Vec<CacheConfig>,
     seed: u64,
 ) -> Result<Unnamed<J>, SharedRefusal>
-    ensures configs { IfOk result (λ s. s.configs ≡ configs.items) }
-    ensures seed { IfOk result (λ s. s.seed ≡ seed) }
-    ensures opens { OnOk result (open_refusal configs.items ≡ None) }
+    ensures opened { IfOk result (HasOpened configs.items seed) }
     ensures refused { IfErr result (IsRefusal configs.items) }
 {
     match hooks_of(alloc, configs.as_slice()) {
@@ -63,7 +60,7 @@ pub fn open<J: Keeping>(
     }
 }
 
-/// Two managers of the caches that the dealing gives each half at this level.
+/// Two managers of the caches that the dealing gives each half at this level. The seed picks the places in both tables.
 ///
 /// Refused as `open` of the left half, then of the right; memory may be refused before the caches are looked at.
 pub fn open_two<J: Keeping>(
@@ -74,7 +71,7 @@ pub fn open_two<J: Keeping>(
     seed: u64,
 ) -> Result<Twins<J>, HalfRefusal>
     ensures dealt { IfOk result (λ twins.
-        AreHalves dealing level configs.items twins.left twins.right) }
+        AreHalves dealing level configs.items seed twins.left twins.right) }
     ensures refused { IfErr result (IsHalfRefusal dealing level configs.items) }
 {
     let (left, right) = match dealing.deal(alloc, level, configs) {
