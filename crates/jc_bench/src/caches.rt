@@ -6,7 +6,7 @@ use jc_model::call::Call;
 use jc_model::config::{CacheConfig, Policy};
 use jc_model::key::Key;
 use jc_model::value::Value;
-use jc_shards::{Caches, Dealing, Quota, Twins, find, open_two};
+use jc_shards::{Caches, Dealing, Quota, find};
 use std::alloc::Global;
 use std::sync::Wait;
 
@@ -63,23 +63,6 @@ pub fn dealt_evenly(alloc: Global, caches: u32, managers: Managers) -> Result<Pl
         configs.push(plain_cache(alloc, *name, capacity, Policy::Eternal))?;
     }
     Ok(Planned { configs, dealing })
-}
-
-/// Two times two managers.
-pub fn opened_four(
-    alloc: Global,
-    dealing: Dealing,
-    configs: Vec<CacheConfig>,
-) -> Result<(Twins, Twins), Fault> {
-    let (left, right) = dealing.deal(alloc, 0, configs)?;
-    let left = open_two(alloc, dealing, 1, left, SEED)?;
-    match open_two(alloc, dealing, 1, right, SEED) {
-        Ok(right) => Ok((left, right)),
-        Err(refusal) => {
-            drop(left);
-            Err(Fault::from(refusal))
-        }
-    }
 }
 
 /// The key with this front and number.

@@ -3,7 +3,7 @@ use clap::Error;
 use jc_model::OutOfMemory;
 use jc_model::key::KeyFault;
 use jc_model::value::ValueFault;
-use jc_shards::HalfRefusal;
+use jc_shards::{HalfRefusal, QuarterRefusal};
 use jc_shared::{CallFault, SessionRefusal, SharedRefusal};
 use std::alloc::AllocFailed;
 use std::io;
@@ -94,6 +94,12 @@ impl From<SharedRefusal> for Fault {
 
 impl From<HalfRefusal> for Fault {
     fn from(_: HalfRefusal) -> Fault {
+        Fault::Refused
+    }
+}
+
+impl From<QuarterRefusal> for Fault {
+    fn from(_: QuarterRefusal) -> Fault {
         Fault::Refused
     }
 }

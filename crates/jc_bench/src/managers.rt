@@ -2,13 +2,17 @@
 //!
 //! What names one is generic in its journal: that a journal may go to another thread is a bound there, and for the
 //! prover nothing to search for.
+ghost use Rattle.std.specs.Prelude.{◌≡◌};
 ghost use Rattle.jc_shards.specs.Naming.{IsUnder};
+ghost use Rattle.jc_shards.specs.Sharded.{four_told_by};
 
-use crate::caches::{Planned, SEED, dealt_evenly, opened_four};
+use crate::caches::{Planned, SEED, dealt_evenly};
 use crate::fault::Fault;
 use crate::jobs::{Done, Run, time_threads};
 use crate::words::{Kind, Managers, Size};
-use jc_shards::{Both, One, Seats, Twins, Unnamed, open, open_two};
+use jc_shards::{
+    Both, One, Quarters, Seats, ShardNames, Twins, Unasking, Unnamed, open, open_four, open_two,
+};
 use jc_shared::{AllCalls, Keeping, Name, OpenCalls, OwnCalls};
 use std::alloc::Global;
 use std::marker::Brand;
@@ -49,101 +53,22 @@ where
     played_one::<Brand, J, R>(rt, alloc, unnamed, run)
 }
 
-/// Over a pair, and two more beside it, as one.
-fn time_beside<
-    S: Seats + Send + Sync,
-    A: Seats + Send + Sync,
-    B: Seats + Send + Sync,
-    R: Threads + Wait + Clock + CpuClock + Sync,
->(rt: &R, alloc: Global, pair: &S, (left, right): (&A, &B), run: Run) -> Result<Vec<Done>, Fault> {
-    let seats = Both {
-        left: pair,
-        right: &Both { left, right },
-    };
-    time_threads(rt, alloc, &seats, run)
-}
-
-/// Over a pair, and two managers beside it under these names.
-fn played_beside<
-    S: Seats + Send + Sync,
-    A: Name + Send + Sync,
-    B: Name + Send + Sync,
-    J: Keeping + Send,
-    R: Threads + Wait + Clock + CpuClock + Sync,
->(rt: &R, alloc: Global, pair: &S, twins: Twins<J>, run: Run) -> Result<Vec<Done>, Fault>
-where
-    J::Own: Send,
-    J::Held: Send,
-    <J::Own as OwnCalls>::Kept: Send,
-    requires left { IsUnder twins.left A.configs A.stated A.index }
-    requires right { IsUnder twins.right B.configs B.stated B.index }
-{
-    let Twins { left, right } = twins;
-    let (left, right) = (left.named::<A>(), right.named::<B>());
-    let done = time_beside(
-        rt,
-        alloc,
-        pair,
-        (&One { manager: &left }, &One { manager: &right }),
-        run,
-    );
-    left.discard();
-    right.discard();
-    done
-}
-
-/// The same, under names that this call picks.
-fn named_beside<
-    S: Seats + Send + Sync,
-    J: Keeping + Send,
-    R: Threads + Wait + Clock + CpuClock + Sync,
->(rt: &R, alloc: Global, pair: &S, twins: Twins<J>, run: Run) -> Result<Vec<Done>, Fault>
-where
-    J::Own: Send,
-    J::Held: Send,
-    <J::Own as OwnCalls>::Kept: Send,
-{
-    played_beside::<S, Brand, Brand, J, R>(rt, alloc, pair, twins, run)
-}
-
-/// Over two as one, and two more beside them where there are any.
+/// Over two as one.
 fn time_two<
     A: Seats + Send + Sync,
     B: Seats + Send + Sync,
-    J: Keeping + Send,
     R: Threads + Wait + Clock + CpuClock + Sync,
->(
-    rt: &R,
-    alloc: Global,
-    (left, right): (&A, &B),
-    others: Option<Twins<J>>,
-    run: Run,
-) -> Result<Vec<Done>, Fault>
-where
-    J::Own: Send,
-    J::Held: Send,
-    <J::Own as OwnCalls>::Kept: Send,
-{
-    let pair = Both { left, right };
-    match others {
-        Some(others) => named_beside(rt, alloc, &pair, others, run),
-        None => time_threads(rt, alloc, &pair, run),
-    }
+>(rt: &R, alloc: Global, (left, right): (&A, &B), run: Run) -> Result<Vec<Done>, Fault> {
+    time_threads(rt, alloc, &Both { left, right }, run)
 }
 
-/// Over two managers under these names, and two more beside them where there are any.
+/// Over two managers under these names.
 fn played_two<
     A: Name + Send + Sync,
     B: Name + Send + Sync,
     J: Keeping + Send,
     R: Threads + Wait + Clock + CpuClock + Sync,
->(
-    rt: &R,
-    alloc: Global,
-    twins: Twins<J>,
-    others: Option<Twins<J>>,
-    run: Run,
-) -> Result<Vec<Done>, Fault>
+>(rt: &R, alloc: Global, twins: Twins<J>, run: Run) -> Result<Vec<Done>, Fault>
 where
     J::Own: Send,
     J::Held: Send,
@@ -157,7 +82,6 @@ where
         rt,
         alloc,
         (&One { manager: &left }, &One { manager: &right }),
-        others,
         run,
     );
     left.discard();
@@ -170,10 +94,106 @@ fn named_two<R: Threads + Wait + Clock + CpuClock + Sync>(
     rt: &R,
     alloc: Global,
     twins: Twins,
-    others: Option<Twins>,
     run: Run,
 ) -> Result<Vec<Done>, Fault> {
-    played_two::<Brand, Brand, OpenCalls, R>(rt, alloc, twins, others, run)
+    played_two::<Brand, Brand, OpenCalls, R>(rt, alloc, twins, run)
+}
+
+/// Over a pair, and two more beside it, as one.
+fn time_beside<
+    S: Seats + Send + Sync,
+    A: Seats + Send + Sync,
+    B: Seats + Send + Sync,
+    R: Threads + Wait + Clock + CpuClock + Sync,
+>(rt: &R, alloc: Global, pair: &S, (left, right): (&A, &B), run: Run) -> Result<Vec<Done>, Fault> {
+    time_two(rt, alloc, (pair, &Both { left, right }), run)
+}
+
+/// Over a pair, and two shards beside it.
+fn time_right<
+    S: Seats + Send + Sync,
+    A: Name + Send + Sync,
+    B: Name + Send + Sync,
+    J: Keeping + Send,
+    R: Threads + Wait + Clock + CpuClock + Sync,
+>(
+    rt: &R,
+    alloc: Global,
+    pair: &S,
+    (left, right): (&Unasking<A, J>, &Unasking<B, J>),
+    run: Run,
+) -> Result<Vec<Done>, Fault>
+where
+    J::Own: Send,
+    J::Held: Send,
+    <J::Own as OwnCalls>::Kept: Send,
+{
+    time_beside(
+        rt,
+        alloc,
+        pair,
+        (&One { manager: left }, &One { manager: right }),
+        run,
+    )
+}
+
+/// Over two, and two shards beside them.
+fn time_left<
+    A: Seats + Send + Sync,
+    B: Seats + Send + Sync,
+    C: Name + Send + Sync,
+    D: Name + Send + Sync,
+    J: Keeping + Send,
+    R: Threads + Wait + Clock + CpuClock + Sync,
+>(
+    rt: &R,
+    alloc: Global,
+    (left, right): (&A, &B),
+    others: (&Unasking<C, J>, &Unasking<D, J>),
+    run: Run,
+) -> Result<Vec<Done>, Fault>
+where
+    J::Own: Send,
+    J::Held: Send,
+    <J::Own as OwnCalls>::Kept: Send,
+{
+    time_right(rt, alloc, &Both { left, right }, others, run)
+}
+
+/// Over a manager of four shards under this name.
+fn played_four<
+    N: ShardNames + Send + Sync,
+    J: Keeping + Send,
+    R: Threads + Wait + Clock + CpuClock + Sync,
+>(rt: &R, alloc: Global, quarters: Quarters<J>, run: Run) -> Result<Vec<Done>, Fault>
+where
+    J::Own: Send,
+    J::Held: Send,
+    <J::Own as OwnCalls>::Kept: Send,
+    requires { four_told_by quarters.left.left quarters.left.right quarters.right.left
+        quarters.right.right ≡ N.shards }
+{
+    let manager = quarters.named::<N>();
+    let (first, second, third, fourth) = manager.shards();
+    let done = time_left(
+        rt,
+        alloc,
+        (&One { manager: first }, &One { manager: second }),
+        (third, fourth),
+        run,
+    );
+    manager.discard();
+    done
+}
+
+/// The same over shards that keep their open calls alone, under a name that this call picks.
+fn named_four<R: Threads + Wait + Clock + CpuClock + Sync>(
+    rt: &R,
+    alloc: Global,
+    quarters: Quarters,
+    run: Run,
+) -> Result<Vec<Done>, Fault> {
+    played_four::<Brand, OpenCalls, R>(rt, alloc, quarters, run)
 }
 
 /// Over one manager that keeps its open calls alone.
@@ -203,13 +223,7 @@ pub fn play<R: Threads + Wait + Clock + CpuClock + Sync>(
     match managers {
         Managers::AllCalls => named_one::<AllCalls, R>(rt, alloc, open(alloc, configs, SEED)?, run),
         Managers::OpenCalls => play_open(rt, alloc, open(alloc, configs, SEED)?, run),
-        Managers::Two => {
-            let twins = open_two(alloc, dealing, 0, configs, SEED)?;
-            named_two(rt, alloc, twins, None, run)
-        }
-        Managers::Four => {
-            let (twins, others) = opened_four(alloc, dealing, configs)?;
-            named_two(rt, alloc, twins, Some(others), run)
-        }
+        Managers::Two => named_two(rt, alloc, open_two(alloc, dealing, 0, configs, SEED)?, run),
+        Managers::Four => named_four(rt, alloc, open_four(alloc, dealing, configs, SEED)?, run),
     }
 }

@@ -80,7 +80,7 @@ pub enum Managers {
     OpenCalls,
     /// Two such.
     Two,
-    /// Four such.
+    /// One of four shards that do.
     Four,
 }
 

@@ -3,4 +3,5 @@ pub mod Dealt
 pub mod Halves
 pub mod Naming
 pub mod Seating
+pub mod Sharded
 pub mod Sharding

@@ -10,8 +10,11 @@ mod caches;
 mod naming;
 mod opening;
 mod pair;
+mod quarters;
 mod seats;
 mod shard;
+mod shard_names;
+mod sharded;
 mod side;
 
 pub use by_hand::CallsByHand;
@@ -20,6 +23,11 @@ pub use jc_dealing::{Dealing, Quota};
 pub use naming::{create, find};
 pub use opening::{HalfRefusal, Twins, Unnamed, open, open_two};
 pub use pair::Pair;
+pub use quarters::{QuarterRefusal, Quarters, open_four};
 pub use seats::{Both, One, Seats};
 pub use shard::{Shard, Unasking};
+pub use shard_names::{FirstOf, FourthOf, SecondOf, ShardNames, ThirdOf};
+pub use sharded::{
+    PairSeat, Sharded, ShardedCall, ShardedId, ShardedManager, ShardedSeat, ShardedSession,
+};
 pub use side::Side;

@@ -1,5 +1,5 @@
 //! Opening managers whose callbacks nobody asks, and of which each has some of the caches.
-ghost use Rattle.std.specs.Prelude.{IfOk, IfErr};
+ghost use Rattle.std.specs.Prelude.{◌≡◌, IfOk, IfErr};
 ghost use Rattle.jc_hooks.specs.declared.unasked.Unasked.{Unasked as Silent};
 ghost use Rattle.jc_hooks.specs.Suits.{AllSuit};
 ghost use Rattle.jc_shards.specs.Dealt.{AreHalves, HasOpened, IsHalfRefusal, IsRefusal};
@@ -60,6 +60,23 @@ pub fn open<J: Keeping>(
     }
 }
 
+/// The same for a half.
+fn open_half<J: Keeping>(
+    alloc: Global,
+    configs: Vec<CacheConfig>,
+    seed: u64,
+    right: bool,
+) -> Result<Unnamed<J>, HalfRefusal>
+    ensures opened { IfOk result (HasOpened configs.items seed) }
+    ensures half { IfErr result (λ refused. refused.right ≡ right) }
+    ensures refused { IfErr result (λ refused. IsRefusal configs.items refused.refusal) }
+{
+    match open(alloc, configs, seed) {
+        Ok(manager) => Ok(manager),
+        Err(refusal) => Err(HalfRefusal { right, refusal }),
+    }
+}
+
 /// Two managers of the caches that the dealing gives each half at this level. The seed picks the places in both tables.
 ///
 /// Refused as `open` of the left half, then of the right; memory may be refused before the caches are looked at.
@@ -74,33 +91,18 @@ pub fn open_two<J: Keeping>(
         AreHalves dealing level configs.items seed twins.left twins.right) }
     ensures refused { IfErr result (IsHalfRefusal dealing level configs.items) }
 {
-    let (left, right) = match dealing.deal(alloc, level, configs) {
-        Ok(halves) => halves,
-        Err(_) => {
-            return Err(HalfRefusal {
-                right: false,
-                refusal: SharedRefusal::OutOfMemory,
-            });
-        }
+    let Ok((left, right)) = dealing.deal(alloc, level, configs) else {
+        return Err(HalfRefusal {
+            right: false,
+            refusal: SharedRefusal::OutOfMemory,
+        });
     };
-    let left = match open(alloc, left, seed) {
-        Ok(left) => left,
-        Err(refusal) => {
-            drop(right);
-            return Err(HalfRefusal {
-                right: false,
-                refusal,
-            });
-        }
-    };
-    match open(alloc, right, seed) {
+    let left = open_half(alloc, left, seed, false)?;
+    match open_half(alloc, right, seed, true) {
         Ok(right) => Ok(Twins { left, right }),
-        Err(refusal) => {
+        Err(refused) => {
             drop(left);
-            Err(HalfRefusal {
-                right: true,
-                refusal,
-            })
+            Err(refused)
         }
     }
 }

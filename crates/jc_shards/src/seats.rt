@@ -25,7 +25,7 @@ pub trait Seats {
     /// Of what refuses one.
     ghost Refuses: { Refused → Type 0 };
 
-    /// A new seat, as `Manager::session` of each manager: the first refusal is told.
+    /// A new seat, as `Manager::session` of each manager. Where one refuses, its refusal is told.
     fn seat<R: Wait>(&self, rt: &R) -> Result<Self::Seat, SessionRefusal>
         ensures new { IfOk result IsNew }
         ensures refused { IfErr result Refuses };

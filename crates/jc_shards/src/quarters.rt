@@ -1,0 +1,82 @@
+//! Opening four managers, between which caches are dealt out.
+ghost use Rattle.std.specs.Prelude.{◌≡◌, IfOk, IfErr};
+ghost use Rattle.jc_shards.specs.Dealt.{AreHalves, IsHalfRefusal};
+ghost use Rattle.jc_shards.specs.Sharded.{AreQuarters, IsQuarterRefusal};
+
+use crate::opening::{HalfRefusal, Twins, open_two};
+use jc_dealing::Dealing;
+use jc_model::config::CacheConfig;
+use jc_shared::{Keeping, OpenCalls, SharedRefusal};
+use std::alloc::Global;
+
+/// Four managers before they have a name, and the dealing by which they have their caches.
+#[derive(Drop)]
+pub struct Quarters<J: Keeping = OpenCalls> {
+    pub dealing: Dealing,
+    pub left: Twins<J>,
+    pub right: Twins<J>,
+}
+
+/// Why four managers do not open: which half of them is refused, and why.
+#[derive(Debug, Drop, PartialEq, Eq)]
+pub struct QuarterRefusal {
+    pub right: bool,
+    pub half: HalfRefusal,
+}
+
+/// The two managers of a half.
+fn open_pair<J: Keeping>(
+    alloc: Global,
+    dealing: Dealing,
+    configs: Vec<CacheConfig>,
+    seed: u64,
+    right: bool,
+) -> Result<Twins<J>, QuarterRefusal>
+    ensures dealt { IfOk result (λ twins.
+        AreHalves dealing 1 configs.items seed twins.left twins.right) }
+    ensures half { IfErr result (λ refused. refused.right ≡ right) }
+    ensures refused { IfErr result (λ refused. IsHalfRefusal dealing 1 configs.items refused.half) }
+{
+    match open_two(alloc, dealing, 1, configs, seed) {
+        Ok(twins) => Ok(twins),
+        Err(half) => Err(QuarterRefusal { right, half }),
+    }
+}
+
+/// Four managers of these caches: the dealing's level 0 tells the half, its level 1 the manager there. The seed picks the
+/// places in all tables.
+///
+/// Refused as `open_two` of the left half, then of the right; memory may be refused before the caches are looked at.
+pub fn open_four<J: Keeping>(
+    alloc: Global,
+    dealing: Dealing,
+    configs: Vec<CacheConfig>,
+    seed: u64,
+) -> Result<Quarters<J>, QuarterRefusal>
+    ensures dealing { IfOk result (λ four. four.dealing ≡ dealing) }
+    ensures dealt { IfOk result (λ four. AreQuarters dealing configs.items seed
+        four.left.left four.left.right four.right.left four.right.right) }
+    ensures refused { IfErr result (IsQuarterRefusal dealing configs.items) }
+{
+    let Ok((left, right)) = dealing.deal(alloc, 0, configs) else {
+        return Err(QuarterRefusal {
+            right: false,
+            half: HalfRefusal {
+                right: false,
+                refusal: SharedRefusal::OutOfMemory,
+            },
+        });
+    };
+    let left = open_pair(alloc, dealing, left, seed, false)?;
+    match open_pair(alloc, dealing, right, seed, true) {
+        Ok(right) => Ok(Quarters {
+            dealing,
+            left,
+            right,
+        }),
+        Err(refused) => {
+            drop(left);
+            Err(refused)
+        }
+    }
+}
