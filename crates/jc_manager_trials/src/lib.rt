@@ -1,5 +1,5 @@
 //! Trials of what files can't give, of managers: refusals that no configuration and no script meets, limits, sessions of
-//! a shared manager, several managers as one, and lookups beside the lock.
+//! a shared manager, and lookups beside the lock.
 #![tactic(auto)]
 
 #[cfg(test)]
@@ -14,5 +14,3 @@ mod manager;
 mod seats;
 #[cfg(test)]
 mod seeking;
-#[cfg(test)]
-mod shards;

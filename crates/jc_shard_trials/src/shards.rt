@@ -17,11 +17,11 @@ use std::sync::Wait;
 type Half<N> = Unasking<N, OpenCalls>;
 
 /// The seed of the dealing. Under 0 and 1 both of `NAMES` go to one half.
-const SEED: u64 = 2;
+pub const SEED: u64 = 2;
 
 /// A name for each half, the left first. Where names go is told by the `DefaultHasher` of Rust's own std over the seed's
 /// eight bytes and the name's: its hash is even or odd.
-static NAMES: [&str; 2] = ["b", "a"];
+pub static NAMES: [&str; 2] = ["b", "a"];
 
 /// The caches of the opening, that of the left half first.
 static OPENED: [&str; 2] = ["users", "orders"];

@@ -1,5 +1,5 @@
 use Rattle.jc_locked.specs.Stated.{stated_by_hand}
-use Rattle.jc_manager_trials.proofs.shards.observe.Given as goal
+use Rattle.jc_shard_trials.proofs.shards.observe.Given as goal
 
 abbrev pub ghosts-named-A-Name : goal.ghosts-named-A-Name
 ghosts-named-A-Name g a = record {
