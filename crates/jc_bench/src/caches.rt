@@ -1,12 +1,12 @@
-//! The managers that are measured: caches without callbacks, filled.
+//! The caches that are measured: how they come to be, and what they are filled with.
 use crate::fault::Fault;
 use crate::words::{Managers, Size};
-use jc_config::plain_cache;
+use jc_hooks::hooks_by_hand;
 use jc_model::call::Call;
-use jc_model::config::{CacheConfig, Policy};
+use jc_model::config::CacheConfig;
 use jc_model::key::Key;
 use jc_model::value::Value;
-use jc_shards::{Caches, Dealing, Quota, find};
+use jc_shards::{Caches, Dealing, Quota, create, find};
 use std::alloc::Global;
 use std::sync::Wait;
 
@@ -31,13 +31,6 @@ const CACHE: &str = "cache";
 /// How often a dealing is sought.
 const TRIES: u32 = 100_000;
 
-/// Caches before there are managers that have them.
-#[derive(Drop)]
-pub struct Planned {
-    pub configs: Vec<CacheConfig>,
-    pub dealing: Dealing,
-}
-
 /// Caches one behind the other, by number.
 #[derive(Clone, Copy)]
 pub struct Span {
@@ -45,8 +38,8 @@ pub struct Span {
     pub count: u32,
 }
 
-/// So many caches, dealt out evenly to these managers.
-pub fn dealt_evenly(alloc: Global, caches: u32, managers: Managers) -> Result<Planned, Fault> {
+/// A dealing by which so many caches are dealt out evenly to these managers.
+pub fn even_dealing(alloc: Global, caches: u32, managers: Managers) -> Result<Dealing, Fault> {
     let names = numbered(alloc, CACHE, caches)?;
     let (levels, most) = managers.shares(caches);
     let quota = Quota {
@@ -54,15 +47,58 @@ pub fn dealt_evenly(alloc: Global, caches: u32, managers: Managers) -> Result<Pl
         most: most as usize,
     };
     let first = Dealing::new(0);
-    let Some(dealing) = first.first_even(alloc, TRIES, quota, names.as_slice())? else {
-        return Err(Fault::Refused);
-    };
+    match first.first_even(alloc, TRIES, quota, names.as_slice())? {
+        Some(dealing) => Ok(dealing),
+        None => Err(Fault::Refused),
+    }
+}
+
+/// A cache with this name, of which no one asks a callback: all that is asked for is there.
+fn planned(alloc: Global, name: Key, capacity: u32, size: Size) -> CacheConfig {
+    let config = CacheConfig::new(alloc, name, capacity);
+    if size.read_through {
+        config.read_through()
+    } else {
+        config
+    }
+}
+
+/// The caches of a run over these managers.
+fn all_configs(alloc: Global, size: Size, managers: Managers) -> Result<Vec<CacheConfig>, Fault> {
+    let (_, most) = managers.shares(size.caches);
     let capacity = MOST_ROWS.min(CAPACITY / most.max(1));
+    let names = numbered(alloc, CACHE, size.caches)?;
     let mut configs = Vec::with_capacity(alloc, names.len())?;
     for name in &names {
-        configs.push(plain_cache(alloc, *name, capacity, Policy::Eternal))?;
+        configs.push(planned(alloc, *name, capacity, size))?;
     }
-    Ok(Planned { configs, dealing })
+    Ok(configs)
+}
+
+/// Those that are there from the opening.
+pub fn opening(alloc: Global, size: Size, managers: Managers) -> Result<Vec<CacheConfig>, Fault> {
+    if size.created {
+        return Ok(Vec::new(alloc));
+    }
+    all_configs(alloc, size, managers)
+}
+
+/// Creates them where the dealing has them.
+pub fn create_all<C: Caches, R: Wait>(
+    rt: &R,
+    alloc: Global,
+    seat: &C,
+    dealing: Dealing,
+    (size, managers): (Size, Managers),
+) -> Result<(), Fault> {
+    for config in all_configs(alloc, size, managers)? {
+        let hooks = hooks_by_hand(alloc, &config)?;
+        if let Err(refused) = create(seat, rt, dealing, config, hooks) {
+            drop(refused);
+            return Err(Fault::Refused);
+        }
+    }
+    Ok(())
 }
 
 /// The key with this front and number.

@@ -1,9 +1,9 @@
 //! The threads of a run, each with a session of its own.
 use crate::asking::{Counts, Task, WRITTEN, ask_often, write_meanwhile};
-use crate::caches::{Span, fill, found, numbered};
+use crate::caches::{Span, create_all, fill, found, numbered};
 use crate::fault::Fault;
 use crate::timing::Moment;
-use crate::words::{Kind, Size};
+use crate::words::{Kind, Managers, Size};
 use jc_model::key::Key;
 use jc_shards::{Dealing, Seats};
 use std::alloc::Global;
@@ -18,6 +18,7 @@ pub struct Run {
     pub dealing: Dealing,
     pub kind: Kind,
     pub size: Size,
+    pub managers: Managers,
 }
 
 /// What one thread is given.
@@ -185,9 +186,12 @@ fn jobs<'a, S: Seats>(
     Ok(jobs)
 }
 
-/// Fills the caches, in a session that ends with that.
+/// Fills the caches, in a session that ends with that, and creates them first where the opening has none.
 fn fill_caches<S: Seats, R: Wait>(rt: &R, alloc: Global, seats: &S, run: Run) -> Result<(), Fault> {
     let mut seat = seats.seat(rt)?;
+    if run.size.created {
+        create_all(rt, alloc, &seat, run.dealing, (run.size, run.managers))?;
+    }
     let caches = found(rt, alloc, &seat, run.dealing, all_caches(run.size))?;
     fill(rt, alloc, &mut seat, caches.as_slice(), run.size)
 }

@@ -6,7 +6,7 @@ ghost use Rattle.std.specs.Prelude.{◌≡◌};
 ghost use Rattle.jc_shards.specs.Naming.{IsUnder};
 ghost use Rattle.jc_shards.specs.Sharded.{four_told_by};
 
-use crate::caches::{Planned, SEED, dealt_evenly};
+use crate::caches::{SEED, even_dealing, opening};
 use crate::fault::Fault;
 use crate::jobs::{Done, Run, time_threads};
 use crate::words::{Kind, Managers, Size};
@@ -214,11 +214,13 @@ pub fn play<R: Threads + Wait + Clock + CpuClock + Sync>(
     size: Size,
     managers: Managers,
 ) -> Result<Vec<Done>, Fault> {
-    let Planned { configs, dealing } = dealt_evenly(alloc, size.caches, managers)?;
+    let dealing = even_dealing(alloc, size.caches, managers)?;
+    let configs = opening(alloc, size, managers)?;
     let run = Run {
         dealing,
         kind,
         size,
+        managers,
     };
     match managers {
         Managers::AllCalls => named_one::<AllCalls, R>(rt, alloc, open(alloc, configs, SEED)?, run),

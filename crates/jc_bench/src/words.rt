@@ -69,6 +69,10 @@ pub struct Size {
     pub apart: bool,
     /// Whether some rows are in the table's stash.
     pub stashed: bool,
+    /// Whether a session creates the caches, in place of the opening.
+    pub created: bool,
+    /// Whether the caches would load what is missing.
+    pub read_through: bool,
 }
 
 /// Over which managers a run goes.
@@ -105,14 +109,46 @@ pub struct Asked {
     pub counts: bool,
 }
 
-/// An option that takes a number within these limits.
-fn number<'a>(
-    alloc: Global,
-    name: &'a str,
-    help: &'a str,
-    limits: (i64, i64),
-    default: &'a str,
-) -> Arg<'a> {
+/// An option that takes a number: its name, what it says of itself, the limits, and the number where none is named.
+type Number = (&'static str, &'static str, (i64, i64), &'static str);
+
+/// The options that take a number, in the order of their help.
+static NUMBERS: [Number; 7] = [
+    ("caches", "Caches", (1, 64), "1"),
+    ("rows", "Rows of each cache", (1, 65_000), "1000"),
+    ("threads", "Threads that do it", (1, 32), "1"),
+    ("writers", "Threads that write meanwhile", (0, 8), "0"),
+    (
+        "calls",
+        "How often each thread does it",
+        (1, 100_000_000),
+        "100000",
+    ),
+    (
+        "between",
+        "Steps of the processor's pause after each",
+        (0, 1_000_000),
+        "0",
+    ),
+    (
+        "sessions",
+        "How many sessions each thread has, one after the other",
+        (1, 1_000_000),
+        "1",
+    ),
+];
+
+/// The options that are there or not, and what each says of itself.
+static FLAGS: [(&str, &str); 6] = [
+    ("apart", "Each thread asks a cache of its own"),
+    ("open", "The manager keeps the open calls alone"),
+    ("stashed", "Some rows are in the table's stash"),
+    ("created", "A session creates the caches"),
+    ("read-through", "The caches would load what is missing"),
+    ("counts", "Print no times"),
+];
+
+fn number<'a>(alloc: Global, (name, help, limits, default): Number) -> Arg<'a> {
     Arg::new(alloc, name)
         .long(name)
         .value_name("N")
@@ -122,8 +158,7 @@ fn number<'a>(
         .default_value(default)
 }
 
-/// An option that is there or not.
-fn flag<'a>(alloc: Global, name: &'a str, help: &'a str) -> Arg<'a> {
+fn flag<'a>(alloc: Global, (name, help): (&'static str, &'static str)) -> Arg<'a> {
     Arg::new(alloc, name)
         .long(name)
         .help(help)
@@ -150,45 +185,17 @@ fn command<'a>(alloc: Global) -> Result<Command<'a>, AllocError> {
         .required(true)
         .num_args(1..)
         .value_parser(KINDS.as_slice());
-    Command::new(alloc, "jc_bench")
+    let mut command = Command::new(alloc, "jc_bench")
         .about("Lookups and calls of a shared manager by many threads")
         .arg(kinds)?
-        .arg(number(alloc, "caches", "Caches", (1, 64), "1"))?
-        .arg(number(alloc, "rows", "Rows of each cache", (1, 65_000), "1000"))?
-        .arg(number(alloc, "threads", "Threads that do it", (1, 32), "1"))?
-        .arg(number(
-            alloc,
-            "writers",
-            "Threads that write meanwhile",
-            (0, 8),
-            "0",
-        ))?
-        .arg(number(
-            alloc,
-            "calls",
-            "How often each thread does it",
-            (1, 100_000_000),
-            "100000",
-        ))?
-        .arg(number(
-            alloc,
-            "between",
-            "Steps of the processor's pause after each",
-            (0, 1_000_000),
-            "0",
-        ))?
-        .arg(number(
-            alloc,
-            "sessions",
-            "How many sessions each thread has, one after the other",
-            (1, 1_000_000),
-            "1",
-        ))?
-        .arg(flag(alloc, "apart", "Each thread asks a cache of its own"))?
-        .arg(flag(alloc, "open", "The manager keeps the open calls alone"))?
-        .arg(shards(alloc))?
-        .arg(flag(alloc, "stashed", "Some rows are in the table's stash"))?
-        .arg(flag(alloc, "counts", "Print no times"))
+        .arg(shards(alloc))?;
+    for option in NUMBERS {
+        command = command.arg(number(alloc, option))?;
+    }
+    for option in FLAGS {
+        command = command.arg(flag(alloc, option))?;
+    }
+    Ok(command)
 }
 
 fn size_of(matches: &ArgMatches<'_>) -> Option<Size> {
@@ -202,6 +209,8 @@ fn size_of(matches: &ArgMatches<'_>) -> Option<Size> {
         sessions: matches.get_one::<u32>("sessions")?,
         apart: matches.get_flag("apart"),
         stashed: matches.get_flag("stashed"),
+        created: matches.get_flag("created"),
+        read_through: matches.get_flag("read-through"),
     })
 }
 

@@ -1,5 +1,5 @@
 -- The caches of a manager, as its callers see them: by id, where a cache is live or none is.
-use Rattle.std.specs.Prelude.{◌≡◌, ℕ, Bool, false, List, map, option_map, Option, Some, None}
+use Rattle.std.specs.Prelude.{◌≡◌, ◌==◌, ◌&&◌, not, ℕ, Bool, false, List, length, map, option_map, Option, Some, None}
 use Rattle.std.specs.FinMap as table
 use Rattle.jc_model.specs.declared.config.CacheConfig.{CacheConfig}
 use Rattle.jc_model.specs.declared.config.Expiry.{Expiry}
@@ -63,6 +63,14 @@ expiry_in key k = expiry_at key (option_map (λ k. k.progress.state) k)
 abbrev pub IsTableOf : RowMap → List (Option Cache) → Type 0
 IsTableOf rows caches =
     (id : ℕ) (key : List ℕ) → option_map (λ row. row.1) (table.get rows (id, key)) ≡ expiry_in key (at_place caches id)
+
+-- whether a cache has no callbacks, so that its calls make no request
+abbrev pub asks_no_one : CacheConfig → Bool
+asks_no_one c = not c.loader && (not c.writer && ((length c.processors == 0) && (c.listeners == 0)))
+
+abbrev pub asks_no_one_in : Option Cache → Bool
+asks_no_one_in None = false
+asks_no_one_in (Some k) = asks_no_one k.config
 
 -- whether a cache has a live row of this key
 abbrev pub holds_in : ℕ → List ℕ → Option Cache → Bool

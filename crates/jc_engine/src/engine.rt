@@ -3,7 +3,7 @@ ghost use Rattle.std.specs.Prelude.{◌≡◌, IfOk, IfErr, OnOk, OnErr, is_some
 ghost use mathlib.Core.List.{IsPrefix};
 ghost use Rattle.jc_model.specs.declared.event.Event.TheVariants.{Begin, Answer as Answered, GiveUp};
 ghost use Rattle.jc_model.specs.Places.{at_place};
-ghost use Rattle.jc_engine.specs.Caches.{AreSound, IsTableOf, names_of, id_of, holds_in};
+ghost use Rattle.jc_engine.specs.Caches.{AreSound, IsTableOf, asks_no_one, asks_no_one_in, names_of, id_of, holds_in};
 ghost use Rattle.jc_engine.specs.Heard.{IsAnswer, IsFreeAnswer, FreeIsAnswered, LeadsTo};
 ghost use Rattle.jc_engine.specs.Managed.{cache_in};
 ghost use Rattle.jc_engine.specs.Results.{of_begin, of_resume, of_give_up};
@@ -12,6 +12,7 @@ ghost use Rattle.jc_engine.specs.Watching.{SeesCaches, SeesNoMore};
 use crate::cache::Managed;
 use jc_model::OutOfMemory;
 use jc_model::call::{Answer, Call, Notice, Reply};
+use jc_model::config::CacheConfig;
 use jc_model::event::{CacheId, Cause, Step};
 use jc_model::key::Key;
 use jc_model::list::Sequence;
@@ -52,6 +53,16 @@ impl<R: Rows, G: Ring> Model for Engine<R, G> {
     ghost invariant = { λ e. IsManager e.visit (get nat_eq e.caches) e.roster };
 }
 
+/// Whether a cache has no callbacks.
+fn asks_no_one(config: &CacheConfig) -> bool
+    ensures { result ≡ asks_no_one config.now }
+{
+    !config.loader
+        && !config.writer
+        && config.processors.items().is_empty()
+        && config.listeners == 0
+}
+
 impl<R: Rows, G: Ring> Engine<R, G> {
     /// The id of the live cache with this name.
     pub fn cache(&self, name: &Key) -> Option<CacheId>
@@ -72,6 +83,16 @@ impl<R: Rows, G: Ring> Engine<R, G> {
         ensures { result ≡ is_some (at_place self.now id) }
     {
         self.find(id).is_some()
+    }
+
+    /// Whether a live cache has this id and no callbacks: then none of its calls makes a request.
+    pub fn asks_no_one(&self, id: CacheId) -> bool
+        ensures { result ≡ asks_no_one_in (at_place self.now id) }
+    {
+        match self.find(id) {
+            Some(cache) => asks_no_one(cache.state.config()),
+            None => false,
+        }
     }
 
     /// The names of the live caches, in order of id.

@@ -10,7 +10,7 @@ ghost use Rattle.jc_model.specs.declared.event.Event.TheVariants.{Begin, Answer 
 ghost use Rattle.jc_model.specs.declared.event.Outcome.TheVariants.{Step as Stepped};
 ghost use Rattle.jc_model.specs.Places.{at_place};
 ghost use Rattle.jc_recorded.specs.Recording.{blank};
-ghost use Rattle.jc_engine.specs.Caches.{lives_of};
+ghost use Rattle.jc_engine.specs.Caches.{asks_no_one_in, lives_of};
 ghost use Rattle.jc_recorded.specs.Results.{reply_in};
 ghost use Rattle.jc_locked.specs.Admitting.{Admits};
 ghost use Rattle.jc_locked.specs.Calls.{EntryIsLast, CallGoesOn, CallGoesOnTo, IsBeginFault};
@@ -290,6 +290,13 @@ impl<N: Name, J: Keeping> Locked<N, J> {
             (at : ℕ) (call : Called) → Refuses N.configs (Begin id at call) NoSuchCache }
     {
         self.recorded.is_live(id)
+    }
+
+    /// Whether a cache has this id and no callbacks: then none of its calls makes a request.
+    pub fn asks_no_one(&self, id: CacheId) -> bool
+        ensures { result ≡ asks_no_one_in (at_place self.now.recorded.caches id) }
+    {
+        self.recorded.asks_no_one(id)
     }
 
     /// Whether a cache has a live row of this key. The pass sees the table as it is now, where memory allows it.

@@ -5,7 +5,7 @@ ghost use Rattle.jc_model.specs.declared.event.Event.TheVariants.{Begin, Answer 
 ghost use Rattle.jc_model.specs.Places.{at_place};
 ghost use Rattle.jc_model.specs.Runs.{opened_from, create_refusal};
 ghost use Rattle.jc_model.specs.Legal.{IsLegal, at_first};
-ghost use Rattle.jc_engine.specs.Caches.{AreSound, IsTableOf, lives_of, names_of, id_of, holds_in};
+ghost use Rattle.jc_engine.specs.Caches.{AreSound, IsTableOf, asks_no_one_in, lives_of, names_of, id_of, holds_in};
 ghost use Rattle.jc_engine.specs.Heard.{IsAnswer, IsFreeAnswer, FindsValue, LeadsTo};
 ghost use Rattle.jc_engine.specs.Opening.{RefusesDue, RefusesNoOther, open_refusal, open_refusal_from};
 ghost use Rattle.jc_engine.specs.Results.{of_found, of_give_up};
@@ -143,6 +143,13 @@ impl<R: Rows, G: Ring, J: Journal> Recorded<R, G, J> {
         ensures told { TellsItsCaches self.now }
     {
         self.engine.is_live(id)
+    }
+
+    /// Whether a live cache has this id and no callbacks: then none of its calls makes a request.
+    pub fn asks_no_one(&self, id: CacheId) -> bool
+        ensures { result ≡ asks_no_one_in (at_place self.now.caches id) }
+    {
+        self.engine.asks_no_one(id)
     }
 
     /// The names of the live caches, in order of id.

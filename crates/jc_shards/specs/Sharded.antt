@@ -4,6 +4,7 @@ use Rattle.atomic_table.specs.Seated.{TableId}
 use Rattle.jc_dealing.specs.Dealing.{of_left, of_right}
 use Rattle.jc_engine.specs.Opening.{open_refusal}
 use Rattle.jc_model.specs.declared.config.CacheConfig.{CacheConfig}
+use Rattle.jc_locked.specs.Living.{HasNoOpenCall, HasOpenCall}
 use Rattle.jc_locked.specs.Opening.{HandedIn}
 use Rattle.jc_locked.specs.Sessions.{Sitting}
 use Rattle.jc_locked.specs.Stated.{Stated, stated_by_hand}
@@ -14,6 +15,7 @@ use Rattle.jc_shards.specs.Seating.{IsSeated}
 use Rattle.jc_shards.specs.Sharding.{Hooks, IsCreation, IsFoundByName}
 use Rattle.jc_shards.specs.declared.quarters.QuarterRefusal.{QuarterRefusal}
 use Rattle.jc_shards.specs.declared.side.Side.{Side}
+use Rattle.jc_shards.specs.declared.side.Side.TheVariants.{Left, Right}
 
 -- each half has the caches that the dealing gives it, dealt out once more
 pub record AreQuarters {L P : Type 0} (dealing : ℕ) (configs : List CacheConfig) (seed : ℕ) (first second third fourth : HandedIn L P) : Type 0 where
@@ -66,6 +68,21 @@ Quarter X = Side (Side X X) (Side X X)
 pub record AreSeated (after : ℕ → Option ℕ) (closes : Bool) (configs others : List CacheConfig) (left right : Sitting) : Type 0 where
   pub in_left : IsSeated after closes configs left
   pub in_right : IsSeated after closes others right
+
+-- no call is open in two shards
+pub record NoneIsOpen (configs others : List CacheConfig) : Type 0 where
+  pub in_left : HasNoOpenCall configs
+  pub in_right : HasNoOpenCall others
+
+-- the first cache of two shards whose call is open: one of the right only where none is open in the left
+abbrev pub IsFirstOpen : List CacheConfig → List CacheConfig → Side ℕ ℕ → Type 0
+IsFirstOpen configs others (Left id) = HasOpenCall configs id
+IsFirstOpen configs others (Right id) = HasNoOpenCall configs × HasOpenCall others id
+
+-- and of four
+abbrev pub IsFirstOpenOfFour : List CacheConfig → List CacheConfig → List CacheConfig → List CacheConfig → Quarter ℕ → Type 0
+IsFirstOpenOfFour first second third fourth (Left id) = IsFirstOpen first second id
+IsFirstOpenOfFour first second third fourth (Right id) = NoneIsOpen first second × IsFirstOpen third fourth id
 
 -- a cache is found in the shard of its name, or is not there
 abbrev pub IsFoundInFour : List CacheConfig → List CacheConfig → List CacheConfig → List CacheConfig → ℕ → List ℕ → Option (Quarter ℕ) → Type 0

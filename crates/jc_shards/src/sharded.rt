@@ -1,8 +1,8 @@
 //! A manager of four shards.
-ghost use Rattle.std.specs.Prelude.{◌≡◌, IfOk, IfErr};
+ghost use Rattle.std.specs.Prelude.{◌≡◌, None, IfSome, IfOk, IfErr, OnOk};
 ghost use Rattle.jc_dealing.specs.Dealing.{spread_of};
 ghost use Rattle.jc_shards.specs.Seating.{IsUnseated};
-ghost use Rattle.jc_shards.specs.Sharded.{four_told_by, AreSeated, IsFoundInFour, IsMadeInFour};
+ghost use Rattle.jc_shards.specs.Sharded.{four_told_by, AreSeated, IsFirstOpen, IsFirstOpenOfFour, IsFoundInFour, IsMadeInFour, NoneIsOpen};
 
 use crate::naming::{create, find};
 use crate::opening::Twins;
@@ -132,7 +132,7 @@ impl<A: Name, B: Name, C: Name, D: Name, J: Keeping> ShardedManager<A, B, C, D, 
         (&self.first, &self.second, &self.third, &self.fourth)
     }
 
-    /// The same, of which each is ended, closed or let go by itself.
+    /// The same by themselves: those that keep all calls are closed one by one.
     pub fn into_shards(
         self,
     ) -> (
@@ -160,6 +160,55 @@ impl<A: Name, B: Name, C: Name, D: Name, J: Keeping> ShardedManager<A, B, C, D, 
     pub fn discard(self) {
         drop(self);
     }
+}
+
+impl<A: Name, B: Name, C: Name, D: Name> ShardedManager<A, B, C, D> {
+    /// The first cache whose call is open, if any is, shard by shard. No session borrows the manager now, so no lock is
+    /// taken.
+    pub fn open_call(&mut self) -> Option<ShardedId>
+        ensures none { result ≡ None →
+            NoneIsOpen A.configs B.configs × NoneIsOpen C.configs D.configs }
+        ensures some { IfSome result (IsFirstOpenOfFour A.configs B.configs C.configs D.configs) }
+    {
+        if let Some(id) = first_open(&mut self.first, &mut self.second) {
+            return Some(Side::Left(id));
+        }
+        let id = first_open(&mut self.third, &mut self.fourth)?;
+        Some(Side::Right(id))
+    }
+
+    /// Ends the manager, where no call is open in any shard. Its sessions have ended before, since they borrow it.
+    ///
+    /// Else the first cache whose call is open is told, and the manager is handed back.
+    pub fn end(mut self) -> Result<(), (ShardedId, ShardedManager<A, B, C, D>)>
+        ensures ended { OnOk result
+            (NoneIsOpen A.configs B.configs × NoneIsOpen C.configs D.configs) }
+        ensures open { IfErr result (λ e.
+            IsFirstOpenOfFour A.configs B.configs C.configs D.configs e.0) }
+    {
+        match self.open_call() {
+            Some(id) => Err((id, self)),
+            None => {
+                drop(self);
+                Ok(())
+            }
+        }
+    }
+}
+
+/// The first cache of two shards whose call is open, if any is.
+fn first_open<A: Name, B: Name>(
+    left: &mut Unasking<A, OpenCalls>,
+    right: &mut Unasking<B, OpenCalls>,
+) -> Option<Side<CacheId, CacheId>>
+    ensures none { result ≡ None → NoneIsOpen A.configs B.configs }
+    ensures some { IfSome result (IsFirstOpen A.configs B.configs) }
+{
+    if let Some(id) = left.open_call() {
+        return Some(Side::Left(id));
+    }
+    let id = right.open_call()?;
+    Some(Side::Right(id))
 }
 
 /// A session of each of two shards.

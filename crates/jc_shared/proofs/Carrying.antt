@@ -31,7 +31,9 @@ use Rattle.jc_locked.specs.Stated.{Stated, AreStated, IsStatedBy}
 use Rattle.jc_locked.specs.Finding.{ok_or_no_processor, entry_ended_by}
 use Rattle.jc_locked.specs.Sessions.{Sitting, Sight}
 use Rattle.jc_locked.specs.Living.{Refuses}
+use Rattle.jc_locked.specs.Pending.{AddsEntry}
 use Rattle.jc_locked.specs.Calls.{EntryIsLast, call_entry, IsSameCall, HasEnded, CallStands, CallEndsFaulty, CallGoesOn, Adds, AddsWaiting, CallFails, MayLackProcessor}
+use Rattle.jc_shared.specs.Progress.{AddsBegun}
 
 -- no answers are stated ones
 no_answers : (h : Option Stated) (call : Call) (answers : List Answer) → answers ≡ [] → AreStated h call answers
@@ -148,23 +150,38 @@ module _ (configs : List CacheConfig) (stated : List Stated) (old new : Sitting)
 
 -- A call that is entered when it has begun.
 
+-- its entry alone is added, which was given no answers
+pub entry_adds : (configs : List CacheConfig) (stated : List Stated) (old new : Sitting) (id at : ℕ) (call : Call) (n : End) → AddsEntry configs old new (record (blank old.number id at call) { end = n }) → Adds configs stated old new id at call n
+entry_adds configs stated old new id at call n h = record { answers = []; told = []; added = h.added; stands = h.stands; answered = no_answers (slice_get stated id) call [] refl }
+
 -- it had its reply at once
-pub replied_adds : (configs : List CacheConfig) (stated : List Stated) (old new : Sitting) (id at : ℕ) (call : Call) (begun : Begun) (step : Step) (second : Option Reply) (reply copy : Reply) → step ≡ Done reply → second ≡ Some copy → second ≡ reply_in step
-    → CallGoesOn configs (blank old.number id at call) step (entry_ended_by second (blank old.number id at call)) new.pass → begun_entry begun ≡ blank old.number id at call → new.calls ≡ old.calls ++ replied_at_once begun copy ∷ [] → Adds configs stated old new id at call (ends.Replied reply)
-replied_adds configs stated old new id at call begun step second reply copy turns is copied goes begins added =
-    let both : Some copy ≡ Some reply = sym is ∙ copied ∙ ap reply_in turns in
-    let same : copy ≡ reply = cc in
+pub replied_entry : (configs : List CacheConfig) (old new : Sitting) (id at : ℕ) (call : Call) (begun : Begun) (step : Step) (second : Option Reply) (reply copy : Reply) → step ≡ Done reply → second ≡ Some copy → second ≡ reply_in step
+    → CallGoesOn configs (blank old.number id at call) step (entry_ended_by second (blank old.number id at call)) new.pass → begun_entry begun ≡ blank old.number id at call → new.calls ≡ old.calls ++ replied_at_once begun copy ∷ []
+    → AddsEntry configs old new (record (blank old.number id at call) { end = ends.Replied reply })
+replied_entry configs old new id at call begun step second reply copy turns is copied goes begins added =
     let draft : Entry = blank old.number id at call in
     let e : Entry = record draft { end = ends.Replied copy } in
     let ends_so : CallGoesOn configs draft step e new.pass = subst (λ (r : Option Reply). CallGoesOn configs draft step (entry_ended_by r draft) new.pass) is goes in
     let here : CallGoesOn configs draft (Done reply) e new.pass = subst (λ (t : Step). CallGoesOn configs draft t e new.pass) turns ends_so in
-    let one_more : new.calls ≡ old.calls ++ e ∷ [] = added ∙ ap (λ (x : Entry). old.calls ++ record x { end = ends.Replied copy } ∷ []) begins in
-    adds configs stated old new id at call draft e refl refl one_more (ends.Replied reply)
-    (record { ended = ap ends.Replied same; stands = here.1; answered = no_answers (slice_get stated e.id) e.call e.answers refl })
+    record {
+      added = added ∙ ap (λ (x : Entry). old.calls ++ record x { end = ends.Replied copy } ∷ []) begins ∙ ap (λ (x : Entry). old.calls ++ x ∷ []) here.0;
+      stands = subst (λ (x : Entry). EntryIsLast configs x new.pass) here.0 here.1;
+    }
 
 -- it waits
 pub waiting_adds : (old new : Sitting) (id at : ℕ) (call : Call) (begun : Begun) → begun_entry begun ≡ blank old.number id at call → new.calls ≡ old.calls ++ begun_entry begun ∷ [] → AddsWaiting old new id at call
 waiting_adds old new id at call begun begins added = record { answers = []; told = []; added = added ∙ ap (λ (x : Entry). old.calls ++ x ∷ []) begins }
+
+-- what it has come to by its first step, at a reply and else
+module _ (configs : List CacheConfig) (stated : List Stated) (old new : Sitting) (id at : ℕ) (call : Call) (begun : Begun) (step : Step) (second : Option Reply) (copied : second ≡ reply_in step) (goes : CallGoesOn configs (blank old.number id at call) step (entry_ended_by second (blank old.number id at call)) new.pass)
+    (begins : begun_entry begun ≡ blank old.number id at call) where
+  pub begun_ok : (r : Result Reply CallFault) → AddsBegun begun step old.calls new.calls r → IfOk r (λ reply. Adds configs stated old new id at call (ends.Replied reply))
+  begun_ok (Ok reply) h = entry_adds configs stated old new id at call (ends.Replied reply) (replied_entry configs old new id at call begun step second reply reply h.0 (copied ∙ ap reply_in h.0) copied goes begins h.1)
+  begun_ok (Err fault) h = tt
+
+  pub begun_err : (r : Result Reply CallFault) → AddsBegun begun step old.calls new.calls r → IfErr r (λ fault. CallFails configs stated old new id at call fault)
+  begun_err (Ok reply) h = tt
+  begun_err (Err fault) h = subst (λ (f : CallFault). CallFails configs stated old new id at call f) (sym h.0) (waiting_adds old new id at call begun begins h.1)
 
 -- it was not accepted
 pub not_accepted : (b : Bool) (fault : CallFault) → Err fault ≡ ok_or_no_processor b → b ≡ false

@@ -1,8 +1,9 @@
 -- How far a session has brought a call.
-use Rattle.std.specs.Prelude.{◌≡◌, ◌⊎◌, ◌++◌, ◌∷◌, [], ℕ, List}
+use Rattle.std.specs.Prelude.{◌≡◌, ◌⊎◌, ◌++◌, ◌∷◌, [], ℕ, List, Result, Ok, Err}
 use Rattle.jc_model.specs.declared.call.Answer.{Answer}
 use Rattle.jc_model.specs.declared.call.Call.{Call}
 use Rattle.jc_model.specs.declared.call.Notice.{Notice}
+use Rattle.jc_model.specs.declared.call.Reply.{Reply}
 use Rattle.jc_model.specs.declared.config.CacheConfig.{CacheConfig}
 use Rattle.jc_model.specs.declared.event.End.{End}
 use Rattle.jc_model.specs.declared.event.End.TheVariants as ends
@@ -11,7 +12,9 @@ use Rattle.jc_model.specs.declared.event.Event.TheVariants as event
 use Rattle.jc_model.specs.declared.event.Step.{Step}
 use Rattle.jc_model.specs.declared.event.Step.TheVariants.{Done, Need}
 use Rattle.jc_model.specs.Asking.{AsksOf}
+use Rattle.jc_recorded.specs.Changed.{begun_entry, replied_at_once}
 use Rattle.jc_recorded.specs.Recording.{blank}
+use Rattle.jc_recorded.specs.declared.journal.change.Begun.{Begun}
 use Rattle.jc_locked.specs.Calls.{IsBeginFault, call_entry}
 use Rattle.jc_locked.specs.Living.{IsMissing}
 use Rattle.jc_locked.specs.declared.fault.CallFault.{CallFault}
@@ -32,6 +35,11 @@ abbrev pub ShowsAs : Sitting → Entry → Step → Sitting → Progress Pending
 ShowsAs old e (Done reply) new (progress.Replied shown) = (shown ≡ reply) × (new ≡ record old { calls = old.calls ++ e ∷ [] })
 ShowsAs old e (Need request) new (progress.Waits p) = (p ≡ record { draft = e; request = request }) × (new ≡ old)
 ShowsAs old e _ new _ = ⊥
+
+-- a call that has begun is added to a list: with its reply, where it has it at once, or as one that waits
+abbrev pub AddsBegun : Begun → Step → List Entry → List Entry → Result Reply CallFault → Type 0
+AddsBegun begun step old new (Ok reply) = (step ≡ Done reply) × (new ≡ old ++ replied_at_once begun reply ∷ [])
+AddsBegun begun step old new (Err fault) = (fault ≡ faults.Overtaken) × (new ≡ old ++ begun_entry begun ∷ [])
 
 -- the session's list has grown by the call of this entry, which was given some answers, has told some notices, and ended so
 pub record AddsCall (configs : List CacheConfig) (old new : Sitting) (e : Entry) (n : End) : Type 0 where

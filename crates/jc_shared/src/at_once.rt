@@ -1,10 +1,15 @@
-//! Calls on caches without callbacks. They have their reply at once, so no entry is made before it.
+//! Calls that have their reply at once, in the one tenure of the manager's lock in which they begin, so that no entry is
+//! made before it: gets that ask no one, and all calls on caches without callbacks.
 ghost use Rattle.std.specs.Prelude.{◌≡◌, None, IfSome, IfOk, IfErr};
 ghost use mathlib.Core.List.{IsPrefix};
 ghost use Rattle.jc_model.specs.declared.call.Reply.TheVariants.{Found};
 ghost use Rattle.jc_model.specs.declared.event.End.TheVariants.{Replied};
+ghost use Rattle.jc_recorded.specs.Recording.{blank};
+ghost use Rattle.jc_recorded.specs.Results.{reply_in};
 ghost use Rattle.jc_locked.specs.Calls.{Adds, CallFails, LacksProcessor, TellsLack};
+ghost use Rattle.jc_locked.specs.Pending.{AddsEntry};
 ghost use Rattle.jc_locked.specs.Stated.{AreCounted};
+ghost use Rattle.jc_shared.specs.Progress.{AddsBegun};
 
 use crate::session::Session;
 use jc_hooks::{Hearer, Loader, Processor, Writer};
@@ -17,7 +22,39 @@ use jc_model::event::{CacheId, Step};
 use jc_model::value::Value;
 use jc_recorded::journal::change::Begun;
 use jc_recorded::recorded::found_in;
+use std::alloc::Global;
 use std::sync::Wait;
+
+/// Adds a call that has begun, and of which this is kept, to a session's own: with its reply, where its first step is
+/// that, else as one that waits. Beside the step stands a copy of the reply.
+pub(crate) fn add_begun<O: OwnCalls>(
+    own: &mut O,
+    alloc: Global,
+    call: (Begun, O::Kept),
+    first: (Step, Option<Reply>),
+) -> Result<Reply, CallFault>
+    requires room { O.HasRoom own.old }
+    requires kept { O.IsOf call.1 call.0.call.value }
+    requires copy { first.1 ≡ reply_in first.0 }
+    ensures { AddsBegun call.0 first.0 (O.calls own.old) (O.calls own.new) result }
+{
+    let (begun, kept) = call;
+    let (step, copy) = first;
+    match step {
+        Step::Done(reply) => match copy {
+            Some(copy) => {
+                own.push_replied(alloc, begun, kept, copy);
+                Ok(reply)
+            }
+            None => unreachable!(),
+        },
+        Step::Need(request) => {
+            drop((request, copy));
+            own.push_waiting(alloc, begun, kept);
+            Err(CallFault::Overtaken)
+        }
+    }
+}
 
 impl<'a, N: Name, L: Loader, W: Writer, P: Processor, K: Hearer, J: Keeping> Session<
     'a,
@@ -28,6 +65,42 @@ impl<'a, N: Name, L: Loader, W: Writer, P: Processor, K: Hearer, J: Keeping> Ses
     K,
     J,
 > {
+    /// Makes a get that has its reply at once, where no entry of it is kept in memory: the value that was found. Of any
+    /// other call nothing, and the session is as it was.
+    pub(crate) fn get_at_once<R: Wait>(
+        &mut self,
+        rt: &R,
+        id: CacheId,
+        now: u64,
+        call: &Call,
+    ) -> Option<Option<Value>>
+        ensures number { self.new.number ≡ self.old.number }
+        ensures some { IfSome result (λ value. AddsEntry N.configs self.old self.new
+            (record (blank self.old.number id now call.now) { end = Replied (Found value) })) }
+        ensures lacks { LacksProcessor N.configs id call.now → result ≡ None }
+        ensures same { result ≡ None → self.new ≡ self.old }
+        ensures front { IsPrefix self.old.pass.images self.new.pass.images }
+    {
+        let Call::Get(_) = call else {
+            return None;
+        };
+        if !self.own.notes() {
+            return None;
+        }
+        let manager = self.manager;
+        let begun = Begun::of(self.origin(id, now), call);
+        let found = manager
+            .locked
+            .lock(rt)
+            .get_at_once(begun.origin, call, &mut self.pass);
+        let value = found?;
+        let reply = Reply::Found(value);
+        if !self.own.note(begun, &reply) {
+            unreachable!()
+        }
+        Some(found_in(reply))
+    }
+
     /// Makes a call on a cache of the opening without callbacks, and so without processors, as `call`.
     pub(crate) fn make_at_once<R: Wait>(
         &mut self,
@@ -51,43 +124,7 @@ impl<'a, N: Name, L: Loader, W: Writer, P: Processor, K: Hearer, J: Keeping> Ses
             drop(call);
             return Err(manager.lack_fault(rt, id, fault));
         }
-        if let Some(value) = self.get_at_once(rt, id, now, &call) {
-            drop(call);
-            return Ok(Reply::Found(value));
-        }
         self.make_kept(rt, id, now, call)
-    }
-
-    /// Makes a get that has its reply at once, where no entry of it is kept in memory: the value that was found. Of any
-    /// other call nothing, and the session is as it was.
-    fn get_at_once<R: Wait>(
-        &mut self,
-        rt: &R,
-        id: CacheId,
-        now: u64,
-        call: &Call,
-    ) -> Option<Option<Value>>
-        ensures number { self.new.number ≡ self.old.number }
-        ensures some { IfSome result (λ value.
-            Adds N.configs N.stated self.old self.new id now call.now (Replied (Found value))) }
-        ensures same { result ≡ None → self.new ≡ self.old }
-        ensures front { IsPrefix self.old.pass.images self.new.pass.images }
-    {
-        if !self.own.notes() || !matches!(call, Call::Get(_)) {
-            return None;
-        }
-        let manager = self.manager;
-        let begun = Begun::of(self.origin(id, now), call);
-        let found = manager
-            .locked
-            .lock(rt)
-            .get_at_once(begun.origin, call, &mut self.pass);
-        let value = found?;
-        let reply = Reply::Found(value);
-        if !self.own.note(begun, &reply) {
-            unreachable!()
-        }
-        Some(found_in(reply))
     }
 
     /// Makes a call that the callbacks accept, of which an entry may be kept. It is never inlined: a get that hits is to
@@ -117,25 +154,11 @@ impl<'a, N: Name, L: Loader, W: Writer, P: Processor, K: Hearer, J: Keeping> Ses
             .locked
             .lock(rt)
             .begin_call(self.number, id, now, call, &mut self.pass);
-        let (step, copy) = match came {
-            Ok(pair) => pair,
+        match came {
+            Ok(pair) => add_begun(&mut self.own, manager.alloc, (begun, kept), pair),
             Err(fault) => {
                 drop((begun, kept));
-                return Err(fault);
-            }
-        };
-        match step {
-            Step::Done(reply) => match copy {
-                Some(copy) => {
-                    self.own.push_replied(manager.alloc, begun, kept, copy);
-                    Ok(reply)
-                }
-                None => unreachable!(),
-            },
-            Step::Need(request) => {
-                drop((request, copy));
-                self.own.push_waiting(manager.alloc, begun, kept);
-                Err(CallFault::Overtaken)
+                Err(fault)
             }
         }
     }

@@ -87,6 +87,11 @@ impl<T> BriefLock<T> {
         mutex.into_inner()
     }
 
+    /// What it guards, for who has the lock itself: no other thread can take it.
+    pub(crate) fn get_mut(&mut self) -> &mut T {
+        self.mutex.get_mut()
+    }
+
     /// Takes the lock where no other thread has it.
     pub(crate) fn try_lock(&self) -> Option<MutexGuard<'_, T>> {
         self.mutex.try_lock()

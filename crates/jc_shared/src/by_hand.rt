@@ -15,15 +15,17 @@ use crate::pending::{PendingCall, Progress};
 use crate::session::{Session, copy_for};
 use jc_hooks::{Hearer, Loader, Processor, Writer};
 use jc_locked::fault::{AnswerFault, CallFault};
+use jc_locked::locked::Locked;
 use jc_locked::name::Name;
-use jc_model::call::{Answer, Call, Notice, Request};
+use jc_model::OutOfMemory;
+use jc_model::call::{Answer, Call, Notice, Reply, Request};
 use jc_model::event::{CacheId, Entry, Step};
 use jc_model::list::Sequence;
 use jc_recorded::journal::blank;
 use jc_recorded::journal::open_calls::OpenCalls;
 use std::alloc::Global;
 use std::mem;
-use std::sync::Wait;
+use std::sync::{MutexGuard, Wait};
 
 /// Puts the notices that a request tells into the draft. Another request is handed back.
 fn hold_told(draft: &mut Entry, request: Request) -> Option<Request>
@@ -103,16 +105,49 @@ impl<'a, N: Name, L: Loader, W: Writer, P: Processor, K: Hearer> Session<
         ensures refused { OnErr result (self.new ≡ self.old) }
         ensures front { IsPrefix self.old.pass.images self.new.pass.images }
     {
-        let manager = self.manager;
-        let copied = copy_for(&mut self.own, &call);
-        let Ok(copy) = copied else {
+        if let Some(value) = self.get_at_once(rt, id, now, &call) {
+            drop(call);
+            return Ok(Progress::Replied(Reply::Found(value)));
+        }
+        let drafted = self.draft_of(id, now, &call);
+        let Ok(draft) = drafted else {
             return Err((CallFault::OutOfMemory, call));
         };
-        let mut draft = blank(manager.alloc, self.origin(id, now), copy);
-        let begun = manager
-            .locked
-            .lock(rt)
-            .begin(&mut draft, call, &mut self.pass);
+        let manager = self.manager;
+        self.begin_in(manager.locked.lock(rt), draft, call)
+    }
+
+    /// The entry of a call before it begins, with a copy of the call.
+    pub(crate) fn draft_of(
+        &mut self,
+        id: CacheId,
+        now: u64,
+        call: &Call,
+    ) -> Result<Entry, OutOfMemory>
+        ensures draft { IfOk result (λ draft. draft ≡ blank self.old.number id now call.now) }
+        ensures same { self.new ≡ self.old }
+    {
+        let copy = copy_for(&mut self.own, call)?;
+        Ok(blank(self.manager.alloc, self.origin(id, now), copy))
+    }
+
+    /// Begins the draft's call in this tenure.
+    pub(crate) fn begin_in(
+        &mut self,
+        mut locked: MutexGuard<'_, Locked<N, OpenCalls>>,
+        mut draft: Entry,
+        call: Call,
+    ) -> Result<Progress<PendingCall<N>>, (CallFault, Call)>
+        requires { draft ≡ blank self.old.number draft.id draft.at call }
+        ensures number { self.new.number ≡ self.old.number }
+        ensures ok { IfOk result (IsBroughtTo N.configs self.old self.new draft) }
+        ensures err { IfErr result (λ e. IsRefusedBegin N.configs draft.id draft.at call e.0) }
+        ensures back { IfErr result (λ e. e.1 ≡ call) }
+        ensures refused { OnErr result (self.new ≡ self.old) }
+        ensures front { IsPrefix self.old.pass.images self.new.pass.images }
+    {
+        let begun = locked.begin(&mut draft, call, &mut self.pass);
+        drop(locked);
         match begun {
             Ok(step) => Ok(self.come_to(draft, step)),
             Err(fault) => Err((fault, call_of(draft))),

@@ -1,5 +1,5 @@
 //! Calls whose requests are answered by what is lent to them.
-ghost use Rattle.std.specs.Prelude.{◌≡◌, IfOk, IfErr};
+ghost use Rattle.std.specs.Prelude.{◌≡◌, None, IfOk, IfErr, slice_get};
 ghost use mathlib.Core.List.{IsPrefix};
 ghost use Rattle.jc_model.specs.declared.event.End.TheVariants.{Replied};
 ghost use Rattle.jc_recorded.specs.Recording.{blank};
@@ -9,12 +9,13 @@ use crate::pending::{PendingCall, Progress};
 use crate::session::Session;
 use jc_hooks::{Hearer, Loader, Processor, Responder, Writer};
 use jc_locked::fault::CallFault;
+use jc_locked::locked::Locked;
 use jc_locked::name::Name;
 use jc_model::call::{Call, Notice, Reply, Request};
-use jc_model::event::CacheId;
+use jc_model::event::{CacheId, Entry};
 use jc_model::list::Sequence;
 use jc_recorded::journal::open_calls::OpenCalls;
-use std::sync::Wait;
+use std::sync::{MutexGuard, Wait};
 
 impl<'a, N: Name, L: Loader, W: Writer, P: Processor, K: Hearer> Session<
     'a,
@@ -44,60 +45,94 @@ impl<'a, N: Name, L: Loader, W: Writer, P: Processor, K: Hearer> Session<
         ensures err { IfErr result (FailsBy N.configs self.old self.new id now call) }
         ensures front { IsPrefix self.old.pass.images self.new.pass.images }
     {
-        let manager = self.manager;
-        if manager.opening_hooks(id).is_some() {
-            return self.call_opened_by(rt, id, now, call, responder);
+        if let Some(value) = self.get_at_once(rt, id, now, &call) {
+            drop(call);
+            return Ok(Reply::Found(value));
         }
-        let lock = match manager.hooks_lock(rt, id) {
+        let drafted = self.draft_of(id, now, &call);
+        let Ok(draft) = drafted else {
+            drop(call);
+            return Err(CallFault::OutOfMemory);
+        };
+        match self.manager.opening_hooks(id) {
+            Some(_) => self.call_opened_by(rt, draft, call, responder),
+            None => self.call_created_by(rt, draft, call, responder),
+        }
+    }
+
+    /// The same on a cache that a session has created. One without callbacks has no turns.
+    fn call_created_by<R: Wait, A: Responder>(
+        &mut self,
+        rt: &R,
+        draft: Entry,
+        call: Call,
+        responder: &mut A,
+    ) -> Result<Reply, CallFault>
+        requires draft { draft ≡ blank self.old.number draft.id draft.at call }
+        requires created { slice_get N.configs draft.id ≡ None }
+        ensures number { self.new.number ≡ self.old.number }
+        ensures ok { IfOk result (λ reply.
+            AddsCall N.configs self.old self.new draft (Replied reply)) }
+        ensures err { IfErr result (FailsBy N.configs self.old self.new draft.id draft.at call) }
+        ensures front { IsPrefix self.old.pass.images self.new.pass.images }
+    {
+        let manager = self.manager;
+        let locked = manager.locked.lock(rt);
+        if locked.asks_no_one(draft.id) {
+            return self.make_by(rt, locked, draft, call, responder);
+        }
+        drop(locked);
+        let lock = match manager.hooks_lock(rt, draft.id) {
             Ok(lock) => lock,
             Err(unfound) => {
-                drop(call);
+                drop((draft, call));
                 return Err(CallFault::from(unfound));
             }
         };
         let _turn = lock.lock(rt);
-        self.make_by(rt, id, now, call, responder)
+        self.make_by(rt, manager.locked.lock(rt), draft, call, responder)
     }
 
     /// The same on a cache of the opening.
     fn call_opened_by<R: Wait, A: Responder>(
         &mut self,
         rt: &R,
-        id: CacheId,
-        now: u64,
+        draft: Entry,
         call: Call,
         responder: &mut A,
     ) -> Result<Reply, CallFault>
+        requires { draft ≡ blank self.old.number draft.id draft.at call }
         ensures number { self.new.number ≡ self.old.number }
-        ensures ok { IfOk result (λ reply. AddsCall N.configs self.old self.new
-            (blank self.old.number id now call) (Replied reply)) }
-        ensures err { IfErr result (FailsBy N.configs self.old self.new id now call) }
+        ensures ok { IfOk result (λ reply.
+            AddsCall N.configs self.old self.new draft (Replied reply)) }
+        ensures err { IfErr result (FailsBy N.configs self.old self.new draft.id draft.at call) }
         ensures front { IsPrefix self.old.pass.images self.new.pass.images }
     {
         let manager = self.manager;
-        let Some(lock) = manager.opened_lock(id) else {
-            return self.make_by(rt, id, now, call, responder);
+        let Some(lock) = manager.opened_lock(draft.id) else {
+            return self.make_by(rt, manager.locked.lock(rt), draft, call, responder);
         };
         let _turn = lock.lock(rt);
-        self.make_by(rt, id, now, call, responder)
+        self.make_by(rt, manager.locked.lock(rt), draft, call, responder)
     }
 
-    /// The same in the cache's turn.
+    /// Makes the draft's call, which begins in this tenure, in the cache's turn.
     fn make_by<R: Wait, A: Responder>(
         &mut self,
         rt: &R,
-        id: CacheId,
-        now: u64,
+        locked: MutexGuard<'_, Locked<N, OpenCalls>>,
+        draft: Entry,
         call: Call,
         responder: &mut A,
     ) -> Result<Reply, CallFault>
+        requires { draft ≡ blank self.old.number draft.id draft.at call }
         ensures number { self.new.number ≡ self.old.number }
-        ensures ok { IfOk result (λ reply. AddsCall N.configs self.old self.new
-            (blank self.old.number id now call) (Replied reply)) }
-        ensures err { IfErr result (FailsBy N.configs self.old self.new id now call) }
+        ensures ok { IfOk result (λ reply.
+            AddsCall N.configs self.old self.new draft (Replied reply)) }
+        ensures err { IfErr result (FailsBy N.configs self.old self.new draft.id draft.at call) }
         ensures front { IsPrefix self.old.pass.images self.new.pass.images }
     {
-        match self.begin(rt, id, now, call) {
+        match self.begin_in(locked, draft, call) {
             Ok(Progress::Replied(reply)) => Ok(reply),
             Ok(Progress::Waits(pending)) => self.carry(rt, pending, responder),
             Err((fault, call)) => {

@@ -5,6 +5,7 @@ mod at_once;
 mod brief_lock;
 mod by_hand;
 mod carry;
+mod created;
 mod directory;
 mod lent;
 mod manager;

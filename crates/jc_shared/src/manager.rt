@@ -203,35 +203,28 @@ impl<N: Name, L: Loader, W: Writer, P: Processor, K: Hearer> Manager<N, L, W, P,
 }
 
 impl<N: Name, L: Loader, W: Writer, P: Processor, K: Hearer> Manager<N, L, W, P, K, OpenCalls> {
+    /// The first cache whose call is open, if any is. No session borrows the manager now, so no lock is taken.
+    pub fn open_call(&mut self) -> Option<CacheId>
+        ensures none { result ≡ None → HasNoOpenCall N.configs }
+        ensures some { IfSome result (HasOpenCall N.configs) }
+    {
+        self.locked.get_mut().open_call()
+    }
+
     /// Ends the manager, where no call is open. Its sessions have ended before, since they borrow it.
     ///
     /// Else the first cache whose call is open is told, and the manager is handed back.
-    pub fn end(self) -> Result<(), (CacheId, Manager<N, L, W, P, K, OpenCalls>)>
+    pub fn end(mut self) -> Result<(), (CacheId, Manager<N, L, W, P, K, OpenCalls>)>
         ensures ended { OnOk result (HasNoOpenCall N.configs) }
         ensures open { IfErr result (λ e. HasOpenCall N.configs e.0) }
     {
-        let Manager {
-            alloc,
-            shared,
-            locks,
-            directory,
-            locked,
-        } = self;
-        let locked = locked.into_inner();
-        let Some(id) = locked.open_call() else {
-            drop((shared, locks, directory, locked));
-            return Ok(());
-        };
-        Err((
-            id,
-            Manager {
-                alloc,
-                shared,
-                locks,
-                directory,
-                locked: BriefLock::new(locked),
-            },
-        ))
+        match self.open_call() {
+            Some(id) => Err((id, self)),
+            None => {
+                drop(self);
+                Ok(())
+            }
+        }
     }
 }
 

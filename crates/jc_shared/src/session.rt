@@ -143,7 +143,8 @@ impl<'a, N: Name, L: Loader, W: Writer, P: Processor, K: Hearer, J: Keeping> Ses
     }
 
     /// Makes a call on a cache at a moment. The cache's callbacks answer its requests, one call on the cache at a time.
-    /// Its entry is added to the session's own.
+    /// Its entry is added to the session's own. Where no entry is kept in memory, a get that asks no one takes no lock
+    /// but the manager's, and so does each call on a cache without callbacks.
     ///
     /// Refused as `NoSuchCache`, `NoSuchProcessor`, then as `OutOfMemory`, `Busy` or `Overtaken`; also as `NoSuchCache`
     /// where the cache is destroyed meanwhile, and as `OutOfMemory` at once where the callbacks of a created cache can't
@@ -164,6 +165,10 @@ impl<'a, N: Name, L: Loader, W: Writer, P: Processor, K: Hearer, J: Keeping> Ses
         ensures err { IfErr result (CallFails N.configs N.stated self.old self.new id now call) }
         ensures front { IsPrefix self.old.pass.images self.new.pass.images }
     {
+        if let Some(value) = self.get_at_once(rt, id, now, &call) {
+            drop(call);
+            return Ok(Reply::Found(value));
+        }
         let manager = self.manager;
         let Some(asked) = manager.opening_hooks(id) else {
             return self.call_created(rt, id, now, call);
@@ -178,40 +183,9 @@ impl<'a, N: Name, L: Loader, W: Writer, P: Processor, K: Hearer, J: Keeping> Ses
         }
     }
 
-    /// The same on a cache that a session has created.
-    #[inline(never)]
-    fn call_created<R: Wait>(
-        &mut self,
-        rt: &R,
-        id: CacheId,
-        now: u64,
-        call: Call,
-    ) -> Result<Reply, CallFault>
-        requires created { slice_get N.configs id ≡ None }
-        ensures number { self.new.number ≡ self.old.number }
-        ensures ok { IfOk result (λ reply.
-            Adds N.configs N.stated self.old self.new id now call (Replied reply)) }
-        ensures refused { LacksProcessor N.configs id call → TellsLack result × (self.new ≡ self.old) }
-        ensures err { IfErr result (CallFails N.configs N.stated self.old self.new id now call) }
-        ensures front { IsPrefix self.old.pass.images self.new.pass.images }
-    {
-        let manager = self.manager;
-        let lock = match manager.hooks_lock(rt, id) {
-            Ok(lock) => lock,
-            Err(unfound) => {
-                drop(call);
-                return Err(CallFault::from(unfound));
-            }
-        };
-        let mut hooks = lock.lock(rt);
-        let OwnHooks { asked, locked } = &mut *hooks;
-        let asked = manager.hooks_to_ask(id, asked);
-        self.make(rt, asked, locked, id, now, call)
-    }
-
     /// The same by these callbacks of the cache.
     #[inline(never)]
-    fn make<R: Wait>(
+    pub(crate) fn make<R: Wait>(
         &mut self,
         rt: &R,
         asked: &SharedHooks<L, P>,

@@ -6,7 +6,7 @@ use Rattle.jc_recorded.specs.Recording.{blank_of}
 use Rattle.jc_recorded.proofs.Recordings.{begun_is}
 use Rattle.jc_locked.specs.Calls.{CallGoesOnTo}
 use Rattle.jc_locked.specs.Sessions.{Sitting}
-use Rattle.jc_shared.proofs.Carrying.{replied_adds}
+use Rattle.jc_shared.proofs.Carrying.{replied_entry}
 use Rattle.jc_shared.proofs.session.Session.get_at_once.Goals as goal
 
 pub returns-clause-some : goal.returns-clause-some
@@ -19,6 +19,6 @@ returns-clause-some g c =
     let from : begun.origin ≡ origin = c.of-begun.ensures.origin ∙ (rw (← c.self.view_is) at c.origin.ensures) in
     let value = c.in_ok-value.value in
     rw (← c.self.view_is, c.found_in.ensures)
-    (replied_adds g.N.Name.configs g.N.Name.stated old new c.args.id c.args.now call begun (Done (Found value)) (Some (Found value)) (Found value) (Found value) refl refl refl
+    (replied_entry g.N.Name.configs old new c.args.id c.args.now call begun (Done (Found value)) (Some (Found value)) (Found value) (Found value) refl refl refl
     (subst (λ (o : Origin). CallGoesOnTo g.N.Name.configs (blank_of o call) (Done (Found value)) (Some (Found value)) new.pass) from c.in_ok-value.ensures.some)
     (begun_is begun origin call from c.of-begun.ensures.call) (c.note.ensures.noted c.if-not-note.false))
