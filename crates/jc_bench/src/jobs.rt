@@ -186,12 +186,23 @@ fn jobs<'a, S: Seats>(
     Ok(jobs)
 }
 
-/// Fills the caches, in a session that ends with that, and creates them first where the opening has none.
+/// Creates the caches where the opening has none, in a session that ends with that.
+fn create_caches<S: Seats, R: Wait>(
+    rt: &R,
+    alloc: Global,
+    seats: &S,
+    run: Run,
+) -> Result<(), Fault> {
+    if !run.size.created {
+        return Ok(());
+    }
+    let seat = seats.seat(rt)?;
+    create_all(rt, alloc, &seat, run.dealing, (run.size, run.managers))
+}
+
+/// Fills the caches, in a session that ends with that.
 fn fill_caches<S: Seats, R: Wait>(rt: &R, alloc: Global, seats: &S, run: Run) -> Result<(), Fault> {
     let mut seat = seats.seat(rt)?;
-    if run.size.created {
-        create_all(rt, alloc, &seat, run.dealing, (run.size, run.managers))?;
-    }
     let caches = found(rt, alloc, &seat, run.dealing, all_caches(run.size))?;
     fill(rt, alloc, &mut seat, caches.as_slice(), run.size)
 }
@@ -203,6 +214,7 @@ pub fn time_threads<S: Seats + Send + Sync, R: Threads + Wait + Clock + CpuClock
     seats: &S,
     run: Run,
 ) -> Result<Vec<Done>, Fault> {
+    create_caches(rt, alloc, seats, run)?;
     fill_caches(rt, alloc, seats, run)?;
     let keys = keys_of(alloc, run.kind, run.size)?;
     let busy = AtomicU32::new(run.size.threads);
