@@ -6,7 +6,7 @@ use jc_model::call::Call;
 use jc_model::config::CacheConfig;
 use jc_model::key::Key;
 use jc_model::value::Value;
-use jc_shards::{Caches, Dealing, Quota, create, find};
+use jc_shards::{Caches, Dealing, create, find};
 use std::alloc::Global;
 use std::sync::Wait;
 
@@ -28,29 +28,11 @@ static STASHED: [&str; 12] = [
 /// The front of the caches' names.
 const CACHE: &str = "cache";
 
-/// How often a dealing is sought.
-const TRIES: u32 = 100_000;
-
 /// Caches one behind the other, by number.
 #[derive(Clone, Copy)]
 pub struct Span {
     pub first: u32,
     pub count: u32,
-}
-
-/// A dealing by which so many caches are dealt out evenly to these managers.
-pub fn even_dealing(alloc: Global, caches: u32, managers: Managers) -> Result<Dealing, Fault> {
-    let names = numbered(alloc, CACHE, caches)?;
-    let (levels, most) = managers.shares(caches);
-    let quota = Quota {
-        levels,
-        most: most as usize,
-    };
-    let first = Dealing::new(0);
-    match first.first_even(alloc, TRIES, quota, names.as_slice())? {
-        Some(dealing) => Ok(dealing),
-        None => Err(Fault::Refused),
-    }
 }
 
 /// A cache with this name, of which no one asks a callback: all that is asked for is there.
@@ -65,7 +47,7 @@ fn planned(alloc: Global, name: Key, capacity: u32, size: Size) -> CacheConfig {
 
 /// The caches of a run over these managers.
 fn all_configs(alloc: Global, size: Size, managers: Managers) -> Result<Vec<CacheConfig>, Fault> {
-    let (_, most) = managers.shares(size.caches);
+    let most = managers.most(size.caches);
     let capacity = MOST_ROWS.min(CAPACITY / most.max(1));
     let names = numbered(alloc, CACHE, size.caches)?;
     let mut configs = Vec::with_capacity(alloc, names.len())?;
@@ -73,6 +55,12 @@ fn all_configs(alloc: Global, size: Size, managers: Managers) -> Result<Vec<Cach
         configs.push(planned(alloc, *name, capacity, size))?;
     }
     Ok(configs)
+}
+
+/// The dealing by which they go in turn.
+pub fn dealing_of(alloc: Global, size: Size, managers: Managers) -> Result<Dealing, Fault> {
+    let configs = all_configs(alloc, size, managers)?;
+    Ok(Dealing::in_turn(alloc, SEED, configs.as_slice())?)
 }
 
 /// Those that are there from the opening.
@@ -88,7 +76,7 @@ pub fn create_all<C: Caches, R: Wait>(
     rt: &R,
     alloc: Global,
     seat: &C,
-    dealing: Dealing,
+    dealing: &Dealing,
     (size, managers): (Size, Managers),
 ) -> Result<(), Fault> {
     for config in all_configs(alloc, size, managers)? {
@@ -134,7 +122,7 @@ pub fn found<C: Caches, R: Wait>(
     rt: &R,
     alloc: Global,
     seat: &C,
-    dealing: Dealing,
+    dealing: &Dealing,
     caches: Span,
 ) -> Result<Vec<C::Id>, Fault> {
     let mut ids = Vec::with_capacity(alloc, caches.count as usize)?;

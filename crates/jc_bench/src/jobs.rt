@@ -14,8 +14,8 @@ use std::time::{Clock, CpuClock};
 
 /// What all threads do.
 #[derive(Clone, Copy)]
-pub struct Run {
-    pub dealing: Dealing,
+pub struct Run<'a> {
+    pub dealing: &'a Dealing,
     pub kind: Kind,
     pub size: Size,
     pub managers: Managers,
@@ -55,7 +55,7 @@ fn ask_in_session<S: Seats, R: Wait>(
     let Ok(mut seat) = job.seats.seat(rt) else {
         return false;
     };
-    let Ok(caches) = found(rt, alloc, &seat, *job.dealing, job.caches) else {
+    let Ok(caches) = found(rt, alloc, &seat, job.dealing, job.caches) else {
         return false;
     };
     let asked = (caches.as_slice(), job.keys);
@@ -89,7 +89,7 @@ fn write_in_session<S: Seats, R: Wait>(
     let Ok(mut seat) = job.seats.seat(rt) else {
         return;
     };
-    let Ok(caches) = found(rt, alloc, &seat, *job.dealing, job.caches) else {
+    let Ok(caches) = found(rt, alloc, &seat, job.dealing, job.caches) else {
         return;
     };
     if let [cache, ..] = caches.as_slice() {
@@ -156,7 +156,7 @@ fn caches_of(size: Size, number: u32) -> Span {
 fn jobs<'a, S: Seats>(
     alloc: Global,
     seats: &'a S,
-    run: &'a Run,
+    run: &'a Run<'a>,
     keys: &'a Keys,
     busy: &'a AtomicU32,
 ) -> Result<Vec<Job<'a, S>>, Fault> {
@@ -166,7 +166,7 @@ fn jobs<'a, S: Seats>(
         let asks = number < size.threads;
         jobs.push(Job {
             seats,
-            dealing: &run.dealing,
+            dealing: run.dealing,
             kind: if asks { run.kind } else { Kind::Write },
             caches: if asks {
                 caches_of(size, number)
@@ -191,7 +191,7 @@ fn create_caches<S: Seats, R: Wait>(
     rt: &R,
     alloc: Global,
     seats: &S,
-    run: Run,
+    run: Run<'_>,
 ) -> Result<(), Fault> {
     if !run.size.created {
         return Ok(());
@@ -201,7 +201,12 @@ fn create_caches<S: Seats, R: Wait>(
 }
 
 /// Fills the caches, in a session that ends with that.
-fn fill_caches<S: Seats, R: Wait>(rt: &R, alloc: Global, seats: &S, run: Run) -> Result<(), Fault> {
+fn fill_caches<S: Seats, R: Wait>(
+    rt: &R,
+    alloc: Global,
+    seats: &S,
+    run: Run<'_>,
+) -> Result<(), Fault> {
     let mut seat = seats.seat(rt)?;
     let caches = found(rt, alloc, &seat, run.dealing, all_caches(run.size))?;
     fill(rt, alloc, &mut seat, caches.as_slice(), run.size)
@@ -212,7 +217,7 @@ pub fn time_threads<S: Seats + Send + Sync, R: Threads + Wait + Clock + CpuClock
     rt: &R,
     alloc: Global,
     seats: &S,
-    run: Run,
+    run: Run<'_>,
 ) -> Result<Vec<Done>, Fault> {
     create_caches(rt, alloc, seats, run)?;
     fill_caches(rt, alloc, seats, run)?;

@@ -6,7 +6,7 @@ ghost use Rattle.std.specs.Prelude.{◌≡◌};
 ghost use Rattle.jc_shards.specs.Naming.{IsUnder};
 ghost use Rattle.jc_shards.specs.Sharded.{four_told_by};
 
-use crate::caches::{SEED, even_dealing, opening};
+use crate::caches::{SEED, dealing_of, opening};
 use crate::fault::Fault;
 use crate::jobs::{Done, Run, time_threads};
 use crate::words::{Kind, Managers, Size};
@@ -25,7 +25,7 @@ fn played_one<
     N: Name + Send + Sync,
     J: Keeping + Send,
     R: Threads + Wait + Clock + CpuClock + Sync,
->(rt: &R, alloc: Global, unnamed: Unnamed<J>, run: Run) -> Result<Vec<Done>, Fault>
+>(rt: &R, alloc: Global, unnamed: Unnamed<J>, run: Run<'_>) -> Result<Vec<Done>, Fault>
 where
     J::Own: Send,
     J::Held: Send,
@@ -43,7 +43,7 @@ fn named_one<J: Keeping + Send, R: Threads + Wait + Clock + CpuClock + Sync>(
     rt: &R,
     alloc: Global,
     unnamed: Unnamed<J>,
-    run: Run,
+    run: Run<'_>,
 ) -> Result<Vec<Done>, Fault>
 where
     J::Own: Send,
@@ -58,7 +58,7 @@ fn time_two<
     A: Seats + Send + Sync,
     B: Seats + Send + Sync,
     R: Threads + Wait + Clock + CpuClock + Sync,
->(rt: &R, alloc: Global, (left, right): (&A, &B), run: Run) -> Result<Vec<Done>, Fault> {
+>(rt: &R, alloc: Global, (left, right): (&A, &B), run: Run<'_>) -> Result<Vec<Done>, Fault> {
     time_threads(rt, alloc, &Both { left, right }, run)
 }
 
@@ -68,7 +68,7 @@ fn played_two<
     B: Name + Send + Sync,
     J: Keeping + Send,
     R: Threads + Wait + Clock + CpuClock + Sync,
->(rt: &R, alloc: Global, twins: Twins<J>, run: Run) -> Result<Vec<Done>, Fault>
+>(rt: &R, alloc: Global, twins: Twins<J>, run: Run<'_>) -> Result<Vec<Done>, Fault>
 where
     J::Own: Send,
     J::Held: Send,
@@ -94,7 +94,7 @@ fn named_two<R: Threads + Wait + Clock + CpuClock + Sync>(
     rt: &R,
     alloc: Global,
     twins: Twins,
-    run: Run,
+    run: Run<'_>,
 ) -> Result<Vec<Done>, Fault> {
     played_two::<Brand, Brand, OpenCalls, R>(rt, alloc, twins, run)
 }
@@ -105,7 +105,13 @@ fn time_beside<
     A: Seats + Send + Sync,
     B: Seats + Send + Sync,
     R: Threads + Wait + Clock + CpuClock + Sync,
->(rt: &R, alloc: Global, pair: &S, (left, right): (&A, &B), run: Run) -> Result<Vec<Done>, Fault> {
+>(
+    rt: &R,
+    alloc: Global,
+    pair: &S,
+    (left, right): (&A, &B),
+    run: Run<'_>,
+) -> Result<Vec<Done>, Fault> {
     time_two(rt, alloc, (pair, &Both { left, right }), run)
 }
 
@@ -121,7 +127,7 @@ fn time_right<
     alloc: Global,
     pair: &S,
     (left, right): (&Unasking<A, J>, &Unasking<B, J>),
-    run: Run,
+    run: Run<'_>,
 ) -> Result<Vec<Done>, Fault>
 where
     J::Own: Send,
@@ -150,7 +156,7 @@ fn time_left<
     alloc: Global,
     (left, right): (&A, &B),
     others: (&Unasking<C, J>, &Unasking<D, J>),
-    run: Run,
+    run: Run<'_>,
 ) -> Result<Vec<Done>, Fault>
 where
     J::Own: Send,
@@ -165,7 +171,7 @@ fn played_four<
     N: ShardNames + Send + Sync,
     J: Keeping + Send,
     R: Threads + Wait + Clock + CpuClock + Sync,
->(rt: &R, alloc: Global, quarters: Quarters<J>, run: Run) -> Result<Vec<Done>, Fault>
+>(rt: &R, alloc: Global, quarters: Quarters<J>, run: Run<'_>) -> Result<Vec<Done>, Fault>
 where
     J::Own: Send,
     J::Held: Send,
@@ -191,7 +197,7 @@ fn named_four<R: Threads + Wait + Clock + CpuClock + Sync>(
     rt: &R,
     alloc: Global,
     quarters: Quarters,
-    run: Run,
+    run: Run<'_>,
 ) -> Result<Vec<Done>, Fault> {
     played_four::<Brand, OpenCalls, R>(rt, alloc, quarters, run)
 }
@@ -201,7 +207,7 @@ fn play_open<R: Threads + Wait + Clock + CpuClock + Sync>(
     rt: &R,
     alloc: Global,
     unnamed: Unnamed,
-    run: Run,
+    run: Run<'_>,
 ) -> Result<Vec<Done>, Fault> {
     named_one::<OpenCalls, R>(rt, alloc, unnamed, run)
 }
@@ -214,10 +220,10 @@ pub fn play<R: Threads + Wait + Clock + CpuClock + Sync>(
     size: Size,
     managers: Managers,
 ) -> Result<Vec<Done>, Fault> {
-    let dealing = even_dealing(alloc, size.caches, managers)?;
+    let dealing = dealing_of(alloc, size, managers)?;
     let configs = opening(alloc, size, managers)?;
     let run = Run {
-        dealing,
+        dealing: &dealing,
         kind,
         size,
         managers,
@@ -225,7 +231,10 @@ pub fn play<R: Threads + Wait + Clock + CpuClock + Sync>(
     match managers {
         Managers::AllCalls => named_one::<AllCalls, R>(rt, alloc, open(alloc, configs, SEED)?, run),
         Managers::OpenCalls => play_open(rt, alloc, open(alloc, configs, SEED)?, run),
-        Managers::Two => named_two(rt, alloc, open_two(alloc, dealing, 0, configs, SEED)?, run),
-        Managers::Four => named_four(rt, alloc, open_four(alloc, dealing, configs, SEED)?, run),
+        Managers::Two => named_two(rt, alloc, open_two(alloc, &dealing, 0, configs, SEED)?, run),
+        Managers::Four => {
+            let shards = open_four(alloc, dealing_of(alloc, size, managers)?, configs, SEED)?;
+            named_four(rt, alloc, shards, run)
+        }
     }
 }

@@ -89,12 +89,12 @@ pub enum Managers {
 }
 
 impl Managers {
-    /// How many levels of pairs there are over them, and how many of so many caches each has at most.
-    pub fn shares(self, caches: u32) -> (u32, u32) {
+    /// How many of so many caches each has at most, where they go in turn.
+    pub fn most(self, caches: u32) -> u32 {
         match self {
-            Managers::AllCalls | Managers::OpenCalls => (0, caches),
-            Managers::Two => (1, caches.div_ceil(2)),
-            Managers::Four => (2, caches.div_ceil(4)),
+            Managers::AllCalls | Managers::OpenCalls => caches,
+            Managers::Two => caches.div_ceil(2),
+            Managers::Four => caches.div_ceil(4),
         }
     }
 }

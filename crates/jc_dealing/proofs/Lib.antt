@@ -1,2 +1,2 @@
-mod Counting
 mod Spreads
+mod Turns

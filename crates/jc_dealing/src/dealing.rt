@@ -1,7 +1,8 @@
 //! How caches are dealt out to managers, by their names.
-ghost use Rattle.std.specs.Prelude.{◌≡◌, ◌/◌, ◌^◌, ◌<◌, ◌≤◌, ◌%◌, ℕ, true, false, IfOk, MatchOption};
-ghost use Rattle.jc_dealing.specs.Dealing.{hash_of, spread_of, goes_right, is_right, way_of, times, of_left, of_right, IsEven, IsCrowded, IsFirstEven, seed_at};
+ghost use Rattle.std.specs.Prelude.{◌≡◌, ◌/◌, ◌^◌, ◌<◌, ◌%◌, IfOk, OnOk, OnErr};
+ghost use Rattle.jc_dealing.specs.Dealing.{hash_of, by_hash, with_turn, in_turn, spread_of, goes_right, is_right, way_of, names_of, of_left, of_right, AreApart, GoInTurn};
 
+use indexmap::IndexSet;
 use jc_model::OutOfMemory;
 use jc_model::config::CacheConfig;
 use jc_model::key::Key;
@@ -9,55 +10,84 @@ use std::alloc::Global;
 use std::hash::{DefaultHasher, Hasher};
 use std::marker::Model;
 
-/// How names are dealt out to managers: by a hash of each behind a seed (SipHash-1-3, as in std's `HashMap`). All who
-/// ask the same managers have the same dealing. Who does not know the seed can't choose names that go to one manager.
-#[derive(Clone, Copy, PartialEq, Eq)]
+/// How names are dealt out to managers. Those that the dealing has been told go in turn, so that no manager has two more
+/// of them than another; all others go by a hash behind a seed (SipHash-1-3, as in std's `HashMap`). All who ask the
+/// same managers have the same dealing. Who does not know the seed can't choose names that go to one manager.
+#[derive(Drop)]
 pub struct Dealing {
     seed: u64,
+    in_turn: IndexSet<Key>,
 }
 
 impl Model for Dealing {
-    ghost use Rattle.std.specs.Prelude.{ℕ};
+    ghost use Rattle.jc_dealing.specs.Dealing.{Dealt, dealt_code};
 
-    ghost Value = { ℕ };
+    ghost Value = { Dealt };
 
-    ghost view = { λ dealing. dealing.seed };
+    ghost coded = { dealt_code };
 
-    ghost inverse = { λ n. record { seed = n } };
-}
-
-/// How many managers there are, 2^`levels`, and how many of some names each may have.
-#[derive(Clone, Copy, Debug, PartialEq, Eq)]
-pub struct Quota {
-    pub levels: u32,
-    pub most: usize,
+    ghost view = { λ dealing. record { seed = dealing.seed; turns = dealing.in_turn.keys } };
 }
 
 impl Dealing {
-    /// The dealing of this seed: any number serves.
-    pub fn new(seed: u64) -> Dealing
-        ensures { result ≡ seed }
+    /// The dealing of this seed by which all names go by their hash. Any number serves.
+    pub fn by_hash(alloc: Global, seed: u64) -> Dealing
+        ensures { result ≡ by_hash seed }
     {
-        Dealing { seed }
+        Dealing {
+            seed,
+            in_turn: IndexSet::new(alloc),
+        }
+    }
+
+    /// The dealing of this seed by which the names of these caches go in turn: the first to the first manager, and so on.
+    pub fn in_turn(
+        alloc: Global,
+        seed: u64,
+        configs: &[CacheConfig],
+    ) -> Result<Dealing, OutOfMemory>
+        ensures dealing { IfOk result (λ dealing. dealing ≡ in_turn seed configs.now) }
+        ensures go { IfOk result (λ dealing. AreApart (names_of configs.now) →
+            GoInTurn dealing (names_of configs.now)) }
+    {
+        let mut dealing = Dealing::by_hash(alloc, seed);
+        for config in configs {
+            dealing.add(config.name)?;
+        }
+        Ok(dealing)
+    }
+
+    /// Gives a name the next turn, if it has none. For managers that are not open yet: who asks such as are open has the
+    /// dealing by which they were opened.
+    pub fn add(&mut self, name: Key) -> Result<(), OutOfMemory>
+        ensures ok { OnOk result (self.new ≡ with_turn self.old name) }
+        ensures err { OnErr result (self.new ≡ self.old) }
+    {
+        self.in_turn.insert(name)?;
+        Ok(())
     }
 
     /// The spread of a name: bits that tell, from the lowest up, the half at each level of a tree of pairs.
-    pub fn spread_of(self, name: &Key) -> u32
-        ensures { result ≡ spread_of self name.now }
+    pub fn spread_of(&self, name: &Key) -> u32
+        ensures { result ≡ spread_of self.now name.now }
     {
-        (hash_of(self.seed, name) & 0xffff_ffff) as u32
+        let number = match self.in_turn.get_index_of(name) {
+            Some(turn) => turn as u64,
+            None => hash_of(self.seed, name),
+        };
+        (number & 0xffff_ffff) as u32
     }
 
     /// Whether a name belongs to the right half at a level, counted from 0 at the outermost pair.
-    pub fn is_right(self, level: u32, name: &Key) -> bool
-        ensures { result ≡ is_right self level name.now }
+    pub fn is_right(&self, level: u32, name: &Key) -> bool
+        ensures { result ≡ is_right self.now level name.now }
     {
         level < 32 && (self.spread_of(name) >> level) % 2 == 1
     }
 
     /// The way to a name where all ways have so many levels: its spread's lowest bits.
-    pub fn way_of(self, levels: u32, name: &Key) -> u32
-        ensures { result ≡ way_of self levels name.now }
+    pub fn way_of(&self, levels: u32, name: &Key) -> u32
+        ensures { result ≡ way_of self.now levels name.now }
     {
         let spread = self.spread_of(name);
         if levels < 32 {
@@ -67,49 +97,15 @@ impl Dealing {
         }
     }
 
-    /// Whether each manager has at most as many of these names as its quota.
-    pub fn is_even(self, alloc: Global, quota: Quota, names: &[Key]) -> Result<bool, OutOfMemory>
-        ensures even { IfOk result (λ b. b ≡ true → IsEven self quota.levels quota.most names.now) }
-        ensures crowded { IfOk result (λ b. b ≡ false → IsCrowded self quota.levels quota.most names.now) }
-    {
-        let ways: Vec<u32> = names
-            .iter()
-            .map(|name| self.way_of(quota.levels, name))
-            .collect(alloc)?;
-        Ok(are_spread(ways.as_slice(), quota.most))
-    }
-
-    /// The first even one of so many dealings, this one and those with the seeds that follow. With as many names as
-    /// managers, 4, 8 or 16, and a quota of one, about every 11th, 420th or 880,000th is even.
-    pub fn first_even(
-        self,
-        alloc: Global,
-        tries: u32,
-        quota: Quota,
-        names: &[Key],
-    ) -> Result<Option<Dealing>, OutOfMemory>
-        ensures { IfOk result (λ found. MatchOption found
-            ((n : ℕ) → n < tries → IsCrowded (seed_at self n) quota.levels quota.most names.now)
-            (λ dealing. IsFirstEven self tries quota.levels quota.most names.now dealing)) }
-    {
-        for turn in 0..tries {
-            let dealing = Dealing::new(self.seed.wrapping_add(u64::from(turn)));
-            if dealing.is_even(alloc, quota, names)? {
-                return Ok(Some(dealing));
-            }
-        }
-        Ok(None)
-    }
-
     /// The caches whose names belong to the left half at this level, and those of the right, in their order.
     pub fn deal(
-        self,
+        &self,
         alloc: Global,
         level: u32,
         configs: Vec<CacheConfig>,
     ) -> Result<(Vec<CacheConfig>, Vec<CacheConfig>), OutOfMemory>
-        ensures { IfOk result (λ halves. (halves.0.items ≡ of_left self level configs.items)
-            × (halves.1.items ≡ of_right self level configs.items)) }
+        ensures { IfOk result (λ halves. (halves.0.items ≡ of_left self.now level configs.items)
+            × (halves.1.items ≡ of_right self.now level configs.items)) }
     {
         let mut left = Vec::new(alloc);
         let mut right = Vec::new(alloc);
@@ -132,26 +128,4 @@ fn hash_of(seed: u64, name: &Key) -> u64
     hasher.write(&seed.to_le_bytes());
     hasher.write(name.text().as_bytes());
     hasher.finish()
-}
-
-/// How often a way is among these.
-fn times(way: u32, ways: &[u32]) -> usize
-    ensures { result ≡ times way ways.now }
-{
-    ways.iter().filter(|other| **other == way).count()
-}
-
-/// Whether none of these ways is there more than so many times.
-fn are_spread(ways: &[u32], most: usize) -> bool
-    ensures even { result ≡ true → (way : ℕ) → times way ways.now ≤ most }
-    ensures crowded { result ≡ false → (way : ℕ) × (most < times way ways.now) }
-{
-    let mut left = ways;
-    while let Some((first, others)) = left.split_first() {
-        if times(*first, left) > most {
-            return false;
-        }
-        left = others;
-    }
-    true
 }

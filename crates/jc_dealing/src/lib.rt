@@ -3,4 +3,4 @@
 
 mod dealing;
 
-pub use dealing::{Dealing, Quota};
+pub use dealing::Dealing;

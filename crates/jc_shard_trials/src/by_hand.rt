@@ -33,7 +33,7 @@ fn read_through<A: Name, B: Name, R: Wait>(
 ) -> Result<Id, Trouble> {
     let config = plain_cache(alloc, text, 4)?.read_through();
     let hooks = hooks_by_hand(alloc, &config)?;
-    match create(seat, rt, Dealing::new(SEED), config, hooks) {
+    match create(seat, rt, &Dealing::by_hash(alloc, SEED), config, hooks) {
         Ok(id) => Ok(id),
         Err(refused) => {
             drop(refused);
@@ -217,7 +217,7 @@ fn observe<R: Wait>(rt: &R, alloc: Global, twins: Twins) -> Result<Seen, Trouble
 #[test]
 fn calls_by_hand_go_on_where_they_began(rt: HostRuntime) -> Result<(), Trouble> {
     let alloc = rt.alloc();
-    let twins = match open_two(alloc, Dealing::new(SEED), 0, Vec::new(alloc), 7) {
+    let twins = match open_two(alloc, &Dealing::by_hash(alloc, SEED), 0, Vec::new(alloc), 7) {
         Ok(twins) => twins,
         Err(refused) => {
             drop(refused);

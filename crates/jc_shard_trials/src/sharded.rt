@@ -7,7 +7,7 @@ use jc_hooks::hooks_by_hand;
 use jc_model::call::{Call, Reply};
 use jc_model::event::CreateRefusal;
 use jc_shards::{
-    Caches, Dealing, Quarters, ShardNames, Sharded, ShardedId, ShardedSeat, Side, open_four,
+    Caches, Quarters, ShardNames, Sharded, ShardedId, ShardedSeat, Side, open_four_in_turn,
 };
 use jc_shared::CreateFault;
 use jc_trials::{Trouble, is, key, plain_cache, value_of};
@@ -19,7 +19,7 @@ use std::sync::Wait;
 /// and the name's: the lowest bit of its hash tells the half, the next one the shard there.
 static NAMES: [&str; 4] = ["g", "b", "a", "f"];
 
-/// Caches of the opening: one for the second shard, and one for the third.
+/// Caches of the opening, which go in turn: the first to the left half, the second to the right one.
 static OPENED: [&str; 2] = ["users", "orders"];
 
 /// The number of a cache's shard.
@@ -144,13 +144,13 @@ fn observe<R: Wait>(rt: &R, alloc: Global, quarters: Quarters) -> Result<Seen, T
     named::<Brand, R>(rt, alloc, quarters)
 }
 
-/// Four managers with two caches.
+/// Four managers, between which two caches go in turn.
 fn dealt(alloc: Global) -> Result<Quarters, Trouble> {
     let mut configs = Vec::new(alloc);
     for text in &OPENED {
         configs.push(plain_cache(alloc, text, 4)?)?;
     }
-    match open_four(alloc, Dealing::new(SEED), configs, 7) {
+    match open_four_in_turn(alloc, configs, SEED) {
         Ok(quarters) => Ok(quarters),
         Err(refused) => {
             drop(refused);
@@ -163,7 +163,7 @@ fn dealt(alloc: Global) -> Result<Quarters, Trouble> {
 fn a_sharded_manager_has_its_caches_where_they_are_dealt(rt: HostRuntime) -> Result<(), Trouble> {
     let alloc = rt.alloc();
     let seen = observe(&rt, alloc, dealt(alloc)?)?;
-    assert_eq!(rt; seen.opened, [Some(1), Some(2)]);
+    assert_eq!(rt; seen.opened, [Some(0), Some(2)]);
     assert_eq!(rt; seen.shards, [0, 1, 2, 3]);
     assert_eq!(rt; seen.refused, [true; 4]);
     assert_eq!(rt; seen.met, [[true; 3]; 4]);

@@ -5,9 +5,7 @@ use jc_hooks::hooks_by_hand;
 use jc_index::lookup::Lookup;
 use jc_model::call::{Call, Reply};
 use jc_model::event::{CacheId, CreateRefusal};
-use jc_shards::{
-    Caches, Dealing, Pair, Quota, Shard, Side, Twins, Unasking, create, find, open_two,
-};
+use jc_shards::{Caches, Dealing, Pair, Shard, Side, Twins, Unasking, create, find, open_two};
 use jc_shared::{CallFault, CreateFault, Name, OpenCalls};
 use jc_trials::{Trouble, is, key, plain_cache, value_of};
 use std::alloc::Global;
@@ -32,9 +30,9 @@ fn lives<A: Name, B: Name, R: Wait>(
     alloc: Global,
     (left, right): (&Half<A>, &Half<B>),
     caches: &mut Pair<Shard<'_, A>, Shard<'_, B>>,
+    dealing: &Dealing,
     text: &str,
 ) -> Result<[bool; 9], Trouble> {
-    let dealing = Dealing::new(SEED);
     let (name, x) = (key(text)?, key("x")?);
     let (one, same) = (value_of(alloc, text)?, value_of(alloc, text)?);
     let (config, second) = (plain_cache(alloc, text, 4)?, plain_cache(alloc, text, 4)?);
@@ -70,10 +68,10 @@ fn lives<A: Name, B: Name, R: Wait>(
 fn goes<A: Name, B: Name, R: Wait>(
     rt: &R,
     caches: &mut Pair<Shard<'_, A>, Shard<'_, B>>,
+    dealing: &Dealing,
     going: &str,
     staying: &str,
 ) -> Result<[bool; 5], Trouble> {
-    let dealing = Dealing::new(SEED);
     let (name, other, x) = (key(going)?, key(staying)?, key("x")?);
     let Some(id) = find(caches, rt, dealing, &name) else {
         return Err(Trouble::Unexpected);
@@ -94,8 +92,8 @@ fn goes<A: Name, B: Name, R: Wait>(
 fn are_found<A: Name, B: Name, R: Wait>(
     rt: &R,
     caches: &Pair<Shard<'_, A>, Shard<'_, B>>,
+    dealing: &Dealing,
 ) -> Result<[bool; 4], Trouble> {
-    let dealing = Dealing::new(SEED);
     let (left, right) = (key(OPENED[0])?, key(OPENED[1])?);
     let first = CacheId::new(0);
     Ok([
@@ -120,10 +118,11 @@ fn come<A: Name, B: Name, R: Wait>(
     alloc: Global,
     halves: (&Half<A>, &Half<B>),
     caches: &mut Pair<Shard<'_, A>, Shard<'_, B>>,
+    dealing: &Dealing,
 ) -> Result<([[bool; 9]; 2], [bool; 5]), Trouble> {
-    let first = lives(rt, alloc, halves, caches, NAMES[0])?;
-    let second = lives(rt, alloc, halves, caches, NAMES[1])?;
-    let gone = goes(rt, caches, NAMES[0], NAMES[1])?;
+    let first = lives(rt, alloc, halves, caches, dealing, NAMES[0])?;
+    let second = lives(rt, alloc, halves, caches, dealing, NAMES[1])?;
+    let gone = goes(rt, caches, dealing, NAMES[0], NAMES[1])?;
     Ok(([first, second], gone))
 }
 
@@ -137,8 +136,9 @@ fn named<A: Name, B: Name, R: Wait>(rt: &R, alloc: Global, twins: Twins) -> Resu
         left: Shard::new(rt, &left)?,
         right: Shard::new(rt, &right)?,
     };
-    let found = are_found(rt, &caches)?;
-    let (lived, gone) = come(rt, alloc, (&left, &right), &mut caches)?;
+    let dealing = Dealing::by_hash(alloc, SEED);
+    let found = are_found(rt, &caches, &dealing)?;
+    let (lived, gone) = come(rt, alloc, (&left, &right), &mut caches, &dealing)?;
     Ok(Seen { found, lived, gone })
 }
 
@@ -153,7 +153,7 @@ fn dealt(alloc: Global) -> Result<Twins, Trouble> {
     for text in &OPENED {
         configs.push(plain_cache(alloc, text, 4)?)?;
     }
-    match open_two(alloc, Dealing::new(SEED), 0, configs, 7) {
+    match open_two(alloc, &Dealing::by_hash(alloc, SEED), 0, configs, 7) {
         Ok(twins) => Ok(twins),
         Err(refused) => {
             drop(refused);
@@ -169,21 +169,5 @@ fn caches_go_to_the_half_of_their_name(rt: HostRuntime) -> Result<(), Trouble> {
     assert_eq!(rt; seen.found, [true; 4]);
     assert_eq!(rt; seen.lived, [[true; 9]; 2]);
     assert_eq!(rt; seen.gone, [true; 5]);
-    Ok(())
-}
-
-#[test]
-fn a_dealing_that_keeps_to_a_quota_is_found(rt: HostRuntime) -> Result<(), Trouble> {
-    let alloc = rt.alloc();
-    let (left, right) = (key(NAMES[0])?, key(NAMES[1])?);
-    let names = [left, right];
-    let quota = Quota { levels: 1, most: 1 };
-    let (first, wanted) = (Dealing::new(0), Dealing::new(SEED));
-    let found = first.first_even(alloc, 3, quota, &names)?;
-    assert!(rt; found == Some(wanted));
-    assert!(rt; !wanted.is_right(0, &left));
-    assert!(rt; wanted.is_right(0, &right));
-    assert!(rt; first.first_even(alloc, 2, quota, &names)?.is_none());
-    assert!(rt; first.is_even(alloc, Quota { levels: 1, most: 2 }, &names)?);
     Ok(())
 }

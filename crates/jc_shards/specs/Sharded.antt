@@ -1,7 +1,7 @@
 -- A manager of four shards: which caches each is opened with, what its name tells, and what its sessions are.
 use Rattle.std.specs.Prelude.{◌≡◌, ℕ, Bool, true, false, List, [], Option, None, Result}
 use Rattle.atomic_table.specs.Seated.{TableId}
-use Rattle.jc_dealing.specs.Dealing.{of_left, of_right}
+use Rattle.jc_dealing.specs.Dealing.{Dealt, of_left, of_right}
 use Rattle.jc_engine.specs.Opening.{open_refusal}
 use Rattle.jc_model.specs.declared.config.CacheConfig.{CacheConfig}
 use Rattle.jc_locked.specs.Living.{HasNoOpenCall, HasOpenCall}
@@ -13,26 +13,31 @@ use Rattle.jc_shards.specs.Dealt.{AreHalves, IsHalfRefusal}
 use Rattle.jc_shards.specs.Halves.{IsFoundInHalf, IsMadeInHalf}
 use Rattle.jc_shards.specs.Seating.{IsSeated}
 use Rattle.jc_shards.specs.Sharding.{Hooks, IsCreation, IsFoundByName}
+use Rattle.jc_locked.specs.declared.fault.SharedRefusal.TheVariants.{OutOfMemory}
 use Rattle.jc_shards.specs.declared.quarters.QuarterRefusal.{QuarterRefusal}
 use Rattle.jc_shards.specs.declared.side.Side.{Side}
 use Rattle.jc_shards.specs.declared.side.Side.TheVariants.{Left, Right}
 
 -- each half has the caches that the dealing gives it, dealt out once more
-pub record AreQuarters {L P : Type 0} (dealing : ℕ) (configs : List CacheConfig) (seed : ℕ) (first second third fourth : HandedIn L P) : Type 0 where
+pub record AreQuarters {L P : Type 0} (dealing : Dealt) (configs : List CacheConfig) (seed : ℕ) (first second third fourth : HandedIn L P) : Type 0 where
   pub left_has : AreHalves dealing 1 (of_left dealing 0 configs) seed first second
   pub right_has : AreHalves dealing 1 (of_right dealing 0 configs) seed third fourth
 
 -- no half of these caches is refused
-pub record BothOpen (dealing level : ℕ) (configs : List CacheConfig) : Type 0 where
+pub record BothOpen (dealing : Dealt) (level : ℕ) (configs : List CacheConfig) : Type 0 where
   pub left_opens : open_refusal (of_left dealing level configs) ≡ None
   pub right_opens : open_refusal (of_right dealing level configs) ≡ None
 
 -- a quarter is refused, one of the right half only where nothing is wrong with the left
-abbrev pub IsQuarterRefusal : ℕ → List CacheConfig → QuarterRefusal → Type 0
+abbrev pub IsQuarterRefusal : Dealt → List CacheConfig → QuarterRefusal → Type 0
 IsQuarterRefusal dealing configs refused = at refused.right where
   at : Bool → Type 0
   at false = IsHalfRefusal dealing 1 (of_left dealing 0 configs) refused.half
   at true = BothOpen dealing 1 (of_left dealing 0 configs) × IsHalfRefusal dealing 1 (of_right dealing 0 configs) refused.half
+
+-- the first is refused as want of memory, before its caches are looked at
+abbrev pub unseen : QuarterRefusal
+unseen = record { right = false; half = record { right = false; refusal = OutOfMemory } }
 
 -- what the name of one shard tells
 pub record Told : Type 0 where

@@ -19,11 +19,11 @@ mod side;
 
 pub use by_hand::CallsByHand;
 pub use caches::{Caches, LentCalls};
-pub use jc_dealing::{Dealing, Quota};
+pub use jc_dealing::Dealing;
 pub use naming::{create, find};
 pub use opening::{HalfRefusal, Twins, Unnamed, open, open_two};
 pub use pair::Pair;
-pub use quarters::{QuarterRefusal, Quarters, open_four};
+pub use quarters::{QuarterRefusal, Quarters, open_four, open_four_in_turn};
 pub use seats::{Both, One, Seats};
 pub use shard::{Shard, Unasking};
 pub use shard_names::{FirstOf, FourthOf, SecondOf, ShardNames, ThirdOf};

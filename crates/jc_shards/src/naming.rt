@@ -11,8 +11,8 @@ use std::sync::Wait;
 
 /// The live cache with this name, in the manager that the dealing picks for it. One that was created or opened under
 /// another dealing may stand elsewhere.
-pub fn find<C: Caches, R: Wait>(caches: &C, rt: &R, dealing: Dealing, name: &Key) -> Option<C::Id>
-    ensures { C.Finds (spread_of dealing name.now) name.now result }
+pub fn find<C: Caches, R: Wait>(caches: &C, rt: &R, dealing: &Dealing, name: &Key) -> Option<C::Id>
+    ensures { C.Finds (spread_of dealing.now name.now) name.now result }
 {
     caches.find_by(rt, dealing.spread_of(name), name)
 }
@@ -23,11 +23,11 @@ pub fn find<C: Caches, R: Wait>(caches: &C, rt: &R, dealing: Dealing, name: &Key
 pub fn create<C: Caches, R: Wait>(
     caches: &C,
     rt: &R,
-    dealing: Dealing,
+    dealing: &Dealing,
     config: CacheConfig,
     hooks: UnaskedHooks,
 ) -> Result<C::Id, (CreateFault, CacheConfig, UnaskedHooks)>
-    ensures { C.Creates (spread_of dealing config.name) config hooks result }
+    ensures { C.Creates (spread_of dealing.now config.name) config hooks result }
 {
     let spread = dealing.spread_of(&config.name);
     caches.create_by(rt, spread, config, hooks)

@@ -82,14 +82,14 @@ fn open_half<J: Keeping>(
 /// Refused as `open` of the left half, then of the right; memory may be refused before the caches are looked at.
 pub fn open_two<J: Keeping>(
     alloc: Global,
-    dealing: Dealing,
+    dealing: &Dealing,
     level: u32,
     configs: Vec<CacheConfig>,
     seed: u64,
 ) -> Result<Twins<J>, HalfRefusal>
     ensures dealt { IfOk result (λ twins.
-        AreHalves dealing level configs.items seed twins.left twins.right) }
-    ensures refused { IfErr result (IsHalfRefusal dealing level configs.items) }
+        AreHalves dealing.now level configs.items seed twins.left twins.right) }
+    ensures refused { IfErr result (IsHalfRefusal dealing.now level configs.items) }
 {
     let Ok((left, right)) = dealing.deal(alloc, level, configs) else {
         return Err(HalfRefusal {

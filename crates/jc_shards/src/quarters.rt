@@ -1,7 +1,8 @@
 //! Opening four managers, between which caches are dealt out.
 ghost use Rattle.std.specs.Prelude.{◌≡◌, IfOk, IfErr};
+ghost use Rattle.jc_dealing.specs.Dealing.{in_turn, names_of, GoInTurn};
 ghost use Rattle.jc_shards.specs.Dealt.{AreHalves, IsHalfRefusal};
-ghost use Rattle.jc_shards.specs.Sharded.{AreQuarters, IsQuarterRefusal};
+ghost use Rattle.jc_shards.specs.Sharded.{AreQuarters, IsQuarterRefusal, unseen};
 
 use crate::opening::{HalfRefusal, Twins, open_two};
 use jc_dealing::Dealing;
@@ -24,18 +25,31 @@ pub struct QuarterRefusal {
     pub half: HalfRefusal,
 }
 
+/// Want of memory before the caches are looked at.
+fn no_memory() -> QuarterRefusal
+    ensures { result ≡ unseen }
+{
+    QuarterRefusal {
+        right: false,
+        half: HalfRefusal {
+            right: false,
+            refusal: SharedRefusal::OutOfMemory,
+        },
+    }
+}
+
 /// The two managers of a half.
 fn open_pair<J: Keeping>(
     alloc: Global,
-    dealing: Dealing,
+    dealing: &Dealing,
     configs: Vec<CacheConfig>,
     seed: u64,
     right: bool,
 ) -> Result<Twins<J>, QuarterRefusal>
     ensures dealt { IfOk result (λ twins.
-        AreHalves dealing 1 configs.items seed twins.left twins.right) }
+        AreHalves dealing.now 1 configs.items seed twins.left twins.right) }
     ensures half { IfErr result (λ refused. refused.right ≡ right) }
-    ensures refused { IfErr result (λ refused. IsHalfRefusal dealing 1 configs.items refused.half) }
+    ensures refused { IfErr result (λ refused. IsHalfRefusal dealing.now 1 configs.items refused.half) }
 {
     match open_two(alloc, dealing, 1, configs, seed) {
         Ok(twins) => Ok(twins),
@@ -59,16 +73,10 @@ pub fn open_four<J: Keeping>(
     ensures refused { IfErr result (IsQuarterRefusal dealing configs.items) }
 {
     let Ok((left, right)) = dealing.deal(alloc, 0, configs) else {
-        return Err(QuarterRefusal {
-            right: false,
-            half: HalfRefusal {
-                right: false,
-                refusal: SharedRefusal::OutOfMemory,
-            },
-        });
+        return Err(no_memory());
     };
-    let left = open_pair(alloc, dealing, left, seed, false)?;
-    match open_pair(alloc, dealing, right, seed, true) {
+    let left = open_pair(alloc, &dealing, left, seed, false)?;
+    match open_pair(alloc, &dealing, right, seed, true) {
         Ok(right) => Ok(Quarters {
             dealing,
             left,
@@ -77,6 +85,28 @@ pub fn open_four<J: Keeping>(
         Err(refused) => {
             drop(left);
             Err(refused)
+        }
+    }
+}
+
+/// The same by the dealing under which these caches go in turn, with this seed: the bits of a cache's number are its
+/// spread. So of four that follow each other no two are in one manager, and none has two more than another.
+pub fn open_four_in_turn<J: Keeping>(
+    alloc: Global,
+    configs: Vec<CacheConfig>,
+    seed: u64,
+) -> Result<Quarters<J>, QuarterRefusal>
+    ensures dealing { IfOk result (λ four. four.dealing ≡ in_turn seed configs.items) }
+    ensures go { IfOk result (λ four. GoInTurn four.dealing (names_of configs.items)) }
+    ensures dealt { IfOk result (λ four. AreQuarters (in_turn seed configs.items) configs.items seed
+        four.left.left four.left.right four.right.left four.right.right) }
+    ensures refused { IfErr result (IsQuarterRefusal (in_turn seed configs.items) configs.items) }
+{
+    match Dealing::in_turn(alloc, seed, configs.as_slice()) {
+        Ok(dealing) => open_four(alloc, dealing, configs, seed),
+        Err(_) => {
+            drop(configs);
+            Err(no_memory())
         }
     }
 }

@@ -41,7 +41,7 @@ pub struct ShardedManager<A: Name, B: Name, C: Name, D: Name, J: Keeping = OpenC
 /// A session of a sharded manager: one of each shard, and the dealing that tells which shard has a cache.
 #[derive(Drop)]
 pub struct ShardedSession<'a, A: Name, B: Name, C: Name, D: Name, J: Keeping = OpenCalls> {
-    dealing: Dealing,
+    dealing: &'a Dealing,
     pub caches: Pair<PairSeat<'a, A, B, J>, PairSeat<'a, C, D, J>>,
 }
 
@@ -109,13 +109,13 @@ impl<A: Name, B: Name, C: Name, D: Name, J: Keeping> ShardedManager<A, B, C, D, 
             s.caches.left.left.session s.caches.left.right.session) }
         ensures right { IfOk result (λ s. AreSeated J.after J.closes C.configs D.configs
             s.caches.right.left.session s.caches.right.right.session) }
-        ensures dealing { IfOk result (λ s. s.dealing ≡ self.now.dealing) }
+        ensures dealing { IfOk result (λ s. s.dealing.now ≡ self.now.dealing) }
         ensures refused { IfErr result (IsUnseated J.after J.closes) }
     {
         let left = seats(rt, &self.first, &self.second)?;
         let right = seats(rt, &self.third, &self.fourth)?;
         Ok(ShardedSession {
-            dealing: self.dealing,
+            dealing: &self.dealing,
             caches: Pair { left, right },
         })
     }
@@ -231,7 +231,7 @@ impl<'a, A: Name, B: Name, C: Name, D: Name, J: Keeping> ShardedSession<'a, A, B
     /// The live cache with this name.
     pub fn cache<R: Wait>(&self, rt: &R, name: &Key) -> Option<ShardedId>
         ensures { IsFoundInFour A.configs B.configs C.configs D.configs
-            (spread_of self.now.dealing name.now) name.now result }
+            (spread_of self.now.dealing.now name.now) name.now result }
     {
         find(&self.caches, rt, self.dealing, name)
     }
@@ -245,7 +245,7 @@ impl<'a, A: Name, B: Name, C: Name, D: Name, J: Keeping> ShardedSession<'a, A, B
         hooks: UnaskedHooks,
     ) -> Result<ShardedId, (CreateFault, CacheConfig, UnaskedHooks)>
         ensures { IsMadeInFour A.configs B.configs C.configs D.configs
-            (spread_of self.now.dealing config.name) config hooks result }
+            (spread_of self.now.dealing.now config.name) config hooks result }
     {
         create(&self.caches, rt, self.dealing, config, hooks)
     }

@@ -26,7 +26,8 @@ use std::alloc::Global;
 use std::sync::Wait;
 
 /// Adds a call that has begun, and of which this is kept, to a session's own: with its reply, where its first step is
-/// that, else as one that waits. Beside the step stands a copy of the reply.
+/// that, else as one that waits. Beside the step stands a copy of the reply. It is inlined, so that neither is moved.
+#[inline(always)]
 pub(crate) fn add_begun<O: OwnCalls>(
     own: &mut O,
     alloc: Global,

@@ -4,4 +4,4 @@ use Rattle.jc_dealing.proofs.Spreads.{whole-way}
 use Rattle.jc_dealing.proofs.dealing.Dealing.way_of.Goals as goal
 
 pub returns-else-levels-lt32 : goal.returns-else-levels-lt32
-returns-else-levels-lt32 c = c.spread_of-spread.ensures ∙ whole-way (spread_of c.args.self c.args.name.now) c.args.levels (omega arith) (omega (arith, c.if-levels-lt32.false))
+returns-else-levels-lt32 c = c.spread_of-spread.ensures ∙ whole-way (spread_of c.args.self.now c.args.name.now) c.args.levels (omega arith) (omega (arith, c.if-levels-lt32.false))
