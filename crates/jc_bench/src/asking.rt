@@ -60,20 +60,20 @@ impl Counts {
     }
 }
 
-fn held(holds: bool) -> Outcome {
+fn outcome_of_look(holds: bool) -> Outcome {
     if holds { Outcome::Yes } else { Outcome::No }
 }
 
-fn answered<T: Drop, E: Drop>(answer: Result<T, E>) -> Outcome {
+fn outcome_of_call<T: Drop, E: Drop>(answer: Result<T, E>) -> Outcome {
     match answer {
         Ok(_) => Outcome::Yes,
         Err(_) => Outcome::Refused,
     }
 }
 
-fn looked_up(lookup: Lookup) -> Outcome {
+fn outcome_of_lookup(lookup: Lookup) -> Outcome {
     match lookup {
-        Lookup::Sure(holds) => held(holds),
+        Lookup::Sure(holds) => outcome_of_look(holds),
         Lookup::Unsure => Outcome::Unsure,
     }
 }
@@ -87,10 +87,10 @@ fn ask<C: Caches, R: Wait>(
     key: &Key,
 ) -> Outcome {
     match kind {
-        Kind::Lookup | Kind::Miss => looked_up(seat.contains_key(cache, key, 0)),
-        Kind::Contains => held(seat.contains(rt, cache, key, 0)),
-        Kind::Get => answered(seat.call(rt, cache, 0, Call::Get(*key))),
-        Kind::Put | Kind::Write => answered(put(rt, alloc, seat, cache, key)),
+        Kind::Lookup | Kind::Miss => outcome_of_lookup(seat.contains_key(cache, key, 0)),
+        Kind::Contains => outcome_of_look(seat.contains(rt, cache, key, 0)),
+        Kind::Get => outcome_of_call(seat.call(rt, cache, 0, Call::Get(*key))),
+        Kind::Put | Kind::Write => outcome_of_call(put(rt, alloc, seat, cache, key)),
     }
 }
 
@@ -102,7 +102,7 @@ fn following(number: u64) -> u64 {
 }
 
 /// What a number picks of these.
-fn picked<T>(items: &[T], number: u64) -> Option<&T> {
+fn pick<T>(items: &[T], number: u64) -> Option<&T> {
     let count = items.len() as u64;
     if count == 0 {
         return None;
@@ -134,8 +134,8 @@ pub fn ask_often<C: Caches, R: Wait>(
     let mut number = task.first;
     for _ in 0..task.calls {
         number = following(number);
-        let cache = picked(caches, number >> 48);
-        if let (Some(cache), Some(key)) = (cache, picked(keys, number >> 33)) {
+        let cache = pick(caches, number >> 48);
+        if let (Some(cache), Some(key)) = (cache, pick(keys, number >> 33)) {
             counts.add(ask(rt, alloc, seat, task.kind, *cache, key));
         }
         for _ in 0..task.between {
@@ -163,7 +163,7 @@ pub fn write_meanwhile<C: Caches, R: Wait>(
             counts.add(ask(rt, alloc, seat, Kind::Write, cache, key));
         }
         if let Some(key) = keys.get(((round + half) % WRITTEN as u64) as usize) {
-            counts.add(answered(seat.call(rt, cache, 0, Call::Remove(*key))));
+            counts.add(outcome_of_call(seat.call(rt, cache, 0, Call::Remove(*key))));
         }
     }
 }

@@ -36,7 +36,7 @@ pub struct Span {
 }
 
 /// A cache with this name, of which no one asks a callback: all that is asked for is there.
-fn planned(alloc: Global, name: Key, capacity: u32, size: Size) -> CacheConfig {
+fn config_of(alloc: Global, name: Key, capacity: u32, size: Size) -> CacheConfig {
     let config = CacheConfig::new(alloc, name, capacity);
     if size.read_through {
         config.read_through()
@@ -49,10 +49,10 @@ fn planned(alloc: Global, name: Key, capacity: u32, size: Size) -> CacheConfig {
 fn all_configs(alloc: Global, size: Size, managers: Managers) -> Result<Vec<CacheConfig>, Fault> {
     let most = managers.most(size.caches);
     let capacity = MOST_ROWS.min(CAPACITY / most.max(1));
-    let names = numbered(alloc, CACHE, size.caches)?;
+    let names = numbered_keys(alloc, CACHE, size.caches)?;
     let mut configs = Vec::with_capacity(alloc, names.len())?;
     for name in &names {
-        configs.push(planned(alloc, *name, capacity, size))?;
+        configs.push(config_of(alloc, *name, capacity, size))?;
     }
     Ok(configs)
 }
@@ -96,7 +96,7 @@ fn numbered_key(alloc: Global, front: &str, number: u32) -> Result<Key, Fault> {
 }
 
 /// The keys with this front and the numbers from 0 on.
-pub fn numbered(alloc: Global, front: &str, count: u32) -> Result<Vec<Key>, Fault> {
+pub fn numbered_keys(alloc: Global, front: &str, count: u32) -> Result<Vec<Key>, Fault> {
     let mut keys = Vec::with_capacity(alloc, count as usize)?;
     for number in 0..count {
         keys.push(numbered_key(alloc, front, number)?)?;
@@ -118,7 +118,7 @@ pub fn put<C: Caches, R: Wait>(
 }
 
 /// The ids of these caches.
-pub fn found<C: Caches, R: Wait>(
+pub fn ids_of<C: Caches, R: Wait>(
     rt: &R,
     alloc: Global,
     seat: &C,
@@ -151,7 +151,7 @@ pub fn fill<C: Caches, R: Wait>(
             put(rt, alloc, seat, *first, &key)?;
         }
     }
-    let keys = numbered(alloc, "key", size.rows)?;
+    let keys = numbered_keys(alloc, "key", size.rows)?;
     for cache in caches {
         for key in &keys {
             put(rt, alloc, seat, *cache, key)?;

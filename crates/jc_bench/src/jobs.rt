@@ -1,6 +1,6 @@
 //! The threads of a run, each with a session of its own.
 use crate::asking::{Counts, Task, WRITTEN, ask_often, write_meanwhile};
-use crate::caches::{Span, create_all, fill, found, numbered};
+use crate::caches::{Span, create_all, fill, ids_of, numbered_keys};
 use crate::fault::Fault;
 use crate::timing::Moment;
 use crate::words::{Kind, Managers, Size};
@@ -55,7 +55,7 @@ fn ask_in_session<S: Seats, R: Wait>(
     let Ok(mut seat) = job.seats.seat(rt) else {
         return false;
     };
-    let Ok(caches) = found(rt, alloc, &seat, job.dealing, job.caches) else {
+    let Ok(caches) = ids_of(rt, alloc, &seat, job.dealing, job.caches) else {
         return false;
     };
     let asked = (caches.as_slice(), job.keys);
@@ -89,7 +89,7 @@ fn write_in_session<S: Seats, R: Wait>(
     let Ok(mut seat) = job.seats.seat(rt) else {
         return;
     };
-    let Ok(caches) = found(rt, alloc, &seat, job.dealing, job.caches) else {
+    let Ok(caches) = ids_of(rt, alloc, &seat, job.dealing, job.caches) else {
         return;
     };
     if let [cache, ..] = caches.as_slice() {
@@ -127,8 +127,8 @@ struct Keys {
 fn keys_of(alloc: Global, kind: Kind, size: Size) -> Result<Keys, Fault> {
     let front = if kind == Kind::Miss { "mis" } else { "key" };
     Ok(Keys {
-        asked: numbered(alloc, front, size.rows)?,
-        written: numbered(alloc, "own", WRITTEN)?,
+        asked: numbered_keys(alloc, front, size.rows)?,
+        written: numbered_keys(alloc, "own", WRITTEN)?,
     })
 }
 
@@ -208,7 +208,7 @@ fn fill_caches<S: Seats, R: Wait>(
     run: Run<'_>,
 ) -> Result<(), Fault> {
     let mut seat = seats.seat(rt)?;
-    let caches = found(rt, alloc, &seat, run.dealing, all_caches(run.size))?;
+    let caches = ids_of(rt, alloc, &seat, run.dealing, all_caches(run.size))?;
     fill(rt, alloc, &mut seat, caches.as_slice(), run.size)
 }
 
