@@ -11,3 +11,4 @@ pub mod Counted
 pub mod Watching
 pub mod Coming
 pub mod Listed
+pub mod Numbering

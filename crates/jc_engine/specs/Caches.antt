@@ -1,5 +1,5 @@
 -- The caches of a manager, as its callers see them: by id, where a cache is live or none is.
-use Rattle.std.specs.Prelude.{◌≡◌, ◌==◌, ◌&&◌, not, ℕ, Bool, false, List, length, map, option_map, Option, Some, None}
+use Rattle.std.specs.Prelude.{◌≡◌, ◌==◌, ◌&&◌, not, ℕ, Bool, false, List, [], length, map, option_map, Option, Some, None}
 use Rattle.std.specs.FinMap as table
 use Rattle.jc_model.specs.declared.config.CacheConfig.{CacheConfig}
 use Rattle.jc_model.specs.declared.config.Expiry.{Expiry}
@@ -12,12 +12,16 @@ use Rattle.jc_model.specs.Runs.{Status, Lives, opened_from}
 use Rattle.jc_model.specs.Suspended.{Wait, standing_by}
 use Rattle.jc_model.specs.Places.{at_place, all_there, none_before, named_from}
 use Rattle.jc_rows.specs.Rows.{RowMap}
+use Rattle.jc_state.specs.declared.slots.Record.{Record}
+use Rattle.jc_state.specs.Kept.{AreNumbered, live_row, row_numbered}
 
--- a cache: its rows and counters with the notices of its open call, and how that call goes on, if there is one
+-- a cache: its rows and counters with the notices of its open call, how that call goes on, if there is one, and the
+-- numbers of its rows, in the order of its ring
 pub record Cache : Type 0 where
   pub config : CacheConfig
   pub progress : Progress
   pub turn : Option (Awaited × Wait)
+  pub numbers : List ℕ
 
 -- how it stands
 abbrev pub status_of : Cache → Status
@@ -25,7 +29,7 @@ status_of k = record { config = k.config; standing = standing_by k.config k.prog
 
 -- no rows, no counts, no open call
 abbrev pub fresh_cache : CacheConfig → Cache
-fresh_cache c = record { config = c; progress = begun first_state; turn = None }
+fresh_cache c = record { config = c; progress = begun first_state; turn = None; numbers = [] }
 
 -- how all live ones stand
 abbrev pub lives_of : List (Option Cache) → Lives
@@ -76,3 +80,27 @@ asks_no_one_in (Some k) = asks_no_one k.config
 abbrev pub holds_in : ℕ → List ℕ → Option Cache → Bool
 holds_in now key None = false
 holds_in now key (Some k) = holds k.config now key k.progress.state
+
+-- Looks at a cache.
+
+abbrev pub config_in : Option Cache → Option CacheConfig
+config_in k = option_map (λ k. k.config) k
+
+-- how many rows it has
+abbrev pub count_in : Option Cache → Option ℕ
+count_in k = option_map (λ k. length k.progress.state.ring) k
+
+-- what its live row of this key holds
+abbrev pub live_row_in : ℕ → List ℕ → Option Cache → Option Record
+live_row_in now key None = None
+live_row_in now key (Some k) = live_row now key k.progress.state
+
+-- what its row of this number holds
+abbrev pub row_in : ℕ → Option Cache → Option Record
+row_in number None = None
+row_in number (Some k) = row_numbered number k.numbers k.progress.state.ring
+
+-- each of its rows has a number below its capacity, and no two have one
+abbrev pub NumbersRows : Option Cache → Type 0
+NumbersRows None = Unit {0}
+NumbersRows (Some k) = AreNumbered k.config.capacity k.numbers k.progress.state.ring

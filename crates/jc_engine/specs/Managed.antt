@@ -16,7 +16,7 @@ use Rattle.jc_model.specs.Runs.{CacheEvent, shown, standing_of, reply_of, refuse
 use Rattle.jc_model.specs.Suspended.{Wait, one, many, telling, standing_by}
 use Rattle.jc_rows.specs.Rows.{RowMap}
 use Rattle.jc_state.specs.Noted.{Noted}
-use Rattle.jc_state.specs.Kept.{Kept, progress_of}
+use Rattle.jc_state.specs.Kept.{Kept, numbers_of, progress_of}
 use Rattle.jc_state.specs.Tied.{SameElsewhere}
 use Rattle.jc_state.specs.Visited.{Visited, IsKeptIn}
 use Rattle.jc_bulk.specs.Calls.{IsSuspended}
@@ -43,7 +43,7 @@ notices_in (Waiting w) = w.told
 notices_in (Telling reply) = []
 
 abbrev pub cache_in : Slot → Cache
-cache_in cache = record { config = cache.state.config; progress = progress_of cache.state (notices_in cache.turn); turn = turn_in cache.turn }
+cache_in cache = record { config = cache.state.config; progress = progress_of cache.state (notices_in cache.turn); turn = turn_in cache.turn; numbers = numbers_of cache.state.cells }
 
 -- an open call waits where its run leads
 abbrev pub WaitsThere : CacheConfig → Kept → Turn → Type 0

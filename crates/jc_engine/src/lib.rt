@@ -4,6 +4,7 @@
 mod cache;
 pub mod engine;
 mod lives;
+mod looks;
 mod moves;
 pub mod open;
 mod run;

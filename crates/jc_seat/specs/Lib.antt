@@ -5,3 +5,4 @@ pub mod Items
 pub mod Lent
 pub mod Parts
 pub mod Seated
+pub mod Looks

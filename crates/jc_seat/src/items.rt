@@ -1,5 +1,5 @@
 //! What an outcome shows: items with a key, a value, the value before and a processor's argument, and numbers.
-ghost use Rattle.std.specs.Prelude.{◌≡◌, length, option_map, slice_get};
+ghost use Rattle.std.specs.Prelude.{◌≡◌, Some, length, option_map, slice_get};
 ghost use Rattle.jc_seat.specs.Items.{items_shown, in_reply, in_request, item_of_key, item_of_pair, item_of_result, item_of_notice, numbers_of, kind_number, count_numbers, buffer_after, length_told, copy_status};
 ghost use Rattle.jc_seat.specs.Lent.{item_lent};
 ghost use Rattle.jc_seat.specs.Parts.{part_at};
@@ -254,6 +254,20 @@ pub fn number(outcome: &Outcome, place: usize) -> Option<u64>
 }
 
 /// Copies the first bytes into a buffer, as many as it takes, and tells how many there are.
+pub fn copy_first(bytes: &[u8], out: &mut [u8], len: &mut usize)
+    ensures out { out.new ≡ buffer_after (Some bytes.now) out.old }
+    ensures len { len.new ≡ length bytes.now }
+{
+    *len = bytes.len();
+    if out.len() < bytes.len() {
+        let room = out.len();
+        out.copy_from_slice(&bytes[..room]);
+    } else {
+        out[..bytes.len()].copy_from_slice(bytes);
+    }
+}
+
+/// The same of bytes that may be missing, and whether all of them were copied.
 pub fn copy(bytes: Option<&[u8]>, out: &mut [u8], len: &mut usize) -> Status
     ensures status { result ≡ copy_status (option_map (λ b. b.now) bytes.entry) (length out.old) }
     ensures out { out.new ≡ buffer_after (option_map (λ b. b.now) bytes.entry) out.old }
@@ -262,12 +276,11 @@ pub fn copy(bytes: Option<&[u8]>, out: &mut [u8], len: &mut usize) -> Status
     let Some(bytes) = bytes else {
         return Status::NoItem;
     };
-    *len = bytes.len();
-    if out.len() < bytes.len() {
-        let room = out.len();
-        out.copy_from_slice(&bytes[..room]);
-        return Status::ShortBuffer;
+    let room = out.len();
+    copy_first(bytes, out, len);
+    if room < bytes.len() {
+        Status::ShortBuffer
+    } else {
+        Status::Done
     }
-    out[..bytes.len()].copy_from_slice(bytes);
-    Status::Done
 }

@@ -6,6 +6,7 @@ pub mod calls;
 pub mod desk;
 pub mod items;
 pub mod laws;
+pub mod looks;
 pub mod reading;
 pub mod seat;
 pub mod settings;

@@ -27,7 +27,7 @@ const BUCKETS: u32 = 64;
 /// request, a reply, or the notices that a give-up left.
 #[derive(Drop)]
 pub struct Seat {
-    engine: Engine<Cuckoo<SeededPlacer, NoMirror>, LinkRing>,
+    pub(crate) engine: Engine<Cuckoo<SeededPlacer, NoMirror>, LinkRing>,
     shown: HashMap<u32, Outcome>,
 }
 

@@ -10,3 +10,4 @@ pub mod VisitLaws
 pub mod Changes
 pub mod TiedKeys
 pub mod Walk
+pub mod Numbers

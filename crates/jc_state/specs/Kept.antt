@@ -1,9 +1,9 @@
 -- What a cache keeps, and what it means.
-use Rattle.std.specs.Prelude.{◌≡◌, ℕ, Bool, List, length, map, Option, Some, None, option_map, true}
+use Rattle.std.specs.Prelude.{◌≡◌, ◌≤◌, ℕ, Bool, eqb, cond, if◌then◌else◌, List, [], ◌∷◌, length, map, count_by, Option, Some, None, option_map, true}
 use Rattle.jc_model.specs.declared.call.Counts.{Counts}
 use Rattle.jc_model.specs.declared.call.Notice.{Notice}
 use Rattle.jc_model.specs.declared.config.CacheConfig.{CacheConfig}
-use Rattle.jc_model.specs.State.{Item, State, row_of, one_more, turned}
+use Rattle.jc_model.specs.State.{Item, State, row_of, is_live, one_more, turned}
 use Rattle.jc_model.specs.Changes.{Progress}
 use Rattle.jc_model.specs.Whole.{holds}
 use Rattle.jc_ring.specs.Ring.{first}
@@ -83,3 +83,24 @@ FoundRow key k (Some row) = (x : Item) × IsRow key k row x
 -- the key has a live row
 abbrev pub has_live : ℕ → List ℕ → Kept → Bool
 has_live now key k = holds k.config now key (state_of k)
+
+-- what the key's live row holds
+abbrev pub live_row : ℕ → List ℕ → State → Option Record
+live_row now key s = elim (row_of key s.ring) [ None ↦ None | Some x ↦ if is_live now x then Some (record_of x) else None ]
+
+-- Rows by their numbers.
+
+abbrev pub numbers_of : List Cell → List ℕ
+numbers_of cells = map (λ c. c.row) cells
+
+-- what the row of this number holds
+abbrev pub row_numbered : ℕ → List ℕ → List Item → Option Record
+row_numbered n [] xs = None
+row_numbered n (m ∷ ms) [] = None
+row_numbered n (m ∷ ms) (x ∷ xs) = cond (eqb m n) (Some (record_of x)) (row_numbered n ms xs)
+
+-- each row has a number below the capacity, and no two have one
+pub record AreNumbered (capacity : ℕ) (numbers : List ℕ) (ring : List Item) : Type 0 where
+  pub each : length numbers ≡ length ring
+  pub apart : (n : ℕ) → count_by (eqb n) numbers ≤ 1
+  pub below : (n : ℕ) → capacity ≤ n → row_numbered n numbers ring ≡ None

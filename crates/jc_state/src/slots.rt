@@ -1,7 +1,7 @@
 //! Records by row number, in places that are made once.
 ghost use Rattle.jc_state.specs.Shelf.{held_of, with_expiry_of};
 ghost use Rattle.std.specs.Prelude.{◌≡◌, ℕ, ◌+◌, ◌<◌, ◌≤◌, List, length, replicate};
-ghost use Rattle.std.specs.Prelude.{Option, Some, None, IsSome, is_some, IfOk};
+ghost use Rattle.std.specs.Prelude.{Option, Some, None, IsSome, is_some, option_map, IfOk};
 ghost use Rattle.std.specs.Prelude.{count_by, slice_index_or, slice_set};
 
 use jc_model::OutOfMemory;
@@ -61,6 +61,16 @@ impl Slots {
         ensures { result ≡ count_by is_some self.now }
     {
         (self.records.len() - self.vacant.len()) as u32
+    }
+
+    /// The record of a row, if it is filled.
+    pub(crate) fn get(&self, row: u32) -> Option<&Record>
+        ensures { option_map (λ held. held.now) result ≡ slice_index_or self.now row None }
+    {
+        match self.records.get(row as usize) {
+            Some(Some(record)) => Some(record),
+            _ => None,
+        }
     }
 
     /// The record of a filled row.

@@ -2,14 +2,14 @@
 //!
 //! That the table which all caches share says the same of its rows is a visit's care (`visit`).
 ghost use Rattle.std.specs.Prelude.{◌≡◌, ◌+◌, ◌<◌, ◌≤◌, [], ◌∷◌, ◌++◌, length, true, false};
-ghost use Rattle.std.specs.Prelude.{Some, IfOk, IfErr, option_map};
+ghost use Rattle.std.specs.Prelude.{ℕ, Some, None, IfOk, IfErr, option_map};
 ghost use Rattle.jc_model.specs.State.{zeros};
 ghost use Rattle.jc_model.specs.Whole.{holds};
 ghost use Rattle.jc_ring.specs.Ring.{first};
 ghost use Rattle.jc_state.specs.declared.slots.Record.{Record};
 ghost use Rattle.jc_state.specs.Shelf.{seek, has_row, row_after, without_row, turned_cells};
 ghost use Rattle.jc_state.specs.Shelf.{new_cell, stored, held_of, with_expiry_of};
-ghost use Rattle.jc_state.specs.Kept.{state_of, IsTied, FoundRow, IsVictim};
+ghost use Rattle.jc_state.specs.Kept.{state_of, live_row, IsTied, FoundRow, IsVictim};
 
 use crate::slots::{Record, Slots};
 use jc_expiry::expiry::live;
@@ -127,6 +127,27 @@ impl<G: Ring> CacheState<G> {
             Some(row) => live(now, self.record(row).expiry),
             None => false,
         }
+    }
+
+    /// What the key's live row holds, if it has one. This is no use of the row: it renews nothing and counts nothing.
+    pub fn peek<R: Rows>(&self, rows: &R, key: &Key, now: u64) -> Option<&Record>
+        requires tied { IsTied (R.contents rows.now) self.now }
+        ensures { option_map (λ held. held.now) result ≡ live_row now key.now (state_of self.now) }
+    {
+        match self.find(rows, key) {
+            Some(row) if live(now, self.record(row).expiry) => Some(self.record(row)),
+            _ => None,
+        }
+    }
+
+    /// What the row of this number holds, if there is one. A row keeps its number as long as it is there. No number is
+    /// as great as the capacity.
+    #[tactic(auto, using(crate::proofs::Numbers::number_laws))]
+    pub fn row_at(&self, number: u32) -> Option<&Record>
+        ensures row { option_map (λ held. held.now) result ≡ seek number self.now.cells }
+        ensures below { (n : ℕ) → self.now.config.capacity ≤ n → seek n self.now.cells ≡ None }
+    {
+        self.slots.get(number)
     }
 
     /// Whether no more rows fit.

@@ -1,0 +1,48 @@
+-- What looks at a cache tell.
+use Rattle.std.specs.Prelude.{ℕ, ◌-◌, ◌^◌, length, List, map, option_map, Result, Ok, Err}
+use Rattle.std.specs.Prelude.{Option, Some, None}
+use Rattle.jc_model.specs.declared.config.Expiry.{Expiry}
+use Rattle.jc_model.specs.declared.config.Expiry.TheVariants.{Never, At}
+use Rattle.jc_state.specs.declared.slots.Record.{Record}
+use Rattle.jc_engine.specs.Caches.{Cache, count_in, live_row_in}
+use Rattle.jc_seat.specs.declared.items.Part.TheVariants as part
+use Rattle.jc_seat.specs.declared.status.Fault.{Fault}
+use Rattle.jc_seat.specs.declared.status.Status.{Status}
+use Rattle.jc_seat.specs.declared.status.Status.TheVariants.{Found, NoSuchCache, Nothing}
+use Rattle.jc_seat.specs.Items.{Bytes}
+use Rattle.jc_seat.specs.Parts.{part_shown, status_there}
+use Rattle.jc_seat.specs.Seated.{Seated, shown_of}
+use Rattle.jc_seat.specs.Status.{fault_status}
+
+-- the moment at which a row expires; the last one stands for never, too
+abbrev pub moment_of : Expiry → ℕ
+moment_of Never = 2 ^ 64 - 1
+moment_of (At moment) = moment
+
+-- what the live row holds of a key that bytes say
+abbrev pub row_peeked : ℕ → Result (List ℕ) Fault → Option Cache → Option Record
+row_peeked now (Ok key) cache = live_row_in now key cache
+row_peeked now (Err fault) cache = None
+
+abbrev pub found_status : Option Cache → Option Record → Status
+found_status None row = NoSuchCache
+found_status (Some k) None = Nothing
+found_status (Some k) (Some row) = Found
+
+abbrev pub peek_status : ℕ → Result (List ℕ) Fault → Option Cache → Status
+peek_status now (Ok key) cache = found_status cache (live_row_in now key cache)
+peek_status now (Err fault) cache = fault_status fault
+
+abbrev pub moment_peeked : Option Record → Option ℕ
+moment_peeked row = option_map (λ row. moment_of row.expiry) row
+
+abbrev pub value_peeked : Option Record → Bytes
+value_peeked row = option_map (λ row. row.value) row
+
+-- the value that a call found, if this is its status, by what it shows
+abbrev pub value_found : ℕ → Status → Seated → Bytes
+value_found id Found s = part_shown part.Value 0 (shown_of id s)
+value_found id _ s = None
+
+abbrev pub rows_status : Option Cache → Status
+rows_status cache = status_there NoSuchCache (count_in cache)

@@ -1,0 +1,104 @@
+//! Looks at caches, which change nothing, in the caller's places; and a get that hands its value over at once.
+ghost use Rattle.std.specs.Prelude.{◌≡◌};
+ghost use Rattle.jc_model.specs.Places.{at_place};
+ghost use Rattle.jc_engine.specs.Caches.{count_in};
+ghost use Rattle.jc_seat.specs.Calls.{call_with_key};
+ghost use Rattle.jc_seat.specs.Items.{buffer_after, length_told};
+ghost use Rattle.jc_seat.specs.Looks.{moment_of, moment_peeked, peek_status, row_peeked, rows_status, value_found, value_peeked};
+ghost use Rattle.jc_seat.specs.Parts.{or_before};
+ghost use Rattle.jc_seat.specs.Reading.{key_said};
+ghost use Rattle.jc_seat.specs.Seated.{BeginsCall};
+
+use crate::calls;
+use crate::items::{Part, copy_first};
+use crate::reading::read_key;
+use crate::seat::Seat;
+use crate::status::Status;
+use jc_model::call::Call;
+use jc_model::config::Expiry;
+use jc_model::event::CacheId;
+
+/// The moment at which a row expires, in milliseconds; the last moment of all where it never does.
+pub(crate) fn moment_of(expiry: Expiry) -> u64
+    ensures { result ≡ moment_of expiry }
+{
+    match expiry {
+        Expiry::Never => u64::MAX,
+        Expiry::At(moment) => moment,
+    }
+}
+
+impl Seat {
+    /// Begins a get. Where it finds a value at once, it copies the first bytes of it into a buffer, as many as that takes,
+    /// and tells how many there are.
+    pub fn get_into(
+        &mut self,
+        id: u32,
+        now: u64,
+        key: &[u8],
+        out: &mut [u8],
+        len: &mut usize,
+    ) -> Status
+        ensures called { BeginsCall self.old id now (call_with_key Call.Get key.now) result self.new }
+        ensures out { out.new ≡ buffer_after (value_found id result self.new) out.old }
+        ensures len { len.new ≡ length_told (value_found id result self.new) len.old }
+    {
+        let status = self.call(id, now, calls::get(key));
+        if let Status::Found = status {
+            let _copied = self.copy_part(id, 0, Part::Value, out, len);
+        }
+        status
+    }
+
+    /// Copies the first bytes of the value of a key's live row, as many as a buffer takes, and tells how many there are
+    /// and when the row expires.
+    pub fn peek(
+        &self,
+        id: u32,
+        now: u64,
+        key: &[u8],
+        expires: &mut u64,
+        out: &mut [u8],
+        len: &mut usize,
+    ) -> Status
+        ensures status { result
+            ≡ peek_status now (key_said key.now) (at_place self.now.caches id) }
+        ensures expires { expires.new ≡ or_before expires.old
+            (moment_peeked (row_peeked now (key_said key.now) (at_place self.now.caches id))) }
+        ensures out { out.new ≡ buffer_after
+            (value_peeked (row_peeked now (key_said key.now) (at_place self.now.caches id))) out.old }
+        ensures len { len.new ≡ length_told
+            (value_peeked (row_peeked now (key_said key.now) (at_place self.now.caches id))) len.old }
+    {
+        let key = match read_key(key) {
+            Ok(key) => key,
+            Err(fault) => return Status::of_fault(fault),
+        };
+        let id = CacheId::new(id);
+        if !self.engine.is_live(id) {
+            return Status::NoSuchCache;
+        }
+        match self.engine.peek(id, &key, now) {
+            Some(row) => {
+                *expires = moment_of(row.expiry);
+                copy_first(row.value.first().bytes(), out, len);
+                Status::Found
+            }
+            None => Status::Nothing,
+        }
+    }
+
+    /// Tells how many rows a cache has, expired ones among them.
+    pub fn count_rows(&self, id: u32, rows: &mut usize) -> Status
+        ensures status { result ≡ rows_status (at_place self.now.caches id) }
+        ensures rows { rows.new ≡ or_before rows.old (count_in (at_place self.now.caches id)) }
+    {
+        match self.engine.count(CacheId::new(id)) {
+            Some(count) => {
+                *rows = count as usize;
+                Status::Done
+            }
+            None => Status::NoSuchCache,
+        }
+    }
+}
