@@ -2,10 +2,12 @@ use Rattle.std.proofs.Common.{ap, sym, ◌∙◌}
 use Rattle.jc_engine.proofs.Names.{Slot}
 use Rattle.jc_engine.proofs.Places.{within, seen_is, stands}
 use Rattle.jc_engine.specs.Caches.{live_row_in}
-use Rattle.jc_engine.proofs.looks.Engine.peek.Goals as goal
+use Rattle.jc_engine.proofs.engine.Engine.peek.Goals as goal
 
 pub returns-in-Some : goal.returns-in-Some
-returns-in-Some g c = rw (c.peek.ensures, c.deref.ensures ∙ ap (λ (s : Slot). s.state) c.cache.view_is) (ap (live_row_in c.args.now c.args.key.now) (sym (seen_is (within c.self.view_is c.self.invariant) c.args.id (sym (rw c.number.ensures at c.in-Some.ensures.value)))))
+returns-in-Some g c =
+    let state = c.deref.ensures ∙ ap (λ (s : Slot). s.state) c.cache.view_is in
+    (rw state at c.peek.ensures) ∙ ap (live_row_in c.args.now c.args.key.now) (sym (seen_is (within c.self.view_is c.self.invariant) c.args.id (sym (rw c.number.ensures at c.in-Some.ensures.value))))
 
 pub returns-in-None : goal.returns-in-None
 returns-in-None g c = ap (live_row_in c.args.now c.args.key.now) (sym (seen_is (within c.self.view_is c.self.invariant) c.args.id (sym (rw c.number.ensures at c.in-None.ensures.value))))

@@ -2,7 +2,7 @@ use Rattle.std.proofs.Common.{Some, ap, sym, length, ◌∙◌}
 use Rattle.jc_engine.proofs.Names.{Kept, Slot, item_of, length-map}
 use Rattle.jc_engine.proofs.Places.{within, seen_is}
 use Rattle.jc_engine.specs.Caches.{count_in}
-use Rattle.jc_engine.proofs.looks.Engine.count.Goals as goal
+use Rattle.jc_engine.proofs.engine.Engine.count.Goals as goal
 
 pub returns-in-Some : goal.returns-in-Some
 returns-in-Some g c =
