@@ -73,6 +73,10 @@
 extern "C" {
 #endif
 
+/* The version of this header: 10,000 times the first number, 100 times the second, and the third. Numbers below are never
+ * given another meaning, and what is declared here stays as it is while the first number stays. */
+#define JCACHE_VERSION 100
+
 /* A manager, or none where `at` is null. */
 struct jc_manager {
     void *at;
@@ -139,6 +143,9 @@ enum { JC_KEEP = 0, JC_SET = 1, JC_REMOVE = 2 };
 /* The kinds of notices. */
 enum { JC_CREATED_ROW = 0, JC_UPDATED_ROW = 1, JC_REMOVED_ROW = 2, JC_EXPIRED_ROW = 3 };
 
+/* The moment of a row that never expires, or at that moment. */
+#define JC_NEVER UINT64_MAX
+
 /* What a cache is created with, its name aside. */
 struct jc_settings {
     uint64_t duration;
@@ -159,6 +166,9 @@ struct jc_pair_lengths {
 #define JC_TEXT(text) (const uint8_t *)(text), strlen(text)
 #define JC_EMPTY (const uint8_t *)"", (size_t)0
 
+/* The library's version, as JCACHE_VERSION. */
+uint32_t jc_version(void);
+
 /* Managers. Any seed serves: it decides where keys stand in the table, and is no protection against keys that are
  * chosen to share their places. JC_DONE, JC_IN_USE, JC_OUT_OF_MEMORY. */
 jc_status jc_open(struct jc_manager *m, uint64_t seed);
@@ -177,6 +187,10 @@ jc_status jc_find(struct jc_manager *m, const uint8_t *name, size_t name_len, ui
 /* Calls on one key, `now` in milliseconds of a clock of the caller's, which need not rise.
  * Get: JC_FOUND or JC_NOTHING; a missing key is loaded. */
 jc_status jc_get(struct jc_manager *m, uint32_t id, uint64_t now, const uint8_t *key, size_t key_len);
+/* As jc_get, and where the status is JC_FOUND *len is how many bytes the value has; the first of them, as many as there
+ * is room for, are copied. With any other status nothing is written. */
+jc_status jc_get_into(struct jc_manager *m, uint32_t id, uint64_t now, const uint8_t *key, size_t key_len,
+                      uint8_t *out, size_t room, size_t *len);
 /* JC_TRUE or JC_FALSE; it loads, counts and renews nothing, and takes no memory. */
 jc_status jc_contains(struct jc_manager *m, uint32_t id, uint64_t now, const uint8_t *key, size_t key_len);
 /* JC_DONE. */
@@ -253,6 +267,24 @@ jc_status jc_before(struct jc_manager *m, uint32_t id, size_t item, uint8_t *out
 jc_status jc_argument(struct jc_manager *m, uint32_t id, size_t item, uint8_t *out, size_t room, size_t *len);
 /* A number, the first one having place 0. */
 jc_status jc_number(struct jc_manager *m, uint32_t id, size_t place, uint64_t *number);
+
+/* Looks. They change, count and show nothing, are no calls, take no memory, and go on beside an open call.
+ *
+ * The value of a row that is live at `now`, and the moment at which it expires or JC_NEVER: JC_FOUND, and both are
+ * written, the value as jc_get_into writes it; or JC_NOTHING. JC_NO_SUCH_CACHE, JC_BAD_KEY, JC_CLOSED. */
+jc_status jc_peek(struct jc_manager *m, uint32_t id, uint64_t now, const uint8_t *key, size_t key_len,
+                  uint64_t *expires, uint8_t *out, size_t room, size_t *len);
+/* How many rows a cache has, expired ones that no call has met among them. JC_DONE, JC_NO_SUCH_CACHE, JC_CLOSED. */
+jc_status jc_rows(struct jc_manager *m, uint32_t id, size_t *rows);
+/* Rows by their numbers, from number `from` on, as many whole ones as there is room for, expired ones among them. Of each
+ * row 8 bytes for the moment at which it expires (JC_NEVER: never), 1 for its key's length, 2 for its value's, little
+ * endian, then key and value. JC_LISTED, *len bytes are written, and *next is the number to go on from; JC_NOTHING: no
+ * row has such a number; JC_SHORT_BUFFER: not one row fits, *len is what the first one takes (65,609 at most), and
+ * nothing else is written. JC_NO_SUCH_CACHE, JC_CLOSED.
+ * Begun at 0, a walk lists at most as many times as the cache has capacity, and is over at JC_NOTHING. A row that stays
+ * from its first step to its last is given exactly once, whatever other calls change between them. */
+jc_status jc_walk(struct jc_manager *m, uint32_t id, uint32_t from, uint8_t *out, size_t room, size_t *len,
+                  uint32_t *next);
 
 #ifdef __cplusplus
 }

@@ -48,6 +48,11 @@ static void closed_handles(void) {
     WANT(jc_items(&m, 0, &len) == JC_CLOSED && len == 9);
     WANT(jc_value(&m, 0, 0, out, sizeof out, &len) == JC_CLOSED && len == 9 && out[0] == 1);
     WANT(jc_number(&m, 0, 0, &number) == JC_CLOSED && number == 9);
+    WANT(jc_get_into(&m, 0, 0, JC_TEXT("k"), out, sizeof out, &len) == JC_CLOSED && len == 9);
+    WANT(jc_peek(&m, 0, 0, JC_TEXT("k"), &number, out, sizeof out, &len) == JC_CLOSED && number == 9 && len == 9);
+    WANT(jc_rows(&m, 0, &len) == JC_CLOSED && len == 9);
+    WANT(jc_walk(&m, 0, 0, out, sizeof out, &len, &id) == JC_CLOSED && len == 9 && id == 9 && out[0] == 1);
+    WANT(jc_version() == JCACHE_VERSION);
 }
 
 static void caches(void) {
@@ -166,6 +171,113 @@ static void requests(void) {
     WANT(jc_destroy(&m, id) == JC_DONE && jc_get(&m, id, 0, JC_TEXT("k")) == JC_NO_SUCH_CACHE);
 }
 
+/* A row as a step of a walk gives it; what stands behind it. */
+static const uint8_t *row_in(const uint8_t *at, uint64_t *expires, char *key, char *value) {
+    size_t key_len = at[8], value_len = at[9] + 256u * at[10];
+    *expires = 0;
+    for (int n = 8; n-- > 0;)
+        *expires = *expires << 8 | at[n];
+    memcpy(key, at + 11, key_len);
+    memcpy(value, at + 11 + key_len, value_len);
+    key[key_len] = value[value_len] = 0;
+    return at + 11 + key_len + value_len;
+}
+
+/* Gets and peeks that copy into a buffer: of a row that expires, of none, of one that has to be loaded. */
+static void looks(void) {
+    struct jc_settings timed = {.capacity = 4, .policy = JC_ACCESSED, .duration = 10, .loader = 1};
+    uint8_t out[6] = "......";
+    size_t len = 9, rows = 9;
+    uint64_t expires = 9;
+    uint32_t id;
+    WANT(jc_create(&m, JC_TEXT("timed"), &timed, JC_EMPTY, &id) == JC_DONE);
+    WANT(jc_put(&m, 0, 0, JC_TEXT("k"), JC_TEXT("first")) == JC_DONE && jc_put(&m, id, 0, JC_TEXT("k"), JC_TEXT("one")) == JC_DONE);
+    WANT(jc_get_into(&m, 0, 0, JC_TEXT("l"), out, sizeof out, &len) == JC_NOTHING && len == 9 && out[0] == '.');
+    WANT(jc_get_into(&m, 0, 0, JC_EMPTY, out, sizeof out, &len) == JC_BAD_KEY && len == 9);
+    WANT(jc_get_into(&m, 99, 0, JC_TEXT("k"), out, sizeof out, &len) == JC_NO_SUCH_CACHE && len == 9);
+    WANT(jc_get_into(&m, 0, 0, JC_TEXT("k"), out, 2, &len) == JC_FOUND && len == 5 && !memcmp(out, "fi....", 6));
+    WANT(jc_get_into(&m, 0, 0, JC_TEXT("k"), out, sizeof out, &len) == JC_FOUND && len == 5 && !memcmp(out, "first.", 6));
+    WANT(shows(0, 1) && part_is(jc_value, 0, 0, "first"));
+    WANT(jc_clear_stats(&m, id, 0) == JC_DONE);
+    WANT(jc_peek(&m, 0, 0, JC_TEXT("k"), &expires, out, 3, &len) == JC_FOUND && expires == JC_NEVER && len == 5);
+    WANT(jc_peek(&m, id, 9, JC_TEXT("k"), &expires, out, sizeof out, &len) == JC_FOUND && expires == 10 && len == 3);
+    WANT(!memcmp(out, "onest.", 6));
+    WANT(jc_peek(&m, id, 9, JC_TEXT("k"), &expires, out, 0, &len) == JC_FOUND && expires == 10 && len == 3);
+    expires = len = 9;
+    WANT(jc_peek(&m, id, 10, JC_TEXT("k"), &expires, out, sizeof out, &len) == JC_NOTHING && expires == 9 && len == 9);
+    WANT(jc_peek(&m, id, 0, JC_TEXT("l"), &expires, out, sizeof out, &len) == JC_NOTHING && expires == 9 && len == 9);
+    WANT(jc_peek(&m, id, 0, JC_EMPTY, &expires, out, sizeof out, &len) == JC_BAD_KEY && expires == 9);
+    WANT(jc_peek(&m, 99, 0, JC_TEXT("k"), &expires, out, sizeof out, &len) == JC_NO_SUCH_CACHE && !memcmp(out, "onest.", 6));
+    WANT(jc_rows(&m, id, &rows) == JC_DONE && rows == 1 && jc_rows(&m, 99, &rows) == JC_NO_SUCH_CACHE && rows == 1);
+    WANT(shows(id, 0) && jc_stats(&m, id, 0) == JC_COUNTED && number_is(id, 0, 0) && number_is(id, 1, 0));
+    WANT(jc_get_into(&m, id, 10, JC_TEXT("l"), out, sizeof out, &len) == JC_NEED_LOAD && len == 9 && part_is(jc_key, id, 0, "l"));
+    WANT(jc_peek(&m, id, 9, JC_TEXT("k"), &expires, out, sizeof out, &len) == JC_FOUND && part_is(jc_key, id, 0, "l"));
+    WANT(jc_rows(&m, id, &rows) == JC_DONE && rows == 1 && jc_loaded(&m, id, JC_TEXT("two")) == JC_FOUND);
+    WANT(jc_rows(&m, id, &rows) == JC_DONE && rows == 2 && jc_destroy(&m, id) == JC_DONE);
+}
+
+/* Steps of a walk with room for all, for one and for none, over rows of which one has expired. */
+static void steps(void) {
+    struct jc_settings timed = {.capacity = 4, .policy = JC_CREATED, .duration = 10};
+    uint8_t out[64] = {7};
+    char key[64], value[64];
+    size_t len = 9;
+    uint64_t expires;
+    uint32_t id, next = 9, seen = 0;
+    WANT(jc_create(&m, JC_TEXT("steps"), &timed, JC_EMPTY, &id) == JC_DONE);
+    WANT(jc_walk(&m, 99, 0, out, sizeof out, &len, &next) == JC_NO_SUCH_CACHE && len == 9 && next == 9);
+    WANT(jc_walk(&m, id, 0, out, sizeof out, &len, &next) == JC_NOTHING && len == 9 && next == 9 && out[0] == 7);
+    WANT(jc_put(&m, id, 0, JC_TEXT("ann"), JC_TEXT("A")) == JC_DONE && jc_put(&m, id, 5, JC_TEXT("b"), JC_EMPTY) == JC_DONE);
+    WANT(jc_get(&m, id, 9, JC_TEXT("b")) == JC_FOUND);
+    WANT(jc_walk(&m, id, 0, out, 11, &len, &next) == JC_SHORT_BUFFER && (len == 12 || len == 15) && next == 9 && out[0] == 7);
+    WANT(jc_walk(&m, id, 0, out, sizeof out, &len, &next) == JC_LISTED && len == 27 && next > 1 && next <= 4);
+    for (const uint8_t *at = out; at < out + len;) {
+        at = row_in(at, &expires, key, value);
+        int is_ann = !strcmp(key, "ann");
+        WANT(is_ann ? expires == 10 && !strcmp(value, "A") : expires == 15 && !strcmp(key, "b") && !*value);
+        seen += is_ann ? 1 : 16;
+    }
+    WANT(seen == 17 && jc_walk(&m, id, next, out, sizeof out, &len, &next) == JC_NOTHING && len == 27);
+    WANT(jc_walk(&m, id, UINT32_MAX, out, sizeof out, &len, &next) == JC_NOTHING);
+    WANT(jc_walk(&m, id, 0, out, 26, &len, &next) == JC_LISTED && (len == 12 || len == 15) && next >= 1 && next < 4);
+    uint32_t first = next;
+    WANT(jc_walk(&m, id, first, out, 26, &len, &next) == JC_LISTED && (len == 12 || len == 15) && next > first && next <= 4);
+    WANT(jc_walk(&m, id, next, out, 26, &len, &next) == JC_NOTHING && jc_destroy(&m, id) == JC_DONE);
+}
+
+/* A walk in small steps, while other rows come and go, are put anew and are read: of the rows that stay each is given
+ * once. */
+static void walks(void) {
+    struct jc_settings settings = {.capacity = 100, .policy = JC_ETERNAL};
+    uint8_t out[48];
+    char key[64], value[64];
+    size_t len, counts[40] = {0}, taken = 0;
+    uint64_t expires;
+    uint32_t id, next = 0;
+    WANT(jc_create(&m, JC_TEXT("walks"), &settings, JC_EMPTY, &id) == JC_DONE);
+    for (int n = 0; n < 80; n++) {
+        snprintf(key, sizeof key, "%s%d", n % 2 ? "stays" : "goes", n / 2);
+        WANT(jc_put(&m, id, 0, JC_TEXT(key), JC_TEXT("v")) == JC_DONE);
+    }
+    for (int n = 0; jc_walk(&m, id, next, out, sizeof out, &len, &next) == JC_LISTED; n++) {
+        taken++;
+        for (const uint8_t *at = out; at < out + len;) {
+            at = row_in(at, &expires, key, value);
+            if (!strncmp(key, "stays", 5))
+                counts[strtoul(key + 5, 0, 10)]++;
+        }
+        snprintf(key, sizeof key, "goes%d", (n * 7) % 40);
+        WANT(jc_remove(&m, id, 0, JC_TEXT(key)) <= JC_TRUE);
+        snprintf(key, sizeof key, "comes%d", n % 10);
+        WANT(jc_put(&m, id, 0, JC_TEXT(key), JC_TEXT("w")) == JC_DONE);
+        snprintf(key, sizeof key, "stays%d", (n * 11) % 40);
+        WANT(jc_put(&m, id, 0, JC_TEXT(key), JC_TEXT("x")) == JC_DONE && jc_get(&m, id, 0, JC_TEXT(key)) == JC_FOUND);
+    }
+    for (int n = 0; n < 40; n++)
+        WANT(counts[n] == 1);
+    WANT(taken > 20 && taken <= 100 && jc_destroy(&m, id) == JC_DONE);
+}
+
 /* Four threads that count in one row, each under the lock. */
 static pthread_mutex_t lock = PTHREAD_MUTEX_INITIALIZER;
 
@@ -201,6 +313,9 @@ int main(void) {
     one_key();
     many_keys();
     requests();
+    looks();
+    steps();
+    walks();
     threads();
     struct jc_manager moved = m;
     m.at = 0;

@@ -6,6 +6,7 @@ use Rattle.jc_model.specs.declared.call.Call.{Call}
 use Rattle.jc_model.specs.declared.config.CacheConfig.{CacheConfig}
 use Rattle.jc_model.specs.declared.event.Event.{Event}
 use Rattle.jc_model.specs.declared.event.Outcome.{Outcome}
+use Rattle.jc_model.specs.Places.{at_place}
 use Rattle.jc_engine.specs.Caches.{Cache}
 use Rattle.jc_seat.specs.declared.items.Part.{Part}
 use Rattle.jc_seat.specs.declared.status.Fault.{Fault}
@@ -13,6 +14,7 @@ use Rattle.jc_seat.specs.declared.status.Status.{Status}
 use Rattle.jc_seat.specs.declared.status.Status.TheVariants.{Closed, Done, InUse, OutOfMemory}
 use Rattle.jc_seat.specs.Status.{status_number}
 use Rattle.jc_seat.specs.Items.{Bytes}
+use Rattle.jc_seat.specs.Looks.{value_found}
 use Rattle.jc_seat.specs.Parts.{number_shown, part_shown, part_status}
 use Rattle.jc_seat.specs.Seated.{Seated, DoesWithStatus, BeginsCall, BeginsCallOr, CreatesOr, ResumesCall, ResumesCallOr, shown_of}
 use Rattle.jc_c.specs.declared.handle.Handle.{Handle}
@@ -67,6 +69,10 @@ SeatTellsOf id told h number h' = SeatTells (λ old. told (shown_of id old)) h n
 abbrev pub SeatTellsPart : Part → ℕ → ℕ → ℕ → Handle → ℕ → Handle → Type 0
 SeatTellsPart part item id room h number h' = SeatTellsOf id (part_status part item room) h number h'
 
+-- and this, by a cache, which may be none
+abbrev pub SeatTellsAt : ℕ → (Option Cache → Status) → Handle → ℕ → Handle → Type 0
+SeatTellsAt id told h number h' = SeatTells (λ old. told (at_place old.caches id)) h number h'
+
 -- Handles that are opened and closed, and what is seen of them.
 
 -- a manager without caches is made behind a handle without one, unless memory is wanting; a handle with one keeps it
@@ -96,3 +102,12 @@ part_shown_in part item id held = part_shown part item (shown_in id held)
 -- a number of it
 abbrev pub number_shown_in : ℕ → ℕ → Option Seated → Option ℕ
 number_shown_in place id held = number_shown place (shown_in id held)
+
+-- a live cache
+abbrev pub cache_held : ℕ → Option Seated → Option Cache
+cache_held id held = at_place (caches_held held) id
+
+-- the value that a call found, if this is its status's number
+abbrev pub value_found_in : ℕ → ℕ → Option Seated → Bytes
+value_found_in id number None = None
+value_found_in id number (Some s) = value_found id number s

@@ -6,5 +6,6 @@ mod answers;
 mod calls;
 mod handle;
 mod items;
+mod looks;
 mod managers;
 mod many;

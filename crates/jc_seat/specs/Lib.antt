@@ -6,3 +6,4 @@ pub mod Lent
 pub mod Parts
 pub mod Seated
 pub mod Looks
+pub mod Walk

@@ -1,5 +1,5 @@
 -- What looks at a cache tell.
-use Rattle.std.specs.Prelude.{ℕ, ◌-◌, ◌^◌, length, List, map, option_map, Result, Ok, Err}
+use Rattle.std.specs.Prelude.{ℕ, ◌-◌, ◌^◌, eqb, if◌then◌else◌, List, option_map, Result, Ok, Err}
 use Rattle.std.specs.Prelude.{Option, Some, None}
 use Rattle.jc_model.specs.declared.config.Expiry.{Expiry}
 use Rattle.jc_model.specs.declared.config.Expiry.TheVariants.{Never, At}
@@ -12,7 +12,7 @@ use Rattle.jc_seat.specs.declared.status.Status.TheVariants.{Found, NoSuchCache,
 use Rattle.jc_seat.specs.Items.{Bytes}
 use Rattle.jc_seat.specs.Parts.{part_shown, status_there}
 use Rattle.jc_seat.specs.Seated.{Seated, shown_of}
-use Rattle.jc_seat.specs.Status.{fault_status}
+use Rattle.jc_seat.specs.Status.{fault_status, status_number}
 
 -- the moment at which a row expires; the last one stands for never, too
 abbrev pub moment_of : Expiry → ℕ
@@ -39,10 +39,9 @@ moment_peeked row = option_map (λ row. moment_of row.expiry) row
 abbrev pub value_peeked : Option Record → Bytes
 value_peeked row = option_map (λ row. row.value) row
 
--- the value that a call found, if this is its status, by what it shows
-abbrev pub value_found : ℕ → Status → Seated → Bytes
-value_found id Found s = part_shown part.Value 0 (shown_of id s)
-value_found id _ s = None
+-- the value that a call found, if this is its status's number, by what it shows
+abbrev pub value_found : ℕ → ℕ → Seated → Bytes
+value_found id number s = if eqb number (status_number Found) then part_shown part.Value 0 (shown_of id s) else None
 
 abbrev pub rows_status : Option Cache → Status
 rows_status cache = status_there NoSuchCache (count_in cache)

@@ -12,3 +12,4 @@ pub mod seat;
 pub mod settings;
 mod shown;
 pub mod status;
+pub mod walk;

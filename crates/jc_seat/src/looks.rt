@@ -8,6 +8,7 @@ ghost use Rattle.jc_seat.specs.Looks.{moment_of, moment_peeked, peek_status, row
 ghost use Rattle.jc_seat.specs.Parts.{or_before};
 ghost use Rattle.jc_seat.specs.Reading.{key_said};
 ghost use Rattle.jc_seat.specs.Seated.{BeginsCall};
+ghost use Rattle.jc_seat.specs.Status.{status_number};
 
 use crate::calls;
 use crate::items::{Part, copy_first};
@@ -40,14 +41,25 @@ impl Seat {
         len: &mut usize,
     ) -> Status
         ensures called { BeginsCall self.old id now (call_with_key Call.Get key.now) result self.new }
-        ensures out { out.new ≡ buffer_after (value_found id result self.new) out.old }
-        ensures len { len.new ≡ length_told (value_found id result self.new) len.old }
+        ensures out { out.new
+            ≡ buffer_after (value_found id (status_number result) self.new) out.old }
+        ensures len { len.new
+            ≡ length_told (value_found id (status_number result) self.new) len.old }
     {
         let status = self.call(id, now, calls::get(key));
-        if let Status::Found = status {
-            let _copied = self.copy_part(id, 0, Part::Value, out, len);
-        }
+        self.copy_found(id, status.number(), out, len);
         status
+    }
+
+    /// Copies the value that is shown, if this is the number of the status of a call that found it.
+    fn copy_found(&self, id: u32, number: u32, out: &mut [u8], len: &mut usize)
+        ensures out { out.new ≡ buffer_after (value_found id number self.now) out.old }
+        ensures len { len.new ≡ length_told (value_found id number self.now) len.old }
+    {
+        if number != Status::Found.number() {
+            return;
+        }
+        let _copied = self.copy_part(id, 0, Part::Value, out, len);
     }
 
     /// Copies the first bytes of the value of a key's live row, as many as a buffer takes, and tells how many there are
