@@ -37,7 +37,7 @@ module _ (cache : Option Cache) where
       split true = omega arith
       split false = let low = rest (room - row_length row) in omega (arith, low)
 
-  low : (fuel room a : ℕ) → a ≤ number_behind a (gives_from fuel room a)
+  pub low : (fuel room a : ℕ) → a ≤ number_behind a (gives_from fuel room a)
   low zero room a = omega arith
   low (suc m) room a = low_by m room a (λ left. low m left (a + 1)) (row_in a cache)
 
@@ -50,7 +50,7 @@ module _ (cache : Option Cache) where
       split false =
           let all = times-more n (a, row) (gives_from m (room - row_length row) (a + 1)) in
           let none = rest (room - row_length row) in
-          let no_first : cond (eqb a n) 1 0 ≡ 0 = rw differs refl in
+          let no_first : ◌≡◌ {A = ℕ} (cond (eqb a n) 1 0) 0 = rw differs refl in
           omega (arith, all, no_first, none)
 
   before : (fuel room a n : ℕ) → n < a → times n (gives_from fuel room a) ≡ 0
@@ -74,7 +74,7 @@ module _ (cache : Option Cache) where
           let none = rest (room - row_length row) over in
           let differs : eqb a n ≡ false = let more : a < n = omega (arith, least, over) in grind (arith, nat_tests, more) in
           let all = times-more n (a, row) (gives_from m (room - row_length row) (a + 1)) in
-          let no_first : cond (eqb a n) 1 0 ≡ 0 = rw differs refl in
+          let no_first : ◌≡◌ {A = ℕ} (cond (eqb a n) 1 0) 0 = rw differs refl in
           omega (arith, all, no_first, none)
 
   behind : (fuel room a n : ℕ) → number_behind a (gives_from fuel room a) ≤ n → times n (gives_from fuel room a) ≡ 0
@@ -98,7 +98,7 @@ module _ (cache : Option Cache) where
       moved [] gone all high = absurd (omega (arith, least, high))
       moved (p ∷ ps) gone all high =
           let sum = apart a n None here least (p ∷ ps) gone (λ more. all more high) in
-          let nothing : cond (eqb a n) 0 0 ≡ 0 = elim (eqb a n) as (λ b. cond b 0 0 ≡ 0) [ true ↦ refl | false ↦ refl ] in
+          let nothing : ◌≡◌ {A = ℕ} (cond (eqb a n) 0 0) 0 = elim (eqb a n) as (λ b. ◌≡◌ {A = ℕ} (cond b 0 0) 0) [ true ↦ refl | false ↦ refl ] in
           omega (arith, sum, nothing)
   within_by m room a n least none rest (Some row) here = split (ltb room (row_length row))
     where

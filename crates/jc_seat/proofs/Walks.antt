@@ -1,5 +1,5 @@
 -- What a step covers, and what a walk gives.
-use Rattle.std.proofs.Common.{◌≡◌, ◌<◌, ◌≤◌, ℕ, ◌+◌, ◌-◌, Bool, true, false, ltb, cond, if◌then◌else◌, is_some, List, [], ◌∷◌, Option, Some, None, inl, inr, refl, sym, ap, subst, tt, ◌∙◌, arith}
+use Rattle.std.proofs.Common.{◌≡◌, ◌<◌, ◌≤◌, ℕ, ◌+◌, ◌-◌, Bool, true, false, ltb, cond, if◌then◌else◌, is_some, List, [], ◌∷◌, Option, Some, None, inl, inr, refl, sym, ap, subst, ◌∙◌, arith}
 use Rattle.std.proofs.lemmas.Bool.{cases_lt}
 use Rattle.jc_engine.specs.Caches.{Cache, row_in}
 use Rattle.jc_seat.specs.Walk.{AlwaysThere, Covers, IsWalk, Numbered, WalkCovers, ended, fitting, given, number_behind, row_length, rows_from, short, times_given, walked, walked_by}
@@ -47,6 +47,10 @@ never_before from n (step ∷ steps) (rows ∷ lists) less is =
     let rest = never_before (number_behind from rows) n steps lists (omega (arith, less, more)) is.1 in
     omega (arith, here, rest)
 
+once : (b : Bool) → b ≡ true → ◌≡◌ {A = ℕ} (cond b 1 0) 1
+once true is = refl
+once false is = absurd cc
+
 pub given_once : (from n : ℕ) (steps : List (ℕ × Cache)) (lists : List (List Numbered)) → from ≤ n → IsWalk from steps lists → AlwaysThere n steps → times_given n lists ≡ 1
 given_once from n [] lists least is always = absurd is
 given_once from n (step ∷ []) [] least is always =
@@ -56,6 +60,6 @@ given_once from n (step ∷ next ∷ steps) [] least is always = absurd is
 given_once from n (step ∷ steps) (rows ∷ lists) least is always =
     let c = covered step.0 step.1 from rows is.0 in
     elim (cases_lt n (number_behind from rows)) [
-      | inl less ↦ (let here = c.each n least less in let rest = never_before (number_behind from rows) n steps lists less is.1 in let one : cond (is_some (row_in n (Some step.1))) 1 0 ≡ 1 = rw always.1 refl in omega (arith, here, one, rest))
+      | inl less ↦ (let here = c.each n least less in let rest = never_before (number_behind from rows) n steps lists less is.1 in let one = once (is_some (row_in n (Some step.1))) always.1 in omega (arith, here, one, rest))
       | inr over ↦ (let here = c.none_behind n over in let rest = given_once (number_behind from rows) n steps lists over is.1 always.2 in omega (arith, here, rest))
     ]

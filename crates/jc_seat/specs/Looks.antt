@@ -1,5 +1,5 @@
 -- What looks at a cache tell.
-use Rattle.std.specs.Prelude.{ℕ, ◌-◌, ◌^◌, eqb, if◌then◌else◌, List, option_map, Result, Ok, Err}
+use Rattle.std.specs.Prelude.{ℕ, ◌-◌, ◌^◌, Bool, true, false, eqb, if◌then◌else◌, is_some, List, option_map, Result, Ok, Err}
 use Rattle.std.specs.Prelude.{Option, Some, None}
 use Rattle.jc_model.specs.declared.config.Expiry.{Expiry}
 use Rattle.jc_model.specs.declared.config.Expiry.TheVariants.{Never, At}
@@ -24,13 +24,14 @@ abbrev pub row_peeked : ℕ → Result (List ℕ) Fault → Option Cache → Opt
 row_peeked now (Ok key) cache = live_row_in now key cache
 row_peeked now (Err fault) cache = None
 
-abbrev pub found_status : Option Cache → Option Record → Status
-found_status None row = NoSuchCache
-found_status (Some k) None = Nothing
-found_status (Some k) (Some row) = Found
+-- a row was found, or its cache has none, or there is no such cache
+abbrev pub found_status : Option Record → Bool → Status
+found_status (Some row) live = Found
+found_status None true = Nothing
+found_status None false = NoSuchCache
 
 abbrev pub peek_status : ℕ → Result (List ℕ) Fault → Option Cache → Status
-peek_status now (Ok key) cache = found_status cache (live_row_in now key cache)
+peek_status now (Ok key) cache = found_status (live_row_in now key cache) (is_some cache)
 peek_status now (Err fault) cache = fault_status fault
 
 abbrev pub moment_peeked : Option Record → Option ℕ

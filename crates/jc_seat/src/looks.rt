@@ -87,16 +87,14 @@ impl Seat {
             Err(fault) => return Status::of_fault(fault),
         };
         let id = CacheId::new(id);
-        if !self.engine.is_live(id) {
-            return Status::NoSuchCache;
-        }
         match self.engine.peek(id, &key, now) {
             Some(row) => {
                 *expires = moment_of(row.expiry);
                 copy_first(row.value.first().bytes(), out, len);
                 Status::Found
             }
-            None => Status::Nothing,
+            None if self.engine.is_live(id) => Status::Nothing,
+            None => Status::NoSuchCache,
         }
     }
 

@@ -4,7 +4,8 @@ ghost use Rattle.jc_model.specs.Places.{at_place};
 ghost use Rattle.jc_engine.specs.Caches.{row_in};
 ghost use Rattle.jc_seat.specs.Walk.{Gives, head_bytes, row_bytes, row_length, written_at};
 ghost use Rattle.jc_seat.specs.Walk.{length_at_end, number_at_end, status_at_end};
-ghost use Rattle.jc_seat.specs.Walk.{WalkTells, rows_from, walked, walked_by};
+ghost use Rattle.jc_seat.specs.Walk.{WalkTells, rows_from, walked_by};
+ghost use Rattle.jc_seat.specs.Walk.{bytes_walked, laid_over, length_walked, number_walked, walk_status, walked};
 
 use crate::looks::moment_of;
 use crate::seat::Seat;
@@ -146,8 +147,14 @@ impl Seat {
         len: &mut usize,
         next: &mut u32,
     ) -> Status
-        ensures { WalkTells (walked (length out.old) (at_place self.now.caches id) from)
-            from out.old len.old next.old result out.new len.new next.new }
+        ensures status { result
+            ≡ walk_status (walked (length out.old) (at_place self.now.caches id) from) }
+        ensures out { out.new ≡ laid_over
+            (bytes_walked (walked (length out.old) (at_place self.now.caches id) from)) out.old }
+        ensures len { len.new ≡ length_walked
+            (walked (length out.old) (at_place self.now.caches id) from) len.old }
+        ensures next { next.new ≡ number_walked
+            (walked (length out.old) (at_place self.now.caches id) from) from next.old }
     {
         let id = CacheId::new(id);
         match self.engine.config(id) {

@@ -1,4 +1,4 @@
-use Rattle.std.proofs.Common.{ap, sym, subst, tt, ◌∙◌}
+use Rattle.std.proofs.Common.{ap, sym, subst, ◌∙◌}
 use Rattle.jc_engine.proofs.Names.{Slot}
 use Rattle.jc_engine.proofs.Numbering.{row_here, numbers_here}
 use Rattle.jc_engine.proofs.Places.{within, seen_is, stands}
