@@ -1,5 +1,5 @@
 //! Steps of a walk over a cache's rows, in order of their numbers, as bytes in the caller's buffer.
-ghost use Rattle.std.specs.Prelude.{◌≡◌, ◌<◌, ◌≤◌, ◌+◌, ◌^◌, ◌-◌, length};
+ghost use Rattle.std.specs.Prelude.{◌≡◌, ◌<◌, ◌≤◌, ◌+◌, ◌^◌, ◌-◌, ◌++◌, length};
 ghost use Rattle.jc_model.specs.Places.{at_place};
 ghost use Rattle.jc_engine.specs.Caches.{row_in};
 ghost use Rattle.jc_seat.specs.Walk.{Gives, head_bytes, row_bytes, row_length, written_at};
@@ -73,17 +73,25 @@ fn write(out: &mut [u8], place: usize, bytes: &[u8])
     out[place..place + bytes.len()].copy_from_slice(bytes);
 }
 
+/// Writes a row's parts, one behind the other, in the place of other bytes.
+fn write_parts(out: &mut [u8], place: usize, head: &[u8], key: &[u8], value: &[u8])
+    requires { place + (length head.now + (length key.now + length value.now)) ≤ length out.old }
+    ensures { out.new ≡ written_at place (head.now ++ (key.now ++ value.now)) out.old }
+{
+    write(out, place, head);
+    write(out, place + head.len(), key);
+    write(out, place + head.len() + key.len(), value);
+}
+
 /// Writes a row in the place of other bytes.
 fn write_row(out: &mut [u8], place: usize, row: &Record)
     requires { place + row_length row.now ≤ length out.old }
     ensures { out.new ≡ written_at place (row_bytes row.now) out.old }
 {
+    let head = head_of(row);
     let key = row.key.text().as_bytes();
     let value = row.value.first().bytes();
-    let head = head_of(row);
-    write(out, place, &head);
-    write(out, place + HEAD, key);
-    write(out, place + HEAD + key.len(), value);
+    write_parts(out, place, &head, key, value);
 }
 
 impl Seat {
