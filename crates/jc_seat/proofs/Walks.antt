@@ -1,8 +1,8 @@
 -- What a step covers, and what a walk gives.
-use Rattle.std.proofs.Common.{◌≡◌, ◌<◌, ◌≤◌, ℕ, ◌+◌, ◌-◌, Bool, true, false, ltb, cond, if◌then◌else◌, is_some, List, [], ◌∷◌, Option, Some, None, inl, inr, refl, sym, ap, subst, ◌∙◌, arith}
+use Rattle.std.proofs.Common.{◌≡◌, ◌<◌, ◌≤◌, ℕ, ◌-◌, Bool, true, false, ltb, cond, if◌then◌else◌, is_some, List, [], ◌∷◌, Option, Some, None, inl, inr, refl, sym, ap, subst, ◌∙◌, arith}
 use Rattle.std.proofs.lemmas.Bool.{cases_lt}
 use Rattle.jc_engine.specs.Caches.{Cache, row_in}
-use Rattle.jc_seat.specs.Walk.{AlwaysThere, Covers, IsWalk, Numbered, WalkCovers, ended, fitting, given, number_behind, row_length, rows_from, short, times_given, walked, walked_by}
+use Rattle.jc_seat.specs.Walk.{AlwaysThere, Covers, IsWalk, Numbered, WalkCovers, fitting, given, number_behind, row_length, rows_from, short, times_given, walked, walked_by}
 use Rattle.jc_seat.proofs.Covering.{covers, low, none_left}
 
 pub walk_covers : (room : ℕ) (cache : Option Cache) (from : ℕ) → WalkCovers cache from (walked room cache from)
