@@ -3,20 +3,22 @@
 #include <iostream>
 
 int main() {
-    jcache::Manager manager;
-    jcache::Options options;
-    options.capacity = 100;
-    options.policy = JC_CREATED;
-    options.duration = 60000;
-    options.loader = [](const std::string &name) {
-        std::cout << "loads " << name << "\n";
-        return jcache::Value("Hello, " + name + "!");
-    };
-    jcache::Cache greetings = manager.create("greetings", options);
+    using namespace std::chrono_literals;
+    jcache::FixedClock clock;
+    jcache::Manager manager(7, clock);
+    jcache::Cache greetings = manager.create_cache("greetings", {
+        .capacity = 100,
+        .expiry = jcache::Expiry::created(60s),
+        .loader = [](std::string_view name) {
+            std::cout << "loads " << name << "\n";
+            return "Hello, " + std::string(name) + "!";
+        },
+    });
     for (std::uint64_t now : {0, 59999, 60000}) {
-        std::string greeting = *greetings.get("ann", now);
+        clock.set(now);
+        std::string greeting = greetings.get("ann").value();
         std::cout << now << " " << greeting << "\n";
     }
-    jcache::Stats stats = greetings.stats();
-    std::cout << stats.hits << " hit, " << stats.misses << " misses\n";
+    jcache::Statistics counted = greetings.statistics();
+    std::cout << counted.hits << " hit, " << counted.misses << " misses\n";
 }

@@ -1,20 +1,20 @@
 //! A cache whose loader is ours: the first get of a name loads its greeting, the next one finds it.
-use jcache::{Answer, Call, Expiry, Manager, Refused, Reply, Request, Settings};
+use jcache::{Configuration, Error, Expiry, FixedClock, Manager};
+use std::time::Duration;
 
-fn main() -> Result<(), Refused> {
-    let mut manager = Manager::open(7)?;
-    let settings = Settings { capacity: 100, expiry: Expiry::Created(60_000), loader: true, ..Settings::default() };
-    let greetings = manager.create("greetings", &settings)?;
+fn main() -> Result<(), Error> {
+    let clock = FixedClock::new(0);
+    let manager = Manager::with(7, clock.reader())?;
+    let minute = Expiry::Created(Duration::from_secs(60));
+    let load = |name: &str| {
+        println!("loads {name}");
+        Ok(Some(format!("Hello, {name}!").into_bytes()))
+    };
+    let greetings = manager.create_cache("greetings", Configuration::new(100).expiry(minute).loader(load))?;
     for now in [0, 59_999, 60_000] {
-        let reply = manager.call(greetings, now, Call::Get("ann"), |request| match request {
-            Request::Load { key } => {
-                println!("loads {key}");
-                Answer::Loaded(Some(format!("Hello, {key}!").into_bytes()))
-            }
-            other => other.failed(),
-        })?;
-        if let Reply::Found(Some(value)) = reply {
-            println!("{now} {}", String::from_utf8_lossy(&value));
+        clock.set(now);
+        if let Some(greeting) = greetings.get("ann")? {
+            println!("{now} {}", String::from_utf8_lossy(&greeting));
         }
     }
     Ok(())

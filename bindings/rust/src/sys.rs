@@ -6,6 +6,9 @@ pub struct Handle {
     pub at: *mut u8,
 }
 
+// The library has no thread of its own, and a handle may go from thread to thread.
+unsafe impl Send for Handle {}
+
 #[repr(C)]
 pub struct Settings {
     pub duration: u64,
@@ -30,12 +33,13 @@ pub type Part = unsafe extern "C" fn(*mut Handle, u32, usize, *mut u8, usize, *m
 
 #[rustfmt::skip]
 extern "C" {
+    pub fn jc_version() -> u32;
     pub fn jc_open(m: *mut Handle, seed: u64) -> u32;
     pub fn jc_close(m: *mut Handle) -> u32;
     pub fn jc_create(m: *mut Handle, name: *const u8, name_len: usize, settings: *const Settings, wants: *const u8, wants_len: usize, id: *mut u32) -> u32;
     pub fn jc_destroy(m: *mut Handle, id: u32) -> u32;
     pub fn jc_find(m: *mut Handle, name: *const u8, name_len: usize, id: *mut u32) -> u32;
-    pub fn jc_get(m: *mut Handle, id: u32, now: u64, key: *const u8, key_len: usize) -> u32;
+    pub fn jc_get_into(m: *mut Handle, id: u32, now: u64, key: *const u8, key_len: usize, out: *mut u8, room: usize, len: *mut usize) -> u32;
     pub fn jc_contains(m: *mut Handle, id: u32, now: u64, key: *const u8, key_len: usize) -> u32;
     pub fn jc_put(m: *mut Handle, id: u32, now: u64, key: *const u8, key_len: usize, value: *const u8, value_len: usize) -> u32;
     pub fn jc_get_and_put(m: *mut Handle, id: u32, now: u64, key: *const u8, key_len: usize, value: *const u8, value_len: usize) -> u32;
@@ -70,6 +74,8 @@ extern "C" {
     pub fn jc_key(m: *mut Handle, id: u32, item: usize, out: *mut u8, room: usize, len: *mut usize) -> u32;
     pub fn jc_value(m: *mut Handle, id: u32, item: usize, out: *mut u8, room: usize, len: *mut usize) -> u32;
     pub fn jc_before(m: *mut Handle, id: u32, item: usize, out: *mut u8, room: usize, len: *mut usize) -> u32;
-    pub fn jc_argument(m: *mut Handle, id: u32, item: usize, out: *mut u8, room: usize, len: *mut usize) -> u32;
     pub fn jc_number(m: *mut Handle, id: u32, place: usize, number: *mut u64) -> u32;
+    pub fn jc_peek(m: *mut Handle, id: u32, now: u64, key: *const u8, key_len: usize, expires: *mut u64, out: *mut u8, room: usize, len: *mut usize) -> u32;
+    pub fn jc_rows(m: *mut Handle, id: u32, rows: *mut usize) -> u32;
+    pub fn jc_walk(m: *mut Handle, id: u32, from: u32, out: *mut u8, room: usize, len: *mut usize, next: *mut u32) -> u32;
 }

@@ -1,145 +1,285 @@
-//! The binding: each call, each callback, what is refused, a closure that panics, and four threads.
-use jcache::*;
+//! The binding: each call, each hook, what fails and from what, clocks, walks, moka's names, and threads.
+use jcache::{
+    BoxError, Cache, Configuration, Entry, Error, Event, EventKind, Expiry, FixedClock, Manager, Row, Statistics,
+};
 use std::collections::HashMap;
 use std::panic::{catch_unwind, AssertUnwindSafe};
-use std::sync::Mutex;
+use std::sync::{Arc, Mutex};
+use std::time::Duration;
 
-fn found(value: &str) -> Result<Reply, Refused> {
-    Ok(Reply::Found(Some(value.into())))
-}
+type Outcome = Result<(), Error>;
 
-fn truth(value: bool) -> Result<Reply, Refused> {
-    Ok(Reply::Truth(value))
+fn bytes(text: &str) -> Option<Vec<u8>> {
+    Some(text.as_bytes().to_vec())
 }
 
 #[test]
-fn plain_calls() {
-    let mut manager = Manager::open(7).unwrap();
-    let two = Settings { capacity: 2, ..Settings::default() };
-    let id = manager.create("plain", &two).unwrap();
-    assert_eq!(manager.create("plain", &two), Err(Refused(52)));
-    assert_eq!((manager.find("plain"), manager.find("none")), (Ok(id), Err(Refused(32))));
-    let mut ask = |call| manager.plain(id, 0, call);
-    let (long, too_long) = ("v".repeat(1000), "v".repeat(65_536));
-    assert_eq!(ask(Call::Get("k")), Ok(Reply::Found(None)));
-    assert_eq!(ask(Call::Put("k", long.as_bytes())), Ok(Reply::Done));
-    assert_eq!(ask(Call::GetAndPut("k", b"")), found(&long));
-    assert_eq!((ask(Call::Get("k")), ask(Call::Contains("k"))), (found(""), truth(true)));
-    assert_eq!((ask(Call::PutIfAbsent("k", b"w")), ask(Call::Replace("k", b"w"))), (truth(false), truth(true)));
-    assert_eq!(ask(Call::ReplaceIf("k", b"v", b"x")), truth(false));
-    assert_eq!(ask(Call::ReplaceIf("k", b"w", b"x")), truth(true));
-    assert_eq!(ask(Call::GetAndReplace("k", b"y")), found("x"));
-    assert_eq!((ask(Call::RemoveIf("k", b"x")), ask(Call::RemoveIf("k", b"y"))), (truth(false), truth(true)));
-    assert_eq!((ask(Call::Remove("k")), ask(Call::GetAndRemove("k"))), (truth(false), Ok(Reply::Found(None))));
-    assert_eq!((ask(Call::Get("")), ask(Call::Put("k", too_long.as_bytes()))), (Err(Refused(66)), Err(Refused(67))));
-    assert_eq!(ask(Call::PutAll(&[("a", b"1"), ("bb", b"22")])), Ok(Reply::Done));
-    let both = Ok(Reply::Listed(vec![("a".into(), b"1".to_vec()), ("bb".into(), b"22".to_vec())]));
-    assert_eq!((ask(Call::GetAll(&["a", "c", "bb"])), ask(Call::Entries)), (both.clone(), both));
-    assert_eq!((ask(Call::GetAll(&["a", "a"])), ask(Call::GetAll(&[]))), (Err(Refused(70)), Ok(Reply::Listed(vec![]))));
-    assert_eq!((ask(Call::RemoveKeys(&["a"])), ask(Call::RemoveAll)), (Ok(Reply::Done), Ok(Reply::Done)));
-    assert_eq!((ask(Call::Clear), ask(Call::ClearStats)), (Ok(Reply::Done), Ok(Reply::Done)));
-    assert_eq!(ask(Call::Stats), Ok(Reply::Counted(Stats::default())));
-    assert_eq!((manager.destroy(id), manager.plain(id, 0, Call::Stats)), (Ok(()), Err(Refused(32))));
+fn plain_calls() -> Outcome {
+    let manager = Manager::new()?;
+    let cache = manager.create_cache("plain", Configuration::new(2))?;
+    let long = "v".repeat(65_535);
+    assert_eq!(cache.get("k")?, None);
+    cache.put("k", &long)?;
+    assert_eq!(cache.peek("k")?.map(|row| row.value), bytes(&long));
+    assert_eq!((cache.get("k")?, cache.get_and_put("k", "")?), (bytes(&long), bytes(&long)));
+    assert_eq!((cache.get("k")?, cache.contains_key("k")?), (bytes(""), true));
+    assert_eq!(
+        (cache.put_if_absent("k", "w")?, cache.replace("k", "w")?, cache.replace("n", "w")?),
+        (false, true, false)
+    );
+    assert_eq!((cache.replace_if("k", "v", "x")?, cache.replace_if("k", "w", "x")?), (false, true));
+    assert_eq!((cache.get_and_replace("k", "y")?, cache.get_and_replace("n", "y")?), (bytes("x"), None));
+    assert_eq!((cache.remove_if("k", "x")?, cache.remove_if("k", "y")?, cache.remove("k")?), (false, true, false));
+    assert_eq!(cache.get_and_remove("k")?, None);
+    cache.put_all(&[("a", b"1"), ("bü", b"22")])?;
+    let both = vec![("a".to_string(), b"1".to_vec()), ("bü".to_string(), b"22".to_vec())];
+    assert_eq!(
+        (cache.get_all(&["a", "c", "bü"])?, cache.entries()?, cache.get_all(&[])?),
+        (both.clone(), both, vec![])
+    );
+    cache.remove_keys(&["a", "c"])?;
+    cache.remove_all()?;
+    cache.put("a", "1")?;
+    cache.clear()?;
+    assert_eq!((cache.entries()?, cache.statistics()?.removals), (vec![], 3));
+    cache.clear_statistics()?;
+    cache.get("k")?;
+    assert_eq!(cache.statistics()?, Statistics { misses: 1, ..Statistics::default() });
+    Ok(())
 }
 
-/// Rows behind a cache, and what its listener heard.
-#[derive(Default)]
+#[test]
+fn caches_of_a_manager() -> Outcome {
+    let manager = Manager::new()?;
+    let expiry = Expiry::Touched(Duration::from_millis(5));
+    let first = manager.create_cache("first", Configuration::new(3).expiry(expiry).loader(|_| Ok(None)))?;
+    assert_eq!((first.name(), first.configuration().capacity, first.configuration().expiry), ("first", 3, expiry));
+    manager.create_cache("second", Configuration::new(3))?;
+    assert_eq!(manager.cache_names()?, ["first", "second"]);
+    assert!(matches!(manager.create_cache("first", Configuration::new(3)), Err(Error::DuplicateName)));
+    assert!(matches!(manager.create_cache("none", Configuration::new(0)), Err(Error::BadCapacity)));
+    assert!(matches!(manager.create_cache("", Configuration::new(3)), Err(Error::BadKey)));
+    let heard = (0..300).fold(Configuration::new(3), |made, _| made.listener(|_| ()));
+    assert!(matches!(manager.create_cache("none", heard), Err(Error::TooManyListeners)));
+    manager.destroy_cache("first")?;
+    manager.destroy_cache("first")?;
+    assert!(matches!(first.get("k"), Err(Error::NoSuchCache)));
+    assert!(manager.get_cache("first")?.is_none() && manager.get_cache("second")?.is_some());
+    assert!(!manager.is_closed());
+    let second = manager.get_cache("second")?;
+    manager.close();
+    manager.close();
+    assert!(manager.is_closed() && matches!(manager.get_cache("second"), Err(Error::Closed)));
+    assert!(matches!(second.map(|cache| cache.get("k")), Some(Err(Error::Closed))));
+    assert_eq!(jcache::version() / 10_000, 0);
+    Ok(())
+}
+
+#[test]
+fn refused_arguments() -> Outcome {
+    let manager = Manager::new()?;
+    let cache = manager.create_cache("plain", Configuration::new(2))?;
+    assert!(matches!(cache.get(""), Err(Error::BadKey)) && matches!(cache.get(&"k".repeat(64)), Err(Error::BadKey)));
+    assert!(matches!(cache.put("k", "v".repeat(65_536)), Err(Error::BadValue)));
+    assert!(matches!(cache.get_all(&["a", "a"]), Err(Error::DuplicateKey)));
+    let many: Vec<String> = (0..65).map(|n| n.to_string()).collect();
+    let many: Vec<&str> = many.iter().map(String::as_str).collect();
+    assert!(matches!(cache.remove_keys(&many), Err(Error::TooManyKeys)));
+    assert_eq!(cache.statistics()?, Statistics::default());
+    Ok(())
+}
+
+#[test]
+fn clocks() -> Outcome {
+    let clock = FixedClock::new(5);
+    let manager = Manager::with(7, clock.reader())?;
+    let expiry = Expiry::Created(Duration::from_millis(10));
+    let cache = manager.create_cache("moments", Configuration::new(2).expiry(expiry))?;
+    cache.put("k", "v")?;
+    clock.advance(Duration::from_millis(9));
+    let row = Row { key: "k".into(), value: b"v".to_vec(), expires: Some(15) };
+    assert_eq!((cache.contains_key("k")?, cache.peek("k")?), (true, Some(row)));
+    clock.set(15);
+    assert_eq!((cache.contains_key("k")?, cache.peek("k")?, cache.at(14).get("k")?), (false, None, bytes("v")));
+    let wall = jcache::WallClock::new();
+    let before = wall.now();
+    assert!(before > 1_700_000_000_000 && wall.now() >= before);
+    Ok(())
+}
+
+/// What lies behind a cache, and what its listener has heard.
+#[derive(Clone, Default)]
 struct Behind {
-    rows: HashMap<String, Vec<u8>>,
-    heard: Vec<(Kind, String)>,
+    rows: Arc<Mutex<HashMap<String, Vec<u8>>>>,
+    heard: Arc<Mutex<Vec<Event>>>,
 }
 
 impl Behind {
-    fn answer(&mut self, request: Request) -> Answer {
-        match request {
-            Request::Load { key } if key == "worse" => Answer::LoadFailed,
-            Request::Load { key } => Answer::Loaded(self.rows.get(&key).cloned()),
-            Request::Write { key, .. } if key == "locked" => Answer::WriteFailed,
-            Request::Write { key, value } => {
-                self.rows.insert(key, value);
-                Answer::Written
-            }
-            Request::Delete { key } => {
-                self.rows.remove(&key);
-                Answer::Written
-            }
-            Request::Process { value: None, .. } => Answer::ProcessFailed,
-            Request::Process { value: Some(value), argument, .. } => {
-                Answer::Processed(Action::Set([value.as_slice(), &argument].concat()), Some(value))
-            }
-            Request::Tell(notices) => {
-                self.heard.extend(notices.into_iter().map(|notice| (notice.kind, notice.key)));
-                Answer::Told
-            }
+    fn load(&self, key: &str) -> Result<Option<Vec<u8>>, BoxError> {
+        if key == "worse" {
+            return Err("no such row".into());
         }
+        Ok(self.rows.lock().unwrap().get(key).cloned())
+    }
+
+    fn write(&self, key: &str, value: Option<&[u8]>) -> Result<(), BoxError> {
+        let mut rows = self.rows.lock().unwrap();
+        match (key, value) {
+            ("locked", _) => return Err("the row is locked".into()),
+            (_, Some(value)) => rows.insert(key.into(), value.into()),
+            (_, None) => rows.remove(key),
+        };
+        Ok(())
     }
 }
 
-#[test]
-fn callbacks() {
-    let mut manager = Manager::open(7).unwrap();
-    let settings = Settings {
-        capacity: 10,
-        expiry: Expiry::Touched(100),
-        loader: true,
-        writer: true,
-        processors: vec![true],
-        listeners: 1,
-    };
-    let id = manager.create("called", &settings).unwrap();
-    let mut behind = Behind { rows: HashMap::from([("ann".into(), b"Ann".to_vec())]), ..Behind::default() };
-    let mut ask = |now, call| manager.call(id, now, call, |request| behind.answer(request));
-    assert_eq!((ask(0, Call::Get("ann")), ask(0, Call::Get("bob"))), (found("Ann"), Ok(Reply::Found(None))));
-    assert_eq!(ask(0, Call::Get("worse")), Ok(Reply::Fault(By::Loader, None)));
-    assert_eq!(ask(0, Call::Put("locked", b"")), Ok(Reply::Fault(By::Writer, None)));
-    assert_eq!(ask(9, Call::Put("eve", b"Eve")), Ok(Reply::Done));
-    assert_eq!((ask(9, Call::Invoke("eve", 0, b"!")), ask(9, Call::Get("eve"))), (found("Eve"), found("Eve!")));
-    let results = vec![("eve".into(), Some(b"Eve!".to_vec())), ("bad".into(), None)];
-    assert_eq!(ask(9, Call::InvokeAll(&["eve", "bad"], 0, b"?")), Ok(Reply::Results(results)));
-    assert_eq!((ask(9, Call::Invoke("eve", 1, b""))), Err(Refused(34)));
-    assert_eq!(ask(9, Call::LoadAll(&["ann", "worse"], true)), Ok(Reply::Fault(By::Loader, Some(1))));
-    assert_eq!((ask(9, Call::GetAndRemove("eve")), ask(500, Call::Get("ann"))), (found("Eve!?"), found("Ann")));
-    assert!(!behind.rows.contains_key("eve"));
-    assert_eq!(behind.heard[0], (Kind::Created, "ann".to_string()));
-    assert_eq!(behind.heard[behind.heard.len() - 2], (Kind::Expired, "ann".to_string()));
+/// A cache with all hooks, at moment 0.
+fn hooked(manager: &Manager) -> Result<(Cache, Behind), Error> {
+    let behind = Behind::default();
+    behind.rows.lock().unwrap().insert("ann".into(), b"Ann".to_vec());
+    let (loads, writes, hears) = (behind.clone(), behind.clone(), behind.clone());
+    let configuration = Configuration::new(10)
+        .expiry(Expiry::Touched(Duration::from_millis(100)))
+        .loader(move |key| loads.load(key))
+        .writer(move |key, value| writes.write(key, value))
+        .listener(move |event| hears.heard.lock().unwrap().push(event.clone()));
+    Ok((manager.create_cache("hooked", configuration)?.at(0), behind))
+}
+
+fn append(entry: &mut Entry, more: &str) -> Result<Vec<u8>, BoxError> {
+    let before = entry.value().ok_or("no value")?.to_vec();
+    entry.set([&before, more.as_bytes()].concat());
+    Ok(before)
 }
 
 #[test]
-fn a_panic_gives_the_call_up() {
-    let mut manager = Manager::open(7).unwrap();
-    let id = manager.create("c", &Settings { capacity: 1, loader: true, ..Settings::default() }).unwrap();
-    let call = || manager.call(id, 0, Call::Get("k"), |_| panic!("a loader"));
-    assert!(catch_unwind(AssertUnwindSafe(call)).is_err());
-    assert_eq!(manager.give_up(id), Err(Refused(35)));
-    let too_long = |_| Answer::Loaded(Some(vec![0; 65_536]));
-    assert_eq!(manager.call(id, 0, Call::Get("k"), too_long), Err(Refused(67)));
-    assert_eq!(manager.call(id, 0, Call::Get("k"), |_| Answer::Told), Err(Refused(36)));
-    let step = manager.begin(id, 0, Call::Get("k"));
-    assert_eq!(step, Ok(Step::Need(Request::Load { key: "k".into() })));
-    assert_eq!(manager.plain(id, 0, Call::Get("k")), Err(Refused(33)));
+fn hooks() -> Outcome {
+    let manager = Manager::new()?;
+    let (cache, behind) = hooked(&manager)?;
+    let Behind { rows, heard } = behind;
+    assert_eq!((cache.get("ann")?, cache.get("bob")?), (bytes("Ann"), None));
+    let created = Event { kind: EventKind::Created, key: "ann".into(), value: bytes("Ann"), before: None };
+    assert_eq!(*heard.lock().unwrap(), [created]);
+    cache.put("eve", "Eve")?;
+    assert_eq!(rows.lock().unwrap().get("eve").cloned(), bytes("Eve"));
+    assert_eq!(cache.invoke("eve", |entry| append(entry, "!"))?, b"Eve");
+    let results = cache.invoke_all(&["eve", "none"], |entry| append(entry, "?"))?;
+    assert_eq!(results.iter().map(|(key, _)| key.as_str()).collect::<Vec<_>>(), ["eve", "none"]);
+    assert_eq!(results[0].1.as_ref().ok().cloned(), bytes("Eve!"));
+    assert_eq!(results[1].1.as_ref().err().map(ToString::to_string), Some("no value".into()));
+    rows.lock().unwrap().insert("kim".into(), b"Kim".to_vec());
+    assert!(!cache.invoke_without_load("kim", |entry| Ok(entry.exists()))?);
+    assert_eq!(cache.get_and_remove("eve")?, bytes("Eve!?"));
+    assert!(!rows.lock().unwrap().contains_key("eve"));
+    assert_eq!(cache.at(500).get("ann")?, bytes("Ann"));
+    let kinds: Vec<_> = heard.lock().unwrap().iter().map(|event| event.kind).collect();
+    use EventKind::{Created, Expired, Removed, Updated};
+    assert_eq!(kinds, [Created, Created, Updated, Updated, Removed, Expired, Created]);
+    cache.invoke("ann", |entry| {
+        entry.remove();
+        Ok(())
+    })?;
+    assert!(rows.lock().unwrap().get("ann").is_none());
+    Ok(())
+}
+
+#[test]
+fn failures_have_a_source() -> Outcome {
+    let manager = Manager::new()?;
+    let (cache, _) = hooked(&manager)?;
+    let source = |error: Error| std::error::Error::source(&error).map(ToString::to_string).unwrap_or_default();
+    let failed = cache.load_all(&["ann", "worse"], true);
+    assert!(matches!(failed, Err(Error::LoaderFailed { done: Some(1), .. })));
+    assert_eq!(failed.map_err(source), Err("no such row".into()));
+    let failed = cache.put("locked", "");
+    assert!(matches!(failed, Err(Error::WriterFailed { done: None, .. })));
+    assert_eq!(failed.map_err(source), Err("the row is locked".into()));
+    let failed = cache.invoke("none", |entry| append(entry, ""));
+    assert!(matches!(failed, Err(Error::ProcessorFailed { .. })));
+    assert_eq!(failed.map_err(source), Err("no value".into()));
+    assert_eq!((cache.contains_key("locked")?, cache.get("ann")?), (false, bytes("Ann")));
+    Ok(())
+}
+
+#[test]
+fn a_panic_or_a_refused_answer_gives_the_call_up() -> Outcome {
+    let manager = Manager::new()?;
+    let load = |key: &str| if key == "long" { Ok(Some(vec![0; 65_536])) } else { panic!("a loader") };
+    let cache = manager.create_cache("c", Configuration::new(2).loader(load))?;
+    assert!(catch_unwind(AssertUnwindSafe(|| cache.get("k"))).is_err());
+    assert!(matches!(cache.get("long"), Err(Error::BadValue)));
+    cache.put("k", "v")?;
+    assert_eq!(cache.get("k")?, bytes("v"));
+    Ok(())
+}
+
+#[test]
+fn a_hook_may_look_at_its_cache_and_not_call_it() -> Outcome {
+    let manager = Manager::new()?;
+    let cache = manager.create_cache("c", Configuration::new(2))?;
+    cache.put("old", "v")?;
+    cache.invoke("k", |_| {
+        assert!(matches!(cache.get("old"), Err(Error::Busy)));
+        assert!(matches!(manager.destroy_cache("c"), Err(Error::Busy)));
+        assert_eq!((cache.entry_count()?, cache.iter().count()), (1, 1));
+        assert_eq!(cache.peek("old")?.map(|row| row.value), bytes("v"));
+        Ok(())
+    })
+}
+
+#[test]
+fn walks_give_each_live_entry_once() -> Outcome {
+    let manager = Manager::new()?;
+    let expiry = Expiry::Created(Duration::from_millis(10));
+    let cache = manager.create_cache("c", Configuration::new(1000).expiry(expiry))?;
+    let rows: HashMap<String, Vec<u8>> = (0..1000).map(|n| (format!("key {n}"), vec![7; n * 97 % 2000])).collect();
+    for (place, key) in (0..1000).map(|n| format!("key {n}")).enumerate() {
+        cache.at(place as u64 % 2).put(&key, &rows[&key])?;
+    }
+    let mut walked = 0;
+    for row in cache.at(9).iter() {
+        assert_eq!(rows.get(&row.key), Some(&row.value));
+        walked += 1;
+    }
+    let live: HashMap<String, Option<u64>> = (&cache.at(10)).into_iter().map(|row| (row.key, row.expires)).collect();
+    assert_eq!((walked, live.len(), cache.entry_count()?), (1000, 500, 1000));
+    assert!(live.values().all(|expires| *expires == Some(11)));
+    assert_eq!(cache.statistics()?.hits, 0);
+    Ok(())
+}
+
+#[test]
+fn the_names_of_moka() -> Outcome {
+    let manager = Manager::new()?;
+    let cache = manager.create_cache("c", Configuration::new(2))?;
     assert_eq!(
-        manager.resume(id, &Answer::Loaded(Some(b"v".to_vec()))),
-        Ok(Step::Done(Reply::Found(Some(b"v".to_vec()))))
+        (cache.get_with("k", || "made")?, cache.get_with("k", || "again")?),
+        (b"made".to_vec(), b"made".to_vec())
     );
+    assert!(matches!(cache.try_get_with("n", || Err::<&str, _>("none".into())), Err(Error::ProcessorFailed { .. })));
+    cache.insert("n", "v")?;
+    cache.invalidate("k")?;
+    assert_eq!((cache.get("k")?, cache.get("n")?, cache.entry_count()?), (None, bytes("v"), 1));
+    Ok(())
 }
 
 #[test]
-fn four_threads() {
-    let mut manager = Manager::open(7).unwrap();
-    let id = manager.create("c", &Settings { capacity: 1, processors: vec![true], ..Settings::default() }).unwrap();
-    let manager = Mutex::new(manager);
-    let count = || {
-        for _ in 0..250 {
-            let add = |request| match request {
-                Request::Process { value, .. } => {
-                    let before: u32 = String::from_utf8(value.unwrap_or_default()).unwrap().parse().unwrap_or(0);
-                    Answer::Processed(Action::Set((before + 1).to_string().into_bytes()), None)
-                }
-                other => other.failed(),
-            };
-            manager.lock().unwrap().call(id, 0, Call::Invoke("n", 0, b""), add).unwrap();
-        }
+fn four_threads() -> Outcome {
+    fn is_shared<T: Send + Sync>() {}
+    is_shared::<(Manager, Cache, Error, jcache::Iter)>();
+    let manager = Manager::new()?;
+    let caches = [manager.create_cache("a", Configuration::new(1))?, manager.create_cache("b", Configuration::new(1))?];
+    let count = |entry: &mut Entry| {
+        let before: u32 = std::str::from_utf8(entry.value().unwrap_or(b"0"))?.parse()?;
+        entry.set((before + 1).to_string());
+        Ok(())
     };
-    std::thread::scope(|scope| (0..4).for_each(|_| drop(scope.spawn(count))));
-    assert_eq!(manager.lock().unwrap().plain(id, 0, Call::Get("n")), found("1000"));
+    std::thread::scope(|scope| {
+        for n in 0..4 {
+            let cache = &caches[n % 2];
+            scope.spawn(move || (0..250).for_each(|_| cache.invoke("n", count).unwrap()));
+        }
+    });
+    assert_eq!((caches[0].get("n")?, caches[1].get("n")?), (bytes("500"), bytes("500")));
+    Ok(())
 }

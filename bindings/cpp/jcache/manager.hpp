@@ -1,0 +1,121 @@
+// A manager of caches.
+#ifndef JCACHE_MANAGER_HPP
+#define JCACHE_MANAGER_HPP
+
+#include "cache.hpp"
+
+#include <algorithm>
+#include <map>
+
+namespace jcache {
+
+// The library's version: 10,000 times its first number, 100 times its second, and its third.
+inline std::uint32_t version() { return jc_version(); }
+
+namespace detail {
+
+// A manager's caches by id, behind a lock.
+struct Directory {
+    explicit Directory(std::shared_ptr<Library> library) : library(std::move(library)) {}
+    std::shared_ptr<Library> library;
+    std::mutex lock{};
+    std::map<std::uint32_t, std::shared_ptr<Asking>> caches{};
+};
+
+} // namespace detail
+
+// A manager of named caches, with the methods of JSR 107's CacheManager in snake case. Copies are the same manager. It is
+// closed by `close`, or when it and its caches are gone.
+template <bool throws> class BasicManager {
+    template <class T> using Outcome = std::conditional_t<throws, T, Result<T>>;
+    using Cache = BasicCache<throws>;
+
+  public:
+    // The seed decides where keys stand in the table; any serves. Throws Error.
+    explicit BasicManager(std::uint64_t seed = 0, Clock clock = WallClock())
+        : shared(std::make_shared<detail::Directory>(std::make_shared<detail::Library>(seed, std::move(clock)))) {}
+
+    // The same manager, whose calls return a Result.
+    BasicManager<false> without_exceptions() const { return BasicManager<false>(shared); }
+
+    Outcome<Cache> create_cache(std::string_view name, Configuration configuration) {
+        std::lock_guard<std::mutex> held(shared->lock);
+        jc_settings settings{configuration.expiry.duration, configuration.capacity, configuration.expiry.policy,
+                             configuration.loader != nullptr, configuration.writer != nullptr,
+                             static_cast<std::uint8_t>(std::min<std::size_t>(configuration.listeners.size(), 255))};
+        // Each cache has two processors in the library, which run the function that is invoked. The second wants the value.
+        const std::uint8_t wants[2] = {0, 1};
+        std::uint32_t id = 0;
+        jc_status status = shared->library->ask([&](jc_manager *m) {
+            return jc_create(m, detail::bytes(name), name.size(), &settings, wants, sizeof wants, &id);
+        });
+        if (status != JC_DONE)
+            return out(Result<Cache>(Error(status)));
+        auto made = std::make_shared<detail::Asking>(shared->library, id, std::string(name), std::move(configuration));
+        shared->caches.emplace(id, made);
+        return out(Result(Cache(std::move(made))));
+    }
+    // The live cache of this name, if there is one.
+    Outcome<std::optional<Cache>> get_cache(std::string_view name) {
+        std::lock_guard<std::mutex> held(shared->lock);
+        std::uint32_t id = 0;
+        jc_status status = shared->library->ask([&](jc_manager *m) {
+            return jc_find(m, detail::bytes(name), name.size(), &id);
+        });
+        using Found = Result<std::optional<Cache>>;
+        if (status == JC_DONE)
+            return out(Found(Cache(shared->caches.at(id))));
+        return out(status == JC_NO_SUCH_CACHE ? Found(std::nullopt) : Found(Error(status)));
+    }
+    // Ends the cache of this name, if there is one; tells nobody. It waits for the cache's open call.
+    Outcome<void> destroy_cache(std::string_view name) {
+        Result<std::optional<BasicCache<false>>> cache = without_exceptions().get_cache(name);
+        if (!cache)
+            return out(Result<void>(cache.error()));
+        if (!cache.value())
+            return out(Result<void>());
+        detail::Asking &asking = *cache.value()->asking;
+        std::lock_guard<std::recursive_mutex> turn(asking.turn);
+        std::lock_guard<std::mutex> held(shared->lock);
+        jc_status status = shared->library->ask([&](jc_manager *m) { return jc_destroy(m, asking.id); });
+        if (status != JC_DONE && status != JC_NO_SUCH_CACHE)
+            return out(Result<void>(Error(status)));
+        shared->caches.erase(asking.id);
+        return out(Result<void>());
+    }
+    // The names of the live caches, as they were made.
+    Outcome<std::vector<std::string>> cache_names() const {
+        std::lock_guard<std::mutex> held(shared->lock);
+        if (is_closed())
+            return out(Result<std::vector<std::string>>(Error(JC_CLOSED)));
+        std::vector<std::string> names;
+        for (const auto &[id, cache] : shared->caches)
+            names.push_back(cache->name);
+        return out(Result(std::move(names)));
+    }
+    // Ends all caches and frees their memory. Again, it does nothing.
+    void close() { shared->library->ask(jc_close); }
+    bool is_closed() const {
+        std::uint32_t id = 0;
+        return shared->library->ask([&](jc_manager *m) { return jc_find(m, detail::bytes("?"), 1, &id); }) == JC_CLOSED;
+    }
+
+  private:
+    template <bool> friend class BasicManager;
+    explicit BasicManager(std::shared_ptr<detail::Directory> shared) : shared(std::move(shared)) {}
+
+    template <class T> static Outcome<T> out(Result<T> result) {
+        if constexpr (throws)
+            return std::move(result).value();
+        else
+            return result;
+    }
+
+    std::shared_ptr<detail::Directory> shared;
+};
+
+using Manager = BasicManager<true>;
+
+} // namespace jcache
+
+#endif

@@ -1,0 +1,145 @@
+//! How a call goes: it begins, its hooks are asked, and it replies.
+use crate::library::{accepted, Library, NEED_LOAD};
+use crate::sys;
+use crate::values::{Entry, Event, EventKind};
+use crate::{BoxError, Configuration, Error};
+use std::sync::{Arc, Condvar, Mutex, PoisonError};
+use std::thread::{self, ThreadId};
+
+/// What runs the function that was invoked: it gives what that failed with, or nothing where the caller keeps it.
+pub(crate) type Process<'a> = &'a mut dyn FnMut(&mut Entry) -> Result<(), Option<BoxError>>;
+
+/// Whose turn it is to call a cache: one thread's, for a whole call.
+#[derive(Default)]
+pub(crate) struct Turn {
+    owner: Mutex<Option<ThreadId>>,
+    free: Condvar,
+}
+
+/// A turn that was taken.
+pub(crate) struct Taken<'a>(&'a Turn);
+
+impl Turn {
+    /// Waits for the turn. A thread that has it is refused.
+    pub(crate) fn take(&self) -> Result<Taken<'_>, Error> {
+        let me = Some(thread::current().id());
+        let mut owner = self.owner.lock().unwrap_or_else(PoisonError::into_inner);
+        if *owner == me {
+            return Err(Error::Busy);
+        }
+        while owner.is_some() {
+            owner = self.free.wait(owner).unwrap_or_else(PoisonError::into_inner);
+        }
+        *owner = me;
+        Ok(Taken(self))
+    }
+}
+
+impl Drop for Taken<'_> {
+    fn drop(&mut self) {
+        *self.0.owner.lock().unwrap_or_else(PoisonError::into_inner) = None;
+        self.0.free.notify_one();
+    }
+}
+
+/// A cache with its hooks.
+pub(crate) struct Asking {
+    pub(crate) library: Arc<Library>,
+    pub(crate) id: u32,
+    pub(crate) hooks: Configuration,
+    pub(crate) turn: Turn,
+}
+
+/// An open call, which is given up where a hook panics or an answer is refused.
+struct Open<'a>(&'a Asking);
+
+impl Drop for Open<'_> {
+    fn drop(&mut self) {
+        self.0.library.answer(sys::jc_give_up, self.0.id);
+    }
+}
+
+impl Asking {
+    /// Makes a whole call, whose turn is taken, from the status that it began with.
+    pub(crate) fn finish(&self, began: u32, process: Process<'_>) -> Result<u32, Error> {
+        let (mut status, mut source) = (accepted(began)?, None);
+        if status >= NEED_LOAD {
+            let open = Open(self);
+            while status >= NEED_LOAD {
+                status = accepted(self.answer(status, process, &mut source))?;
+            }
+            std::mem::forget(open);
+        }
+        let source = || source.unwrap_or_else(|| "a hook failed".into());
+        match status {
+            8 => Err(Error::LoaderFailed { source: source(), done: self.library.number(self.id, 0) }),
+            9 => Err(Error::WriterFailed { source: source(), done: self.library.number(self.id, 0) }),
+            10 => Err(Error::ProcessorFailed { source: source() }),
+            _ => Ok(status),
+        }
+    }
+
+    /// Does what an open call asks for, and answers.
+    fn answer(&self, status: u32, process: Process<'_>, source: &mut Option<BoxError>) -> u32 {
+        let key = || self.library.key(self.id, 0);
+        match status {
+            16 => self.load(&key(), source),
+            17 | 18 => self.write(&key(), source),
+            19 => self.process(Entry::new(key(), self.library.value(self.id, 0)), process, source),
+            _ => self.tell(),
+        }
+    }
+
+    fn load(&self, key: &str, source: &mut Option<BoxError>) -> u32 {
+        match self.hooks.loader.as_ref().map_or(Ok(None), |load| load(key)) {
+            Ok(Some(value)) => self.library.loaded(self.id, &value),
+            Ok(None) => self.library.answer(sys::jc_loaded_nothing, self.id),
+            Err(error) => {
+                *source = Some(error);
+                self.library.answer(sys::jc_load_failed, self.id)
+            }
+        }
+    }
+
+    fn write(&self, key: &str, source: &mut Option<BoxError>) -> u32 {
+        let value = self.library.value(self.id, 0);
+        match self.hooks.writer.as_ref().map_or(Ok(()), |write| write(key, value.as_deref())) {
+            Ok(()) => self.library.answer(sys::jc_written, self.id),
+            Err(error) => {
+                *source = Some(error);
+                self.library.answer(sys::jc_write_failed, self.id)
+            }
+        }
+    }
+
+    fn process(&self, mut entry: Entry, process: Process<'_>, source: &mut Option<BoxError>) -> u32 {
+        match process(&mut entry) {
+            Ok(()) => self.library.processed(self.id, entry.change()),
+            Err(error) => {
+                *source = error;
+                self.library.answer(sys::jc_process_failed, self.id)
+            }
+        }
+    }
+
+    fn tell(&self) -> u32 {
+        for item in 0..self.library.items(self.id) {
+            let kind = match self.library.number(self.id, item) {
+                Some(0) => EventKind::Created,
+                Some(1) => EventKind::Updated,
+                Some(2) => EventKind::Removed,
+                _ => EventKind::Expired,
+            };
+            let (value, before) = (self.library.value(self.id, item), self.library.before(self.id, item));
+            let event = Event { kind, key: self.library.key(self.id, item), value, before };
+            self.hooks.listeners.iter().for_each(|tell| tell(&event));
+        }
+        self.library.answer(sys::jc_told, self.id)
+    }
+
+    /// The pairs that the last call has shown.
+    pub(crate) fn pairs(&self) -> Vec<(String, Vec<u8>)> {
+        let pair = |item| (self.library.key(self.id, item), self.library.value(self.id, item).unwrap_or_default());
+        (0..self.library.items(self.id)).map(pair).collect()
+    }
+}

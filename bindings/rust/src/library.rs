@@ -1,0 +1,230 @@
+//! The functions of the header behind a lock, which is held for each call.
+use crate::sys::{self, Handle, Many, One, PairLengths, Part, Two, Whole};
+use crate::Error;
+use std::sync::{Mutex, PoisonError};
+
+pub(crate) const FOUND: u32 = 3;
+pub(crate) const LISTED: u32 = 5;
+pub(crate) const NEED_LOAD: u32 = 16;
+pub(crate) const NEED_TELL: u32 = 20;
+pub(crate) const NO_SUCH_CACHE: u32 = 32;
+const SHORT_BUFFER: u32 = 73;
+
+/// So many bytes of a value are read at once; longer ones are asked for twice.
+const ROOM: usize = 256;
+/// Room for a step of a walk, whose longest row has 65,609 bytes.
+pub(crate) const WALK_ROOM: usize = 1 << 17;
+
+/// A handle, which is closed where it is dropped.
+pub(crate) struct Library(Mutex<Handle>);
+
+impl Drop for Library {
+    fn drop(&mut self) {
+        self.close();
+    }
+}
+
+/// A refusing status as an error; any other as it is.
+pub(crate) fn accepted(status: u32) -> Result<u32, Error> {
+    if status > NEED_TELL {
+        Err(Error::of(status))
+    } else {
+        Ok(status)
+    }
+}
+
+impl Library {
+    pub(crate) fn open(seed: u64) -> Result<Library, Error> {
+        let mut handle = Handle { at: std::ptr::null_mut() };
+        accepted(unsafe { sys::jc_open(&mut handle, seed) })?;
+        Ok(Library(Mutex::new(handle)))
+    }
+
+    pub(crate) fn close(&self) {
+        self.ask(|h| unsafe { sys::jc_close(h) });
+    }
+
+    fn ask(&self, call: impl FnOnce(&mut Handle) -> u32) -> u32 {
+        call(&mut self.0.lock().unwrap_or_else(PoisonError::into_inner))
+    }
+
+    pub(crate) fn create(&self, name: &str, settings: &sys::Settings, wants: &[u8]) -> Result<u32, Error> {
+        let (n, w, mut id) = (name.as_ptr(), wants.as_ptr(), 0);
+        let status = self.ask(|h| unsafe { sys::jc_create(h, n, name.len(), settings, w, wants.len(), &mut id) });
+        accepted(status).map(|_| id)
+    }
+
+    pub(crate) fn destroy(&self, id: u32) -> u32 {
+        self.ask(|h| unsafe { sys::jc_destroy(h, id) })
+    }
+
+    /// The id of a live cache; none where there is none of this name.
+    pub(crate) fn find(&self, name: &str) -> Result<Option<u32>, Error> {
+        let mut id = 0;
+        match self.ask(|h| unsafe { sys::jc_find(h, name.as_ptr(), name.len(), &mut id) }) {
+            NO_SUCH_CACHE => Ok(None),
+            status => accepted(status).map(|_| Some(id)),
+        }
+    }
+
+    pub(crate) fn whole(&self, call: Whole, id: u32, now: u64) -> u32 {
+        self.ask(|h| unsafe { call(h, id, now) })
+    }
+
+    pub(crate) fn one(&self, call: One, id: u32, now: u64, key: &str) -> u32 {
+        self.ask(|h| unsafe { call(h, id, now, key.as_ptr(), key.len()) })
+    }
+
+    pub(crate) fn two(&self, call: Two, id: u32, now: u64, key: &str, value: &[u8]) -> u32 {
+        self.ask(|h| unsafe { call(h, id, now, key.as_ptr(), key.len(), value.as_ptr(), value.len()) })
+    }
+
+    pub(crate) fn replace_if(&self, id: u32, now: u64, key: &str, old: &[u8], value: &[u8]) -> u32 {
+        let (k, o, v) = (key.as_ptr(), old.as_ptr(), value.as_ptr());
+        self.ask(|h| unsafe { sys::jc_replace_if(h, id, now, k, key.len(), o, old.len(), v, value.len()) })
+    }
+
+    /// As `jc_get`; what was found comes with the status.
+    pub(crate) fn get(&self, id: u32, now: u64, key: &str) -> (u32, Option<Vec<u8>>) {
+        let (mut room, mut len, mut found) = ([0; ROOM], 0, None);
+        let status = self.ask(|h| unsafe {
+            let status = sys::jc_get_into(h, id, now, key.as_ptr(), key.len(), room.as_mut_ptr(), ROOM, &mut len);
+            if status == FOUND && len > ROOM {
+                let mut whole = vec![0; len];
+                sys::jc_value(h, id, 0, whole.as_mut_ptr(), len, &mut len);
+                found = Some(whole);
+            }
+            status
+        });
+        if status == FOUND && found.is_none() {
+            found = Some(room[..len].to_vec());
+        }
+        (status, found)
+    }
+
+    /// Runs the function of a place among the cache's processors.
+    pub(crate) fn invoke(&self, id: u32, now: u64, key: &str, place: u8) -> u32 {
+        let (k, empty) = (key.as_ptr(), [].as_ptr());
+        self.ask(|h| unsafe { sys::jc_invoke(h, id, now, k, key.len(), place, empty, 0) })
+    }
+
+    pub(crate) fn many(&self, call: Many, id: u32, now: u64, keys: &[&str]) -> u32 {
+        let (lengths, all) = joined(keys);
+        let (l, k) = (lengths.as_ptr(), all.as_ptr());
+        self.ask(|h| unsafe { call(h, id, now, l, lengths.len(), k, all.len()) })
+    }
+
+    pub(crate) fn load_all(&self, id: u32, now: u64, keys: &[&str], replace: bool) -> u32 {
+        let (lengths, all) = joined(keys);
+        let (l, k) = (lengths.as_ptr(), all.as_ptr());
+        self.ask(|h| unsafe { sys::jc_load_all(h, id, now, l, lengths.len(), k, all.len(), replace.into()) })
+    }
+
+    pub(crate) fn invoke_all(&self, id: u32, now: u64, keys: &[&str], place: u8) -> u32 {
+        let (lengths, all) = joined(keys);
+        let (l, k, empty) = (lengths.as_ptr(), all.as_ptr(), [].as_ptr());
+        self.ask(|h| unsafe { sys::jc_invoke_all(h, id, now, l, lengths.len(), k, all.len(), place, empty, 0) })
+    }
+
+    pub(crate) fn put_all(&self, id: u32, now: u64, pairs: &[(&str, &[u8])]) -> u32 {
+        let pair = |(key, value): &(&str, &[u8])| PairLengths { key: length(key.len()), value: length(value.len()) };
+        let lengths: Vec<_> = pairs.iter().map(pair).collect();
+        let all: Vec<u8> = pairs.iter().flat_map(|(key, value)| [key.as_bytes(), value].concat()).collect();
+        let (l, p) = (lengths.as_ptr(), all.as_ptr());
+        self.ask(|h| unsafe { sys::jc_put_all(h, id, now, l, lengths.len(), p, all.len()) })
+    }
+
+    /// Answers a request: with a function that takes the cache alone.
+    pub(crate) fn answer(&self, call: unsafe extern "C" fn(*mut Handle, u32) -> u32, id: u32) -> u32 {
+        self.ask(|h| unsafe { call(h, id) })
+    }
+
+    pub(crate) fn loaded(&self, id: u32, value: &[u8]) -> u32 {
+        self.ask(|h| unsafe { sys::jc_loaded(h, id, value.as_ptr(), value.len()) })
+    }
+
+    pub(crate) fn processed(&self, id: u32, (action, value): (u32, &[u8])) -> u32 {
+        let empty = [].as_ptr();
+        self.ask(|h| unsafe { sys::jc_processed(h, id, action, value.as_ptr(), value.len(), 0, empty, 0) })
+    }
+
+    pub(crate) fn items(&self, id: u32) -> usize {
+        let mut count = 0;
+        self.ask(|h| unsafe { sys::jc_items(h, id, &mut count) });
+        count
+    }
+
+    pub(crate) fn number(&self, id: u32, place: usize) -> Option<u64> {
+        let mut number = 0;
+        (self.ask(|h| unsafe { sys::jc_number(h, id, place, &mut number) }) == 0).then_some(number)
+    }
+
+    pub(crate) fn key(&self, id: u32, item: usize) -> String {
+        String::from_utf8(self.part(sys::jc_key, id, item).unwrap_or_default()).unwrap_or_default()
+    }
+
+    pub(crate) fn value(&self, id: u32, item: usize) -> Option<Vec<u8>> {
+        self.part(sys::jc_value, id, item)
+    }
+
+    pub(crate) fn before(&self, id: u32, item: usize) -> Option<Vec<u8>> {
+        self.part(sys::jc_before, id, item)
+    }
+
+    fn part(&self, read: Part, id: u32, item: usize) -> Option<Vec<u8>> {
+        let (mut room, mut len) = (vec![0; ROOM], 0);
+        loop {
+            match self.ask(|h| unsafe { read(h, id, item, room.as_mut_ptr(), room.len(), &mut len) }) {
+                SHORT_BUFFER => room.resize(len, 0),
+                status => {
+                    room.truncate(len);
+                    return (status == 0).then_some(room);
+                }
+            }
+        }
+    }
+
+    /// A live row's value, and the moment at which it expires.
+    pub(crate) fn peek(&self, id: u32, now: u64, key: &str) -> Result<Option<(Vec<u8>, u64)>, Error> {
+        let (mut room, mut len, mut expires) = (vec![0; ROOM], 0, 0);
+        let k = key.as_ptr();
+        let status = self.ask(|h| loop {
+            let (out, most) = (room.as_mut_ptr(), room.len());
+            let status = unsafe { sys::jc_peek(h, id, now, k, key.len(), &mut expires, out, most, &mut len) };
+            if status != FOUND || len <= most {
+                break status;
+            }
+            room.resize(len, 0);
+        });
+        room.truncate(len);
+        Ok((accepted(status)? == FOUND).then_some((room, expires)))
+    }
+
+    pub(crate) fn rows(&self, id: u32) -> Result<usize, Error> {
+        let mut rows = 0;
+        accepted(self.ask(|h| unsafe { sys::jc_rows(h, id, &mut rows) })).map(|_| rows)
+    }
+
+    /// Whether the handle is closed.
+    pub(crate) fn is_closed(&self) -> bool {
+        matches!(self.find("?"), Err(Error::Closed))
+    }
+
+    /// A step of a walk: its bytes, and the number to go on from; none behind the last row.
+    pub(crate) fn walk(&self, id: u32, from: u32, room: &mut [u8]) -> Option<(usize, u32)> {
+        let (mut len, mut next) = (0, 0);
+        let (out, most) = (room.as_mut_ptr(), room.len());
+        let status = self.ask(|h| unsafe { sys::jc_walk(h, id, from, out, most, &mut len, &mut next) });
+        (status == LISTED).then_some((len, next))
+    }
+}
+
+/// A length that no key and no value has is refused whatever it is.
+fn length(len: usize) -> u32 {
+    u32::try_from(len).unwrap_or(u32::MAX)
+}
+
+/// How many bytes each key has, and the keys one after the other.
+fn joined(keys: &[&str]) -> (Vec<u32>, Vec<u8>) {
+    (keys.iter().map(|key| length(key.len())).collect(), keys.concat().into_bytes())
+}
