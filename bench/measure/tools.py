@@ -64,14 +64,17 @@ def build_java(folder):
     return os.pathsep.join([built, *path])
 
 
+def debian_crates():
+    """The words that have cargo take the crates of Debian's packages."""
+    registry = os.path.dirname(os.path.dirname(file_of(CRATE_PACKAGES[-1], "Cargo.toml")))
+    return ["--config", 'source.crates-io.replace-with="debian"', "--config", f'source.debian.directory="{registry}"']
+
+
 def build_rust(folder):
     """The folder of the peers in Rust, whose dependencies are those crates that the packages have."""
     built = os.path.join(folder, "rust")
-    registry = os.path.dirname(os.path.dirname(file_of(CRATE_PACKAGES[0], "Cargo.toml")))
-    source = f'source.debian.directory="{registry}"'
     shutil.copytree(os.path.join(BENCH, "peers", "rust"), built, dirs_exist_ok=True)
-    replaced = ["--config", 'source.crates-io.replace-with="debian"', "--config", source]
-    subprocess.run(["cargo", *replaced, "build", "--quiet", "--release", "--offline"], cwd=built, check=True)
+    subprocess.run(["cargo", *debian_crates(), "build", "--quiet", "--release", "--offline"], cwd=built, check=True)
     return os.path.join(built, "target", "release")
 
 

@@ -16,9 +16,9 @@ def names():
 
 
 def run(tally, found, tests, everything):
-    packages.install(tests)
+    packages.install(tests, everything)
     for test in tests:
-        lacking = packages.missing([test])
+        lacking = packages.missing([test], everything)
         if lacking:
             tally.skip(test, f"it wants {' '.join(lacking)} of Debian")
         else:

@@ -17,8 +17,16 @@ def make(tally):
         "JCACHE_HEAP": f"{kit.folder()}/c/liblibc_c.a",
         "JCACHE_SHARED": f"{top}/crates/{LIBRARY}/out/libjcache.so",
     }
-    tally.check("the library for C is built", archive(found["JCACHE_ARCHIVE"]) or shared(found))
+    if not is_fresh(found["JCACHE_SHARED"]):
+        tally.check("the library for C is built", archive(found["JCACHE_ARCHIVE"]) or shared(found))
     return {name: path for name, path in found.items() if os.path.exists(path)}
+
+
+def is_fresh(path):
+    """Whether what was built is there, and no older than the libraries and the sources that it is made of."""
+    sources = [rlib(library) for library in kit.below(LIBRARY)]
+    sources += [f"{folder}/{name}" for folder, _, names in os.walk(f"crates/{LIBRARY}/src") for name in names]
+    return os.path.exists(path) and all(os.path.exists(it) and os.path.getmtime(it) <= os.path.getmtime(path) for it in sources)
 
 
 def archive(path):

@@ -1,5 +1,5 @@
 """Debian's packages that the tests beside the gate want: each is named in a file `packages` of a test's folder, with a
-command or a file that shows that it is there."""
+command or a file that shows that it is there. What is wanted with `--all` alone is named in `packages-all`."""
 import os
 import shutil
 import subprocess
@@ -9,26 +9,28 @@ import time
 LIMIT = 120
 
 
-def wanted(test):
+def wanted(test, everything):
     """The packages of a test, with what shows that each is there."""
-    file = f"tests/{test}/packages"
-    if not os.path.isfile(file):
-        return {}
-    with open(file, encoding="utf-8") as lines:
-        return dict(line.split() for line in lines if line.strip())
+    found = {}
+    for file in ("packages", "packages-all")[:1 + everything]:
+        if os.path.isfile(f"tests/{test}/{file}"):
+            with open(f"tests/{test}/{file}", encoding="utf-8") as lines:
+                found |= dict(line.split() for line in lines if line.strip())
+    return found
 
 
 def is_there(shown_by):
     return os.path.exists(shown_by) if shown_by.startswith("/") else shutil.which(shown_by) is not None
 
 
-def missing(tests):
-    return sorted({package for test in tests for package, shown_by in wanted(test).items() if not is_there(shown_by)})
+def missing(tests, everything):
+    found = (item for test in tests for item in wanted(test, everything).items())
+    return sorted({package for package, shown_by in found if not is_there(shown_by)})
 
 
-def install(tests):
+def install(tests, everything):
     """Installs what is missing, as root and within the limit; what then still lacks is skipped by who needs it."""
-    lacking = missing(tests)
+    lacking = missing(tests, everything)
     if not lacking:
         return
     print(f"packages of Debian that are wanted: {' '.join(lacking)}", flush=True)

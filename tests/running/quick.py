@@ -3,7 +3,7 @@ import os
 import re
 import subprocess
 
-from running import kit
+from running import beside, kit
 
 
 def run(tally):
@@ -74,7 +74,11 @@ def proof(tally, name):
 
 
 def examples(tally):
+    """Plays all examples: over other tables and event by event, and by the program, which is built for that."""
     ran = subprocess.run(["rt", "run"], cwd="crates/jc_examples", capture_output=True, text=True)
     with open("crates/jc_examples/stdout", encoding="utf-8") as wanted:
         is_same = ran.stdout == wanted.read()
-    tally.check("the examples", None if is_same else "what they print is not crates/jc_examples/stdout")
+    tally.check("examples over other tables", None if is_same else "what they print is not crates/jc_examples/stdout")
+    ran = subprocess.run(["rt", "run"], cwd="crates/jcache", stdin=subprocess.DEVNULL, capture_output=True, text=True)
+    tally.check("the program is built", ran.stderr[-2000:] if ran.returncode else None)
+    beside.run(tally, {"JCACHE_PROGRAM": os.path.abspath("crates/jcache/out/jcache")}, ["program"], False)

@@ -24,6 +24,7 @@ struct taken {
     struct text text[3];
 };
 
+/* Holds the lock, under which no object is made that the collector knows of: it may run a finalizer that calls. */
 static void hold(Handle *self) {
     if (PyThread_acquire_lock(self->lock, NOWAIT_LOCK))
         return;
@@ -144,6 +145,8 @@ LONG(process_failed, "i", jc_process_failed(M, ID))
 LONG(told, "i", jc_told(M, ID))
 LONG(give_up, "i", jc_give_up(M, ID))
 
+static PyObject *none(void) { Py_RETURN_NONE; }
+
 static PyObject *number_of(jc_status status) { return PyLong_FromUnsignedLong(status); }
 
 static PyObject *bytes_of(const Handle *self, size_t len) {
@@ -199,24 +202,27 @@ static PyObject *do_peek(Handle *self, PyObject *const *arguments, Py_ssize_t co
         return NULL;
     hold(self);
     jc_status status = jc_peek(M, ID, NOW, K(0), &expires, OUT);
-    PyObject *found = status == JC_FOUND ? Py_BuildValue("(NK)", bytes_of(self, len), expires) : number_of(status);
+    PyObject *found = status == JC_FOUND ? bytes_of(self, len) : number_of(status);
     let_go(self);
-    return found;
+    return status == JC_FOUND ? Py_BuildValue("(NK)", found, expires) : found;
 }
 
 /* A part of an item that is shown, or None. */
 static PyObject *part(Handle *self, uint32_t id, size_t item,
                       jc_status (*read)(struct jc_manager *, uint32_t, size_t, uint8_t *, size_t, size_t *)) {
     size_t len = 0;
-    if (read(M, id, item, OUT) == JC_DONE)
-        return bytes_of(self, len);
-    Py_RETURN_NONE;
+    hold(self);
+    PyObject *found = read(M, id, item, OUT) == JC_DONE ? bytes_of(self, len) : none();
+    let_go(self);
+    return found;
 }
 
 static PyObject *shown_item(Handle *self, uint32_t id, size_t item) {
     size_t len = 0;
+    hold(self);
     jc_status status = jc_key(M, id, item, OUT);
     PyObject *key = PyUnicode_DecodeUTF8((const char *)self->room, status == JC_DONE ? (Py_ssize_t)len : 0, NULL);
+    let_go(self);
     return Py_BuildValue("(NNN)", key, part(self, id, item, jc_value), part(self, id, item, jc_before));
 }
 
@@ -227,6 +233,7 @@ static PyObject *do_shown(Handle *self, PyObject *const *arguments, Py_ssize_t c
         return NULL;
     hold(self);
     jc_items(M, ID, &items);
+    let_go(self);
     PyObject *shown = PyList_New((Py_ssize_t)items);
     for (size_t k = 0; shown && k < items; k++) {
         PyObject *item = shown_item(self, ID, k);
@@ -235,26 +242,26 @@ static PyObject *do_shown(Handle *self, PyObject *const *arguments, Py_ssize_t c
         else
             Py_CLEAR(shown);
     }
-    let_go(self);
     return shown;
 }
 
 static PyObject *do_numbers(Handle *self, PyObject *const *arguments, Py_ssize_t count) {
     struct taken it;
     uint64_t number = 0;
-    PyObject *numbers = PyList_New(0);
-    if (!numbers || !take(&it, "i", arguments, count)) {
-        Py_XDECREF(numbers);
+    if (!take(&it, "i", arguments, count))
         return NULL;
-    }
-    hold(self);
-    for (size_t place = 0; numbers && jc_number(M, ID, place, &number) == JC_DONE; place++) {
+    PyObject *numbers = PyList_New(0);
+    for (size_t place = 0; numbers; place++) {
+        hold(self);
+        jc_status status = jc_number(M, ID, place, &number);
+        let_go(self);
+        if (status != JC_DONE)
+            break;
         PyObject *made = PyLong_FromUnsignedLongLong(number);
         if (!made || PyList_Append(numbers, made))
             Py_CLEAR(numbers);
         Py_XDECREF(made);
     }
-    let_go(self);
     return numbers;
 }
 
@@ -278,10 +285,9 @@ static PyObject *do_walk(Handle *self, PyObject *const *arguments, Py_ssize_t co
         return NULL;
     hold(self);
     Py_BEGIN_ALLOW_THREADS status = jc_walk(M, ID, (uint32_t)it.number[1], OUT, &next);
-    Py_END_ALLOW_THREADS PyObject *found =
-        status == JC_LISTED ? Py_BuildValue("(NI)", bytes_of(self, len), next) : number_of(status);
+    Py_END_ALLOW_THREADS PyObject *found = status == JC_LISTED ? bytes_of(self, len) : number_of(status);
     let_go(self);
-    return found;
+    return status == JC_LISTED ? Py_BuildValue("(NI)", found, next) : found;
 }
 
 static PyObject *handle_new(PyTypeObject *type, PyObject *Py_UNUSED(arguments), PyObject *Py_UNUSED(options)) {

@@ -1,6 +1,6 @@
 //! How a call goes: it begins, its hooks are asked, and it replies.
-use crate::library::{accepted, Library, NEED_LOAD};
-use crate::sys;
+use crate::library::{accepted, Library};
+use crate::sys::{self, NEED_LOAD};
 use crate::values::{Entry, Event, EventKind};
 use crate::{BoxError, Configuration, Error};
 use std::sync::{Arc, Condvar, Mutex, PoisonError};
@@ -72,9 +72,9 @@ impl Asking {
         }
         let source = || source.unwrap_or_else(|| "a hook failed".into());
         match status {
-            8 => Err(Error::LoaderFailed { source: source(), done: self.library.number(self.id, 0) }),
-            9 => Err(Error::WriterFailed { source: source(), done: self.library.number(self.id, 0) }),
-            10 => Err(Error::ProcessorFailed { source: source() }),
+            sys::LOADER_FAILED => Err(Error::LoaderFailed { source: source(), done: self.library.number(self.id, 0) }),
+            sys::WRITER_FAILED => Err(Error::WriterFailed { source: source(), done: self.library.number(self.id, 0) }),
+            sys::PROCESSOR_FAILED => Err(Error::ProcessorFailed { source: source() }),
             _ => Ok(status),
         }
     }
@@ -83,9 +83,9 @@ impl Asking {
     fn answer(&self, status: u32, process: Process<'_>, source: &mut Option<BoxError>) -> u32 {
         let key = || self.library.key(self.id, 0);
         match status {
-            16 => self.load(&key(), source),
-            17 | 18 => self.write(&key(), source),
-            19 => self.process(Entry::new(key(), self.library.value(self.id, 0)), process, source),
+            NEED_LOAD => self.load(&key(), source),
+            sys::NEED_WRITE | sys::NEED_DELETE => self.write(&key(), source),
+            sys::NEED_PROCESS => self.process(Entry::new(key(), self.library.value(self.id, 0)), process, source),
             _ => self.tell(),
         }
     }

@@ -1,14 +1,10 @@
 //! A cache.
 use crate::asking::{Asking, Process};
-use crate::library::FOUND;
-use crate::sys::{self, Two, Whole};
+use crate::sys::{self, Two, Whole, FOUND, TRUE};
 use crate::walk::{moment, Iter};
 use crate::{BoxError, Configuration, Entry, Error, Results, Row, Statistics};
 use std::fmt;
 use std::sync::Arc;
-
-/// The status of what is so.
-const TRUE: u32 = 2;
 
 type Clock = dyn Fn() -> u64 + Send + Sync;
 

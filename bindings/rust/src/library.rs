@@ -1,14 +1,8 @@
 //! The functions of the header behind a lock, which is held for each call.
 use crate::sys::{self, Handle, Many, One, PairLengths, Part, Two, Whole};
+use crate::sys::{FOUND, LISTED, NEED_TELL, NO_SUCH_CACHE, SHORT_BUFFER};
 use crate::Error;
 use std::sync::{Mutex, PoisonError};
-
-pub(crate) const FOUND: u32 = 3;
-pub(crate) const LISTED: u32 = 5;
-pub(crate) const NEED_LOAD: u32 = 16;
-pub(crate) const NEED_TELL: u32 = 20;
-pub(crate) const NO_SUCH_CACHE: u32 = 32;
-const SHORT_BUFFER: u32 = 73;
 
 /// So many bytes of a value are read at once; longer ones are asked for twice.
 const ROOM: usize = 256;

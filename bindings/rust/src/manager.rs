@@ -1,6 +1,6 @@
 //! A manager of caches.
 use crate::asking::{Asking, Turn};
-use crate::library::{accepted, Library, NO_SUCH_CACHE};
+use crate::library::{accepted, Library};
 use crate::{sys, Cache, Configuration, Error, WallClock};
 use std::fmt;
 use std::sync::{Arc, Mutex, PoisonError};
@@ -69,7 +69,7 @@ impl Manager {
         let _turn = cache.asking.turn.take()?;
         let mut caches = self.caches.lock().unwrap_or_else(PoisonError::into_inner);
         match self.library.destroy(cache.asking.id) {
-            NO_SUCH_CACHE => 0,
+            sys::NO_SUCH_CACHE => 0,
             status => accepted(status)?,
         };
         caches.retain(|other| other.asking.id != cache.asking.id);

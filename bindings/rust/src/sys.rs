@@ -1,4 +1,18 @@
-//! The functions of `jcache.h`, as they stand there.
+//! The functions of `jcache.h`, as they stand there, and the statuses that are told apart here.
+
+pub const TRUE: u32 = 2;
+pub const FOUND: u32 = 3;
+pub const LISTED: u32 = 5;
+pub const LOADER_FAILED: u32 = 8;
+pub const WRITER_FAILED: u32 = 9;
+pub const PROCESSOR_FAILED: u32 = 10;
+pub const NEED_LOAD: u32 = 16;
+pub const NEED_WRITE: u32 = 17;
+pub const NEED_DELETE: u32 = 18;
+pub const NEED_PROCESS: u32 = 19;
+pub const NEED_TELL: u32 = 20;
+pub const NO_SUCH_CACHE: u32 = 32;
+pub const SHORT_BUFFER: u32 = 73;
 
 /// A manager, or none where it is null.
 #[repr(C)]

@@ -1,12 +1,12 @@
 //! The caches that are measured: how they come to be, and what they are filled with.
 use crate::fault::Fault;
 use crate::words::{Managers, Size};
-use jc_hooks::hooks_by_hand;
+use jc_hooks::placeholder_hooks;
 use jc_model::call::Call;
 use jc_model::config::CacheConfig;
 use jc_model::key::Key;
 use jc_model::value::Value;
-use jc_shards::{Caches, Dealing, create, find};
+use jc_shards::{Caches, ShardMap, create, find};
 use std::alloc::Global;
 use std::sync::Wait;
 
@@ -58,9 +58,9 @@ fn all_configs(alloc: Global, size: Size, managers: Managers) -> Result<Vec<Cach
 }
 
 /// The dealing by which they go in turn.
-pub fn dealing_of(alloc: Global, size: Size, managers: Managers) -> Result<Dealing, Fault> {
+pub fn dealing_of(alloc: Global, size: Size, managers: Managers) -> Result<ShardMap, Fault> {
     let configs = all_configs(alloc, size, managers)?;
-    Ok(Dealing::in_turn(alloc, SEED, configs.as_slice())?)
+    Ok(ShardMap::in_turn(alloc, SEED, configs.as_slice())?)
 }
 
 /// Those that are there from the opening.
@@ -76,11 +76,11 @@ pub fn create_all<C: Caches, R: Wait>(
     rt: &R,
     alloc: Global,
     seat: &C,
-    dealing: &Dealing,
+    dealing: &ShardMap,
     (size, managers): (Size, Managers),
 ) -> Result<(), Fault> {
     for config in all_configs(alloc, size, managers)? {
-        let hooks = hooks_by_hand(alloc, &config)?;
+        let hooks = placeholder_hooks(alloc, &config)?;
         if let Err(refused) = create(seat, rt, dealing, config, hooks) {
             drop(refused);
             return Err(Fault::Refused);
@@ -122,7 +122,7 @@ pub fn ids_of<C: Caches, R: Wait>(
     rt: &R,
     alloc: Global,
     seat: &C,
-    dealing: &Dealing,
+    dealing: &ShardMap,
     caches: Span,
 ) -> Result<Vec<C::Id>, Fault> {
     let mut ids = Vec::with_capacity(alloc, caches.count as usize)?;

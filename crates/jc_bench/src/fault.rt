@@ -1,5 +1,4 @@
 //! Why a run has no figures.
-use clap::Error;
 use jc_model::OutOfMemory;
 use jc_model::key::KeyFault;
 use jc_model::value::ValueFault;
@@ -7,14 +6,14 @@ use jc_shards::{HalfRefusal, QuarterRefusal};
 use jc_shared::{CallFault, SessionRefusal, SharedRefusal};
 use std::alloc::AllocFailed;
 use std::io;
-use std::io::{Eprint, Print};
+use std::io::Eprint;
 use std::process::ExitCode;
 
 /// What stopped a run.
 #[derive(Drop)]
 pub enum Fault {
-    /// The words are refused, or ask for help.
-    Words(Error),
+    /// The words are refused.
+    Words,
     /// Words that could not be read, or a line that could not be printed.
     Stream(io::Error),
     /// Want of memory, or what the manager or a session refused for it or for another cause.
@@ -23,24 +22,16 @@ pub enum Fault {
 
 impl Fault {
     /// Says what stopped the run, and with which status the program ends.
-    pub fn tell<R: Print + Eprint>(&self, rt: &R) -> ExitCode {
+    pub fn tell<R: Eprint>(&self, rt: &R) -> ExitCode {
         match self {
-            Fault::Words(error) => {
-                let status = if error.use_stderr() { 2 } else { 0 };
-                if error.print(rt).is_ok() {
-                    return ExitCode::from(status);
-                }
+            Fault::Words => {
+                drop(eprintln!(rt; "error: src/main.rt says which words are taken"));
+                return ExitCode::from(2);
             }
             Fault::Stream(error) => drop(eprintln!(rt; "error: {error}")),
             Fault::Refused => drop(eprintln!(rt; "error: the manager refused a step")),
         }
         ExitCode::FAILURE
-    }
-}
-
-impl From<Error> for Fault {
-    fn from(error: Error) -> Fault {
-        Fault::Words(error)
     }
 }
 

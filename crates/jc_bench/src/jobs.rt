@@ -5,7 +5,7 @@ use crate::fault::Fault;
 use crate::timing::Moment;
 use crate::words::{Kind, Managers, Size};
 use jc_model::key::Key;
-use jc_shards::{Dealing, Seats};
+use jc_shards::{Seats, ShardMap};
 use std::alloc::Global;
 use std::sync::Wait;
 use std::sync::atomic::{AtomicU32, Ordering};
@@ -15,7 +15,7 @@ use std::time::{Clock, CpuClock};
 /// What all threads do.
 #[derive(Clone, Copy)]
 pub struct Run<'a> {
-    pub dealing: &'a Dealing,
+    pub dealing: &'a ShardMap,
     pub kind: Kind,
     pub size: Size,
     pub managers: Managers,
@@ -25,7 +25,7 @@ pub struct Run<'a> {
 #[derive(Drop)]
 struct Job<'a, S: Seats> {
     seats: &'a S,
-    dealing: &'a Dealing,
+    dealing: &'a ShardMap,
     kind: Kind,
     caches: Span,
     keys: &'a [Key],

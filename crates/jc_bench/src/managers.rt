@@ -13,7 +13,7 @@ use crate::words::{Kind, Managers, Size};
 use jc_shards::{
     Both, One, Quarters, Seats, ShardNames, Twins, Unasking, Unnamed, open, open_four, open_two,
 };
-use jc_shared::{AllCalls, Keeping, Name, OpenCalls, OwnCalls};
+use jc_shared::{AllCalls, JournalPolicy, Name, OpenCalls, SessionJournal};
 use std::alloc::Global;
 use std::marker::Brand;
 use std::sync::Wait;
@@ -23,13 +23,13 @@ use std::time::{Clock, CpuClock};
 /// Over one manager under this name.
 fn played_one<
     N: Name + Send + Sync,
-    J: Keeping + Send,
+    J: JournalPolicy + Send,
     R: Threads + Wait + Clock + CpuClock + Sync,
 >(rt: &R, alloc: Global, unnamed: Unnamed<J>, run: Run<'_>) -> Result<Vec<Done>, Fault>
 where
     J::Own: Send,
     J::Held: Send,
-    <J::Own as OwnCalls>::Kept: Send,
+    <J::Own as SessionJournal>::Kept: Send,
     requires { IsUnder unnamed N.configs N.stated N.index }
 {
     let manager = unnamed.named::<N>();
@@ -39,7 +39,7 @@ where
 }
 
 /// The same, under a name that this call picks.
-fn named_one<J: Keeping + Send, R: Threads + Wait + Clock + CpuClock + Sync>(
+fn named_one<J: JournalPolicy + Send, R: Threads + Wait + Clock + CpuClock + Sync>(
     rt: &R,
     alloc: Global,
     unnamed: Unnamed<J>,
@@ -48,7 +48,7 @@ fn named_one<J: Keeping + Send, R: Threads + Wait + Clock + CpuClock + Sync>(
 where
     J::Own: Send,
     J::Held: Send,
-    <J::Own as OwnCalls>::Kept: Send,
+    <J::Own as SessionJournal>::Kept: Send,
 {
     played_one::<Brand, J, R>(rt, alloc, unnamed, run)
 }
@@ -66,13 +66,13 @@ fn time_two<
 fn played_two<
     A: Name + Send + Sync,
     B: Name + Send + Sync,
-    J: Keeping + Send,
+    J: JournalPolicy + Send,
     R: Threads + Wait + Clock + CpuClock + Sync,
 >(rt: &R, alloc: Global, twins: Twins<J>, run: Run<'_>) -> Result<Vec<Done>, Fault>
 where
     J::Own: Send,
     J::Held: Send,
-    <J::Own as OwnCalls>::Kept: Send,
+    <J::Own as SessionJournal>::Kept: Send,
     requires left { IsUnder twins.left A.configs A.stated A.index }
     requires right { IsUnder twins.right B.configs B.stated B.index }
 {
@@ -120,7 +120,7 @@ fn time_right<
     S: Seats + Send + Sync,
     A: Name + Send + Sync,
     B: Name + Send + Sync,
-    J: Keeping + Send,
+    J: JournalPolicy + Send,
     R: Threads + Wait + Clock + CpuClock + Sync,
 >(
     rt: &R,
@@ -132,7 +132,7 @@ fn time_right<
 where
     J::Own: Send,
     J::Held: Send,
-    <J::Own as OwnCalls>::Kept: Send,
+    <J::Own as SessionJournal>::Kept: Send,
 {
     time_beside(
         rt,
@@ -149,7 +149,7 @@ fn time_left<
     B: Seats + Send + Sync,
     C: Name + Send + Sync,
     D: Name + Send + Sync,
-    J: Keeping + Send,
+    J: JournalPolicy + Send,
     R: Threads + Wait + Clock + CpuClock + Sync,
 >(
     rt: &R,
@@ -161,7 +161,7 @@ fn time_left<
 where
     J::Own: Send,
     J::Held: Send,
-    <J::Own as OwnCalls>::Kept: Send,
+    <J::Own as SessionJournal>::Kept: Send,
 {
     time_right(rt, alloc, &Both { left, right }, others, run)
 }
@@ -169,13 +169,13 @@ where
 /// Over a manager of four shards under this name.
 fn played_four<
     N: ShardNames + Send + Sync,
-    J: Keeping + Send,
+    J: JournalPolicy + Send,
     R: Threads + Wait + Clock + CpuClock + Sync,
 >(rt: &R, alloc: Global, quarters: Quarters<J>, run: Run<'_>) -> Result<Vec<Done>, Fault>
 where
     J::Own: Send,
     J::Held: Send,
-    <J::Own as OwnCalls>::Kept: Send,
+    <J::Own as SessionJournal>::Kept: Send,
     requires { four_told_by quarters.left.left quarters.left.right quarters.right.left
         quarters.right.right ≡ N.shards }
 {

@@ -35,7 +35,7 @@ pub fn run<R: Threads + Wait + Clock + CpuClock + Sync + Env + Print + AllocGlob
     rt: &R,
 ) -> Result<(), Fault> {
     let alloc = rt.alloc();
-    let words: Vec<String> = env::args(rt)?.collect(alloc)?;
+    let words: Vec<String> = env::args(rt)?.skip(1).collect(alloc)?;
     let asked = read_words(alloc, words.as_slice())?;
     for kind in &asked.kinds {
         for done in &play(rt, alloc, *kind, asked.size, asked.managers)? {

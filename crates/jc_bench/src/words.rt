@@ -1,8 +1,6 @@
-//! What is asked of the program, as `clap` reads its words.
+//! What is asked of the program by its words.
 use crate::fault::Fault;
-use clap::error::ErrorKind;
-use clap::{Arg, ArgAction, ArgMatches, Command, value_parser};
-use std::alloc::{AllocError, Global};
+use std::alloc::Global;
 
 /// What a thread does again and again, in a session of its own.
 #[derive(Clone, Copy, PartialEq, Eq)]
@@ -21,16 +19,15 @@ pub enum Kind {
     Write,
 }
 
-/// The kinds that words may name, in the order of `kind_named`.
-static KINDS: [&str; 5] = ["lookup", "miss", "contains", "get", "put"];
-
-fn kind_named(word: &str) -> Kind {
+/// The kind that a word names.
+fn kind_named(word: &str) -> Result<Kind, Fault> {
     match word {
-        "lookup" => Kind::Lookup,
-        "miss" => Kind::Miss,
-        "contains" => Kind::Contains,
-        "get" => Kind::Get,
-        _ => Kind::Put,
+        "lookup" => Ok(Kind::Lookup),
+        "miss" => Ok(Kind::Miss),
+        "contains" => Ok(Kind::Contains),
+        "get" => Ok(Kind::Get),
+        "put" => Ok(Kind::Put),
+        _ => Err(Fault::Words),
     }
 }
 
@@ -109,141 +106,118 @@ pub struct Asked {
     pub counts: bool,
 }
 
-/// An option that takes a number: its name, what it says of itself, the limits, and the number where none is named.
-type Number = (&'static str, &'static str, (i64, i64), &'static str);
-
-/// The options that take a number, in the order of their help.
-static NUMBERS: [Number; 7] = [
-    ("caches", "Caches", (1, 64), "1"),
-    ("rows", "Rows of each cache", (1, 65_000), "1000"),
-    ("threads", "Threads that do it", (1, 32), "1"),
-    ("writers", "Threads that write meanwhile", (0, 8), "0"),
-    (
-        "calls",
-        "How often each thread does it",
-        (1, 100_000_000),
-        "100000",
-    ),
-    (
-        "between",
-        "Steps of the processor's pause after each",
-        (0, 1_000_000),
-        "0",
-    ),
-    (
-        "sessions",
-        "How many sessions each thread has, one after the other",
-        (1, 1_000_000),
-        "1",
-    ),
+/// All options: those that take a number, and those that are there or not.
+static OPTIONS: [&str; 14] = [
+    "--caches",
+    "--rows",
+    "--threads",
+    "--writers",
+    "--calls",
+    "--between",
+    "--sessions",
+    "--shards",
+    "--apart",
+    "--open",
+    "--stashed",
+    "--created",
+    "--read-through",
+    "--counts",
 ];
 
-/// The options that are there or not, and what each says of itself.
-static FLAGS: [(&str, &str); 6] = [
-    ("apart", "Each thread asks a cache of its own"),
-    ("open", "The manager keeps the open calls alone"),
-    ("stashed", "Some rows are in the table's stash"),
-    ("created", "A session creates the caches"),
-    ("read-through", "The caches would load what is missing"),
-    ("counts", "Print no times"),
-];
-
-fn number<'a>(alloc: Global, (name, help, limits, default): Number) -> Arg<'a> {
-    Arg::new(alloc, name)
-        .long(name)
-        .value_name("N")
-        .help(help)
-        .action(ArgAction::Set)
-        .value_parser(value_parser!(u32).range(limits.0..=limits.1))
-        .default_value(default)
-}
-
-fn flag<'a>(alloc: Global, (name, help): (&'static str, &'static str)) -> Arg<'a> {
-    Arg::new(alloc, name)
-        .long(name)
-        .help(help)
-        .action(ArgAction::SetTrue)
-}
-
-/// How many managers there may be beside one, in the order of `managers_of`.
-static SHARDS: [&str; 2] = ["2", "4"];
-
-/// The option that asks for several managers.
-fn shards<'a>(alloc: Global) -> Arg<'a> {
-    Arg::new(alloc, "shards")
-        .long("shards")
-        .value_name("N")
-        .help("So many managers that keep the open calls alone")
-        .action(ArgAction::Set)
-        .value_parser(SHARDS.as_slice())
-}
-
-/// The program's command. A manager that keeps all calls has 64 sessions in its life: one fills its table.
-fn command<'a>(alloc: Global) -> Result<Command<'a>, AllocError> {
-    let kinds = Arg::new(alloc, "KIND")
-        .help("What each thread does, on a manager of its own for each kind")
-        .required(true)
-        .num_args(1..)
-        .value_parser(KINDS.as_slice());
-    let mut command = Command::new(alloc, "jc_bench")
-        .about("Lookups and calls of a shared manager by many threads")
-        .arg(kinds)?
-        .arg(shards(alloc))?;
-    for option in NUMBERS {
-        command = command.arg(number(alloc, option))?;
+fn is_option(word: &str) -> bool {
+    for name in &OPTIONS {
+        if word == *name {
+            return true;
+        }
     }
-    for option in FLAGS {
-        command = command.arg(flag(alloc, option))?;
-    }
-    Ok(command)
+    false
 }
 
-fn size_of(matches: &ArgMatches<'_>) -> Option<Size> {
-    Some(Size {
-        caches: matches.get_one::<u32>("caches")?,
-        rows: matches.get_one::<u32>("rows")?,
-        threads: matches.get_one::<u32>("threads")?,
-        writers: matches.get_one::<u32>("writers")?,
-        calls: matches.get_one::<u32>("calls")?,
-        between: matches.get_one::<u32>("between")?,
-        sessions: matches.get_one::<u32>("sessions")?,
-        apart: matches.get_flag("apart"),
-        stashed: matches.get_flag("stashed"),
-        created: matches.get_flag("created"),
-        read_through: matches.get_flag("read-through"),
+/// Whether an option is named.
+fn is_named(words: &[String], name: &str) -> bool {
+    for word in words {
+        if word.as_str() == name {
+            return true;
+        }
+    }
+    false
+}
+
+fn number_in(word: &str, (least, most): (u32, u32)) -> Result<u32, Fault> {
+    match word.parse::<u32>() {
+        Ok(number) if least <= number && number <= most => Ok(number),
+        _ => Err(Fault::Words),
+    }
+}
+
+/// The number behind an option, within its limits; the given one where the option is not named.
+fn number_of(words: &[String], name: &str, limits: (u32, u32), given: u32) -> Result<u32, Fault> {
+    let (mut number, mut is_next) = (given, false);
+    for word in words {
+        if is_next {
+            number = number_in(word.as_str(), limits)?;
+        }
+        is_next = word.as_str() == name;
+    }
+    if is_next {
+        return Err(Fault::Words);
+    }
+    Ok(number)
+}
+
+fn size_of(words: &[String]) -> Result<Size, Fault> {
+    Ok(Size {
+        caches: number_of(words, "--caches", (1, 64), 1)?,
+        rows: number_of(words, "--rows", (1, 65_000), 1000)?,
+        threads: number_of(words, "--threads", (1, 32), 1)?,
+        writers: number_of(words, "--writers", (0, 8), 0)?,
+        calls: number_of(words, "--calls", (1, 100_000_000), 100_000)?,
+        between: number_of(words, "--between", (0, 1_000_000), 0)?,
+        sessions: number_of(words, "--sessions", (1, 1_000_000), 1)?,
+        apart: is_named(words, "--apart"),
+        stashed: is_named(words, "--stashed"),
+        created: is_named(words, "--created"),
+        read_through: is_named(words, "--read-through"),
     })
 }
 
-fn kinds_of(alloc: Global, matches: &ArgMatches<'_>) -> Result<Vec<Kind>, AllocError> {
+fn managers_of(words: &[String]) -> Result<Managers, Fault> {
+    match number_of(words, "--shards", (1, 4), 1)? {
+        1 if is_named(words, "--open") => Ok(Managers::OpenCalls),
+        1 => Ok(Managers::AllCalls),
+        2 => Ok(Managers::Two),
+        4 => Ok(Managers::Four),
+        _ => Err(Fault::Words),
+    }
+}
+
+/// The kinds, which stand in front of the first option.
+fn kinds_in(alloc: Global, words: &[String]) -> Result<Vec<Kind>, Fault> {
     let mut kinds = Vec::new(alloc);
-    if let Some(words) = matches.get_strs("KIND") {
-        for word in words {
-            kinds.push(kind_named(word))?;
+    for word in words {
+        if word.as_str().starts_with("--") {
+            return Ok(kinds);
         }
+        kinds.push(kind_named(word.as_str())?)?;
     }
     Ok(kinds)
 }
 
-fn managers_of(matches: &ArgMatches<'_>) -> Managers {
-    match matches.get_str("shards") {
-        Some("2") => Managers::Two,
-        Some(_) => Managers::Four,
-        None if matches.get_flag("open") => Managers::OpenCalls,
-        None => Managers::AllCalls,
-    }
-}
-
-/// Reads all words, the program's name among them.
+/// Reads all words behind the program's name.
 pub fn read_words(alloc: Global, words: &[String]) -> Result<Asked, Fault> {
-    let mut command = command(alloc)?;
-    let matches = command.try_get_matches_from_mut(words)?;
-    let Some(size) = size_of(&matches) else {
-        return Err(Fault::Words(command.error(ErrorKind::InvalidValue, "a number is missing")?));
-    };
+    for word in words {
+        if word.as_str().starts_with("--") && !is_option(word.as_str()) {
+            return Err(Fault::Words);
+        }
+    }
+    let kinds = kinds_in(alloc, words)?;
+    if kinds.is_empty() {
+        return Err(Fault::Words);
+    }
     Ok(Asked {
-        kinds: kinds_of(alloc, &matches)?,
-        size,
-        managers: managers_of(&matches),
-        counts: matches.get_flag("counts"),
+        kinds,
+        size: size_of(words)?,
+        managers: managers_of(words)?,
+        counts: is_named(words, "--counts"),
     })
 }

@@ -3,10 +3,10 @@ use Rattle.std.proofs.Common.{◌≡◌, ◌+◌, ℕ, Bool, List, ◌∷◌, le
 use Rattle.std.proofs.lemmas.Bool.Decides.{nat_tests}
 use Rattle.std.proofs.lemmas.Grind.{common_steps}
 use Rattle.jc_ops.proofs.Told.{most_three, most_absent}
-use Rattle.jc_bulk.proofs.Names.{most_told, HasRoom, adds, Ahead, Provided, Tally, keys_in, calls_ahead, items_of, IsReady, IsAheadOf, AreReady, AreCoveredIn, places_ahead, HasPlacesIn, HasRoomFrom, UsesRoomForOne, Visited, SpendsAtMost}
+use Rattle.jc_bulk.proofs.Names.{most_told, HasRoom, adds, Ahead, Provided, CallSum, keys_in, calls_ahead, items_of, IsReady, IsAheadOf, AreReady, AreCoveredIn, places_ahead, HasPlacesIn, HasRoomFrom, UsesRoomForOne, Visited, SpendsAtMost}
 
 -- a step on this key is done, which told at most so many notices: the steps after it have all that they need
-pub ready_after : (v w : Visited) (key : List ℕ) (most : ℕ) (a : Ahead) (sum : Tally) → IsAheadOf key a → HasPlacesIn (places_ahead a + most) v → HasRoomFrom (Some a) v.spare → SpendsAtMost 1 most v w
+pub ready_after : (v w : Visited) (key : List ℕ) (most : ℕ) (a : Ahead) (sum : CallSum) → IsAheadOf key a → HasPlacesIn (places_ahead a + most) v → HasRoomFrom (Some a) v.spare → SpendsAtMost 1 most v w
     → AreCoveredIn w a.rest.items → sum.done ≡ a.sum.done + 1 → UsesRoomForOne a.sum.collected sum.collected → AreReady w (record a { sum = sum })
 ready_after v w key most a sum ahead places room spends covered done lists = record {
   ahead = record {

@@ -4,8 +4,8 @@ use Rattle.jc_model.specs.declared.call.KeyCall.{KeyCall}
 use Rattle.jc_model.specs.Run.{Run, Awaited}
 use Rattle.jc_model.specs.Suspended.{KeyWait, one, many}
 use Rattle.jc_model.specs.Whole.{each}
-use Rattle.jc_state.specs.Kept.{items_of}
-use Rattle.jc_state.specs.Visited.{Visited, HasPlacesIn, progress_in}
+use Rattle.jc_ops.specs.Kept.{items_of}
+use Rattle.jc_ops.specs.Visited.{Visited, HasPlacesIn, progress_in}
 use Rattle.jc_ops.specs.Supply.{most_told_in, HasPlacesFor}
 use Rattle.jc_bulk.specs.declared.bulk.Ahead.{Ahead}
 use Rattle.jc_bulk.specs.declared.bulk.Provided.{Provided}

@@ -11,7 +11,7 @@ use Rattle.jc_model.specs.Changes.{Progress}
 use Rattle.jc_model.specs.Run.{Run, ended, waiting, resume, awaited_by}
 use Rattle.jc_model.specs.Suspended.{Wait, one, many, telling, key_run, bulk_run}
 use Rattle.jc_model.specs.Whole.{Plan, plan, steps_in, gathers, carried_out}
-use Rattle.jc_state.specs.Visited.{Visited, progress_in}
+use Rattle.jc_ops.specs.Visited.{Visited, progress_in}
 use Rattle.jc_ops.specs.declared.step.Next.{Next}
 use Rattle.jc_ops.specs.declared.step.Next.TheVariants.{Ended, Waiting}
 use Rattle.jc_ops.specs.Stepped.{IsWaiting}

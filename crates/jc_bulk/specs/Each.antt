@@ -5,7 +5,7 @@ use Rattle.jc_model.specs.declared.call.Call.TheVariants.{InvokeAll, RemoveKeys,
 use Rattle.jc_model.specs.declared.call.KeyCall.{KeyCall}
 use Rattle.jc_model.specs.declared.call.Op.{Op}
 use Rattle.jc_model.specs.declared.call.Op.TheVariants.{Get, Remove, Expire, Invoke, Load}
-use Rattle.jc_state.specs.Visited.{Visited, has_live_in}
+use Rattle.jc_ops.specs.Visited.{Visited, has_live_in}
 
 abbrev pub op_on : Visited → Call → List ℕ → Op
 op_on v (InvokeAll ks processor argument) k = Invoke processor argument

@@ -3,7 +3,7 @@ use Rattle.std.specs.Prelude.{ℕ, if◌then◌else◌, List, [], ◌∷◌, ◌
 use Rattle.jc_model.specs.Changes.{Progress}
 use Rattle.jc_model.specs.State.{Item, row_of, is_live}
 use Rattle.jc_model.specs.Whole.{touch_each}
-use Rattle.jc_state.specs.Visited.{Visited}
+use Rattle.jc_ops.specs.Visited.{Visited}
 use Rattle.jc_bulk.specs.Tallied.{pushed}
 
 -- the key's value, if it has a live row

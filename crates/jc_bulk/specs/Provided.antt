@@ -6,11 +6,11 @@ use Rattle.jc_model.specs.declared.config.CacheConfig.{CacheConfig}
 use Rattle.jc_model.specs.Lists.{distinct}
 use Rattle.jc_model.specs.State.{Item}
 use Rattle.jc_ops.specs.Lines.{creates, most_told}
-use Rattle.jc_state.specs.Noted.{Noted, HasPlaces}
+use Rattle.jc_ops.specs.Noted.{Noted, HasPlaces}
 use Rattle.jc_ops.specs.Supply.{Covers}
 use Rattle.jc_bulk.specs.declared.bulk.Needs.{Needs}
 use Rattle.jc_bulk.specs.declared.bulk.Provided.{Provided}
-use Rattle.jc_bulk.specs.declared.tally.Tally.{Tally}
+use Rattle.jc_bulk.specs.declared.call_sum.CallSum.{CallSum}
 use Rattle.jc_bulk.specs.Tallied.{HasRoomFor}
 
 abbrev pub calls_in : List Provided → List KeyCall
@@ -38,7 +38,7 @@ places_for true steps = 3 * steps
 places_for false steps = steps
 
 -- what needs no look at the cache: the keys are different, and lists and numbers have room for all
-pub record IsAhead (keys : List (List ℕ)) (rest : List KeyCall) (sum : Tally) (needs : Needs) : Type 0 where
+pub record IsAhead (keys : List (List ℕ)) (rest : List KeyCall) (sum : CallSum) (needs : Needs) : Type 0 where
   pub apart : distinct keys ≡ true
   pub lists : HasRoomFor (length keys) sum.collected
   pub few : sum.done + length keys < 2 ^ 32
@@ -46,7 +46,7 @@ pub record IsAhead (keys : List (List ℕ)) (rest : List KeyCall) (sum : Tally) 
   pub telling : needs.tells ≡ false → any_tells rest ≡ false
 
 -- and all that the steps ahead may need is there
-pub record IsReady (c : CacheConfig) (items : List Item) (notices : Noted) (spare : ℕ) (rest : List Provided) (sum : Tally) (needs : Needs) : Type 0 where
+pub record IsReady (c : CacheConfig) (items : List Item) (notices : Noted) (spare : ℕ) (rest : List Provided) (sum : CallSum) (needs : Needs) : Type 0 where
   pub ahead : IsAhead (keys_in (calls_in rest)) (calls_in rest) sum needs
   pub covered : AreCovered c items rest
   pub places : HasPlaces c (places_for needs.tells (length rest)) notices

@@ -5,16 +5,16 @@ use Rattle.jc_model.specs.declared.call.ProcessorFault.{ProcessorFault}
 use Rattle.jc_model.specs.declared.call.Reply.{Reply}
 use Rattle.jc_model.specs.declared.call.Reply.TheVariants.{Found, Fault}
 use Rattle.jc_model.specs.Bulk.{Gathered, nothing, pairs, results, Sum}
-use Rattle.jc_bulk.specs.declared.tally.Collected.{Collected}
-use Rattle.jc_bulk.specs.declared.tally.Collected.TheVariants.{Nothing, Pairs, Results}
-use Rattle.jc_bulk.specs.declared.tally.Tally.{Tally}
+use Rattle.jc_bulk.specs.declared.call_sum.Collected.{Collected}
+use Rattle.jc_bulk.specs.declared.call_sum.Collected.TheVariants.{Nothing, Pairs, Results}
+use Rattle.jc_bulk.specs.declared.call_sum.CallSum.{CallSum}
 
 abbrev pub gathered_in : Collected → Gathered
 gathered_in Nothing = nothing
 gathered_in (Pairs l) = pairs l.items
 gathered_in (Results l) = results l.items
 
-abbrev pub sum_of : Tally → Sum
+abbrev pub sum_of : CallSum → Sum
 sum_of t = record { done = t.done; gathered = gathered_in t.collected }
 
 -- there is room for n keys more

@@ -2,20 +2,20 @@
 //!
 //! All that they need was made before the first of them, so none is refused. Where one waits for an answer, those after
 //! it keep their values: no other step changes the value of its key.
-ghost use Rattle.jc_state.specs.Visited.{IsSameVisit};
+ghost use Rattle.jc_ops.specs.Visited.{IsSameVisit};
 ghost use Rattle.jc_bulk.specs.Ahead.{AreReady, ahead_run};
 ghost use Rattle.jc_bulk.specs.Calls.{ComesFrom};
 
 use crate::call::CallNext;
-use crate::tally::Tally;
+use crate::call_sum::CallSum;
 use crate::waits::suspend;
 use jc_model::call::KeyCall;
 use jc_ops::step::{KeyStep, Next};
 use jc_ops::supply::Supply;
 use jc_ops::supply::values::Values;
+use jc_ops::visit::Visit;
 use jc_ring::ring::Ring;
 use jc_rows::rows::Rows;
-use jc_state::visit::Visit;
 use std::collections::VecDeque;
 
 /// A step with its values.
@@ -38,7 +38,7 @@ pub struct Needs {
 #[derive(Drop)]
 pub struct Ahead {
     pub rest: VecDeque<Provided>,
-    pub sum: Tally,
+    pub sum: CallSum,
     pub needs: Needs,
 }
 

@@ -5,7 +5,7 @@
 ghost use Rattle.std.specs.Prelude.{◌≡◌, true, None, IfOk, IfErr, IfSome, OnErr, IsOk};
 ghost use Rattle.jc_model.specs.Run.{fits};
 ghost use Rattle.jc_model.specs.Whole.{is_free};
-ghost use Rattle.jc_state.specs.Visited.{IsSameVisit, IsUnchanged};
+ghost use Rattle.jc_ops.specs.Visited.{IsSameVisit, IsUnchanged};
 ghost use Rattle.jc_bulk.specs.Calls.{ComesFrom, EndsFrom, IsSuspendedIn, call_run, answered_run};
 
 use crate::bulk::go_on;
@@ -14,14 +14,14 @@ use crate::provide::{prepare, prepare_answer};
 use crate::waits::{Suspended, suspend};
 use jc_model::OutOfMemory;
 use jc_model::call::{Answer, Call, Reply};
-use jc_model::copies::Copies;
+use jc_model::owners::Owners;
 use jc_model::table::key_step;
 use jc_ops::step::reply::{done, truth};
 use jc_ops::step::{KeyStep, Next};
 use jc_ops::supply::{Supply, asks_no_one};
+use jc_ops::visit::Visit;
 use jc_ring::ring::Ring;
 use jc_rows::rows::Rows;
-use jc_state::visit::Visit;
 
 /// What a call has come to: its reply, or the next request.
 pub type CallNext = Next<Suspended>;
@@ -33,7 +33,7 @@ pub type CallNext = Next<Suspended>;
 pub fn end_at_once<R: Rows, G: Ring>(
     visit: &mut Visit<R, G>,
     call: &Call,
-) -> Result<Option<Copies<Reply>>, OutOfMemory>
+) -> Result<Option<Owners<Reply>>, OutOfMemory>
     ensures same_visit { IsSameVisit visit.old visit.new }
     ensures ended { IfOk result (λ at_once. IfSome at_once
         (EndsFrom (call_run visit.old call.now) visit.new)) }
@@ -72,7 +72,7 @@ pub fn start_call<R: Rows, G: Ring>(
         Call::Contains(key) => Ok(Next::Ended(truth(visit.holds(key)))),
         Call::Stats => {
             let counts = visit.counts();
-            Ok(Next::Ended(Copies::new(counts, counts, counts).map(Reply::Counted)))
+            Ok(Next::Ended(Owners::new(counts, counts, counts).map(Reply::Counted)))
         }
         Call::ClearStats => {
             visit.clear_counts();

@@ -1,32 +1,32 @@
 //! All entries of a cache at once.
 ghost use Rattle.std.specs.Prelude.{◌≡◌, None, IfOk, OnOk, OnErr};
 ghost use Rattle.jc_model.specs.Whole.{contents, touch_each};
-ghost use Rattle.jc_state.specs.Kept.{items_of, key_row};
-ghost use Rattle.jc_state.specs.Visited.{IsSameVisit, IsUnchanged, progress_in};
+ghost use Rattle.jc_ops.specs.Kept.{items_of, key_row};
+ghost use Rattle.jc_ops.specs.Visited.{IsSameVisit, IsUnchanged, progress_in};
 ghost use Rattle.jc_bulk.specs.Entries.{live_value, touched, all_touched};
 
+use crate::call_sum::push;
 use crate::lists::Lists;
-use crate::tally::push;
 use jc_model::OutOfMemory;
-use jc_model::copies::Copies;
 use jc_model::key::Key;
 use jc_model::list::Sequence;
+use jc_model::owners::Owners;
 use jc_model::value::Value;
+use jc_ops::visit::Visit;
 use jc_ring::ring::Ring;
 use jc_rows::rows::Rows;
-use jc_state::visit::Visit;
 
-/// Copies of the key's value, if it has a live row.
+/// Owners of the key's value, if it has a live row.
 fn live_value<R: Rows, G: Ring>(
     visit: &Visit<R, G>,
     key: &Key,
-) -> Result<Copies<Option<Value>>, OutOfMemory>
+) -> Result<Owners<Option<Value>>, OutOfMemory>
     ensures { IfOk result (λ value. value
         ≡ live_value visit.now.moment key.now (items_of visit.now.cache.cells)) }
 {
     match visit.find(key) {
-        Some(row) if visit.is_live(row) => Ok(Copies::of(visit.value(row).first())?.map(Some)),
-        _ => Ok(Copies::new(None, None, None)),
+        Some(row) if visit.is_live(row) => Ok(Owners::of(visit.value(row).first())?.map(Some)),
+        _ => Ok(Owners::new(None, None, None)),
     }
 }
 
@@ -58,7 +58,7 @@ fn touch_each<R: Rows, G: Ring>(visit: &mut Visit<R, G>, keys: &[Key])
 /// Lists all live rows, and uses each. Where memory is refused, nothing has changed.
 pub(crate) fn entries<R: Rows, G: Ring>(
     visit: &mut Visit<R, G>,
-) -> Result<Copies<Sequence<(Key, Value)>>, OutOfMemory>
+) -> Result<Owners<Sequence<(Key, Value)>>, OutOfMemory>
     ensures same_visit { IsSameVisit visit.old visit.new }
     ensures listed { IfOk result (λ pairs. pairs ≡ contents visit.old.cache.config
         visit.old.moment (items_of visit.old.cache.cells)) }

@@ -3,9 +3,9 @@
 
 mod bulk;
 pub mod call;
+mod call_sum;
 mod entries;
 mod lists;
 mod provide;
 mod steps;
-mod tally;
 pub mod waits;

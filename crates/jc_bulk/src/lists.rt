@@ -2,8 +2,8 @@
 ghost use Rattle.std.specs.Prelude.{◌≡◌, ◌+◌, ◌<◌, ◌∷◌, ◌++◌, [], IfOk};
 
 use jc_model::OutOfMemory;
-use jc_model::copies::Copies;
 use jc_model::list::Sequence;
+use jc_model::owners::Owners;
 use std::alloc::Global;
 use std::marker::Model;
 
@@ -47,7 +47,7 @@ impl<T> Lists<T> {
     }
 
     /// Adds an item. It needs room, and takes no memory.
-    pub fn push(&mut self, item: Copies<T>)
+    pub fn push(&mut self, item: Owners<T>)
         requires { 0 < self.old.spare }
         ensures items { self.new.items ≡ self.old.items ++ item ∷ [] }
         ensures spare { self.new.spare + 1 ≡ self.old.spare }
@@ -59,10 +59,10 @@ impl<T> Lists<T> {
     }
 
     /// The lists.
-    pub fn into_lists(self) -> Copies<Sequence<T>>
+    pub fn into_lists(self) -> Owners<Sequence<T>>
         ensures { result ≡ self.items }
     {
-        Copies::new(
+        Owners::new(
             Sequence::new(self.first),
             Sequence::new(self.second),
             Sequence::new(self.third),

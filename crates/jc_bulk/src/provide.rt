@@ -1,8 +1,8 @@
 //! What all steps of a call may need, made before the first of them.
 ghost use Rattle.std.specs.Prelude.{◌≡◌, ◌+◌, ◌≤◌, true, IfOk, OnOk};
 ghost use Rattle.jc_model.specs.Sound.{HasDistinctKeys};
-ghost use Rattle.jc_state.specs.Kept.{items_of, FoundRow};
-ghost use Rattle.jc_state.specs.Visited.{IsUnchanged};
+ghost use Rattle.jc_ops.specs.Kept.{items_of, FoundRow};
+ghost use Rattle.jc_ops.specs.Visited.{IsUnchanged};
 ghost use Rattle.jc_ops.specs.Lines.{takes_value};
 ghost use Rattle.jc_ops.specs.Supply.{CoversAnswerIn, HasRoomAt};
 ghost use Rattle.jc_bulk.specs.Ahead.{calls_ahead, AreCoveredIn, AreReady, HasRoomForSteps};
@@ -12,16 +12,16 @@ ghost use Rattle.jc_bulk.specs.Provided.{calls_in, any_creates, any_tells, place
 ghost use Rattle.jc_bulk.specs.Tallied.{sum_of};
 
 use crate::bulk::{Ahead, Needs, Provided};
+use crate::call_sum::CallSum;
 use crate::steps::steps_of;
-use crate::tally::Tally;
 use jc_model::OutOfMemory;
 use jc_model::call::{Answer, Call, KeyCall};
 use jc_ops::step::KeyStep;
 use jc_ops::supply::values::Values;
 use jc_ops::supply::{Supply, creates, most_notices, takes_value};
+use jc_ops::visit::Visit;
 use jc_ring::ring::Ring;
 use jc_rows::rows::Rows;
-use jc_state::visit::Visit;
 use std::alloc::{AllocError, Global};
 use std::collections::VecDeque;
 
@@ -95,7 +95,7 @@ pub fn prepare<R: Rows, G: Ring>(visit: &mut Visit<R, G>, call: &Call) -> Result
     visit.reserve_notices(places_for(needs, count, 0)?)?;
     visit.reserve_rows(if needs.adds { count } else { 0 })?;
     let rest = with_values(visit, calls)?;
-    let sum = Tally::for_call(visit.alloc(), call, count)?;
+    let sum = CallSum::for_call(visit.alloc(), call, count)?;
     Ok(Ahead { rest, sum, needs })
 }
 

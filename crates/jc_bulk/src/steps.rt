@@ -10,9 +10,9 @@ use jc_model::OutOfMemory;
 use jc_model::call::{Call, KeyCall, Op};
 use jc_model::key::Key;
 use jc_model::value::Value;
+use jc_ops::visit::Visit;
 use jc_ring::ring::Ring;
 use jc_rows::rows::Rows;
-use jc_state::visit::Visit;
 use std::alloc::Global;
 
 /// What a call on many keys does on this one. Where all rows are removed, an expired one goes without the writer.

@@ -7,16 +7,16 @@ use Rattle.std_alloc.proofs.BoxSteps.Form.{Bx}
 use Rattle.std_heap.specs.contracts.Global as Heap
 use Rattle.std_heap.specs.contracts.GlobalAllocator.TheImpl.{ghosts, dict}
 use Rattle.std_heap.proofs.Global.TheLaws as heap
-use Rattle.jc_seat.specs.contracts.seat.Seat as Seat
-use Rattle.jc_seat.proofs.seat.Seat.TheLaws as seat
-use Rattle.jc_c.specs.contracts.handle.parts.Parts as Parts
-use Rattle.jc_c.specs.contracts.handle.Handle as Handle
+use Rattle.jc_c.specs.contracts.ffi_manager.FfiManager as FfiManager
+use Rattle.jc_c.proofs.ffi_manager.FfiManager.TheLaws as seat
+use Rattle.jc_c.specs.contracts.exports.handle.parts.Parts as Parts
+use Rattle.jc_c.specs.contracts.exports.handle.Handle as Handle
 
 abbrev pub E : Bx
-E = record { row = Seat.the_row; laws = seat.the_row_laws; al = record { row = Heap.the_row; laws = heap.the_row_laws; g = ghosts; d = dict; drops = impl [] tnil dnil } }
+E = record { row = FfiManager.the_row; laws = seat.the_row_laws; al = record { row = Heap.the_row; laws = heap.the_row_laws; g = ghosts; d = dict; drops = impl [] tnil dnil } }
 
 abbrev pub Taken : RattleType
-Taken = Parts.the_row Seat.the_row Heap.the_row ghosts
+Taken = Parts.the_row FfiManager.the_row Heap.the_row ghosts
 
 abbrev pub FromParts : Slot 0
 FromParts = plain (λ _. Taken)

@@ -1,3 +1,11 @@
+pub mod Numbers
+pub mod Listing
+pub mod Keys
+pub mod SeatSlots
+pub mod Saying
+pub mod Walking
+pub mod Covering
+pub mod Walks
 pub mod AsBox
 pub mod Slots
 pub mod Holding

@@ -23,9 +23,9 @@ use Rattle.std_heap.specs.contracts.Global as Heap
 use Rattle.std_heap.specs.declared.Global.{Global}
 use Rattle.std_heap.specs.contracts.GlobalAllocator.TheImpl.{ghosts}
 use Rattle.std_heap.proofs.GlobalToken.{dealloc_token-Testable}
-use Rattle.jc_seat.specs.contracts.seat.Seat as Seat
+use Rattle.jc_c.specs.contracts.ffi_manager.FfiManager as FfiManager
 use Rattle.jc_c.specs.Slot.{slot_owns}
-use Rattle.jc_c.specs.contracts.handle.Handle as Handle
+use Rattle.jc_c.specs.contracts.exports.handle.Handle as Handle
 use Rattle.jc_c.proofs.AsBox.{E}
 
 abbrev pub both : Val → Val → Val
@@ -35,13 +35,13 @@ both v w = vstruct (vcons v (vcons w vnil))
 abbrev pub Two : RattleType
 Two = Struct (record { name = []; args = []; types = []; fields = RawPtr ∷ Heap.the_row ∷ [] })
 
-abbrev pub boxed : Global → Ptr → Seat.the_row.Denot → base.Fml.Fml
-boxed a = box_owns (ghosts.dealloc_token a) Seat.the_row
+abbrev pub boxed : Global → Ptr → FfiManager.the_row.Denot → base.Fml.Fml
+boxed a = box_owns (ghosts.dealloc_token a) FfiManager.the_row
 
 module _ {M : Type 1} {𝓤 : Ura M} (𝓛 : Logic 𝓤) (a : Global) where
-  tested : (p : Ptr) (x : Seat.the_row.Denot) → ent 𝓤 (sem 𝓛 (boxed a p x)) (guard 𝓤 (Testable p) (sem 𝓛 (boxed a p x)))
+  tested : (p : Ptr) (x : FfiManager.the_row.Denot) → ent 𝓤 (sem 𝓛 (boxed a p x)) (guard 𝓤 (Testable p) (sem 𝓛 (boxed a p x)))
   tested p x = fact_use 𝓤 (Testable p)
-      (via 𝓤 _ (snd∗ 𝓤 (sem 𝓛 (lies_at Seat.the_row full_share p x)) (sem 𝓛 (ghosts.dealloc_token a (bare (lone Seat.the_row.mir)) p))) (dealloc_token-Testable 𝓛 a (bare (lone Seat.the_row.mir)) p))
+      (via 𝓤 _ (snd∗ 𝓤 (sem 𝓛 (lies_at FfiManager.the_row full_share p x)) (sem 𝓛 (ghosts.dealloc_token a (bare (lone FfiManager.the_row.mir)) p))) (dealloc_token-Testable 𝓛 a (bare (lone FfiManager.the_row.mir)) p))
       (guard_i 𝓤 (Testable p) (sem 𝓛 (boxed a p x)))
 
 module _ {M : Type 1} {𝓤 : Ura M} {𝓛 : Logic 𝓤} {K : Type 0} {Γ : List (Item 𝓤)} {G : Goal 𝓤 𝓛.H} where
@@ -53,15 +53,15 @@ module _ {M : Type 1} {𝓤 : Ura M} {𝓛 : Logic 𝓤} {K : Type 0} {Γ : List
       fsplit t $ fpick t (λ vss. fsplit t $ feq_l t (λ ev. fsplit t $ feq_l t (λ ep. fsplit t $ handle_tells E.al t d.alloc vss.1.0 (λ h ea fits. move t (1 ∷ []) $ drop t $ move t (1 ∷ []) $
       k h (subst (λ (ws : List Val). vs ≡ vstruct (of_list (ptr_val d.at ∷ (ws ++ []))) ∷ []) ea (subst (λ (ps : List Val). vs ≡ vstruct (of_list (ps ++ (vss.1.0 ++ []))) ∷ []) ep ev)) fits))))
 
-  pub handle_in : K → (p : Ptr) (h : Val) (a : Global) (y : Option Seat.the_row.Denot)
+  pub handle_in : K → (p : Ptr) (h : Val) (a : Global) (y : Option FfiManager.the_row.Denot)
       → Step K 𝓛 (‵ (Handle.the_row.own_val (record { at = p; alloc = a; held = y }) (both (ptr_val p) h ∷ [])) ∷ Γ) G (‵ (slot_owns a p y) ∷ ‵ (Heap.the_row.own_val a (h ∷ [])) ∷ Γ) G
   handle_in t p h a y = step (λ s. let v : Val = both (ptr_val p) h in
       nothing t $ move t (2 ∷ 0 ∷ []) $ fjoin t $ feq_i t (List Val) (ptr_val p ∷ []) (ptr_val p ∷ []) refl $ fjoin t $ feq_i t (List Val) (v ∷ []) (v ∷ []) refl $ fjoin t $
       fpack t (Valss (RawPtr ∷ Heap.the_row ∷ [])) (within (record { name = []; args = []; types = []; fields = RawPtr ∷ Heap.the_row ∷ [] }) (p, (a, tt)) (v ∷ [])) (ptr_val p ∷ [], (h ∷ [], tt)) $ fjoin t $
       use1 𝓛 (‵ (Handle.the_row.own_val (record { at = p; alloc = a; held = y }) (v ∷ []))) (id⊢ 𝓤 _) $ s)
 
-  pub either_slot : K → (a : Global) (p : Ptr) (y : Option Seat.the_row.Denot) → (p ≡ null_ptr → y ≡ None → Seq K 𝓛 Γ G)
-      → ((b o : ℕ) (x : Seat.the_row.Denot) → p ≡ block_ptr b o → y ≡ Some x → Testable (block_ptr b o) → Seq K 𝓛 (‵ (boxed a (block_ptr b o) x) ∷ Γ) G)
+  pub either_slot : K → (a : Global) (p : Ptr) (y : Option FfiManager.the_row.Denot) → (p ≡ null_ptr → y ≡ None → Seq K 𝓛 Γ G)
+      → ((b o : ℕ) (x : FfiManager.the_row.Denot) → p ≡ block_ptr b o → y ≡ Some x → Testable (block_ptr b o) → Seq K 𝓛 (‵ (boxed a (block_ptr b o) x) ∷ Γ) G)
       → Seq K 𝓛 (‵ (slot_owns a p y) ∷ Γ) G
   either_slot t a null_ptr None none one = drop t $ none refl refl
   either_slot t a null_ptr (Some x) none one = use1 𝓛 (given ⊥ (‵ ftrue)) (never_e 𝓤 _) $ learn t (λ e. absurd e)

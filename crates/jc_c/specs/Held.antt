@@ -8,16 +8,16 @@ use Rattle.jc_model.specs.declared.event.Event.{Event}
 use Rattle.jc_model.specs.declared.event.Outcome.{Outcome}
 use Rattle.jc_model.specs.Places.{at_place}
 use Rattle.jc_engine.specs.Caches.{Cache}
-use Rattle.jc_seat.specs.declared.items.Part.{Part}
-use Rattle.jc_seat.specs.declared.status.Fault.{Fault}
-use Rattle.jc_seat.specs.declared.status.Status.{Status}
-use Rattle.jc_seat.specs.declared.status.Status.TheVariants.{Closed, Done, InUse, OutOfMemory}
-use Rattle.jc_seat.specs.Status.{status_number}
-use Rattle.jc_seat.specs.Items.{Bytes}
-use Rattle.jc_seat.specs.Looks.{value_found}
-use Rattle.jc_seat.specs.Parts.{number_shown, part_shown, part_status}
-use Rattle.jc_seat.specs.Seated.{Seated, DoesWithStatus, BeginsCall, BeginsCallOr, CreatesOr, ResumesCall, ResumesCallOr, shown_of}
-use Rattle.jc_c.specs.declared.handle.Handle.{Handle}
+use Rattle.jc_c.specs.declared.items.Part.{Part}
+use Rattle.jc_c.specs.declared.status.Fault.{Fault}
+use Rattle.jc_c.specs.declared.status.Status.{Status}
+use Rattle.jc_c.specs.declared.status.Status.TheVariants.{Closed, Done, InUse, OutOfMemory}
+use Rattle.jc_c.specs.Status.{status_number}
+use Rattle.jc_c.specs.Items.{Bytes}
+use Rattle.jc_c.specs.Looks.{value_found}
+use Rattle.jc_c.specs.Parts.{number_shown, part_shown, part_status}
+use Rattle.jc_c.specs.Seated.{Seated, DoesWithStatus, BeginsCall, BeginsCallOr, CreatesOr, ResumesCall, ResumesCallOr, shown_of}
+use Rattle.jc_c.specs.declared.exports.handle.Handle.{Handle}
 
 -- the number is that of a status with which the manager does this
 pub record TellsStatus (does : Status → Seated → Type 0) (number : ℕ) (new : Seated) : Type 0 where

@@ -1,8 +1,8 @@
--- What a handle owns: at null nothing, and else a `Box<Seat>` and the right to free its block.
+-- What a handle owns: at null nothing, and else a `Box<FfiManager>` and the right to free its block.
 use base.Fml.{Fml, ftrue, ffalse}
 use base.Stored.{Coded}
 use denote.RawPtr.{Ptr, block_ptr, null_ptr}
-use Rattle.jc_seat.specs.contracts.seat.Seat.{the_row}
+use Rattle.jc_c.specs.contracts.ffi_manager.FfiManager.{the_row}
 use Rattle.std.specs.Coded.{coded_option}
 use Rattle.std.specs.Box.Ownership.{box_owns}
 use Rattle.std.specs.declared.option.Option.{Option}

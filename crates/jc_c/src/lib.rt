@@ -2,10 +2,15 @@
 //! of the caller's, empty at null. Each call takes the manager out of its handle and puts it back.
 #![tactic(auto)]
 
-mod answers;
-mod calls;
-mod handle;
-mod items;
-mod looks;
-mod managers;
-mod many;
+pub mod calls;
+pub mod desk;
+mod exports;
+pub mod ffi_manager;
+pub mod ffi_settings;
+pub mod items;
+pub mod laws;
+pub mod looks;
+pub mod reading;
+mod shown;
+pub mod status;
+pub mod walk;

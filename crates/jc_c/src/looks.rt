@@ -1,118 +1,114 @@
-//! Looks at caches, which change nothing, and a get that copies its value out.
-ghost use Rattle.std.specs.Prelude.{◌≡◌, length};
+//! Looks at caches, which change nothing, in the caller's places; and a get that hands its value over at once.
+ghost use Rattle.std.specs.Prelude.{◌≡◌};
 ghost use Rattle.jc_model.specs.Places.{at_place};
 ghost use Rattle.jc_engine.specs.Caches.{count_in};
-ghost use Rattle.jc_seat.specs.Calls.{call_with_key};
-ghost use Rattle.jc_seat.specs.Items.{buffer_after, length_told};
-ghost use Rattle.jc_seat.specs.Looks.{moment_peeked, peek_status, row_peeked, rows_status, value_peeked};
-ghost use Rattle.jc_seat.specs.Parts.{or_before};
-ghost use Rattle.jc_seat.specs.Reading.{key_said};
-ghost use Rattle.jc_seat.specs.Walk.{bytes_walked, laid_over, length_walked, number_walked, walk_status, walked};
-ghost use Rattle.jc_c.specs.Held.{SeatBegins, SeatTellsAt, cache_held, value_found_in};
+ghost use Rattle.jc_c.specs.Calls.{call_with_key};
+ghost use Rattle.jc_c.specs.Items.{buffer_after, length_told};
+ghost use Rattle.jc_c.specs.Looks.{moment_of, moment_peeked, peek_status, row_peeked, rows_status, value_found, value_peeked};
+ghost use Rattle.jc_c.specs.Parts.{or_before};
+ghost use Rattle.jc_c.specs.Reading.{key_said};
+ghost use Rattle.jc_c.specs.Seated.{BeginsCall};
+ghost use Rattle.jc_c.specs.Status.{status_number};
 
-use crate::handle::Handle;
+use crate::calls;
+use crate::ffi_manager::FfiManager;
+use crate::items::{Part, copy_first};
+use crate::reading::read_key;
+use crate::status::Status;
 use jc_model::call::Call;
-use jc_seat::status::Status;
-use std::alloc::Global;
+use jc_model::config::Expiry;
+use jc_model::event::CacheId;
 
-/// The version that the header names: 10,000 times the first number, 100 times the second, and the third.
-const VERSION: u32 = 100;
-
-#[unsafe(no_mangle)]
-pub extern "C" fn jc_version() -> u32
-    ensures { result ≡ 100 }
+/// The moment at which a row expires, in milliseconds; the last moment of all where it never does.
+pub(crate) fn moment_of(expiry: Expiry) -> u64
+    ensures { result ≡ moment_of expiry }
 {
-    VERSION
+    match expiry {
+        Expiry::Never => u64::MAX,
+        Expiry::At(moment) => moment,
+    }
 }
 
-#[unsafe(no_mangle)]
-pub extern "C" fn jc_get_into(
-    alloc: Global,
-    h: &mut Handle,
-    id: u32,
-    now: u64,
-    key: &[u8],
-    out: &mut [u8],
-    len: &mut usize,
-) -> u32
-    ensures called { SeatBegins id now (call_with_key Call.Get key.now) h.old result h.new }
-    ensures out { out.new ≡ buffer_after (value_found_in id result h.new.held) out.old }
-    ensures len { len.new ≡ length_told (value_found_in id result h.new.held) len.old }
-{
-    let Some(mut seat) = h.take(alloc) else {
-        return Status::Closed.number();
-    };
-    let status = seat.get_into(id, now, key, out, len);
-    h.put_in(seat);
-    status.number()
-}
+impl FfiManager {
+    /// Begins a get. Where it finds a value at once, it copies the first bytes of it into a buffer, as many as that takes,
+    /// and tells how many there are.
+    pub fn get_into(
+        &mut self,
+        id: u32,
+        now: u64,
+        key: &[u8],
+        out: &mut [u8],
+        len: &mut usize,
+    ) -> Status
+        ensures called { BeginsCall self.old id now (call_with_key Call.Get key.now) result self.new }
+        ensures out { out.new
+            ≡ buffer_after (value_found id (status_number result) self.new) out.old }
+        ensures len { len.new
+            ≡ length_told (value_found id (status_number result) self.new) len.old }
+    {
+        let status = self.call(id, now, calls::get(key));
+        self.copy_found(id, status.number(), out, len);
+        status
+    }
 
-#[unsafe(no_mangle)]
-pub extern "C" fn jc_peek(
-    alloc: Global,
-    h: &mut Handle,
-    id: u32,
-    now: u64,
-    key: &[u8],
-    expires: &mut u64,
-    out: &mut [u8],
-    len: &mut usize,
-) -> u32
-    ensures same { h.new.held ≡ h.old.held }
-    ensures status { SeatTellsAt id (peek_status now (key_said key.now)) h.old result h.new }
-    ensures expires { expires.new ≡ or_before expires.old
-        (moment_peeked (row_peeked now (key_said key.now) (cache_held id h.old.held))) }
-    ensures out { out.new ≡ buffer_after
-        (value_peeked (row_peeked now (key_said key.now) (cache_held id h.old.held))) out.old }
-    ensures len { len.new ≡ length_told
-        (value_peeked (row_peeked now (key_said key.now) (cache_held id h.old.held))) len.old }
-{
-    let Some(seat) = h.take(alloc) else {
-        return Status::Closed.number();
-    };
-    let status = seat.peek(id, now, key, expires, out, len);
-    h.put_in(seat);
-    status.number()
-}
+    /// Owners the value that is shown, if this is the number of the status of a call that found it.
+    fn copy_found(&self, id: u32, number: u32, out: &mut [u8], len: &mut usize)
+        ensures out { out.new ≡ buffer_after (value_found id number self.now) out.old }
+        ensures len { len.new ≡ length_told (value_found id number self.now) len.old }
+    {
+        if number != Status::Found.number() {
+            return;
+        }
+        let _copied = self.copy_part(id, 0, Part::Value, out, len);
+    }
 
-#[unsafe(no_mangle)]
-pub extern "C" fn jc_rows(alloc: Global, h: &mut Handle, id: u32, rows: &mut usize) -> u32
-    ensures same { h.new.held ≡ h.old.held }
-    ensures status { SeatTellsAt id rows_status h.old result h.new }
-    ensures rows { rows.new ≡ or_before rows.old (count_in (cache_held id h.old.held)) }
-{
-    let Some(seat) = h.take(alloc) else {
-        return Status::Closed.number();
-    };
-    let status = seat.count_rows(id, rows);
-    h.put_in(seat);
-    status.number()
-}
+    /// Owners the first bytes of the value of a key's live row, as many as a buffer takes, and tells how many there are
+    /// and when the row expires.
+    pub fn peek(
+        &self,
+        id: u32,
+        now: u64,
+        key: &[u8],
+        expires: &mut u64,
+        out: &mut [u8],
+        len: &mut usize,
+    ) -> Status
+        ensures status { result
+            ≡ peek_status now (key_said key.now) (at_place self.now.caches id) }
+        ensures expires { expires.new ≡ or_before expires.old
+            (moment_peeked (row_peeked now (key_said key.now) (at_place self.now.caches id))) }
+        ensures out { out.new ≡ buffer_after
+            (value_peeked (row_peeked now (key_said key.now) (at_place self.now.caches id))) out.old }
+        ensures len { len.new ≡ length_told
+            (value_peeked (row_peeked now (key_said key.now) (at_place self.now.caches id))) len.old }
+    {
+        let key = match read_key(key) {
+            Ok(key) => key,
+            Err(fault) => return Status::of_fault(fault),
+        };
+        let id = CacheId::new(id);
+        match self.engine.peek(id, &key, now) {
+            Some(row) => {
+                *expires = moment_of(row.expiry);
+                copy_first(row.value.first().bytes(), out, len);
+                Status::Found
+            }
+            None if self.engine.is_live(id) => Status::Nothing,
+            None => Status::NoSuchCache,
+        }
+    }
 
-#[unsafe(no_mangle)]
-pub extern "C" fn jc_walk(
-    alloc: Global,
-    h: &mut Handle,
-    id: u32,
-    from: u32,
-    out: &mut [u8],
-    len: &mut usize,
-    next: &mut u32,
-) -> u32
-    ensures same { h.new.held ≡ h.old.held }
-    ensures status { SeatTellsAt id (λ cache. walk_status (walked (length out.old) cache from))
-        h.old result h.new }
-    ensures out { out.new ≡ laid_over
-        (bytes_walked (walked (length out.old) (cache_held id h.old.held) from)) out.old }
-    ensures len { len.new ≡ length_walked
-        (walked (length out.old) (cache_held id h.old.held) from) len.old }
-    ensures next { next.new ≡ number_walked
-        (walked (length out.old) (cache_held id h.old.held) from) from next.old }
-{
-    let Some(seat) = h.take(alloc) else {
-        return Status::Closed.number();
-    };
-    let status = seat.walk(id, from, out, len, next);
-    h.put_in(seat);
-    status.number()
+    /// Tells how many rows a cache has, expired ones among them.
+    pub fn count_rows(&self, id: u32, rows: &mut usize) -> Status
+        ensures status { result ≡ rows_status (at_place self.now.caches id) }
+        ensures rows { rows.new ≡ or_before rows.old (count_in (at_place self.now.caches id)) }
+    {
+        match self.engine.count(CacheId::new(id)) {
+            Some(count) => {
+                *rows = count as usize;
+                Status::Done
+            }
+            None => Status::NoSuchCache,
+        }
+    }
 }

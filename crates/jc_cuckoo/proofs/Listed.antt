@@ -9,7 +9,8 @@ use Rattle.std.proofs.lemmas.Bool.Decides.{eqb_tells}
 use Rattle.jc_cuckoo.specs.declared.held.Held.{Held}
 use Rattle.jc_cuckoo.specs.declared.index.StashIndex.{StashIndex}
 use Rattle.jc_cuckoo.specs.Cells.{DropsCell, IsFoundBetween, cell, held_place, held_row, rows_in}
-use Rattle.jc_cuckoo.specs.Index.{same_place, cell_in_stash, IsAsBefore, IsElsewhereAsBefore, IsIndexed, IsOfNone}
+use Rattle.jc_place.specs.declared.keyed.KeyedState.{KeyedState}
+use Rattle.jc_cuckoo.specs.Index.{same_place, cell_in_stash, index_hasher, IsAsBefore, IsElsewhereAsBefore, IsIndexed, IsOfNone}
 use Rattle.jc_cuckoo.proofs.Cells.{IsOnce, get_some}
 use Rattle.jc_cuckoo.proofs.Empty.{none_there}
 use Rattle.jc_cuckoo.proofs.Sound.{changed_push, changed_set, inside}
@@ -51,29 +52,33 @@ still {ds = ds} {j = j} f same = record { above = f.above; below = inside ds j f
 -- The index stays right.
 
 -- where nothing is stored
-pub indexed_none : (n : ℕ) (cs : List (Option Held)) (m : StashIndex) → cs ≡ replicate (4 * n) None → IsOfNone m → IsIndexed n cs m
-indexed_none n cs m empty none = record {
+pub indexed_none : (keyed : KeyedState) (n : ℕ) (cs : List (Option Held)) (m : StashIndex) → cs ≡ replicate (4 * n) None → IsOfNone m → index_hasher m ≡ keyed → IsIndexed keyed n cs m
+indexed_none keyed n cs m empty none under = record {
+  hasher = under;
   listed = λ place i is. (let e : Some i ≡ None = sym is ∙ none place in cc);
   stashed = λ i h behind is. (let e : Some h ≡ None = sym is ∙ (ap (λ l. cell l i) empty ∙ none_there (4 * n) i) in absurd cc);
 }
 
 -- where the index tells the same
-pub indexed_same : {n : ℕ} {cs : List (Option Held)} {m m' : StashIndex} → IsAsBefore m m' → IsIndexed n cs m → IsIndexed n cs m'
-indexed_same same indexed = record {
-  stashed = λ i h behind is. same (held_place h) ∙ indexed.stashed i h behind is;
-  listed = λ place i is. indexed.listed place i (sym (same place) ∙ is);
+pub indexed_same : {keyed : KeyedState} {n : ℕ} {cs : List (Option Held)} {m m' : StashIndex} → IsAsBefore m m' → IsIndexed keyed n cs m → IsIndexed keyed n cs m'
+indexed_same before indexed = record {
+  hasher = before.hasher ∙ indexed.hasher;
+  stashed = λ i h behind is. before.same (held_place h) ∙ indexed.stashed i h behind is;
+  listed = λ place i is. indexed.listed place i (sym (before.same place) ∙ is);
 }
 
 -- where a slot changed
-pub indexed_set : {n : ℕ} {cs : List (Option Held)} {m : StashIndex} (i : ℕ) (v : Option Held) → i < 4 * n → i < length cs → IsIndexed n cs m → IsIndexed n (set cs i v) m
+pub indexed_set : {keyed : KeyedState} {n : ℕ} {cs : List (Option Held)} {m : StashIndex} (i : ℕ) (v : Option Held) → i < 4 * n → i < length cs → IsIndexed keyed n cs m → IsIndexed keyed n (set cs i v) m
 indexed_set {cs = cs} i v low within indexed = record {
+  hasher = indexed.hasher;
   stashed = λ j h behind is. indexed.stashed j h behind (sym ((changed_set cs i v within).rest j (λ e. omega arith)) ∙ is);
   listed = λ place j is. (let f = indexed.listed place j is in still f ((changed_set cs i v within).rest j (λ e. (let above = f.above in omega arith))));
 }
 
 -- where a row of the stash is another one of the same place
-pub indexed_replaced : {n : ℕ} {cs : List (Option Held)} {m : StashIndex} (i : ℕ) (h k : Held) → 4 * n ≤ i → cell cs i ≡ Some k → held_place h ≡ held_place k → IsIndexed n cs m → IsIndexed n (set cs i (Some h)) m
+pub indexed_replaced : {keyed : KeyedState} {n : ℕ} {cs : List (Option Held)} {m : StashIndex} (i : ℕ) (h k : Held) → 4 * n ≤ i → cell cs i ≡ Some k → held_place h ≡ held_place k → IsIndexed keyed n cs m → IsIndexed keyed n (set cs i (Some h)) m
 indexed_replaced {cs = cs} {m = m} i h k behind is same indexed = record {
+  hasher = indexed.hasher;
   stashed = λ j a after at. elim (eqb_tells j i) [
     | inl one ↦ (
         let e : Some a ≡ Some h = sym at ∙ (ap (cell (set cs i (Some h))) one.1 ∙ (changed_set cs i (Some h) (inside cs i k is)).now) in
@@ -92,8 +97,9 @@ indexed_replaced {cs = cs} {m = m} i h k behind is same indexed = record {
 }
 
 -- where a row came to the stash
-pub indexed_pushed : {n : ℕ} {cs : List (Option Held)} {m m' : StashIndex} (h : Held) → 4 * n ≤ length cs → IsOnce cs → map.get (rows_in cs) (held_place h) ≡ None → cell_in_stash m' (held_place h) ≡ Some (length cs) → IsElsewhereAsBefore (held_place h) m m' → IsIndexed n cs m → IsIndexed n (cs ++ Some h ∷ []) m'
+pub indexed_pushed : {keyed : KeyedState} {n : ℕ} {cs : List (Option Held)} {m m' : StashIndex} (h : Held) → 4 * n ≤ length cs → IsOnce cs → map.get (rows_in cs) (held_place h) ≡ None → cell_in_stash m' (held_place h) ≡ Some (length cs) → IsElsewhereAsBefore (held_place h) m m' → IsIndexed keyed n cs m → IsIndexed keyed n (cs ++ Some h ∷ []) m'
 indexed_pushed {cs = cs} {m' = m'} h wide once absent added others indexed = record {
+  hasher = others.hasher ∙ indexed.hasher;
   stashed = λ j k behind is. elim (eqb_tells j (length cs)) [
     | inl one ↦ (
         let e : Some k ≡ Some h = sym is ∙ (ap (cell (cs ++ Some h ∷ [])) one.1 ∙ (changed_push cs (Some h)).now) in
@@ -101,7 +107,7 @@ indexed_pushed {cs = cs} {m' = m'} h wide once absent added others indexed = rec
         ap (cell_in_stash m') (ap held_place f) ∙ (added ∙ ap (λ (x : ℕ). Some x) (sym one.1)))
     | inr away ↦ (
         let there : cell cs j ≡ Some k = sym ((changed_push cs (Some h)).rest j away.1) ∙ is in
-        others (held_place k) (λ same. (let e : Some (held_row k) ≡ None = sym (get_some cs j k once there) ∙ (ap (map.get (rows_in cs)) same ∙ absent) in cc)) ∙ indexed.stashed j k behind there)
+        others.same (held_place k) (λ same. (let e : Some (held_row k) ≡ None = sym (get_some cs j k once there) ∙ (ap (map.get (rows_in cs)) same ∙ absent) in cc)) ∙ indexed.stashed j k behind there)
   ];
   listed = λ place j told. elim (places_decide place (held_place h)) [
     | inl one ↦ (
@@ -110,7 +116,7 @@ indexed_pushed {cs = cs} {m' = m'} h wide once absent added others indexed = rec
         let now : cell (cs ++ Some h ∷ []) j ≡ Some h = ap (cell (cs ++ Some h ∷ [])) last ∙ (changed_push cs (Some h)).now in
         record { above = omega arith; below = inside _ j h now; held = h; is = now; at = sym one })
     | inr away ↦ (
-        let f = indexed.listed place j (sym (others place away) ∙ told) in let below = f.below in
+        let f = indexed.listed place j (sym (others.same place away) ∙ told) in let below = f.below in
         still f ((changed_push cs (Some h)).rest j (λ e. omega arith)))
   ];
 }
@@ -131,25 +137,27 @@ short {cs = cs} {ds = ds} {i = i} {j = j} low dropped end f away = elim (eqb_tel
 ]
 
 -- where the last row left the stash
-pub indexed_dropped : {n : ℕ} {cs ds : List (Option Held)} {m m' : StashIndex} (i : ℕ) (h : Held) → IsOnce cs → cell cs i ≡ Some h → DropsCell cs ds i → cell_in_stash m' (held_place h) ≡ None → IsElsewhereAsBefore (held_place h) m m' → cell ds i ≡ None → IsIndexed n cs m → IsIndexed n ds m'
+pub indexed_dropped : {keyed : KeyedState} {n : ℕ} {cs ds : List (Option Held)} {m m' : StashIndex} (i : ℕ) (h : Held) → IsOnce cs → cell cs i ≡ Some h → DropsCell cs ds i → cell_in_stash m' (held_place h) ≡ None → IsElsewhereAsBefore (held_place h) m m' → cell ds i ≡ None → IsIndexed keyed n cs m → IsIndexed keyed n ds m'
 indexed_dropped {cs = cs} {ds = ds} {m' = m'} i h once is dropped gone others end indexed = record {
+  hasher = others.hasher ∙ indexed.hasher;
   stashed = λ j k behind at.
       let low = inside ds j k at in let shorter = dropped.shorter in
       let away : j ≢ i = λ e. (let never : Some k ≡ None = sym at ∙ (ap (cell ds) e ∙ end) in cc) in
       let there : cell cs j ≡ Some k = sym (dropped.rest j away (omega arith)) ∙ at in
-      others (held_place k) (λ same. away (once j i k h there is same)) ∙ indexed.stashed j k behind there;
+      others.same (held_place k) (λ same. away (once j i k h there is same)) ∙ indexed.stashed j k behind there;
   listed = λ place j told. elim (places_decide place (held_place h)) [
     | inl one ↦ (let e : Some j ≡ None = sym told ∙ (ap (cell_in_stash m') one ∙ gone) in cc)
     | inr off ↦ (
-        let f = indexed.listed place j (sym (others place off) ∙ told) in
+        let f = indexed.listed place j (sym (others.same place off) ∙ told) in
         let away = apart i h f is off in
         still f (dropped.rest j away (short (inside cs i h is) dropped end f away)))
   ];
 }
 
 -- where the last one, another, took its place
-pub indexed_moved : {n : ℕ} {cs ds : List (Option Held)} {m m'' : StashIndex} (m' : StashIndex) (i : ℕ) (h k : Held) → IsOnce cs → cell cs i ≡ Some h → 4 * n ≤ i → DropsCell cs ds i → cell_in_stash m' (held_place h) ≡ None → IsElsewhereAsBefore (held_place h) m m' → cell ds i ≡ Some k → cell_in_stash m'' (held_place k) ≡ Some i → IsElsewhereAsBefore (held_place k) m' m'' → IsIndexed n cs m → IsIndexed n ds m''
+pub indexed_moved : {keyed : KeyedState} {n : ℕ} {cs ds : List (Option Held)} {m m'' : StashIndex} (m' : StashIndex) (i : ℕ) (h k : Held) → IsOnce cs → cell cs i ≡ Some h → 4 * n ≤ i → DropsCell cs ds i → cell_in_stash m' (held_place h) ≡ None → IsElsewhereAsBefore (held_place h) m m' → cell ds i ≡ Some k → cell_in_stash m'' (held_place k) ≡ Some i → IsElsewhereAsBefore (held_place k) m' m'' → IsIndexed keyed n cs m → IsIndexed keyed n ds m''
 indexed_moved {cs = cs} {ds = ds} {m'' = m''} m' i h k once is behind dropped gone others moved now rest indexed = record {
+  hasher = rest.hasher ∙ (others.hasher ∙ indexed.hasher);
   stashed = λ j a after at. elim (eqb_tells j i) [
     | inl one ↦ (
         let e : Some a ≡ Some k = sym at ∙ (ap (cell ds) one.1 ∙ moved) in
@@ -159,8 +167,8 @@ indexed_moved {cs = cs} {ds = ds} {m'' = m''} m' i h k once is behind dropped go
         let low = inside ds j a at in let under = inside ds i k moved in let shorter = dropped.shorter in
         let last : cell cs (length cs - 1) ≡ Some k = sym (dropped.moved (omega arith)) ∙ moved in
         let there : cell cs j ≡ Some a = sym (dropped.rest j away.1 (omega arith)) ∙ at in
-        rest (held_place a) (λ same. (let e : j ≡ length cs - 1 = once j (length cs - 1) a k there last same in omega arith))
-        ∙ (others (held_place a) (λ same. away.1 (once j i a h there is same)) ∙ indexed.stashed j a after there))
+        rest.same (held_place a) (λ same. (let e : j ≡ length cs - 1 = once j (length cs - 1) a k there last same in omega arith))
+        ∙ (others.same (held_place a) (λ same. away.1 (once j i a h there is same)) ∙ indexed.stashed j a after there))
   ];
   listed = λ place j told. elim (places_decide place (held_place k)) [
     | inl one ↦ (
@@ -169,11 +177,11 @@ indexed_moved {cs = cs} {ds = ds} {m'' = m''} m' i h k once is behind dropped go
         let there : cell ds j ≡ Some k = ap (cell ds) same ∙ moved in
         record { above = omega arith; below = inside ds j k there; held = k; is = there; at = sym one })
     | inr off ↦ (
-        let before = sym (rest place off) ∙ told in
+        let before = sym (rest.same place off) ∙ told in
         elim (places_decide place (held_place h)) [
           | inl one ↦ (let e : Some j ≡ None = sym before ∙ (ap (cell_in_stash m') one ∙ gone) in cc)
           | inr out ↦ (
-              let f = indexed.listed place j (sym (others place out) ∙ before) in
+              let f = indexed.listed place j (sym (others.same place out) ∙ before) in
               let under = inside ds i k moved in let shorter = dropped.shorter in let below = f.below in
               let last : cell cs (length cs - 1) ≡ Some k = sym (dropped.moved (omega arith)) ∙ moved in
               let away = apart i h f is out in
@@ -184,8 +192,8 @@ indexed_moved {cs = cs} {ds = ds} {m'' = m''} m' i h k once is behind dropped go
 }
 
 -- a row that moved was listed
-pub listed_moved : {n : ℕ} {cs ds : List (Option Held)} {m : StashIndex} (m' : StashIndex) (i : ℕ) (h k : Held) → 4 * n ≤ i → IsOnce cs → cell cs i ≡ Some h → DropsCell cs ds i → IsElsewhereAsBefore (held_place h) m m' → cell ds i ≡ Some k → IsIndexed n cs m → IsSome (cell_in_stash m' (held_place k))
+pub listed_moved : {keyed : KeyedState} {n : ℕ} {cs ds : List (Option Held)} {m : StashIndex} (m' : StashIndex) (i : ℕ) (h k : Held) → 4 * n ≤ i → IsOnce cs → cell cs i ≡ Some h → DropsCell cs ds i → IsElsewhereAsBefore (held_place h) m m' → cell ds i ≡ Some k → IsIndexed keyed n cs m → IsSome (cell_in_stash m' (held_place k))
 listed_moved {cs = cs} {ds = ds} m' i h k behind once is dropped others moved indexed =
     let under = inside ds i k moved in let shorter = dropped.shorter in
     let last : cell cs (length cs - 1) ≡ Some k = sym (dropped.moved (omega arith)) ∙ moved in
-    ap is_some (others (held_place k) (λ same. (let e : length cs - 1 ≡ i = once (length cs - 1) i k h last is same in omega arith)) ∙ indexed.stashed (length cs - 1) k (omega arith) last)
+    ap is_some (others.same (held_place k) (λ same. (let e : length cs - 1 ≡ i = once (length cs - 1) i k h last is same in omega arith)) ∙ indexed.stashed (length cs - 1) k (omega arith) last)

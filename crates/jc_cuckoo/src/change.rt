@@ -3,6 +3,7 @@ ghost use Rattle.std.specs.Prelude.{◌≡◌, ℕ, Option, ◌+◌, ◌-◌, �
 ghost use Rattle.std.specs.List.{swap_remove};
 ghost use Rattle.std.specs.Vec.{vec_capacity};
 ghost use Rattle.std.specs.FinMap as map;
+ghost use Rattle.jc_place.specs.declared.keyed.KeyedState.{KeyedState};
 ghost use Rattle.jc_cuckoo.specs.Cells.{cell, rows_in, DropsCell, IsBucketOf, IsOnce, held_place};
 ghost use Rattle.jc_cuckoo.specs.Index.{IsIndexed, index_room};
 ghost use Rattle.jc_cuckoo.specs.Images.{CoversImage};
@@ -57,8 +58,9 @@ fn take_out(cells: &mut Vec<Option<Held>>, index: &mut StashIndex, at: usize, he
     requires once { IsOnce cells.old.items }
     ensures dropped { DropsCell cells.old.items cells.new.items at }
     ensures swapped { (last : Option Held) × (cells.new.items ≡ swap_remove cells.old.items at last) }
-    ensures index { (n : ℕ) → 4 * n ≤ at
-        → IsIndexed n cells.old.items index.old → IsIndexed n cells.new.items index.new }
+    ensures index { (keyed : KeyedState) (n : ℕ) → 4 * n ≤ at
+        → IsIndexed keyed n cells.old.items index.old
+        → IsIndexed keyed n cells.new.items index.new }
     ensures capacity { vec_capacity cells.new ≡ vec_capacity cells.old }
     ensures room { index_room index.old ≤ index_room index.new }
 {

@@ -53,7 +53,7 @@ impl<P: Placer + Drop, M: Mirror> Model for Cuckoo<P, M> {
 
     ghost invariant = { λ t. IsTable (P.placing t.placer) (M.placing t.mirror) (M.images t.mirror)
         t.buckets t.tags.items t.cells.items t.held
-        × IsIndexed t.buckets t.cells.items t.index };
+        × IsIndexed (P.keying t.placer) t.buckets t.cells.items t.index };
 }
 
 /// The most buckets of a table.

@@ -1,12 +1,12 @@
 //! Where each row of the stash stands, found by a hash that keys can't be chosen for.
-ghost use Rattle.std.specs.Prelude.{◌≡◌, ◌≢◌, ◌+◌, ◌≤◌, ◌<◌, ℕ, List, Some, None, IsOk, IfOk, OnOk, IsSome};
-ghost use Rattle.jc_cuckoo.specs.Index.{IsAsBefore, IsElsewhereAsBefore, IsOfNone, index_room, cell_in_stash};
+ghost use Rattle.std.specs.Prelude.{◌≡◌, ◌≢◌, ◌+◌, ◌≤◌, ◌<◌, ℕ, List, Some, None, IsOk, IfOk, OnOk, OnErr, IsSome};
+ghost use Rattle.jc_cuckoo.specs.Index.{IsAsBefore, IsElsewhereAsBefore, IsOfNone, index_hasher, index_room, cell_in_stash};
 
 use jc_model::OutOfMemory;
 use jc_model::event::CacheId;
 use jc_model::key::Key;
 use jc_place::keyed::KeyedState;
-use std::alloc::Global;
+use std::alloc::{AllocError, Global};
 use std::collections::HashMap;
 
 /// Where a row of the stash stands, and how many rows came to the stash before it.
@@ -24,9 +24,10 @@ pub struct StashIndex {
 }
 
 impl StashIndex {
-    /// An index of no row, with room for so many.
+    /// An index of no row, under this hash, with room for so many.
     pub fn new(alloc: Global, keyed: KeyedState, rows: usize) -> Result<StashIndex, OutOfMemory>
         ensures none { IfOk result IsOfNone }
+        ensures hasher { IfOk result (λ index. index_hasher index ≡ keyed) }
         ensures room { IfOk result (λ index. rows ≤ index_room index) }
     {
         let arrivals = HashMap::with_capacity_and_hasher(alloc, rows, keyed)?;
@@ -44,10 +45,16 @@ impl StashIndex {
     pub fn reserve(&mut self, more: usize) -> Result<(), OutOfMemory>
         ensures same { IsAsBefore self.old self.new }
         ensures ok { OnOk result (more ≤ index_room self.new) }
+        ensures refused { OnErr result (index_room self.new < more) }
         ensures succeeds { more ≤ index_room self.old → IsOk result }
         ensures kept { index_room self.old ≤ index_room self.new }
     {
-        self.arrivals.reserve(more)
+        // Whether they fit is seen by the room alone: std does not say what a refusal leaves of it.
+        let _ = self.arrivals.reserve(more);
+        if more <= self.room() {
+            return Ok(());
+        }
+        Err(AllocError)
     }
 
     /// Where a row stands, if it is in the stash.

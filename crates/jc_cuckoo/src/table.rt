@@ -1,7 +1,7 @@
 //! The table as the rows of all caches.
-ghost use Rattle.std.specs.Prelude.{◌≡◌, ◌⊎◌, ℕ, ◌+◌, ◌-◌, ◌≤◌, ◌<◌, None, Some, IsSome, IsOk, OnOk};
+ghost use Rattle.std.specs.Prelude.{◌≡◌, ◌⊎◌, ℕ, ◌+◌, ◌-◌, ◌≤◌, ◌<◌, None, Some, IsSome, IsOk, OnOk, OnErr};
 ghost use Rattle.std.specs.FinMap as map;
-ghost use Rattle.jc_rows.specs.Rows.{HasRoomForRows, number_at, with_expiry};
+ghost use Rattle.jc_rows.specs.Rows.{HasRoomForRows, LacksRoomForRows, number_at, with_expiry};
 ghost use Rattle.jc_cuckoo.specs.Cells.{rows_in};
 ghost use Rattle.jc_cuckoo.specs.Table.{HasInSlot, IsStill, MayStash, TouchesPlace, no_work};
 ghost use Rattle.jc_cuckoo.specs.Attempts.{IsWorkOfPut, Tries, TriesTwice};
@@ -42,6 +42,7 @@ impl<P: Placer + Drop, M: Mirror> Rows for Cuckoo<P, M> {
     fn make_room(&mut self, n: usize) -> Result<(), OutOfMemory>
         ensures same { rows_in self.new.cells ≡ rows_in self.old.cells }
         ensures ok { OnOk result (HasRoomForRows n (rows_in self.new.cells) self.new.room) }
+        ensures refused { OnErr result (LacksRoomForRows n (rows_in self.new.cells) self.new.room) }
         ensures succeeds { HasRoomForRows n (rows_in self.old.cells) self.old.room → IsOk result }
         ensures there { HasRoomForRows n (rows_in self.old.cells) self.old.room
             → self.new.room ≡ self.old.room }

@@ -1,8 +1,8 @@
 -- One cache and its call: what the call has come to is what the cache is to answer.
 use Rattle.jc_engine.proofs.Names.{common_steps, Answer, Call, Request, CacheConfig, WrongAnswer, Progress, Run, waiting, and_then, resume, fits, told_first, Standing, Status, begins, answers, shown}
-use Rattle.jc_engine.proofs.Names.{standing_of, Wait, one, many, telling, run_of, Kept, progress_of, wait_run, WaitsOn, Advance, Asked, Idle, Waiting, Telling, cache_in, is_step, WaitsThere, Settled, Moves, Refused, Slot}
+use Rattle.jc_engine.proofs.Names.{standing_of, Wait, one, many, telling, run_of, Kept, progress_of, wait_run, WaitsOn, EngineStep, Asked, Idle, Waiting, Telling, cache_in, is_step, WaitsThere, Settled, Moves, Refused, Slot}
 use Rattle.std.proofs.Common.{◌≡◌, ℕ, [], Bool, true, if◌then◌else◌, refl, sym, ap, subst, ◌∙◌, arith, Ok}
-use Rattle.jc_state.specs.Visited.{Visited, IsSameVisit}
+use Rattle.jc_ops.specs.Visited.{Visited, IsSameVisit}
 use Rattle.jc_bulk.specs.Calls.{call_run}
 use Rattle.jc_engine.specs.Managed.{GivesBack, HasHeard, IsPutBack, IsReady, reply_to}
 use Rattle.jc_engine.specs.Waiting.{WaitState}
@@ -10,7 +10,7 @@ use Rattle.jc_engine.specs.declared.turn.Turn.{Turn}
 use Rattle.jc_engine.proofs.Untold.{carried_out-untold, resume-untold, tells_nothing, wait_run-untold}
 
 -- a call has begun on the cache of this visit
-began : (v : Visited) (turn : Turn) (call : Call) (cache' : Slot) (advance : Advance) → is_step (reply_to (cache_in (record { state = v.cache; turn = turn })) (begins v.moment call)) ≡ true → v.noted.told ≡ []
+began : (v : Visited) (turn : Turn) (call : Call) (cache' : Slot) (advance : EngineStep) → is_step (reply_to (cache_in (record { state = v.cache; turn = turn })) (begins v.moment call)) ≡ true → v.noted.told ≡ []
     → cache'.state.config ≡ v.cache.config → Settled v.cache.config (call_run v call) cache' advance → Moves (cache_in (record { state = v.cache; turn = turn })) (begins v.moment call) (cache_in cache') advance
 began v Idle call cache' advance allowed untold same settled = grind (arith, carried_out-untold)
 began v (Waiting s) call cache' advance allowed untold same settled = absurd cc
@@ -29,7 +29,7 @@ put_back {cache} {cache'} {v} {v'} {w} {w'} entered table same back waits =
     }
 
 -- and so it has heard that a call begins
-pub has_begun : {T : Type 0} {cache cache' : Slot} {v w w' : Visited} {call : Call} {advance : Advance} → IsReady cache v → is_step (reply_to (cache_in cache) (begins v.moment call)) ≡ true
+pub has_begun : {T : Type 0} {cache cache' : Slot} {v w w' : Visited} {call : Call} {advance : EngineStep} → IsReady cache v → is_step (reply_to (cache_in cache) (begins v.moment call)) ≡ true
     → IsSameVisit (record v { cache = cache.state }) w → GivesBack v.cache w cache' w' → Settled cache.state.config (call_run (record v { cache = cache.state }) call) cache' advance → HasHeard {T = T} cache v (begins v.moment call) (Ok advance) cache' w'
 has_begun {T} {cache} {cache'} {v} {w} {w'} {call} {advance} is allowed same back settled =
     let after : IsPutBack cache v cache' w' = put_back refl refl same back settled.waits in
@@ -56,7 +56,7 @@ pub awaited : (k : Kept) (w : WaitState) (a : Answer) → is_step (reply_to (cac
 awaited k w a allowed = grind (arith, common_steps)
 
 -- and a cache has heard the answer
-pub has_gone_on : {T : Type 0} {k : Kept} {s : WaitState} {cache' : Slot} {v v' w w' : Visited} {a : Answer} {advance : Advance} → IsReady (record { state = k; turn = Waiting s }) v
+pub has_gone_on : {T : Type 0} {k : Kept} {s : WaitState} {cache' : Slot} {v v' w w' : Visited} {a : Answer} {advance : EngineStep} → IsReady (record { state = k; turn = Waiting s }) v
     → is_step (reply_to (cache_in (record { state = k; turn = Waiting s })) (answers a)) ≡ true → v'.cache ≡ k → v'.table ≡ v.table → IsSameVisit v' w → GivesBack v.cache w cache' w'
     → Settled k.config (resume (wait_run k.config (progress_of k s.told) s.call.wait) a) cache' advance → HasHeard {T = T} (record { state = k; turn = Waiting s }) v (answers a) (Ok advance) cache' w'
 has_gone_on {T} {k} {s} {cache'} {v} {v'} {w} {w'} {a} {advance} is allowed entered table same back settled =

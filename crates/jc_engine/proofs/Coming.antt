@@ -3,11 +3,11 @@ use Rattle.jc_engine.proofs.Names.{common_steps, map-append, length_push, CacheC
 use Rattle.std.specs.FinMap as table
 use Rattle.std.proofs.Common.{◌≡◌, ℕ, ◌+◌, ◌≤◌, ◌<◌, zero, suc, List, [], ◌∷◌, ◌++◌, map, length, option_map, Option, Some, None, refl, sym, ap, subst, ◌∙◌, arith}
 use Rattle.jc_model.specs.Limits.{most_ids}
-use Rattle.jc_state.specs.Visited.{Visited, IsKeptIn}
+use Rattle.jc_ops.specs.Visited.{Visited, IsKeptIn}
 use Rattle.jc_engine.specs.Sound.{IsManager, IsSpare}
 use Rattle.jc_engine.proofs.Numbered.{none-places, Puts, put_other, places_more}
 use Rattle.jc_engine.proofs.Places.{Within, listed_seen, stands, each_put, live_is}
-use Rattle.jc_state.specs.Kept.{Kept}
+use Rattle.jc_ops.specs.Kept.{Kept}
 use Rattle.jc_engine.proofs.Openings.{made_there}
 use Rattle.jc_engine.proofs.Watching.{state_is}
 

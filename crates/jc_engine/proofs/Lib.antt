@@ -12,3 +12,6 @@ pub mod Watching
 pub mod Coming
 pub mod Listed
 pub mod Numbering
+pub mod Entries
+pub mod Opens
+pub mod Recordings

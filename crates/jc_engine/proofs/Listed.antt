@@ -1,10 +1,10 @@
 -- The live caches by name, and what creating one asks of them.
-use Rattle.std.proofs.Common.{◌≡◌, ◌<◌, ℕ, false, List, [], ◌∷◌, map, length, get_or, option_map, Option, Some, None, refl, sym, ap, subst, ◌∙◌, arith}
+use Rattle.std.proofs.Common.{◌≡◌, ◌<◌, ◌≤◌, ◌+◌, ℕ, zero, suc, false, List, [], ◌∷◌, map, length, get_or, option_map, Option, Some, None, inl, inr, refl, sym, ap, subst, ◌∙◌, arith}
 use Rattle.jc_engine.proofs.Names.{CacheConfig, most_ids, all_there, Status, create_refusal, Member, member_of, members_of, id_named, refusal_beside, Cache, status_of, lives_of, names_of, id_of, MayCome, named_map}
-use Rattle.jc_engine.proofs.Names.{allowed, at_place, is_open_in, Slot, caches_in}
-use Rattle.jc_roster.specs.Members.{numbers_from}
-use Rattle.jc_roster.proofs.Listing.{NumberThere, number_there}
-use Rattle.jc_state.specs.Visited.{Visited}
+use Rattle.jc_engine.proofs.Names.{cases_lt, allowed, at_place, is_open_in, Slot, caches_in}
+use Rattle.jc_model.specs.Members.{numbers_from}
+use Rattle.jc_model.proofs.Listing.{NumberThere, number_there}
+use Rattle.jc_ops.specs.Visited.{Visited}
 use Rattle.jc_engine.specs.Sound.{IsManager}
 use Rattle.jc_engine.proofs.Places.{as_many, length_map, place_of, Within, within, listed_seen, seen_is, member_at}
 
@@ -56,3 +56,40 @@ module _ (w : Within) where
           let t : NumberThere 0 w.members id = number_there 0 w.members id _ (place_of w.members id _ (member_at w id at)) in
           let here : get_or numbers t.place 0 ≡ id = ap (λ ns. get_or ns t.place 0) is ∙ (t.is ∙ omega arith) in
           rw here at (none t.place (subst (λ n. t.place < n) (sym (ap length is)) t.within))
+
+-- The numbers of what is there rise.
+
+at_least_from : {A : Type 0} (i : ℕ) (xs : List (Option A)) (p : ℕ) → p < length (numbers_from i xs) → i ≤ get_or (numbers_from i xs) p 0
+at_least_from i [] p below = absurd (omega arith)
+at_least_from i (None ∷ xs) p below = let above : i + 1 ≤ get_or (numbers_from (i + 1) xs) p 0 = at_least_from (i + 1) xs p below in omega arith
+at_least_from i (Some x ∷ xs) zero below = omega arith
+at_least_from i (Some x ∷ xs) (suc p) below = let above : i + 1 ≤ get_or (numbers_from (i + 1) xs) p 0 = at_least_from (i + 1) xs p (omega arith) in omega arith
+
+rising : {A : Type 0} (i : ℕ) (xs : List (Option A)) (p q : ℕ) → p ≤ q → q < length (numbers_from i xs) → get_or (numbers_from i xs) p 0 ≤ get_or (numbers_from i xs) q 0
+rising i [] p q before below = absurd (omega arith)
+rising i (None ∷ xs) p q before below = rising (i + 1) xs p q before below
+rising i (Some x ∷ xs) zero zero before below = omega arith
+rising i (Some x ∷ xs) (suc p) zero before below = absurd (omega arith)
+rising i (Some x ∷ xs) zero (suc q) before below = let above : i + 1 ≤ get_or (numbers_from (i + 1) xs) q 0 = at_least_from (i + 1) xs q (omega arith) in omega arith
+rising i (Some x ∷ xs) (suc p) (suc q) before below = rising (i + 1) xs p q (omega arith) (omega arith)
+
+module _ (w : Within) where
+  -- where no call is open of the caches listed before a place, none is of those with lesser numbers than the one there
+  pub first_open : (numbers : List ℕ) → numbers ≡ numbers_from 0 w.members → (p : ℕ) → p < length numbers
+      → ((k : ℕ) → k < p → is_open_in (at_place w.seen (get_or numbers k 0)) ≡ false)
+      → (earlier : ℕ) → earlier < get_or numbers p 0 → is_open_in (at_place w.seen earlier) ≡ false
+  first_open numbers is p below none earlier less = by (w.caches earlier) refl
+    where
+      before : (q : ℕ) → get_or numbers q 0 ≡ earlier → q < length numbers → q < p
+      before q at_q short = elim (cases_lt q p) [
+        | inl short_of ↦ short_of
+        | inr past ↦ (let more : get_or numbers p 0 ≤ get_or numbers q 0 = rw is (rising 0 w.members p q past (subst (λ (ns : List ℕ). q < length ns) is short)) in absurd (omega arith))
+      ]
+
+      by : (o : Option Slot) → w.caches earlier ≡ o → is_open_in (at_place w.seen earlier) ≡ false
+      by None at = ap is_open_in (seen_is w earlier at)
+      by (Some cache) at =
+          let t : NumberThere 0 w.members earlier = number_there 0 w.members earlier _ (place_of w.members earlier _ (member_at w earlier at)) in
+          let here : get_or numbers t.place 0 ≡ earlier = ap (λ ns. get_or ns t.place 0) is ∙ (t.is ∙ omega arith) in
+          let short : t.place < length numbers = subst (λ n. t.place < n) (sym (ap length is)) t.within in
+          rw here at (none t.place (before t.place here short))

@@ -1,11 +1,11 @@
 -- One event of the manager, by what it did to its cache.
 use Rattle.std.proofs.Common.{◌≡◌, ℕ, Bool, true, false, if◌then◌else◌, List, length, option_map, slice_set, OnOk, OnErr, IfOk, IfErr, is_some, Option, Some, None, Ok, Err, Result, refl, sym, ap, ◌∙◌, arith}
-use Rattle.jc_engine.proofs.Names.{map-set, Cause, OutOfMemory, Outcome, there, at_place, Status, CacheEvent, on_cache, reply_of, refuse_last, is_refused, for_memory, answer_of, answer_in, moved, put_moved, lives_by, at_place_map, Advance, Slot}
+use Rattle.jc_engine.proofs.Names.{map-set, Cause, OutOfMemory, Outcome, there, at_place, Status, CacheEvent, on_cache, reply_of, refuse_last, is_refused, for_memory, answer_of, answer_in, moved, put_moved, lives_by, at_place_map, EngineStep, Slot}
 use Rattle.jc_engine.proofs.Names.{Cache, status_of, lives_of, cache_in, is_step, Moves, step_of, outcome_of, of_start, ChangesOne, caches_in, Refused, Stepped, at_same, FitsAt, IfOk-weaker, NoSuchCache, on_err_weaker, answer_to_destroy}
 use Rattle.jc_engine.proofs.Names.{Destroyed, Awaited, Wait, standing_by, common_steps, gives_up, Noted, turn_in, LeavesNotices, Abandons, of_abandon}
 use Rattle.jc_model.specs.declared.event.Cause.TheVariants.{Busy}
 use Rattle.jc_model.specs.Runs.{destroyed_by}
-use Rattle.jc_state.specs.Visited.{Visited}
+use Rattle.jc_ops.specs.Visited.{Visited}
 use Rattle.jc_engine.specs.Managed.{reply_to, HasHeard, IsRefusedFor, IsReady, IsPutBack}
 use Rattle.jc_engine.proofs.Places.{same_set, place_of, Within, seen_is, live_is, Changes, seen_put}
 
@@ -61,16 +61,16 @@ pub record Did (k k' : Cache) (said : CacheEvent) (memory : Bool) (o : Outcome) 
   pub stays : is_refused o ≡ true → k' ≡ k
 
 -- a call that has moved its cache
-pub moved_on : {k k' : Cache} {said : CacheEvent} {advance : Advance} → Moves k said k' advance → Did k k' said false (Stepped (step_of advance))
+pub moved_on : {k k' : Cache} {said : CacheEvent} {advance : EngineStep} → Moves k said k' advance → Did k k' said false (Stepped (step_of advance))
 moved_on moves = record { shows = moves.shows ∙ sym (plain _); moves = λ _. moves.moves; stays = λ e. absurd cc }
 
 -- a call that goes on
-pub advanced : {T : Type 0} {cache cache' : Slot} {v w : Visited} {said : CacheEvent} (r : Result Advance T) → is_step (reply_to (cache_in cache) said) ≡ true → HasHeard cache v said r cache' w → Did (cache_in cache) (cache_in cache') said (for_memory (outcome_of r)) (outcome_of r)
+pub advanced : {T : Type 0} {cache cache' : Slot} {v w : Visited} {said : CacheEvent} (r : Result EngineStep T) → is_step (reply_to (cache_in cache) said) ≡ true → HasHeard cache v said r cache' w → Did (cache_in cache) (cache_in cache') said (for_memory (outcome_of r)) (outcome_of r)
 advanced (Ok advance) allowed heard = moved_on heard.ok
 advanced (Err back) allowed heard = record { shows = memory_refused _ allowed; moves = λ e. absurd cc; stays = λ _. ap cache_in heard.same }
 
 -- a call that begins, and may be refused
-pub started : {cache cache' : Slot} {v w : Visited} {said : CacheEvent} (r : Result Advance Cause) → HasHeard cache v said r cache' w → IfErr r (IsRefusedFor (cache_in cache) said) → Did (cache_in cache) (cache_in cache') said (for_memory (of_start r)) (of_start r)
+pub started : {cache cache' : Slot} {v w : Visited} {said : CacheEvent} (r : Result EngineStep Cause) → HasHeard cache v said r cache' w → IfErr r (IsRefusedFor (cache_in cache) said) → Did (cache_in cache) (cache_in cache') said (for_memory (of_start r)) (of_start r)
 started (Ok advance) heard err = moved_on heard.ok
 started (Err cause) heard err = record { shows = err; moves = λ e. absurd cc; stays = λ _. ap cache_in heard.same }
 
@@ -92,10 +92,10 @@ module _ {w : Within} {id : ℕ} {cache cache' : Slot} {g : ℕ → Option Slot}
       ∙ ap (λ (k : Cache). slice_set w.seen id (Some k)) same
       ∙ same_set w.seen id (Some (cache_in cache)) (place_of w.seen id (cache_in cache) (seen_is w id c.at))
 
-  pub fits_after : {T : Type 0} {v n : Visited} {said : CacheEvent} (r : Result Advance T) → HasHeard cache v said r cache' n → IfOk r (λ advance. FitsAt advance (at_place (caches_in g (length w.members)) id))
+  pub fits_after : {T : Type 0} {v n : Visited} {said : CacheEvent} (r : Result EngineStep T) → HasHeard cache v said r cache' n → IfOk r (λ advance. FitsAt advance (at_place (caches_in g (length w.members)) id))
   fits_after r heard = IfOk-weaker r _ _ (λ advance moves. rw new_here moves.fits) heard.ok
 
-  pub refused_after : {T : Type 0} {v n : Visited} {said : CacheEvent} (r : Result Advance T) → HasHeard cache v said r cache' n → OnErr r (caches_in g (length w.members) ≡ w.seen)
+  pub refused_after : {T : Type 0} {v n : Visited} {said : CacheEvent} (r : Result EngineStep T) → HasHeard cache v said r cache' n → OnErr r (caches_in g (length w.members) ≡ w.seen)
   refused_after r heard = on_err_weaker r (λ same. unchanged (ap cache_in same)) heard.same
 
   module _ {said : CacheEvent} {memory : Bool} {o : Outcome} (d : Did (cache_in cache) (cache_in cache') said memory o) where

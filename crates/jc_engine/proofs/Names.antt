@@ -38,15 +38,15 @@ pub use Rattle.jc_model.proofs.Leads.{IsRunTo, Leads, alone_in, leads_last}
 pub use Rattle.jc_model.proofs.Lives.{at_other, at_same}
 pub use Rattle.jc_rows.proofs.Laws.{get-empty, get-removed_absent, get-removed_other, get-removed_same, len-empty, len-removed, same_rows}
 pub use Rattle.jc_rows.specs.Rows.{RowMap}
-pub use Rattle.jc_roster.proofs.Members.{allowed, at_place_map, named_map}
-pub use Rattle.jc_roster.specs.Members.{id_named}
-pub use Rattle.jc_state.specs.Kept.{IsTied, Kept, item_of, items_of, progress_of}
-pub use Rattle.jc_state.specs.Noted.{Noted}
-pub use Rattle.jc_state.specs.Tied.{SameElsewhere, Tied}
+pub use Rattle.jc_model.proofs.Members.{allowed, at_place_map, named_map}
+pub use Rattle.jc_model.specs.Members.{id_named}
+pub use Rattle.jc_ops.specs.Kept.{IsTied, Kept, item_of, items_of, progress_of}
+pub use Rattle.jc_ops.specs.Noted.{Noted}
+pub use Rattle.jc_ops.specs.Tied.{SameElsewhere, Tied}
 pub use Rattle.jc_bulk.specs.Calls.{IsSuspended, WaitsOn, wait_run}
 pub use Rattle.jc_bulk.specs.Waits.{Waits}
-pub use Rattle.jc_engine.specs.declared.turn.Advance.{Advance}
-pub use Rattle.jc_engine.specs.declared.turn.Advance.TheVariants.{Asked}
+pub use Rattle.jc_engine.specs.declared.turn.EngineStep.{EngineStep}
+pub use Rattle.jc_engine.specs.declared.turn.EngineStep.TheVariants.{Asked}
 pub use Rattle.jc_engine.specs.declared.turn.Turn.TheVariants.{Idle, Telling, Waiting}
 pub use Rattle.jc_engine.specs.declared.open.OpenRefusal.TheVariants.{IdsSpent, TooManyCaches, TotalCapacity}
 pub use Rattle.jc_engine.specs.Advances.{ChangesOne, ClosedAt, FitsAt, is_open_in, of_abandon, of_start, outcome_of}

@@ -2,9 +2,9 @@
 use Rattle.std.proofs.Common.{◌≡◌, ◌≤◌, ℕ, Some, None, sym, ◌∙◌}
 use Rattle.jc_engine.proofs.Names.{length-map, Slot, cache_in, item_of}
 use Rattle.jc_engine.specs.Caches.{NumbersRows, row_in}
-use Rattle.jc_state.proofs.Numbers.{apart as numbers_apart, seek-numbered}
-use Rattle.jc_state.specs.Shelf.{Cell, seek}
-use Rattle.jc_state.specs.Tied.{Distinct}
+use Rattle.jc_ops.proofs.Numbers.{apart as numbers_apart, seek-numbered}
+use Rattle.jc_ops.specs.Shelf.{Cell, seek}
+use Rattle.jc_ops.specs.Tied.{Distinct}
 
 pub row_here : (n : ℕ) (cache : Slot) → seek n cache.state.cells ≡ row_in n (Some (cache_in cache))
 row_here n cache = seek-numbered n cache.state.cells

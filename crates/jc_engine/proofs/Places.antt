@@ -1,7 +1,7 @@
 -- The caches by id, and what is seen of them, before and after one of them has changed.
 use Rattle.std.proofs.Common.{zero, suc, [], ◌∷◌, ◌≡◌, ◌≢◌, ℕ, ◌<◌, List, map, length, option_map, slice_get, slice_set, Option, Some, inl, inr, sym, ap, subst, ◌∙◌, length-set, arith}
 use Rattle.jc_engine.proofs.Names.{cases_eq, length-map, map-set, set-get_or, get_or_from_slice_get, CacheConfig, at_place, Status, RowMap, Member, member_of, members_of, SameElsewhere, Slot, cache_in}
-use Rattle.jc_state.specs.Visited.{Visited}
+use Rattle.jc_ops.specs.Visited.{Visited}
 use Rattle.jc_engine.specs.Managed.{IsReady, RestsAgain, IsPutBack}
 use Rattle.jc_engine.specs.Sound.{IsManager}
 use Rattle.jc_engine.proofs.Names.{Cache, status_of, lives_of, IsAt, NoneFrom, places_of, caches_in, at_place_map}

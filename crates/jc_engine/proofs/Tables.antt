@@ -3,9 +3,9 @@ use Rattle.std.proofs.Common.{◌≡◌, ◌≢◌, ℕ, false, eqb, List, [], o
 use Rattle.std.specs.FinMap as table
 use Rattle.jc_engine.proofs.Names.{nat_tests, length-map, Expiry, Item, row_of, RowMap, Tied, SameElsewhere, Kept, IsTied, items_of, Slot, cache_in, Cache, expiry_in, IsAt}
 use Rattle.jc_model.specs.Sound.{IsSound}
-use Rattle.jc_state.proofs.Ties.{Tied-same}
-use Rattle.jc_state.proofs.Found.{is_row, placed_there, row_of-absent}
-use Rattle.jc_state.proofs.TiedKeys.{tied_keys}
+use Rattle.jc_ops.proofs.Ties.{Tied-same}
+use Rattle.jc_ops.proofs.Found.{is_row, placed_there, row_of-absent}
+use Rattle.jc_ops.proofs.TiedKeys.{tied_keys}
 
 -- an id is as it was where the table has changed elsewhere
 pub at_elsewhere : (m n : RowMap) (id other : ℕ) (found : Option Slot) → SameElsewhere id m n → other ≢ id → IsAt m other found → IsAt n other found

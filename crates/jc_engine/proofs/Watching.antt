@@ -4,7 +4,7 @@ use Rattle.std.specs.FinMap as table
 use Rattle.jc_engine.proofs.Names.{CacheConfig, Expiry, State, Progress, Awaited, at_place, Status, state_in, HasDistinctKeys, Wait, standing_by, Cache, status_of, lives_of, expiry_in, ShowsStates, expiry_at, states_of}
 use Rattle.jc_engine.proofs.Names.{IsCacheSound, at_place_map, Member, Slot, caches_in}
 use Rattle.jc_rows.specs.Images.{Image, Shows, image_slot, last_image}
-use Rattle.jc_state.specs.Visited.{SeesTable, Visited}
+use Rattle.jc_ops.specs.Visited.{SeesTable, Visited}
 use Rattle.jc_engine.specs.Sound.{IsManager}
 use Rattle.jc_engine.proofs.Places.{Within, seen_is, within}
 use Rattle.jc_engine.proofs.Tables.{expiry_shown, sound_there}

@@ -4,18 +4,18 @@ use Rattle.jc_model.specs.declared.event.Cause.{Cause}
 use Rattle.jc_model.specs.declared.event.Cause.TheVariants.{OutOfMemory}
 use Rattle.jc_model.specs.declared.event.Outcome.{Outcome}
 use Rattle.jc_model.specs.declared.event.Outcome.TheVariants as outcome
-use Rattle.jc_state.specs.Noted.{Noted}
-use Rattle.jc_engine.specs.declared.turn.Advance.{Advance}
+use Rattle.jc_ops.specs.Noted.{Noted}
+use Rattle.jc_engine.specs.declared.turn.EngineStep.{EngineStep}
 use Rattle.jc_engine.specs.Caches.{Cache}
 use Rattle.jc_engine.specs.Managed.{step_of, FitsTurn, LeavesNotices}
 
 -- only memory refuses what gives back what was handed in
-abbrev pub outcome_of : {T : Type 0} → Result Advance T → Outcome
+abbrev pub outcome_of : {T : Type 0} → Result EngineStep T → Outcome
 outcome_of (Ok advance) = outcome.Step (step_of advance)
 outcome_of (Err back) = outcome.Refused OutOfMemory
 
 -- of a call that begins, which may be refused otherwise
-abbrev pub of_start : Result Advance Cause → Outcome
+abbrev pub of_start : Result EngineStep Cause → Outcome
 of_start (Ok advance) = outcome.Step (step_of advance)
 of_start (Err cause) = outcome.Refused cause
 
@@ -24,7 +24,7 @@ of_abandon (Ok None) = outcome.GivenUp []
 of_abandon (Ok (Some left)) = outcome.GivenUp left.told
 of_abandon (Err cause) = outcome.Refused cause
 
-abbrev pub FitsAt : Advance → Option Cache → Type 0
+abbrev pub FitsAt : EngineStep → Option Cache → Type 0
 FitsAt advance None = ⊥
 FitsAt advance (Some k) = FitsTurn advance k.turn
 

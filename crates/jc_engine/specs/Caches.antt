@@ -12,8 +12,8 @@ use Rattle.jc_model.specs.Runs.{Status, Lives, opened_from}
 use Rattle.jc_model.specs.Suspended.{Wait, standing_by}
 use Rattle.jc_model.specs.Places.{at_place, all_there, none_before, named_from}
 use Rattle.jc_rows.specs.Rows.{RowMap}
-use Rattle.jc_state.specs.declared.slots.Record.{Record}
-use Rattle.jc_state.specs.Kept.{AreNumbered, live_row, row_numbered}
+use Rattle.jc_ops.specs.declared.slots.Record.{Record}
+use Rattle.jc_ops.specs.Kept.{AreNumbered, live_row, row_numbered}
 
 -- a cache: its rows and counters with the notices of its open call, how that call goes on, if there is one, and the
 -- numbers of its rows, in the order of its ring

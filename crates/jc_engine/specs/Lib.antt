@@ -8,3 +8,9 @@ pub mod Sound
 pub mod Free
 pub mod Heard
 pub mod Watching
+pub mod RecordedSteps
+pub mod Recording
+pub mod Journals
+pub mod Past
+pub mod Changed
+pub mod Opens

@@ -15,15 +15,15 @@ use Rattle.jc_model.specs.Whole.{told_first}
 use Rattle.jc_model.specs.Runs.{CacheEvent, shown, standing_of, reply_of, refuse_last, for_memory, moved}
 use Rattle.jc_model.specs.Suspended.{Wait, one, many, telling, standing_by}
 use Rattle.jc_rows.specs.Rows.{RowMap}
-use Rattle.jc_state.specs.Noted.{Noted}
-use Rattle.jc_state.specs.Kept.{Kept, numbers_of, progress_of}
-use Rattle.jc_state.specs.Tied.{SameElsewhere}
-use Rattle.jc_state.specs.Visited.{Visited, IsKeptIn}
+use Rattle.jc_ops.specs.Noted.{Noted}
+use Rattle.jc_ops.specs.Kept.{Kept, numbers_of, progress_of}
+use Rattle.jc_ops.specs.Tied.{SameElsewhere}
+use Rattle.jc_ops.specs.Visited.{Visited, IsKeptIn}
 use Rattle.jc_bulk.specs.Calls.{IsSuspended}
 use Rattle.jc_engine.specs.declared.turn.Turn.{Turn}
 use Rattle.jc_engine.specs.declared.turn.Turn.TheVariants.{Idle, Waiting, Telling}
-use Rattle.jc_engine.specs.declared.turn.Advance.{Advance}
-use Rattle.jc_engine.specs.declared.turn.Advance.TheVariants.{Replied, Asked, Told}
+use Rattle.jc_engine.specs.declared.turn.EngineStep.{EngineStep}
+use Rattle.jc_engine.specs.declared.turn.EngineStep.TheVariants.{Replied, Asked, Told}
 use Rattle.jc_engine.specs.Caches.{Cache, status_of}
 
 -- one live cache: its state, and whether a call is open
@@ -87,13 +87,13 @@ pub record GivesBack (spare : Kept) (v : Visited) (cache : Slot) (w : Visited) :
 
 -- The call moves.
 
-abbrev pub step_of : Advance → Step
+abbrev pub step_of : EngineStep → Step
 step_of (Replied reply) = Done reply
 step_of (Asked request) = Need request
 step_of (Told notices) = Need (Tell notices.told)
 
 -- whether a call has ended with its reply
-abbrev pub is_replied : Advance → Bool
+abbrev pub is_replied : EngineStep → Bool
 is_replied (Replied reply) = true
 is_replied _ = false
 
@@ -108,7 +108,7 @@ tells None = false
 tells (Some w) = is_telling w.1
 
 -- the requests of a step tell nothing; when a call's notices are told, it waits for that
-abbrev pub FitsTurn : Advance → Option (Awaited × Wait) → Type 0
+abbrev pub FitsTurn : EngineStep → Option (Awaited × Wait) → Type 0
 FitsTurn (Replied reply) turn = turn ≡ None
 FitsTurn (Asked request) turn = (told_by request ≡ []) × (tells turn ≡ false)
 FitsTurn (Told notices) turn = tells turn ≡ true
@@ -118,7 +118,7 @@ abbrev pub NeverTells : Run → Type 0
 NeverTells run = AtEach (λ q p. awaited_by q ≢ for_tell) (λ p r. Unit {0}) run
 
 -- a call that has come to this run goes on as its cache says
-pub record Settled (c : CacheConfig) (run : Run) (cache : Slot) (advance : Advance) : Type 0 where
+pub record Settled (c : CacheConfig) (run : Run) (cache : Slot) (advance : EngineStep) : Type 0 where
   pub shows : outcome.Step (step_of advance) ≡ shown (and_then run told_first)
   pub stands : standing_by c (cache_in cache).progress (turn_in cache.turn) ≡ standing_of (and_then run told_first)
   pub waits : WaitsThere c cache.state cache.turn
@@ -129,13 +129,13 @@ abbrev pub reply_to : Cache → CacheEvent → Outcome
 reply_to k said = reply_of k.config (status_of k).standing said
 
 -- a cache has heard an event and moved as it is to
-pub record Moves (k : Cache) (said : CacheEvent) (k' : Cache) (advance : Advance) : Type 0 where
+pub record Moves (k : Cache) (said : CacheEvent) (k' : Cache) (advance : EngineStep) : Type 0 where
   pub shows : outcome.Step (step_of advance) ≡ reply_to k said
   pub moves : status_of k' ≡ moved (status_of k) said
   pub fits : FitsTurn advance k'.turn
 
 -- It has done so in a visit. Where it is refused, nothing has changed but the room and the places that are left.
-pub record HasHeard {T : Type 0} (cache : Slot) (v : Visited) (said : CacheEvent) (r : Result Advance T) (cache' : Slot) (w : Visited) : Type 0 where
+pub record HasHeard {T : Type 0} (cache : Slot) (v : Visited) (said : CacheEvent) (r : Result EngineStep T) (cache' : Slot) (w : Visited) : Type 0 where
   pub back : IsPutBack cache v cache' w
   pub ok : IfOk r (Moves (cache_in cache) said (cache_in cache'))
   pub same : OnErr r (cache' ≡ cache)

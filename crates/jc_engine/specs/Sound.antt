@@ -3,8 +3,8 @@ use Rattle.std.specs.Prelude.{◌≡◌, ℕ, zero, suc, ◌≤◌, List, [], �
 use Rattle.std.specs.FinMap as table
 use Rattle.jc_model.specs.Limits.{most_ids}
 use Rattle.jc_rows.specs.Rows.{RowMap}
-use Rattle.jc_state.specs.Kept.{Kept}
-use Rattle.jc_state.specs.Visited.{Visited}
+use Rattle.jc_ops.specs.Kept.{Kept}
+use Rattle.jc_ops.specs.Visited.{Visited}
 use Rattle.jc_engine.specs.Caches.{Cache, lives_of}
 use Rattle.jc_engine.specs.Managed.{Slot, IsManaged, cache_in}
 use Rattle.jc_model.specs.Refusals.{Member}

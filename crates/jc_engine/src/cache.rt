@@ -4,7 +4,7 @@
 //! two calls, and no notices.
 ghost use Rattle.std.specs.Prelude.{◌≡◌, ℕ, None, [], is_some, true, option_map, IsOk, IfSome, IfErr};
 ghost use Rattle.jc_model.specs.Runs.{begins, answers};
-ghost use Rattle.jc_state.specs.Tied.{SameElsewhere};
+ghost use Rattle.jc_ops.specs.Tied.{SameElsewhere};
 ghost use Rattle.jc_engine.specs.Sound.{IsAt};
 ghost use Rattle.jc_engine.specs.Managed.{cache_in, turn_in, is_step, reply_to};
 ghost use Rattle.jc_engine.specs.Managed.{IsReady, RestsAgain, IsPutBack, GivesBack, Moves, HasHeard, Settled};
@@ -13,24 +13,24 @@ ghost use Rattle.jc_model.specs.declared.call.Reply.TheVariants.{Found};
 ghost use Rattle.jc_model.specs.declared.config.CacheConfig.{CacheConfig};
 ghost use Rattle.jc_model.specs.Run.{Run, ended, fits, for_tell};
 ghost use Rattle.jc_model.specs.Whole.{is_free};
-ghost use Rattle.jc_state.specs.Visited.{IsKeptIn, progress_in};
+ghost use Rattle.jc_ops.specs.Visited.{IsKeptIn, progress_in};
 ghost use Rattle.jc_bulk.specs.Calls.{ComesTo};
 ghost use Rattle.jc_engine.specs.Advances.{of_start};
-ghost use Rattle.jc_engine.specs.declared.turn.Advance.TheVariants.{Replied};
+ghost use Rattle.jc_engine.specs.declared.turn.EngineStep.TheVariants.{Replied};
 ghost use Rattle.jc_engine.specs.declared.turn.Turn.TheVariants.{Idle};
 
-use crate::turn::{Advance, Turn, WaitingCall};
+use crate::turn::{EngineStep, Turn, WaitingCall};
 use jc_bulk::call::{CallNext, answer_call, end_at_once, start_call};
 use jc_model::call::{Answer, Call, Reply};
-use jc_model::copies::Copies;
 use jc_model::event::Cause;
+use jc_model::owners::Owners;
 use jc_ops::hit::{Owned, get_at_once};
+use jc_ops::notices::Notices;
+use jc_ops::state::CacheState;
 use jc_ops::step::Next;
+use jc_ops::visit::Visit;
 use jc_ring::ring::Ring;
 use jc_rows::rows::Rows;
-use jc_state::notices::Notices;
-use jc_state::state::CacheState;
-use jc_state::visit::Visit;
 use std::marker::Model;
 use std::mem;
 
@@ -119,7 +119,7 @@ impl<G: Ring> Managed<G> {
     }
 
     /// Ends its call with this reply. All notices are told before it.
-    fn end<R: Rows>(&mut self, visit: &mut Visit<R, G>, reply: Copies<Reply>) -> Advance
+    fn end<R: Rows>(&mut self, visit: &mut Visit<R, G>, reply: Owners<Reply>) -> EngineStep
         requires idle { self.old.turn ≡ Idle }
         requires kept { IsKeptIn visit.old.table self.old.state }
         ensures back { GivesBack self.old.state visit.old self.new visit.new }
@@ -128,14 +128,14 @@ impl<G: Ring> Managed<G> {
     {
         visit.exchange(&mut self.state);
         if visit.is_untold() {
-            return Advance::Replied(reply);
+            return EngineStep::Replied(reply);
         }
         self.stand_at(Turn::Telling(reply));
-        Advance::Told(visit.hand_out_notices())
+        EngineStep::Told(visit.hand_out_notices())
     }
 
     /// Goes on from what its call has come to.
-    fn settle<R: Rows>(&mut self, visit: &mut Visit<R, G>, next: CallNext) -> Advance
+    fn settle<R: Rows>(&mut self, visit: &mut Visit<R, G>, next: CallNext) -> EngineStep
         requires idle { self.old.turn ≡ Idle }
         requires kept { IsKeptIn visit.old.table self.old.state }
         ensures back { GivesBack self.old.state visit.old self.new visit.new }
@@ -148,7 +148,7 @@ impl<G: Ring> Managed<G> {
                 visit.exchange(&mut self.state);
                 let notices = visit.hand_out_notices();
                 self.stand_at(Turn::Waiting(WaitingCall { suspended, notices }));
-                Advance::Asked(request)
+                EngineStep::Asked(request)
             }
         }
     }
@@ -188,7 +188,7 @@ impl<G: Ring> Managed<G> {
         &mut self,
         visit: &mut Visit<R, G>,
         call: &Call,
-    ) -> Result<Advance, Cause>
+    ) -> Result<EngineStep, Cause>
         requires ready { IsReady self.old visit.old }
         requires allowed { is_step
             (reply_to (cache_in self.old) (begins visit.old.moment call.now)) ≡ true }
@@ -212,7 +212,7 @@ impl<G: Ring> Managed<G> {
         &mut self,
         visit: &mut Visit<R, G>,
         call: &Call,
-    ) -> Result<Advance, Cause>
+    ) -> Result<EngineStep, Cause>
         requires { IsReady self.old visit.old }
         ensures heard { HasHeard self.old visit.old (begins visit.old.moment call.now) result
             self.new visit.new }
@@ -242,7 +242,7 @@ impl<G: Ring> Managed<G> {
         &mut self,
         visit: &mut Visit<R, G>,
         answer: Answer,
-    ) -> Result<Advance, Answer>
+    ) -> Result<EngineStep, Answer>
         requires ready { IsReady self.old visit.old }
         requires allowed { is_step (reply_to (cache_in self.old) (answers answer)) ≡ true }
         ensures heard { HasHeard self.old visit.old (answers answer) result self.new visit.new }
@@ -251,7 +251,7 @@ impl<G: Ring> Managed<G> {
     {
         match mem::replace(&mut self.turn, Turn::Idle) {
             Turn::Idle => unreachable!(),
-            Turn::Telling(reply) => Ok(Advance::Replied(reply)),
+            Turn::Telling(reply) => Ok(EngineStep::Replied(reply)),
             Turn::Waiting(call) => {
                 let WaitingCall { suspended, notices } = call;
                 visit.set_moment(suspended.moment());

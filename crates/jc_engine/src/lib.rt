@@ -1,11 +1,14 @@
-//! The manager of many caches over one table of rows: which calls are open, and how they go on.
+//! The manager of many caches over one table of rows: which calls are open, and how they go on;
+//! and the same with a journal of its calls, which tells of all of them, whatever it keeps of them in memory.
 #![tactic(auto)]
 
 mod cache;
 pub mod engine;
+pub mod journal;
 mod lives;
 mod looks;
 mod moves;
 pub mod open;
+pub mod recorded;
 mod run;
 pub mod turn;

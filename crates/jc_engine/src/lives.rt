@@ -12,9 +12,9 @@ use crate::engine::Engine;
 use crate::turn::Turn;
 use jc_model::config::CacheConfig;
 use jc_model::event::{CacheId, Cause, CreateRefusal};
+use jc_ops::state::CacheState;
 use jc_ring::ring::Ring;
 use jc_rows::rows::Rows;
-use jc_state::state::CacheState;
 
 impl<R: Rows, G: Ring> Engine<R, G> {
     /// Creates a cache without rows and counts. Its id is the least above all that were given before.

@@ -7,9 +7,9 @@ use crate::engine::Engine;
 use jc_model::config::CacheConfig;
 use jc_model::event::CacheId;
 use jc_model::key::Key;
+use jc_ops::slots::Record;
 use jc_ring::ring::Ring;
 use jc_rows::rows::Rows;
-use jc_state::slots::Record;
 
 impl<R: Rows, G: Ring> Engine<R, G> {
     /// The configuration of a live cache (JSR 107, `Cache.getConfiguration`).

@@ -1,10 +1,10 @@
 //! The manager's calls in two parts: whether they are refused, and the move of one cache. Both the plain manager
 //! and the recorded one are made of these.
-ghost use Rattle.std.specs.Prelude.{◌≡◌, ℕ, None, true, false, IsOk, IfSome, IfOk, IfErr, OnOk, OnErr, option_map};
+ghost use Rattle.std.specs.Prelude.{◌≡◌, ◌<◌, ℕ, None, true, false, IsOk, IfSome, IfOk, IfErr, OnOk, OnErr, option_map};
 ghost use Rattle.jc_model.specs.declared.event.Event.TheVariants.{Begin, Answer as Answered, GiveUp};
 ghost use Rattle.jc_model.specs.declared.call.Reply.TheVariants.{Found};
 ghost use Rattle.jc_model.specs.declared.event.Outcome.TheVariants.{Refused};
-ghost use Rattle.jc_engine.specs.declared.turn.Advance.TheVariants.{Replied};
+ghost use Rattle.jc_engine.specs.declared.turn.EngineStep.TheVariants.{Replied};
 ghost use Rattle.jc_model.specs.Runs.{answer_to};
 ghost use Rattle.jc_model.specs.Run.{fits, for_tell};
 ghost use Rattle.jc_model.specs.Places.{at_place};
@@ -15,13 +15,13 @@ ghost use Rattle.jc_engine.specs.Managed.{is_step};
 ghost use Rattle.jc_engine.specs.Advances.{outcome_of, of_start, of_abandon, FitsAt, LeavesAt, ClosedAt, ChangesOne, is_open_in};
 
 use crate::engine::Engine;
-use crate::turn::Advance;
+use crate::turn::EngineStep;
 use jc_model::call::{Answer, Call};
 use jc_model::event::{CacheId, Cause};
 use jc_ops::hit::Owned;
+use jc_ops::notices::Notices;
 use jc_ring::ring::Ring;
 use jc_rows::rows::Rows;
-use jc_state::notices::Notices;
 
 impl<R: Rows, G: Ring> Engine<R, G> {
     /// Whether a call is open.
@@ -38,6 +38,8 @@ impl<R: Rows, G: Ring> Engine<R, G> {
     pub fn open_call(&self) -> Option<CacheId>
         ensures none { result ≡ None → (id : ℕ) → is_open_in (at_place self.now id) ≡ false }
         ensures some { IfSome result (λ id. is_open_in (at_place self.now id) ≡ true) }
+        ensures first { IfSome result (λ id.
+            (earlier : ℕ) → earlier < id → is_open_in (at_place self.now earlier) ≡ false) }
     {
         let numbers = self.roster.numbers();
         for number in numbers {
@@ -101,7 +103,7 @@ impl<R: Rows, G: Ring> Engine<R, G> {
     }
 
     /// Begins a call. Refused as the manager's `begin`, before any change.
-    pub fn start(&mut self, id: CacheId, now: u64, call: &Call) -> Result<Advance, Cause>
+    pub fn start(&mut self, id: CacheId, now: u64, call: &Call) -> Result<EngineStep, Cause>
         ensures outcome { IsAnswer self.old (Begin id now call.now) (of_start result) }
         ensures lives { LeadsTo self.old (Begin id now call.now) (of_start result) self.new }
         ensures one { OnOk result (ChangesOne self.old id self.new) }
@@ -117,7 +119,7 @@ impl<R: Rows, G: Ring> Engine<R, G> {
     }
 
     /// Goes on with the open call. Only memory can refuse it, before any change.
-    pub fn go_on(&mut self, id: CacheId, answer: Answer) -> Result<Advance, Answer>
+    pub fn go_on(&mut self, id: CacheId, answer: Answer) -> Result<EngineStep, Answer>
         requires { is_step (answer_to (lives_of self.old) (Answered id answer) false) ≡ true }
         ensures outcome { IsAnswer self.old (Answered id answer) (outcome_of result) }
         ensures lives { LeadsTo self.old (Answered id answer) (outcome_of result) self.new }

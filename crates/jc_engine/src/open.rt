@@ -16,11 +16,11 @@ use jc_model::config::{CacheConfig, Limit};
 use jc_model::event::CacheId;
 use jc_model::key::Key;
 use jc_model::limits::{MOST_CACHES, MOST_IDS, MOST_ROWS_TOGETHER};
+use jc_model::roster::Roster;
+use jc_ops::state::CacheState;
+use jc_ops::visit::Visit;
 use jc_ring::ring::Ring;
-use jc_roster::roster::Roster;
 use jc_rows::rows::Rows;
-use jc_state::state::CacheState;
-use jc_state::visit::Visit;
 use std::alloc::{AllocError, Global};
 use std::collections::{HashMap, HashSet};
 

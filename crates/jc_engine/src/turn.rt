@@ -4,9 +4,9 @@ ghost use Rattle.jc_engine.specs.Managed.{is_replied, step_of};
 
 use jc_bulk::waits::Suspended;
 use jc_model::call::{Reply, Request};
-use jc_model::copies::Copies;
 use jc_model::event::Step;
-use jc_state::notices::Notices;
+use jc_model::owners::Owners;
+use jc_ops::notices::Notices;
 use std::marker::Model;
 
 /// A call that waits for an answer, with its notices so far.
@@ -30,23 +30,23 @@ pub(crate) enum Turn {
     Idle,
     Waiting(WaitingCall),
     /// Its notices are being told; then this is its reply.
-    Telling(Copies<Reply>),
+    Telling(Owners<Reply>),
 }
 
 /// What an open call has come to: its step, with the copies that a transcript needs.
 #[derive(Drop)]
-pub enum Advance {
-    Replied(Copies<Reply>),
+pub enum EngineStep {
+    Replied(Owners<Reply>),
     Asked(Request),
     Told(Notices),
 }
 
-impl Advance {
+impl EngineStep {
     /// Whether the call has ended with its reply.
     pub fn is_replied(&self) -> bool
         ensures { result ≡ is_replied self.now }
     {
-        matches!(self, Advance::Replied(_))
+        matches!(self, EngineStep::Replied(_))
     }
 
     /// The step alone; the copies are let go.
@@ -54,9 +54,9 @@ impl Advance {
         ensures { result ≡ step_of self }
     {
         match self {
-            Advance::Replied(reply) => Step::Done(reply.into_first()),
-            Advance::Asked(request) => Step::Need(request),
-            Advance::Told(notices) => Step::Need(Request::Tell(notices.into_lists().0)),
+            EngineStep::Replied(reply) => Step::Done(reply.into_first()),
+            EngineStep::Asked(request) => Step::Need(request),
+            EngineStep::Told(notices) => Step::Need(Request::Tell(notices.into_lists().0)),
         }
     }
 }

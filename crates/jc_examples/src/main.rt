@@ -1,31 +1,41 @@
-//! Plays the examples in the files that lie where the program runs, and prints what `jcache` does with each.
+//! Plays those examples in the files that lie where the program runs which `jcache` itself can't play.
 //!
-//! `cases.txt` lists them, with one name a line. The example `NAME` runs the configuration `NAME.toml` and the script
-//! `NAME.jsonl`. A name may be followed by what is run in place of that: the words of a command line, of which there may
-//! be none, and behind `<` the file that is standard input; `each script of FILE on CONFIG`, which runs each line of a
-//! file as a script of its own; `each configuration of FILE`, which runs an empty script on each line of a file; `events
-//! of FILE on CONFIG`, for calls whose requests the file answers; `typed FILE`, which runs the file as a script that a
-//! person types at a terminal, and may have words behind it; `words of FILE`, for words that are the lines of a file and
-//! need not be text. Empty lines and those that begin with `#` are passed over.
+//! `cases.txt` lists all. Of the example `NAME` that has no words behind it, the configuration `NAME.toml` and the script
+//! `NAME.jsonl` are run over other tables than `jcache` has: the report is the same. `NAME events of FILE on CONFIG` is for
+//! calls whose requests the file answers. All others are passed over: `jcache` plays them, beside the gate.
 #![tactic(auto)]
 
 mod answers;
-mod case;
-mod command_line;
 mod events;
 mod over;
-mod run;
-mod streams;
 mod texts;
 
-use case::play_case;
+use crate::events::play_events;
+use crate::over::play_files;
+use std::fs::Files;
 use std::{fs, io};
+
+/// Prints an example's name, and then what it comes to.
+fn play<R: Files + Print + AllocGlobal>(rt: &R, line: &str) -> io::Result<()> {
+    let words: Vec<&str> = line.split_whitespace().collect(rt.alloc())?;
+    match words.as_slice() {
+        [name] => {
+            println!(rt; "# {name}")?;
+            play_files(rt, name)
+        }
+        [name, first, _, events, _, config] if *first == "events" => {
+            println!(rt; "# {name}")?;
+            play_events(rt, config, events)
+        }
+        _ => Ok(()),
+    }
+}
 
 fn main(rt: HostRuntime) -> io::Result<()> {
     let list = fs::read_to_string(&rt, "cases.txt")?;
     for line in list.lines() {
         if !line.starts_with("#") {
-            play_case(&rt, line)?;
+            play(&rt, line)?;
         }
     }
     Ok(())

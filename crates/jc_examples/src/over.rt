@@ -1,4 +1,4 @@
-//! A run over another table than the program's: one in which all keys share two buckets, and a list.
+//! Runs over other tables than the program's: one in which all keys share two buckets, and a list.
 ghost use Rattle.std.specs.Prelude.{◌≡◌};
 ghost use Rattle.std.specs.FinMap as finite;
 
@@ -14,6 +14,8 @@ use jc_runner::{RunFault, all_suit, report_on};
 use jc_script::read_script;
 use jc_trials::ConstantPlacer;
 use std::alloc::Global;
+use std::fs::Files;
+use std::{fs, io};
 
 fn processor_of(kind: ProcessorKind) -> ProgramProcessor {
     match kind {
@@ -68,7 +70,7 @@ fn reported<T: Rows>(
 }
 
 /// The report over a cuckoo table in which all keys share two buckets.
-pub fn one_bucket_for_all_keys(
+fn one_bucket_for_all_keys(
     alloc: Global,
     config: &[u8],
     script: &[u8],
@@ -80,10 +82,30 @@ pub fn one_bucket_for_all_keys(
 }
 
 /// The report over a list of rows.
-pub fn a_list_for_all_keys(
-    alloc: Global,
-    config: &[u8],
-    script: &[u8],
-) -> Result<String, RunFault> {
+fn a_list_for_all_keys(alloc: Global, config: &[u8], script: &[u8]) -> Result<String, RunFault> {
     reported(alloc, ListRows::new(alloc), config, script)
+}
+
+/// The report over both tables, or why there is none.
+fn text_of(alloc: Global, config: &[u8], script: &[u8]) -> Result<String, RunFault> {
+    let crowded = one_bucket_for_all_keys(alloc, config, script)?;
+    let listed = a_list_for_all_keys(alloc, config, script)?;
+    if crowded.as_bytes() == listed.as_bytes() {
+        Ok(crowded)
+    } else {
+        Ok(format!(in alloc; "another report over a list\n")?)
+    }
+}
+
+/// Prints the report of the configuration and the script of a name.
+pub fn play_files<R: Files + Print + AllocGlobal>(rt: &R, name: &str) -> io::Result<()> {
+    let alloc = rt.alloc();
+    let config = format!(in alloc; "{name}.toml")?;
+    let config = fs::read(rt, config.as_str())?;
+    let script = format!(in alloc; "{name}.jsonl")?;
+    let script = fs::read(rt, script.as_str())?;
+    match text_of(alloc, config.as_slice(), script.as_slice()) {
+        Ok(report) => print!(rt; "{report}"),
+        Err(fault) => println!(rt; "{fault:?}"),
+    }
 }

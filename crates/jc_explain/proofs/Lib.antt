@@ -1,3 +1,5 @@
+pub mod Counts
 pub mod MemberNames
 pub mod Pieces
 pub mod TableNames
+pub mod Texts

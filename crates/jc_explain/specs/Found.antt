@@ -1,5 +1,5 @@
 -- What a member is, shown in a line.
-use Rattle.std.specs.Prelude.{ℕ, List, Option, Some, None, option_and_then, is_some, if◌then◌else◌, codes, decimal}
+use Rattle.std.specs.Prelude.{ℕ, ℤ, List, Option, Some, None, option_and_then, is_some, if◌then◌else◌, codes, decimal}
 use Rattle.std.specs.Fmt.{signed_decimal}
 use Rattle.toml.specs.Data as toml
 use Rattle.serde_json.specs.Data as json
@@ -22,12 +22,17 @@ toml_kind d =
 abbrev pub toml_shown : toml.Data → List ℕ
 toml_shown d = text_or_number_shown signed_decimal (toml_kind d) (toml.as_str d) (toml.as_integer d)
 
+-- a whole number below 0, else the kind
+abbrev pub negative_shown : List ℕ → Option ℤ → List ℕ
+negative_shown kind None = kind
+negative_shown kind (Some number) = signed_decimal number
+
 abbrev pub json_kind : json.Data → List ℕ
 json_kind d =
     if is_some (find.as_bool d) then codes "true or false" else
-    (if is_some (find.as_number d) then codes "a number below 0 or with a fraction" else
+    (if is_some (find.as_number d) then codes "a number with a fraction" else
     (if is_some (find.as_array d) then codes "a list" else
     (if is_some (find.as_object d) then codes "an object" else codes "null")))
 
 abbrev pub json_shown : json.Data → List ℕ
-json_shown d = text_or_number_shown decimal (json_kind d) (find.as_str d) (option_and_then find.as_u64 (find.as_number d))
+json_shown d = text_or_number_shown decimal (negative_shown (json_kind d) (option_and_then find.as_i64 (find.as_number d))) (find.as_str d) (option_and_then find.as_u64 (find.as_number d))

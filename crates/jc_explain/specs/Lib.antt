@@ -1,10 +1,16 @@
 pub mod Config
 pub mod Found
 pub mod Lines
+pub mod Methods
 pub mod Other
 pub mod Place
+pub mod Policy
 pub mod Script
+pub mod Shape
 pub mod Spelling
 pub mod Stranger
+pub mod Together
+pub mod Trace
+pub mod Twice
 pub mod Unread
 pub mod Words

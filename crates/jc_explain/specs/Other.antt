@@ -2,8 +2,8 @@
 use Rattle.std.specs.Prelude.{ℕ, Bool, if◌then◌else◌, List, [], ◌∷◌, Option, Some, None, option_and_then}
 use Rattle.serde_json.specs.Data.{Data, Members, no_members, member}
 use Rattle.serde_json.specs.Find.{as_object}
-use Rattle.jc_strict.specs.Members.{has_member}
-use Rattle.jc_strict.specs.Stray.{op_of}
+use Rattle.jc_script.specs.Members.{has_member}
+use Rattle.jc_script.specs.Stray.{op_of}
 use Rattle.jc_explain.specs.Stranger.{is_known}
 use Rattle.jc_explain.specs.Words.{script_members}
 

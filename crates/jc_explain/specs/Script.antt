@@ -1,20 +1,24 @@
 -- Explanations of a script's faults.
-use Rattle.std.specs.Prelude.{◌≡◌, ℕ, ◌+◌, ◌-◌, ◌==◌, if◌then◌else◌, nat_lt, List, [], ◌∷◌, ◌++◌, length, Option, Some, None, option_and_then, codes, decimal}
+use Rattle.std.specs.Prelude.{◌≡◌, true, false, ℕ, ◌+◌, ◌-◌, ◌==◌, if◌then◌else◌, nat_lt, List, [], ◌∷◌, ◌++◌, length, Option, Some, None, option_and_then, is_some, codes, decimal}
 use Rattle.std.specs.List.{slice_split}
 use Rattle.serde_json.specs.Data.{Data}
 use Rattle.serde_json.specs.Find.{get, as_str}
 use Rattle.jc_script.specs.Member.{json_of, member_name}
 use Rattle.jc_script.specs.Script.{is_feed}
 use Rattle.jc_script.specs.declared.fault.Member.{Member}
-use Rattle.jc_script.specs.declared.fault.Member.TheVariants.{Cache}
+use Rattle.jc_script.specs.declared.fault.Member.TheVariants.{Cache, Op, Duration, Keys, Pairs}
 use Rattle.jc_script.specs.declared.fault.ScriptFault.{ScriptFault}
 use Rattle.jc_script.specs.declared.fault.ScriptFault.TheVariants.{TooLong, NotJson, NotObject, Bad, OutOfMemory}
 use Rattle.jc_explain.specs.Found.{json_shown}
 use Rattle.jc_explain.specs.Lines.{text_shown, suggestion, member_line, missing_line, no_member_line, plain_line}
+use Rattle.jc_explain.specs.Methods.{op_of_method}
 use Rattle.jc_explain.specs.Other.{other_in}
-use Rattle.jc_explain.specs.Spelling.{near_text, nearest}
+use Rattle.jc_explain.specs.Policy.{policy_line}
+use Rattle.jc_explain.specs.Shape.{script_shape}
+use Rattle.jc_explain.specs.Spelling.{nearest}
 use Rattle.jc_explain.specs.Stranger.{is_known}
-use Rattle.jc_explain.specs.Words.{script_members, script_words, script_allowed}
+use Rattle.jc_explain.specs.Twice.{twice_line}
+use Rattle.jc_explain.specs.Words.{ops, script_members, script_words, script_allowed}
 
 -- the piece at this place, where the first is at n
 abbrev pub piece_from : ℕ → ℕ → List (List ℕ) → Option (List ℕ)
@@ -35,16 +39,33 @@ column_line line column why = codes "  line " ++ (decimal line ++ (codes ", colu
 abbrev pub TellsColumn : ℕ → List ℕ → Type 0
 TellsColumn line text = (column : ℕ) × (why : List ℕ) × (text ≡ column_line line column why)
 
+-- and what the whole script looks like
+abbrev pub TellsNotJson : List ℕ → ℕ → List ℕ → Type 0
+TellsNotJson bytes line text = (place : List ℕ) × TellsColumn line place × (text ≡ place ++ script_shape bytes)
+
 abbrev pub object_line : Data → List ℕ
 object_line d = codes "  the line is " ++ (json_shown d ++ codes "; it has to be an object\n")
 
--- the word nearest to a value that is a text
-abbrev pub near_json_value : Data → List (List ℕ) → Option (List ℕ)
-near_json_value d words = near_text words (as_str d)
+-- the op that a method of JCache's is, else the nearest of the words
+abbrev pub or_nearest : Option (List ℕ) → List ℕ → List (List ℕ) → Option (List ℕ)
+or_nearest None text words = nearest text words
+or_nearest (Some op) text words = Some op
+
+abbrev pub near_word : Member → List ℕ → List (List ℕ) → Option (List ℕ)
+near_word Op text words = or_nearest (op_of_method text) text words
+near_word _ text words = nearest text words
+
+-- what is asked about a value that is a text
+abbrev pub value_suggestion_by : List (List ℕ) → Member → Option (List ℕ) → List ℕ
+value_suggestion_by names m None = []
+value_suggestion_by names m (Some text) = suggestion (near_word m text (script_words names m))
+
+abbrev pub value_suggestion : List (List ℕ) → Member → Data → List ℕ
+value_suggestion names m d = value_suggestion_by names m (as_str d)
 
 -- a member as it is, and as it has to be; the names are those of the configuration's caches
 abbrev pub json_value_line : List (List ℕ) → Member → Data → List ℕ
-json_value_line names m d = member_line (member_name m) (json_shown d) (script_allowed m) (suggestion (near_json_value d (script_words names m)))
+json_value_line names m d = member_line (member_name m) (json_shown d) (script_allowed m) (value_suggestion names m d)
 
 -- the member nearest to one that no op has
 abbrev pub near_other : List ℕ → Option (List ℕ)
@@ -77,12 +98,23 @@ names_line names =
     if length names == 0 then plain_line (codes "the configuration has no caches") else
     (if nat_lt 16 (length names) then codes "  the configuration has " ++ (decimal (length names) ++ codes " caches\n") else codes "  the configuration has the caches" ++ (names_text names ++ codes "\n"))
 
-abbrev pub further : List (List ℕ) → Member → List ℕ
-further names Cache = names_line names
-further names _ = []
+abbrev pub ops_line : List ℕ
+ops_line = codes "  the ops are" ++ (names_text ops ++ codes "\n")
+
+abbrev pub line_policy : Data → List ℕ
+line_policy line = policy_line (is_some (get (codes "expiry") line)) (is_some (get (codes "duration") line))
+
+-- at a cache the names that there are, at an op all ops, at keys the one that is there twice
+abbrev pub further : List (List ℕ) → Member → Data → List ℕ
+further names Cache line = names_line names
+further names Op line = ops_line
+further names Duration line = line_policy line
+further names Keys line = twice_line false (get (codes "ks") line)
+further names Pairs line = twice_line true (get (codes "kvs") line)
+further names _ line = []
 
 abbrev pub bad_lines : List (List ℕ) → Member → Data → List ℕ
-bad_lines names m line = json_member_lines names m line ++ further names m
+bad_lines names m line = json_member_lines names m line ++ further names m line
 
 -- of a line that is JSON
 abbrev pub lines_at : (Data → List ℕ) → Option Data → List ℕ
@@ -95,7 +127,7 @@ too_long_line = plain_line (codes "at most 8388608 bytes are read")
 -- the lines that explain a fault of these bytes
 abbrev pub TellsScriptFault : List ℕ → List (List ℕ) → ScriptFault → List ℕ → Type 0
 TellsScriptFault bytes names TooLong text = text ≡ too_long_line
-TellsScriptFault bytes names (NotJson n) text = TellsColumn n text
+TellsScriptFault bytes names (NotJson n) text = TellsNotJson bytes n text
 TellsScriptFault bytes names (NotObject n) text = text ≡ lines_at object_line (json_at n bytes)
 TellsScriptFault bytes names (Bad n m) text = text ≡ lines_at (bad_lines names m) (json_at n bytes)
 TellsScriptFault bytes names OutOfMemory text = text ≡ []

@@ -66,7 +66,7 @@ abbrev pub script_allowed : ScriptMember → List ℕ
 script_allowed script.Session = codes "a whole number in 0..=63"
 script_allowed script.Cache = codes "the name of a cache that is live at this line, or of one to be created"
 script_allowed script.At = codes "a whole number of milliseconds from 0"
-script_allowed script.Op = codes "a string, the name of an op, all of which --help lists"
+script_allowed script.Op = codes "a string, the name of an op"
 script_allowed script.Capacity = codes "a whole number in 1..=65536"
 script_allowed script.Expiry = codes "one of \"eternal\", \"created\", \"accessed\", \"modified\", \"touched\""
 script_allowed script.Duration = codes "a whole number of milliseconds from 0, and left out where expiry is \"eternal\""

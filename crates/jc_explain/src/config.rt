@@ -1,16 +1,20 @@
 //! Explanations of a configuration's faults.
 ghost use Rattle.std.specs.Prelude.{◌≡◌, ◌≤◌, ◌-◌, IfOk, codes, length, take, option_map, string_bytes};
 ghost use Rattle.toml.specs.View.{view, table_view};
-ghost use Rattle.toml.specs.Data.{get_member};
+ghost use Rattle.toml.specs.Data.{get, get_member};
 ghost use Rattle.jc_config.specs.Config.{document_of};
-ghost use Rattle.jc_explain.specs.Config.{place_line, TellsPlace, table_at, stranger_line, entry_lines, near_toml_value, toml_value_line, toml_member_lines, table_lines, duplicate_lines, at_table, of_document, no_caches_line, TellsConfigFault};
+ghost use Rattle.jc_explain.specs.Config.{place_line, TellsPlace, TellsNotToml, table_at, stranger_line, entry_lines, near_toml_value, toml_value_line, toml_member_lines, table_policy, table_lines, duplicate_lines, duplicate_lines_by, at_table, of_document, no_caches_line, TellsConfigFault};
+ghost use Rattle.jc_explain.specs.Together.{sum_lines};
 ghost use Rattle.jc_explain.specs.Words.{word_lent, words_lent};
 
 use crate::found::show_toml;
-use crate::lines::{member_line, missing_line, plain_line, show_text, suggest, unknown_line};
+use crate::lines::{join, member_line, missing_line, plain_line, show_text, suggest, unknown_line};
 use crate::place::place_of;
+use crate::policy::policy_line;
+use crate::shape::config_shape;
 use crate::spelling::nearest;
 use crate::stranger::{stranger_in, stranger_of};
+use crate::together::{first_line, sum_lines};
 use crate::words::{config_allowed, config_members, config_words};
 use jc_config::{ConfigFault, Member};
 use std::alloc::{AllocError, Global};
@@ -34,7 +38,7 @@ fn tell_place(alloc: Global, bytes: &[u8], at: usize, why: &str) -> Result<Strin
 }
 
 /// Where the bytes cease to be a TOML document, and what the reader of TOML says of it.
-fn not_toml(alloc: Global, bytes: &[u8]) -> Result<String, AllocError>
+fn not_toml_at(alloc: Global, bytes: &[u8]) -> Result<String, AllocError>
     ensures { IfOk result (λ s. TellsPlace bytes.now (string_bytes s)) }
 {
     match std::str::from_utf8(bytes) {
@@ -49,8 +53,17 @@ fn not_toml(alloc: Global, bytes: &[u8]) -> Result<String, AllocError>
     }
 }
 
+/// The same, and what the whole configuration looks like.
+fn not_toml(alloc: Global, bytes: &[u8]) -> Result<String, AllocError>
+    ensures { IfOk result (λ s. TellsNotToml bytes.now (string_bytes s)) }
+{
+    let place = not_toml_at(alloc, bytes)?;
+    let shape = config_shape(alloc, bytes)?;
+    join(alloc, &place, &shape)
+}
+
 /// The TOML document that these bytes are, if they are one.
-fn document_of(alloc: Global, bytes: &[u8]) -> Result<Option<Table>, AllocError>
+pub(crate) fn document_of(alloc: Global, bytes: &[u8]) -> Result<Option<Table>, AllocError>
     ensures { IfOk result (λ o. option_map table_view o ≡ document_of bytes.now) }
 {
     match std::str::from_utf8(bytes) {
@@ -68,7 +81,7 @@ fn document_of(alloc: Global, bytes: &[u8]) -> Result<Option<Table>, AllocError>
     }
 }
 
-fn cache_entry(document: &Table) -> Option<&Value>
+pub(crate) fn cache_entry(document: &Table) -> Option<&Value>
     ensures { option_map (λ v. view v.now) result ≡
         get_member (codes "cache") (table_view document.now) }
 {
@@ -162,6 +175,23 @@ fn member_lines(alloc: Global, table: &Value, member: Member) -> Result<String, 
     }
 }
 
+fn table_policy(alloc: Global, table: &Value) -> Result<String, AllocError>
+    ensures { IfOk result (λ s. string_bytes s ≡ table_policy (view table.now)) }
+{
+    let has_expiry = table.get("expiry").is_some();
+    let has_duration = table.get("duration").is_some();
+    policy_line(alloc, has_expiry, has_duration)
+}
+
+/// A duration that is bad, and what the policy asks of it.
+fn duration_lines(alloc: Global, table: &Value) -> Result<String, AllocError>
+    ensures { IfOk result (λ s. string_bytes s ≡ table_lines Member.Duration (view table.now)) }
+{
+    let lines = member_lines(alloc, table, Member::Duration)?;
+    let policy = table_policy(alloc, table)?;
+    format!(in alloc; "{lines}{policy}")
+}
+
 /// What is bad in a table.
 fn table_lines(alloc: Global, table: &Value, member: Member) -> Result<String, AllocError>
     ensures { IfOk result (λ s. string_bytes s ≡ table_lines member (view table.now)) }
@@ -171,10 +201,10 @@ fn table_lines(alloc: Global, table: &Value, member: Member) -> Result<String, A
             let stranger = stranger_of(config_members(), table);
             stranger_line(alloc, stranger, config_members())
         }
+        Member::Duration => duration_lines(alloc, table),
         Member::Name
         | Member::Capacity
         | Member::Expiry
-        | Member::Duration
         | Member::Loader
         | Member::Writer
         | Member::Processors
@@ -182,9 +212,9 @@ fn table_lines(alloc: Global, table: &Value, member: Member) -> Result<String, A
     }
 }
 
-/// The name that an earlier table has too.
-fn duplicate_lines(alloc: Global, table: &Value) -> Result<String, AllocError>
-    ensures { IfOk result (λ s. string_bytes s ≡ duplicate_lines (view table.now)) }
+fn name_line(alloc: Global, table: &Value) -> Result<String, AllocError>
+    ensures { IfOk result (λ s. string_bytes s
+        ≡ duplicate_lines_by (get (codes "name") (view table.now))) }
 {
     match table.get("name") {
         Some(name) => {
@@ -201,6 +231,16 @@ fn duplicate_lines(alloc: Global, table: &Value) -> Result<String, AllocError>
     }
 }
 
+/// The name that an earlier table has too, and which.
+fn duplicate_lines(alloc: Global, document: &Table, table: &Value) -> Result<String, AllocError>
+    ensures { IfOk result (λ s. string_bytes s
+        ≡ duplicate_lines (table_view document.now) (view table.now)) }
+{
+    let name = name_line(alloc, table)?;
+    let first = first_line(alloc, document, table)?;
+    format!(in alloc; "{name}{first}")
+}
+
 fn at_table(
     alloc: Global,
     bytes: &[u8],
@@ -215,7 +255,7 @@ fn at_table(
     match table_at(&document, cache) {
         Some(table) => match member {
             Some(member) => table_lines(alloc, table, member),
-            None => duplicate_lines(alloc, table),
+            None => duplicate_lines(alloc, &document, table),
         },
         None => Ok(String::new(alloc)),
     }
@@ -226,6 +266,15 @@ fn unknown_entry(alloc: Global, bytes: &[u8]) -> Result<String, AllocError>
 {
     match document_of(alloc, bytes)? {
         Some(document) => entry_lines(alloc, &document),
+        None => Ok(String::new(alloc)),
+    }
+}
+
+fn total_lines(alloc: Global, bytes: &[u8]) -> Result<String, AllocError>
+    ensures { IfOk result (λ s. string_bytes s ≡ of_document sum_lines (document_of bytes.now)) }
+{
+    match document_of(alloc, bytes)? {
+        Some(document) => sum_lines(alloc, &document),
         None => Ok(String::new(alloc)),
     }
 }
@@ -241,9 +290,7 @@ pub fn explain_config(alloc: Global, bytes: &[u8], fault: ConfigFault) -> Result
         ConfigFault::Bad { cache, member } => at_table(alloc, bytes, cache, Some(member)),
         ConfigFault::TooManyCaches => plain_line(alloc, "at most 1024 tables [[cache]] are read"),
         ConfigFault::DuplicateName { cache } => at_table(alloc, bytes, cache, None),
-        ConfigFault::TotalCapacity => {
-            plain_line(alloc, "all capacities together are at most 262144")
-        }
+        ConfigFault::TotalCapacity => total_lines(alloc, bytes),
         ConfigFault::OutOfMemory => Ok(String::new(alloc)),
     }
 }

@@ -47,17 +47,20 @@ pub fn show_json(alloc: Global, value: &serde_json::Value) -> Result<String, All
     if let Some(number) = value.as_u64() {
         return format!(in alloc; "{number}");
     }
+    if let Some(number) = value.as_i64() {
+        return format!(in alloc; "{number}");
+    }
     String::from_str(alloc, json_kind(value))
 }
 
-/// The kind of a value that is neither a text nor a whole number from 0.
+/// The kind of a value that is neither a text nor a whole number.
 fn json_kind(value: &serde_json::Value) -> &'static str
     ensures { result.now ≡ json_kind (json_view value.now) }
 {
     if value.is_boolean() {
         "true or false"
     } else if value.is_number() {
-        "a number below 0 or with a fraction"
+        "a number with a fraction"
     } else if value.is_array() {
         "a list"
     } else if value.is_object() {

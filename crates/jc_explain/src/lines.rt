@@ -1,5 +1,5 @@
 //! The lines of an explanation, each below the fault's line and two blanks in.
-ghost use Rattle.std.specs.Prelude.{◌≡◌, IfOk, string_bytes};
+ghost use Rattle.std.specs.Prelude.{◌≡◌, ◌++◌, IfOk, string_bytes};
 ghost use Rattle.json.specs.Print.{quoted};
 ghost use Rattle.jc_explain.specs.Lines.{text_shown, suggestion, member_line, missing_line, unknown_line, no_member_line, plain_line};
 ghost use Rattle.jc_explain.specs.Words.{word_lent};
@@ -74,4 +74,11 @@ pub fn plain_line(alloc: Global, text: &str) -> Result<String, AllocError>
     ensures { IfOk result (λ s. string_bytes s ≡ plain_line text.now) }
 {
     format!(in alloc; "  {text}\n")
+}
+
+/// One text behind the other.
+pub fn join(alloc: Global, first: &String, second: &String) -> Result<String, AllocError>
+    ensures { IfOk result (λ s. string_bytes s ≡ string_bytes first.now ++ string_bytes second.now) }
+{
+    format!(in alloc; "{first}{second}")
 }

@@ -1,13 +1,13 @@
 //! Members of a script's line that its op does not have.
 ghost use Rattle.std.specs.Prelude.{◌≡◌};
 ghost use Rattle.serde_json.specs.View.{view, members_view};
-ghost use Rattle.jc_strict.specs.Stray.{op_of};
+ghost use Rattle.jc_script.specs.Stray.{op_of};
 ghost use Rattle.jc_explain.specs.Other.{op_has_member, other_of, other_in};
 ghost use Rattle.jc_explain.specs.Words.{word_lent};
 
 use crate::stranger::is_known;
 use crate::words::script_members;
-use jc_strict::has_member;
+use jc_script::has_member;
 use serde_json::{Map, Value};
 
 /// Whether the op has the member; where there is no op, whether any has it.

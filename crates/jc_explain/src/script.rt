@@ -3,15 +3,22 @@ ghost use Rattle.std.specs.Prelude.{◌≡◌, IfOk, map, option_map, string_byt
 ghost use Rattle.std.specs.List.{slice_split};
 ghost use Rattle.serde_json.specs.View.{view};
 ghost use Rattle.jc_script.specs.Script.{is_feed};
-ghost use Rattle.jc_explain.specs.Script.{piece_at, json_at, column_line, TellsColumn, object_line, near_json_value, json_value_line, near_other, other_line, json_member_lines, names_line, names_text, further, bad_lines, lines_at, too_long_line, TellsScriptFault};
-ghost use Rattle.jc_explain.specs.Words.{word_lent, words_lent};
+ghost use Rattle.jc_explain.specs.Script.{piece_at, json_at, column_line, TellsColumn, object_line, near_word, value_suggestion, json_value_line, near_other, other_line, json_member_lines, names_line, names_text, ops_line, line_policy, further, bad_lines, lines_at, too_long_line, TellsNotJson, TellsScriptFault};
+ghost use Rattle.jc_explain.specs.Lines.{suggestion};
+ghost use Rattle.jc_explain.specs.Words.{ops, script_words, word_lent, words_lent};
 
 use crate::found::show_json;
-use crate::lines::{member_line, missing_line, no_member_line, plain_line, show_text, suggest};
+use crate::lines::{
+    join, member_line, missing_line, no_member_line, plain_line, show_text, suggest,
+};
+use crate::methods::op_of_method;
 use crate::other::other_in;
+use crate::policy::policy_line;
+use crate::shape::script_shape;
 use crate::spelling::nearest;
 use crate::stranger::is_known;
-use crate::words::{script_allowed, script_members, script_words};
+use crate::twice::twice_line;
+use crate::words::{ops, policies, script_allowed, script_members};
 use jc_script::{Member, ScriptFault, read_json};
 use serde_json::Value;
 use std::alloc::{AllocError, Global};
@@ -24,7 +31,11 @@ fn pieces(alloc: Global, bytes: &[u8]) -> Result<Vec<&[u8]>, AllocError>
 }
 
 /// The line with this number, counted from 1.
-fn piece_at(alloc: Global, bytes: &[u8], line: usize) -> Result<Option<&[u8]>, AllocError>
+pub(crate) fn piece_at(
+    alloc: Global,
+    bytes: &[u8],
+    line: usize,
+) -> Result<Option<&[u8]>, AllocError>
     ensures { IfOk result (λ o. option_map (λ piece. piece.now) o ≡ piece_at line bytes.now) }
 {
     let pieces = pieces(alloc, bytes)?;
@@ -70,7 +81,7 @@ fn end_of_json(alloc: Global, piece: &[u8]) -> Result<(usize, &'static str), All
 }
 
 /// Where the line ceases to be JSON.
-fn not_json(alloc: Global, bytes: &[u8], line: usize) -> Result<String, AllocError>
+fn not_json_at(alloc: Global, bytes: &[u8], line: usize) -> Result<String, AllocError>
     ensures { IfOk result (λ s. TellsColumn line (string_bytes s)) }
 {
     let (column, why) = match piece_at(alloc, bytes, line)? {
@@ -78,6 +89,15 @@ fn not_json(alloc: Global, bytes: &[u8], line: usize) -> Result<String, AllocErr
         None => (1, "read again, it is not there"),
     };
     column_line(alloc, line, column, why)
+}
+
+/// The same, and what the whole script looks like.
+fn not_json(alloc: Global, bytes: &[u8], line: usize) -> Result<String, AllocError>
+    ensures { IfOk result (λ s. TellsNotJson bytes.now line (string_bytes s)) }
+{
+    let place = not_json_at(alloc, bytes, line)?;
+    let shape = script_shape(alloc, bytes)?;
+    join(alloc, &place, &shape)
 }
 
 /// A line that is JSON and no object.
@@ -88,18 +108,47 @@ fn object_line(alloc: Global, value: &Value) -> Result<String, AllocError>
     format!(in alloc; "  the line is {shown}; it has to be an object\n")
 }
 
-/// The word nearest to a member's text, where the member has few words.
-fn near_value<'a>(
+/// The op that a method of JCache's is, else the nearest op.
+fn near_op(alloc: Global, text: &str) -> Result<Option<&'static str>, AllocError>
+    ensures { IfOk result (λ near. word_lent near ≡ near_word Member.Op text.now ops) }
+{
+    match op_of_method(text) {
+        Some(op) => Ok(Some(op)),
+        None => nearest(alloc, text, ops()),
+    }
+}
+
+/// What is asked about a member's text, where the member has few words.
+fn suggest_word(
+    alloc: Global,
+    text: &str,
+    member: Member,
+    names: &[&str],
+) -> Result<String, AllocError>
+    ensures { IfOk result (λ s. string_bytes s
+        ≡ suggestion (near_word member text.now (script_words (words_lent names.now) member))) }
+{
+    match member {
+        Member::Cache => suggest(alloc, nearest(alloc, text, names)?),
+        Member::Op => suggest(alloc, near_op(alloc, text)?),
+        Member::Expiry => suggest(alloc, nearest(alloc, text, policies())?),
+        _ => suggest(alloc, nearest(alloc, text, &[])?),
+    }
+}
+
+/// The same of a member that is a text.
+fn suggest_value(
     alloc: Global,
     value: &Value,
-    words: &[&'a str],
-) -> Result<Option<&'a str>, AllocError>
-    ensures { IfOk result (λ near.
-        word_lent near ≡ near_json_value (view value.now) (words_lent words.now)) }
+    member: Member,
+    names: &[&str],
+) -> Result<String, AllocError>
+    ensures { IfOk result (λ s. string_bytes s
+        ≡ value_suggestion (words_lent names.now) member (view value.now)) }
 {
     match value.as_str() {
-        Some(text) => nearest(alloc, text, words),
-        None => Ok(None),
+        Some(text) => suggest_word(alloc, text, member, names),
+        None => Ok(String::new(alloc)),
     }
 }
 
@@ -113,8 +162,7 @@ fn value_line(
     ensures { IfOk result (λ s.
         string_bytes s ≡ json_value_line (words_lent names.now) member (view value.now)) }
 {
-    let near = near_value(alloc, value, script_words(member, names))?;
-    let suggestion = suggest(alloc, near)?;
+    let suggestion = suggest_value(alloc, value, member, names)?;
     let shown = show_json(alloc, value)?;
     member_line(
         alloc,
@@ -194,12 +242,38 @@ fn names_line(alloc: Global, names: &[&str]) -> Result<String, AllocError>
     format!(in alloc; "  the configuration has the caches{joined}\n")
 }
 
-/// What is told besides: at a cache the names that there are.
-fn further(alloc: Global, member: Member, names: &[&str]) -> Result<String, AllocError>
-    ensures { IfOk result (λ s. string_bytes s ≡ further (words_lent names.now) member) }
+/// All ops.
+fn ops_line(alloc: Global) -> Result<String, AllocError>
+    ensures { IfOk result (λ s. string_bytes s ≡ ops_line) }
+{
+    let joined = join_names(alloc, ops())?;
+    format!(in alloc; "  the ops are{joined}\n")
+}
+
+fn line_policy(alloc: Global, line: &Value) -> Result<String, AllocError>
+    ensures { IfOk result (λ s. string_bytes s ≡ line_policy (view line.now)) }
+{
+    let has_expiry = line.get("expiry").is_some();
+    let has_duration = line.get("duration").is_some();
+    policy_line(alloc, has_expiry, has_duration)
+}
+
+/// What is told besides: at a cache the names that there are, at an op all ops, at keys the one that is there twice.
+fn further(
+    alloc: Global,
+    line: &Value,
+    member: Member,
+    names: &[&str],
+) -> Result<String, AllocError>
+    ensures { IfOk result (λ s.
+        string_bytes s ≡ further (words_lent names.now) member (view line.now)) }
 {
     match member {
         Member::Cache => names_line(alloc, names),
+        Member::Op => ops_line(alloc),
+        Member::Duration => line_policy(alloc, line),
+        Member::Keys => twice_line(alloc, line.get("ks"), false),
+        Member::Pairs => twice_line(alloc, line.get("kvs"), true),
         _ => Ok(String::new(alloc)),
     }
 }
@@ -214,7 +288,7 @@ fn bad_lines(
         string_bytes s ≡ bad_lines (words_lent names.now) member (view line.now)) }
 {
     let lines = member_lines(alloc, line, member, names)?;
-    let further = further(alloc, member, names)?;
+    let further = further(alloc, line, member, names)?;
     format!(in alloc; "{lines}{further}")
 }
 

@@ -1,6 +1,6 @@
 //! The words that are known, and what each member has to be.
 ghost use Rattle.std.specs.Prelude.{◌≡◌};
-ghost use Rattle.jc_explain.specs.Words.{config_members, script_members, config_words, script_words, config_allowed, script_allowed, words_lent};
+ghost use Rattle.jc_explain.specs.Words.{config_members, script_members, ops, policies, config_words, config_allowed, script_allowed, words_lent};
 
 use jc_config::Member as ConfigMember;
 use jc_script::Member as ScriptMember;
@@ -36,49 +36,50 @@ pub fn config_words(member: ConfigMember) -> &'static [&'static str]
     ensures { words_lent result.now ≡ config_words member }
 {
     match member {
-        ConfigMember::Expiry => &["eternal", "created", "accessed", "modified", "touched"],
+        ConfigMember::Expiry => policies(),
         ConfigMember::Loader => &["echo"],
         ConfigMember::Writer => &["check"],
         _ => &[],
     }
 }
 
-/// The words that a member of a script's line may be, where they are few; the names are those of the configuration's
-/// caches.
-pub fn script_words<'a>(member: ScriptMember, names: &'a [&'a str]) -> &'a [&'a str]
-    ensures { words_lent result.now ≡ script_words (words_lent names.now) member }
+/// The names of all ops.
+pub fn ops() -> &'static [&'static str]
+    ensures { words_lent result.now ≡ ops }
 {
-    match member {
-        ScriptMember::Cache => names,
-        ScriptMember::Op => &[
-            "get",
-            "get_all",
-            "contains",
-            "put",
-            "get_and_put",
-            "put_if_absent",
-            "replace",
-            "replace_if",
-            "get_and_replace",
-            "remove",
-            "remove_if",
-            "get_and_remove",
-            "invoke",
-            "invoke_all",
-            "put_all",
-            "remove_keys",
-            "remove_all",
-            "clear",
-            "load_all",
-            "entries",
-            "stats",
-            "clear_stats",
-            "create",
-            "destroy",
-        ],
-        ScriptMember::Expiry => &["eternal", "created", "accessed", "modified", "touched"],
-        _ => &[],
-    }
+    &[
+        "get",
+        "get_all",
+        "contains",
+        "put",
+        "get_and_put",
+        "put_if_absent",
+        "replace",
+        "replace_if",
+        "get_and_replace",
+        "remove",
+        "remove_if",
+        "get_and_remove",
+        "invoke",
+        "invoke_all",
+        "put_all",
+        "remove_keys",
+        "remove_all",
+        "clear",
+        "load_all",
+        "entries",
+        "stats",
+        "clear_stats",
+        "create",
+        "destroy",
+    ]
+}
+
+/// The names of all policies.
+pub fn policies() -> &'static [&'static str]
+    ensures { words_lent result.now ≡ policies }
+{
+    &["eternal", "created", "accessed", "modified", "touched"]
 }
 
 /// What a member of a cache's table has to be.
@@ -113,7 +114,7 @@ pub fn script_allowed(member: ScriptMember) -> &'static str
         ScriptMember::Cache =>
             "the name of a cache that is live at this line, or of one to be created",
         ScriptMember::At => "a whole number of milliseconds from 0",
-        ScriptMember::Op => "a string, the name of an op, all of which --help lists",
+        ScriptMember::Op => "a string, the name of an op",
         ScriptMember::Capacity => "a whole number in 1..=65536",
         ScriptMember::Expiry => {
             "one of \"eternal\", \"created\", \"accessed\", \"modified\", \"touched\""

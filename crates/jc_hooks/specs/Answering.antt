@@ -1,5 +1,5 @@
 -- What callbacks answer to a request, and how that leaves them.
-use Rattle.std.specs.Prelude.{◌≡◌, ℕ, IsTrue, List, [], ◌∷◌, slice_get, Option, Result}
+use Rattle.std.specs.Prelude.{◌≡◌, ℕ, IsTrue, List, [], ◌∷◌, slice_get, Option, Result, ⊤}
 use Rattle.jc_model.specs.declared.call.Answer.{Answer}
 use Rattle.jc_model.specs.declared.call.Answer.TheVariants.{Told}
 use Rattle.jc_model.specs.declared.call.Notice.{Notice}
@@ -24,6 +24,12 @@ abbrev pub AsksWriter : {W : Type 0} → (W → List (Request × Answer) → Typ
 AsksWriter may old new (Write key value) a = GivesAnswers may old new ((Write key value, a) ∷ [])
 AsksWriter may old new (Delete key) a = GivesAnswers may old new ((Delete key, a) ∷ [])
 AsksWriter may old new _ a = new ≡ old
+
+-- the writer is left alone, unless the request is one of its own
+abbrev pub SparesWriter : {W : Type 0} → Option W → Option W → Request → Type 0
+SparesWriter old new (Write key value) = ⊤
+SparesWriter old new (Delete key) = ⊤
+SparesWriter old new _ = new ≡ old
 
 -- the listeners were told what the request tells, and are left alone by one that tells nothing
 abbrev pub TellsNoticesOf : {K : Type 0} → (K → List Notice → List ℕ) → List K → List K → Request → Type 0

@@ -1,10 +1,10 @@
 //! The answer of a cache's callbacks to one request.
 ghost use Rattle.std.specs.Prelude.{◌≡◌, IsTrue, IfOk, OnOk, OnErr};
 ghost use Rattle.jc_model.specs.Run.{is_answer_to};
-ghost use Rattle.jc_hooks.specs.Answering.{IsStatedAnswer, AsksWriter, TellsNoticesOf};
+ghost use Rattle.jc_hooks.specs.Answering.{IsStatedAnswer, AsksWriter, SparesWriter, TellsNoticesOf};
 
 use crate::asking::{ask_loader, ask_processor, ask_to_delete, ask_to_write};
-use crate::hook::Hearer;
+use crate::hook::FilteredListener;
 use crate::loader::Loader;
 use crate::processor::Processor;
 use crate::telling::tell_all;
@@ -15,7 +15,7 @@ use std::alloc::Global;
 
 /// Has a request answered by the callback that it is for, or the listeners told what it tells. A callback that is not
 /// there fails.
-pub fn answer_request<L: Loader, W: Writer, P: Processor, K: Hearer>(
+pub fn answer_request<L: Loader, W: Writer, P: Processor, K: FilteredListener>(
     alloc: Global,
     loader: &Option<L>,
     processors: &[P],
@@ -27,6 +27,7 @@ pub fn answer_request<L: Loader, W: Writer, P: Processor, K: Hearer>(
     ensures stated { IfOk result (IsStatedAnswer L.load_of P.verdict_of
         loader.now processors.now request.now) }
     ensures asked { IfOk result (AsksWriter W.may writer.old writer.new request.now) }
+    ensures spared { OnErr result (SparesWriter writer.old writer.new request.now) }
     ensures told { OnOk result (TellsNoticesOf K.state_after
         listeners.old listeners.new request.now) }
     ensures untold { OnErr result (listeners.new ≡ listeners.old) }

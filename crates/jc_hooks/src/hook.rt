@@ -9,7 +9,7 @@ use jc_model::call::Notice;
 /// What a cache's list of listeners holds: it hears of each change of an entry, in order. What it states for a list of
 /// notices it stated before for the notice that it hears followed by the list. It takes no memory and cannot fail.
 /// `ListenerHook` alone hears, so no listener stands in a list without its filter.
-pub trait Hearer: Drop + Send {
+pub trait FilteredListener: Drop + Send {
     ghost use Rattle.std.specs.Prelude.{ℕ, List};
     ghost use Rattle.jc_model.specs.declared.call.Notice.{Notice};
     ghost use Rattle.jc_hooks.specs.Asking.{MovesOnBy};
@@ -43,7 +43,7 @@ impl<K> ListenerHook<AdmitAll, K> {
     }
 }
 
-impl<F: Filter, K: Listener> Hearer for ListenerHook<F, K> {
+impl<F: Filter, K: Listener> FilteredListener for ListenerHook<F, K> {
     ghost use Rattle.std.specs.Prelude.{◌≡◌, true, false};
     ghost use Rattle.jc_hooks.specs.Asking.{hook_state, MovesOnBy};
 

@@ -14,14 +14,14 @@ mod filter;
 mod hook;
 mod listener;
 mod loader;
+mod no_hooks;
 mod processor;
 pub mod program;
 mod responder;
 mod suiting;
 mod tally;
 mod telling;
-mod turn;
-mod unasked;
+mod telling_progress;
 mod writer;
 
 pub use answer::{load_answer, process_answer, write_answer};
@@ -32,14 +32,14 @@ pub use closure::{
     ClosureFilter, ClosureLoader, ClosureProcessor, FilterClosure, LoadClosure, ProcessClosure,
 };
 pub use filter::{AdmitAll, Filter};
-pub use hook::{Hearer, ListenerHook};
+pub use hook::{FilteredListener, ListenerHook};
 pub use listener::Listener;
 pub use loader::{Loaded, Loader};
+pub use no_hooks::{NoHooks, PlaceholderHooks, placeholder_hooks};
 pub use processor::Processor;
 pub use responder::Responder;
 pub use suiting::{first_unsuited, suits};
 pub use tally::{Tally, TallyListener};
 pub use telling::tell_all;
-pub use turn::Turn;
-pub use unasked::{Unasked, UnaskedHooks, hooks_by_hand};
+pub use telling_progress::TellingProgress;
 pub use writer::Writer;

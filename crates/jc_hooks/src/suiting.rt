@@ -3,7 +3,7 @@ ghost use Rattle.std.specs.Prelude.{◌≡◌, ◌≤◌, ◌↔◌, IsTrue, IfS
 ghost use Rattle.jc_hooks.specs.Suits.{Suits, AllSuit, DifferFirst};
 
 use crate::cache_hooks::CacheHooks;
-use crate::hook::Hearer;
+use crate::hook::FilteredListener;
 use crate::loader::Loader;
 use crate::processor::Processor;
 use crate::writer::Writer;
@@ -25,7 +25,7 @@ fn want_alike<P: Processor>(wanted: &[bool], processors: &[P]) -> bool
 }
 
 /// Whether a cache has the callbacks that its configuration names, and no others.
-pub fn suits<L: Loader, W: Writer, P: Processor, K: Hearer>(
+pub fn suits<L: Loader, W: Writer, P: Processor, K: FilteredListener>(
     cache: &CacheConfig,
     hooks: &CacheHooks<L, W, P, K>,
 ) -> bool
@@ -38,7 +38,7 @@ pub fn suits<L: Loader, W: Writer, P: Processor, K: Hearer>(
 }
 
 /// The first place at which the callbacks are not those that the configuration names, or one of the two is missing.
-pub fn first_unsuited<L: Loader, W: Writer, P: Processor, K: Hearer>(
+pub fn first_unsuited<L: Loader, W: Writer, P: Processor, K: FilteredListener>(
     configs: &[CacheConfig],
     hooks: &[CacheHooks<L, W, P, K>],
 ) -> Option<usize>

@@ -3,12 +3,16 @@ ghost use Rattle.std.specs.Prelude.{◌≡◌, ◌<◌, ◌+◌, ◌^◌, ◌∷
 ghost use Rattle.jc_hooks.specs.Asking.{TellsAll};
 ghost use Rattle.jc_hooks.specs.Turns.{HasTold};
 
-use crate::hook::Hearer;
-use crate::turn::{Turn, tell_next};
+use crate::hook::FilteredListener;
+use crate::telling_progress::{TellingProgress, tell_next};
 use jc_model::call::Notice;
 
 /// Tells a notice to the listeners, from the first registered to the last.
-fn tell<K: Hearer>(listeners: &mut [K], turn: Turn<K>, notice: &Notice) -> Turn<K>
+fn tell<K: FilteredListener>(
+    listeners: &mut [K],
+    turn: TellingProgress<K>,
+    notice: &Notice,
+) -> TellingProgress<K>
     requires starts { HasTold turn (length listeners.old) turn.notices }
     requires fits { turn.notices + 1 < 2 ^ 64 }
     ensures told { TellsAll K.state_after listeners.old listeners.new (notice.now ∷ []) }
@@ -23,11 +27,11 @@ fn tell<K: Hearer>(listeners: &mut [K], turn: Turn<K>, notice: &Notice) -> Turn<
 
 /// Tells each notice to all listeners before the next one, in the order in which they were registered. It hands out the
 /// turn that it came to, which says so.
-pub fn tell_all<K: Hearer>(listeners: &mut [K], notices: &[Notice]) -> Turn<K>
+pub fn tell_all<K: FilteredListener>(listeners: &mut [K], notices: &[Notice]) -> TellingProgress<K>
     ensures told { TellsAll K.state_after listeners.old listeners.new notices.now }
     ensures order { HasTold result (length listeners.old) (length notices.now) }
 {
-    let mut turn = Turn::first(listeners.len());
+    let mut turn = TellingProgress::first(listeners.len());
     for notice in notices {
         turn = tell(listeners, turn, notice);
     }

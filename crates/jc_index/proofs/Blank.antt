@@ -7,8 +7,8 @@ use Rattle.jc_place.specs.declared.place.Place.{Place}
 use Rattle.jc_cuckoo.specs.declared.held.Held.{Held}
 use Rattle.jc_rows.specs.Images.{Image, Shown}
 use Rattle.jc_cuckoo.specs.Images.{IsImage, image_of, shown_row}
-use Rattle.jc_stripes.proofs.Comparing.{take_whole}
-use Rattle.jc_stripes.specs.Layout.{content_of, version_count, versions_at}
+use Rattle.jc_index.proofs.Comparing.{take_whole}
+use Rattle.jc_index.specs.StripeLayout.{content_of, version_count, versions_at}
 use Rattle.jc_index.specs.Layout.{bucket_slots, bucket_words, slot_words}
 use Rattle.jc_index.specs.Indexes.{empty_image}
 use Rattle.jc_index.specs.Spelling.{IsCoded, IsSpelt, IsLawful, words_of_slot, words_of_slots, slots_in, words_of_image, image_in}

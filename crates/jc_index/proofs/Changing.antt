@@ -2,15 +2,15 @@
 use Rattle.std.proofs.Common.{◌≡◌, ◌⊎◌, ℕ, zero, suc, ◌+◌, ◌-◌, ◌*◌, ◌/◌, ◌<◌, ◌≤◌, Bool, true, false, List, [], ◌∷◌, ◌++◌, length, take, drop, get_or, set, Option, Some, None, refl, sym, ap, ◌∙◌, subst, inl, ⊎_elim, arith, length-set, length-append, append_assoc, append-nil, add-one}
 use Rattle.std.specs.List.{All}
 use Rattle.std.proofs.Math.Seq.{take-suc}
-use Rattle.jc_stripes.specs.Stripes.{IsOneOf, AreUnderVersions, set_all}
-use Rattle.jc_stripes.specs.Layout.{common, version_count}
+use Rattle.jc_index.specs.Stripes.{IsOneOf, AreUnderVersions, set_all}
+use Rattle.jc_index.specs.StripeLayout.{common, version_count}
 use Rattle.jc_index.specs.Layout.{bucket_slots, bucket_words, slot_place, slot_words, stripe_of, table_words}
 use Rattle.jc_index.specs.Spelling.{IsCoded, IsSpelt, group_of, words_of_slot, words_of_slots, slots_in, words_of_image, image_in}
 use Rattle.jc_rows.specs.Images.{Image, Shown}
 use Rattle.jc_cuckoo.specs.Images.{write_all, written_image}
 use Rattle.jc_index.specs.Batches.{Write, shown_by_write, placed_at, slot_batch, count_batch, is_some, stripes_for}
 use Rattle.jc_index.specs.Versions.{versions_of}
-use Rattle.jc_stripes.proofs.Opening.{length-set_all}
+use Rattle.jc_index.proofs.Opening.{length-set_all}
 use Rattle.jc_index.proofs.Coding.{long_slots, AllCoded, coded_back, back_coded, coded_set, image_set, long_slot}
 use Rattle.jc_index.proofs.Noting.{group_at, group_zero}
 use Rattle.jc_index.proofs.Taking.{few_versions, first_in, second_in, stash_in}

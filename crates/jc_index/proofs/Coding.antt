@@ -7,8 +7,8 @@ use Rattle.jc_model.specs.Key.{bytes_of, first_words, word_at, words_of}
 use Rattle.jc_model.specs.Limits.{key_bytes, key_words}
 use Rattle.jc_model.specs.declared.config.Expiry.{Expiry}
 use Rattle.jc_model.specs.declared.config.Expiry.TheVariants.{Never, At}
-use Rattle.jc_stripes.specs.Stripes.{set_all}
-use Rattle.jc_stripes.proofs.Opening.{taken_more}
+use Rattle.jc_index.specs.Stripes.{set_all}
+use Rattle.jc_index.proofs.Opening.{taken_more}
 use Rattle.jc_rows.specs.Images.{Shown}
 use Rattle.jc_index.specs.Layout.{slot_place, slot_words}
 use Rattle.jc_index.specs.Spelling.{IsCoded, bytes_in, key_of_words, slot_of, slot_in, words_of_slot, words_of_slots, slots_in, never_bit, moment_of}

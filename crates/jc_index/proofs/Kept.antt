@@ -4,8 +4,8 @@ use Rattle.std.specs.List.{All}
 use Rattle.std.proofs.lemmas.Bool.{cases_lt}
 use Rattle.jc_place.specs.Place.{IsTableSize}
 use Rattle.jc_place.specs.declared.place.Place.{Place}
-use Rattle.jc_stripes.specs.declared.lineage.Lineage.{Lineage}
-use Rattle.jc_stripes.specs.Stripes.{Front, last_of}
+use Rattle.jc_index.specs.declared.lineage.Lineage.{Lineage}
+use Rattle.jc_index.specs.Stripes.{Front, last_of}
 use Rattle.jc_rows.specs.Images.{Image, last_image}
 use Rattle.jc_cuckoo.specs.Images.{IsGrowth, grown_image, shown_row}
 use Rattle.jc_cuckoo.specs.declared.held.Held.{Held}

@@ -1,3 +1,9 @@
+pub mod Lists
+pub mod Keeps
+pub mod Opening
+pub mod Comparing
+pub mod Rolling
+pub mod Ahead
 pub mod Coding
 pub mod Firsts
 pub mod Judging

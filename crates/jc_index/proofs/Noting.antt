@@ -1,10 +1,10 @@
 -- Notes after one another.
 use Rattle.std.proofs.Common.{◌≡◌, ℕ, zero, suc, ◌+◌, ◌/◌, ◌<◌, ◌≤◌, Bool, false, List, [], ◌∷◌, ◌++◌, length, take, get_or, refl, ap, sym, subst, ◌∙◌, arith, add-one}
 use Rattle.atomic_table.specs.declared.shared.Seat.{Seat}
-use Rattle.jc_stripes.specs.declared.board.View.{View}
-use Rattle.jc_stripes.specs.declared.board.Role.{Role}
-use Rattle.jc_stripes.specs.Stripes.{IsOneOf, IsReader, ReadsIn, glance, glance_of}
-use Rattle.jc_stripes.specs.Layout.{common}
+use Rattle.jc_index.specs.declared.board.View.{View}
+use Rattle.jc_index.specs.declared.board.Role.{Role}
+use Rattle.jc_index.specs.Stripes.{IsOneOf, IsReader, ReadsIn, glance, glance_of}
+use Rattle.jc_index.specs.StripeLayout.{common}
 use Rattle.jc_index.specs.Layout.{bucket_slots, bucket_words, slot_place, slot_words, stripe_of}
 use Rattle.jc_index.specs.Spelling.{group_of, words_at}
 use Rattle.jc_index.specs.Passes.{IsNoted}

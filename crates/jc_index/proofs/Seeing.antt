@@ -1,8 +1,8 @@
 -- A lookup's views, one after another.
 use Rattle.std.proofs.Common.{◌≡◌, ℕ, suc, length, arith, List, [], ◌∷◌, map, true, false, refl, sym, ap, ◌∙◌}
 use mathlib.Core.List.{IsPrefix, map-append}
-use Rattle.jc_stripes.specs.declared.board.View.{View}
-use Rattle.jc_stripes.specs.Stripes.{last_or, glance, glance_of, stack_of, stripes_in}
+use Rattle.jc_index.specs.declared.board.View.{View}
+use Rattle.jc_index.specs.Stripes.{last_or, glance, glance_of, stack_of, stripes_in}
 use Rattle.jc_rows.specs.Images.{last_image}
 use Rattle.jc_index.specs.Spelling.{image_in}
 use Rattle.jc_index.specs.Versions.{onto}

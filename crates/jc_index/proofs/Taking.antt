@@ -1,8 +1,8 @@
 -- The versions taken.
 use Rattle.std.proofs.Common.{◌≡◌, ℕ, zero, suc, ◌<◌, ◌==◌, Bool, true, false, List, [], ◌∷◌, ◌++◌, length, nat_lt, refl, sym, subst, inl, inr, arith, eqb-true}
 use Rattle.std.specs.List.{All}
-use Rattle.jc_stripes.specs.Stripes.{IsOneOf}
-use Rattle.jc_stripes.specs.Layout.{common, stripe_count, version_count}
+use Rattle.jc_index.specs.Stripes.{IsOneOf}
+use Rattle.jc_index.specs.StripeLayout.{common, stripe_count, version_count}
 use Rattle.jc_index.specs.Layout.{stripe_of}
 use Rattle.jc_index.specs.Versions.{version_pair_by, stash_if, versions_of}
 

@@ -3,7 +3,7 @@ use Rattle.std.specs.Prelude.{ℕ, ◌+◌, ◌/◌, ◌==◌, ◌||◌, not, if
 use Rattle.jc_cuckoo.specs.declared.held.Held.{Held}
 use Rattle.jc_rows.specs.Images.{Shown}
 use Rattle.jc_cuckoo.specs.Images.{shown_row}
-use Rattle.jc_stripes.specs.Layout.{common}
+use Rattle.jc_index.specs.StripeLayout.{common}
 use Rattle.jc_index.specs.Layout.{bucket_slots, slot_place}
 use Rattle.jc_index.specs.Spelling.{words_of_slot}
 use Rattle.jc_index.specs.Versions.{versions_of}

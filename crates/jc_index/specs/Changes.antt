@@ -1,8 +1,8 @@
 -- What a change of an index writes, and the versions that it takes.
 use Rattle.std.specs.Prelude.{◌≡◌, ℕ, ◌+◌, ◌*◌, ◌<◌, List, ◌++◌, All, length, take}
 use Rattle.jc_cuckoo.specs.Images.{written_image}
-use Rattle.jc_stripes.specs.Layout.{version_count}
-use Rattle.jc_stripes.specs.Stripes.{set_all}
+use Rattle.jc_index.specs.StripeLayout.{version_count}
+use Rattle.jc_index.specs.Stripes.{set_all}
 use Rattle.jc_index.specs.declared.batch.Batch.{Batch}
 use Rattle.jc_index.specs.declared.change.Change.{Change}
 use Rattle.jc_index.specs.Layout.{bucket_slots, table_words}

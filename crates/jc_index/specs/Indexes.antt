@@ -3,9 +3,9 @@ use Rattle.std.specs.Prelude.{◌≡◌, ℕ, ◌*◌, Bool, true, List, [], ◌
 use Rattle.atomic_table.specs.Seated.{TableId}
 use Rattle.jc_place.specs.Place.{IsTableSize}
 use Rattle.jc_cuckoo.specs.Images.{blank_image}
-use Rattle.jc_stripes.specs.Stripes.{Changes, IsVersionCommitted, desk_of, glance_of, last_of}
-use Rattle.jc_stripes.specs.declared.lineage.Lineage.{Lineage}
-use Rattle.jc_stripes.specs.declared.member.Member.{Member}
+use Rattle.jc_index.specs.Stripes.{Changes, IsVersionCommitted, desk_of, glance_of, last_of}
+use Rattle.jc_index.specs.declared.lineage.Lineage.{Lineage}
+use Rattle.jc_index.specs.declared.member.Member.{Member}
 use Rattle.jc_rows.specs.Images.{Image, last_image}
 use Rattle.jc_index.specs.Layout.{bucket_slots, table_words}
 use Rattle.jc_index.specs.declared.placed.Placed.{Placed}

@@ -1,7 +1,7 @@
 -- How the words of a table are laid: the versions, the stash's count, and then the slots, bucket by bucket.
 use Rattle.std.specs.Prelude.{ℕ, ◌+◌, ◌*◌, ◌%◌}
 use Rattle.jc_model.specs.Limits.{key_words}
-use Rattle.jc_stripes.specs.Layout.{stripe_count, version_count}
+use Rattle.jc_index.specs.StripeLayout.{stripe_count, version_count}
 
 -- a slot has the cache's number, the key's words, and the moment at which the row expires
 abbrev pub slot_words : ℕ

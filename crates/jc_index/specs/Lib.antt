@@ -1,3 +1,10 @@
+pub mod StripeLayout
+pub mod Stripes
+pub mod Seats
+pub mod Steps
+pub mod Rolls
+pub mod Lineages
+pub mod Members
 pub mod Layout
 pub mod Spelling
 pub mod Found

@@ -2,7 +2,7 @@
 use Rattle.std.specs.Prelude.{◌≡◌, ◌≢◌, ◌⊎◌, ℕ, Bool, false, List, Option, None}
 use Rattle.jc_place.specs.declared.place.Place.{Place}
 use Rattle.jc_rows.specs.Images.{last_image}
-use Rattle.jc_stripes.specs.Stripes.{SomeOdd, stripes_in}
+use Rattle.jc_index.specs.Stripes.{SomeOdd, stripes_in}
 use Rattle.jc_index.specs.Spelling.{buckets_of}
 use Rattle.jc_index.specs.Found.{found_in_image}
 use Rattle.jc_index.specs.Versions.{read_for}

@@ -2,10 +2,10 @@
 use Rattle.std.specs.Prelude.{◌≡◌, ◌≢◌, ◌⊎◌, ℕ, suc, ◌+◌, ◌*◌, ◌%◌, ◌^◌, ◌<◌, Bool, true, false, List, [], ◌∷◌, map, slice_index, Option, None, Some}
 use mathlib.Core.List.{IsPrefix}
 use Rattle.atomic_table.specs.declared.shared.Seat.{Seat}
-use Rattle.jc_stripes.specs.declared.board.View.{View}
-use Rattle.jc_stripes.specs.Stripes.{ReadsIn, SomeOdd, AreReadAtRest, glance, glance_of, stripes_in}
-use Rattle.jc_stripes.specs.Seats.{StripesSeat}
-use Rattle.jc_stripes.specs.declared.reader.Reader.{Reader}
+use Rattle.jc_index.specs.declared.board.View.{View}
+use Rattle.jc_index.specs.Stripes.{ReadsIn, SomeOdd, AreReadAtRest, glance, glance_of, stripes_in}
+use Rattle.jc_index.specs.Seats.{StripesSeat}
+use Rattle.jc_index.specs.declared.reader.Reader.{Reader}
 use Rattle.jc_place.specs.declared.place.Place.{Place}
 use Rattle.jc_rows.specs.Images.{Image, Shown, last_image}
 use Rattle.jc_index.specs.declared.placed.Placed.{Placed}

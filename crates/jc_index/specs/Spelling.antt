@@ -10,7 +10,7 @@ use Rattle.jc_rows.specs.Images.{Image, Shown}
 use Rattle.jc_cuckoo.specs.declared.held.Held.{Held}
 use Rattle.jc_cuckoo.specs.Images.{IsImage, shown_row}
 use Rattle.jc_model.specs.Limits.{key_words}
-use Rattle.jc_stripes.specs.Layout.{common}
+use Rattle.jc_index.specs.StripeLayout.{common}
 use Rattle.jc_index.specs.Layout.{bucket_words, moment_place, slot_place, slot_words, stripe_of}
 
 -- The place of the stash's count is 0, and the slots follow. A bucket is under the version of its stripe, and the count

@@ -1,6 +1,6 @@
 -- The versions that a lookup or a commit takes.
 use Rattle.std.specs.Prelude.{ℕ, ◌==◌, Bool, true, false, List, [], ◌∷◌, ◌++◌, nat_lt}
-use Rattle.jc_stripes.specs.Layout.{common}
+use Rattle.jc_index.specs.StripeLayout.{common}
 use Rattle.jc_index.specs.Layout.{stripe_of}
 
 abbrev pub version_pair_by : Bool → Bool → ℕ → ℕ → List ℕ

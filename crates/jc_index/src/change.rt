@@ -1,7 +1,7 @@
 //! What a commit sets, and which versions it takes.
 ghost use Rattle.std.specs.Prelude.{◌≡◌, ◌⊎◌, ◌+◌, ◌*◌, ◌<◌, ◌≤◌, ◌++◌, ℕ, List, All, Some, None, take, length};
-ghost use Rattle.jc_stripes.specs.Stripes.{AreUnderVersions};
-ghost use Rattle.jc_stripes.specs.Layout.{version_count};
+ghost use Rattle.jc_index.specs.Stripes.{AreUnderVersions};
+ghost use Rattle.jc_index.specs.StripeLayout.{version_count};
 ghost use Rattle.jc_index.specs.Layout.{most_writes, slot_words};
 ghost use Rattle.jc_index.specs.Spelling.{IsCoded, IsSpelt, group_of, image_in};
 ghost use Rattle.jc_index.specs.Batches.{count_batch, count_for, is_some, shown_by_write, slot_batch, stripes_for};

@@ -1,15 +1,15 @@
 //! The words of a new table.
 ghost use Rattle.std.specs.Prelude.{◌≡◌, ◌*◌, ◌≤◌, ◌∷◌, ◌++◌, IfOk, length, replicate};
 ghost use Rattle.jc_cuckoo.specs.Images.{grown_image};
-ghost use Rattle.jc_stripes.specs.Layout.{versions_at};
+ghost use Rattle.jc_index.specs.StripeLayout.{versions_at};
 ghost use Rattle.jc_index.specs.Layout.{bucket_slots, bucket_words};
 ghost use Rattle.jc_index.specs.Spelling.{AreCoded, words_of_image};
 
+use crate::board::VERSION_COUNT;
 use crate::layout::{BUCKET_WORDS, HEADER_WORDS, SLOT_WORDS};
 use crate::slot::words_of_slot;
 use jc_cuckoo::held::Held;
 use jc_model::OutOfMemory;
-use jc_stripes::board::VERSION_COUNT;
 use std::alloc::Global;
 
 /// Versions at rest, and the words of an image.

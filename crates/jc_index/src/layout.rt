@@ -1,6 +1,6 @@
 //! How the words of a table are laid: the versions, the stash's count, and then the slots, bucket by bucket.
+use crate::board::VERSION_COUNT;
 use jc_model::limits::KEY_WORDS;
-use jc_stripes::board::VERSION_COUNT;
 
 /// The words of a slot: the cache's number, the key's words, and the moment at which the row expires.
 pub(crate) const SLOT_WORDS: usize = KEY_WORDS + 2;

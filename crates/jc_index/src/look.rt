@@ -1,16 +1,16 @@
 //! What a lookup reads between its versions.
 ghost use Rattle.std.specs.Prelude.{◌≡◌, ◌+◌, ◌*◌, ◌/◌, ◌≤◌, false, List, ℕ};
-ghost use Rattle.jc_stripes.specs.Stripes.{IsOneOf, glance_of};
-ghost use Rattle.jc_stripes.specs.Layout.{common};
+ghost use Rattle.jc_index.specs.Stripes.{IsOneOf, glance_of};
+ghost use Rattle.jc_index.specs.StripeLayout.{common};
 ghost use Rattle.jc_index.specs.Layout.{bucket_slots, header_words, slot_words, stripe_of, table_words};
 ghost use Rattle.jc_index.specs.Passes.{FindsHead, FindsInBucket, FindsInBuckets, FindsInSlot, IsNoted};
 
 use crate::layout::{BUCKET_SLOTS, MOMENT_PLACE, SLOT_WORDS};
 use crate::placed::Placed;
+use crate::reader::Reader;
 use crate::slot::NEVER;
 use crate::sought::{Sought, answer};
 use jc_place::place::Placer;
-use jc_stripes::reader::Reader;
 
 /// The first word of a slot that holds the key. It reads no further than to the key's end, or the first word that differs.
 fn head_at<P: Placer>(reader: &mut Reader<Placed<P>>, slot: usize, sought: &Sought) -> Option<u64>

@@ -1,21 +1,21 @@
 //! A lookup that never waits.
 ghost use Rattle.std.specs.Prelude.{◌≡◌, ◌⊎◌, ◌%◌, Bool, true, false, length, Some, None};
 ghost use Rattle.jc_place.specs.Place.{IsTableSize};
-ghost use Rattle.jc_stripes.specs.Stripes.{glance_of};
+ghost use Rattle.jc_index.specs.Stripes.{glance_of};
 ghost use Rattle.jc_index.specs.Layout.{table_words};
 ghost use Rattle.jc_index.specs.Spelling.{buckets_of, key_of_words};
 ghost use Rattle.jc_index.specs.declared.lookup.Lookup.TheVariants.{Sure, Unsure};
 ghost use Rattle.jc_index.specs.Versions.{versions_of};
 ghost use Rattle.jc_index.specs.Passes.{HasBuckets, HasStayed, IsReaderLookup, HasMoved, found_by_reader, place_sought};
 
+use crate::board::STRIPE_COUNT;
 use crate::look::look;
 use crate::placed::{Placed, buckets_of};
+use crate::reader::Reader;
 use crate::sought::Sought;
 use crate::versions::STASH;
 use jc_model::key::Key;
 use jc_place::place::Placer;
-use jc_stripes::board::STRIPE_COUNT;
-use jc_stripes::reader::Reader;
 
 /// Whether a key is there and live, where that is sure.
 #[derive(Clone, Copy, Debug, PartialEq, Eq)]

@@ -1,15 +1,15 @@
 //! The name of an index, and words that have none yet.
 ghost use Rattle.std.specs.Prelude.{◌≡◌, ◌%◌, IfOk};
 ghost use Rattle.jc_place.specs.Place.{IsTableSize};
-ghost use Rattle.jc_stripes.specs.Layout.{versions_at};
+ghost use Rattle.jc_index.specs.StripeLayout.{versions_at};
 ghost use Rattle.jc_index.specs.Indexes.{IsBlankIndex};
 
 use crate::fill::blank;
+use crate::lineage::Lineage;
 use crate::placed::Placed;
 use crate::words::Words;
 use jc_model::OutOfMemory;
 use jc_place::place::Placer;
-use jc_stripes::lineage::Lineage;
 use std::alloc::Global;
 use std::marker::{Brand, Model, PhantomData};
 

@@ -1,12 +1,13 @@
 //! A reader of the index.
 ghost use Rattle.std.specs.Prelude.{◌≡◌, suc, Bool, true, false, Some, IfOk, IfErr};
 ghost use mathlib.Core.List.{IsPrefix};
-ghost use Rattle.jc_stripes.specs.Stripes.{AreReadAtRest};
+ghost use Rattle.jc_index.specs.Stripes.{AreReadAtRest};
 ghost use Rattle.jc_index.specs.declared.lookup.Lookup.TheVariants.{Sure, Unsure};
 ghost use Rattle.jc_index.specs.Indexes.{HasMetIndex, HasSameMeeting};
 ghost use Rattle.jc_index.specs.Lookups.{MayBeUnsure, ReadsStripes, found_by};
 
 use crate::lookup::{Lookup, look_up};
+use crate::member::Member;
 use crate::naming::Naming;
 use crate::placed::Placed;
 use crate::sought::Sought;
@@ -15,7 +16,6 @@ use jc_model::OutOfMemory;
 use jc_model::event::CacheId;
 use jc_model::key::Key;
 use jc_place::place::Placer;
-use jc_stripes::member::Member;
 use std::marker::{Model, PhantomData};
 
 /// What a reader has seen of the index.

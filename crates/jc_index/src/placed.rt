@@ -3,10 +3,10 @@ ghost use Rattle.std.specs.Prelude.{◌≡◌, ◌<◌};
 ghost use Rattle.jc_place.specs.Place.{IsTableSize};
 ghost use Rattle.jc_index.specs.Spelling.{buckets_of};
 
+use crate::board::Law;
 use jc_model::event::CacheId;
 use jc_model::key::Key;
 use jc_place::place::{Placer, alternate, rest};
-use jc_stripes::board::Law;
 
 /// The words spell an image of so many buckets, in which each key stands in one of the two that this placer gives it.
 #[derive(Drop)]

@@ -2,7 +2,7 @@
 ghost use Rattle.std.specs.Prelude.{◌≡◌, ◌≤◌, take};
 ghost use Rattle.jc_index.specs.Versions.{versions_of};
 
-use jc_stripes::board::{COMMON, STRIPE_COUNT};
+use crate::board::{COMMON, STRIPE_COUNT};
 
 /// The stash's version, which every lookup reads.
 pub(crate) const STASH: usize = COMMON;

@@ -1,11 +1,12 @@
 //! The index as its writer has it.
 ghost use Rattle.std.specs.Prelude.{◌≡◌, ◌*◌, ◌≤◌, Some, IfOk, OnErr, OnOk, length};
-ghost use Rattle.jc_stripes.specs.Layout.{versions_at};
+ghost use Rattle.jc_index.specs.StripeLayout.{versions_at};
 ghost use Rattle.jc_cuckoo.specs.Mirrors.{AddsGrownImage, AddsWrittenImage, SlotsMakeGrowth, WritesFitLast, WritesMakeImage};
 ghost use Rattle.jc_index.specs.Indexes.{CommitsIndexVersions, HasMetIndex};
 
 use crate::change::Change;
 use crate::fill::fill_words;
+use crate::lineage::Lineage;
 use crate::naming::Naming;
 use crate::pass::Pass;
 use crate::placed::Placed;
@@ -13,7 +14,6 @@ use jc_cuckoo::held::Held;
 use jc_cuckoo::mirror::{Mirror, Watch};
 use jc_model::OutOfMemory;
 use jc_place::place::Placer;
-use jc_stripes::lineage::Lineage;
 use std::marker::{Model, PhantomData};
 
 /// Images of the table in shared words. Those of the newest table are the last image.

@@ -16,8 +16,8 @@ use Rattle.jc_model.specs.Legal.{is_waiting, played, IsLegalEntry, IsLegalFrom, 
 use Rattle.jc_model.proofs.Lives.{at_same}
 use Rattle.jc_model.proofs.OneCache.{IsBusy, by_end, none_after}
 use Rattle.std.proofs.lemmas.List.{same_from_push}
-use Rattle.jc_recorded.specs.Recording.{HasOpen, IsEntryOf}
-use Rattle.jc_recorded.proofs.Entries.{written_open}
+use Rattle.jc_engine.specs.Recording.{HasOpen, IsEntryOf}
+use Rattle.jc_engine.proofs.Entries.{written_open}
 use Rattle.jc_model.specs.Places.{at_place}
 
 pub id_is_id : (id : ℕ) → (id == id) ≡ true

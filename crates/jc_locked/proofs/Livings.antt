@@ -14,7 +14,7 @@ use Rattle.jc_model.specs.Legal.{History, IsLegal, Tells, config_of, numbered_li
 use Rattle.jc_model.proofs.Lives.{live_same, live_last}
 use Rattle.jc_engine.specs.Caches.{Cache, lives_of}
 use Rattle.jc_locked.specs.Sessions.{Sight, BeginsWith, Sees}
-use Rattle.jc_recorded.specs.Recording.{Recording}
+use Rattle.jc_engine.specs.Recording.{Recording}
 use Rattle.jc_locked.specs.Living.{IsToldOf, IsCreated, HasGone}
 use Rattle.jc_locked.specs.Tenures.{IsTenure}
 

@@ -31,13 +31,13 @@ use Rattle.jc_model.specs.declared.event.Life.{Life}
 use Rattle.jc_model.proofs.Lives.{live_same}
 use Rattle.jc_model.proofs.Recording.{event_of}
 use Rattle.jc_engine.specs.Caches.{lives_of}
-use Rattle.jc_recorded.specs.Recording.{Recording, HasOpen, IsEntryOf, blank}
+use Rattle.jc_engine.specs.Recording.{Recording, HasOpen, IsEntryOf, blank}
 use Rattle.jc_model.specs.Asking.{AsksOf, AsksIn, processor_invoked}
 use Rattle.jc_locked.specs.declared.fault.CallFault.{CallFault}
 use Rattle.jc_locked.specs.declared.fault.CallFault.TheVariants as faults
 use Rattle.jc_locked.specs.Sessions.{Sight, BeginsWith, Sees}
 use Rattle.jc_locked.specs.Calls.{EntryIsLast, CallGoesOn, MayLackProcessor, IsBeginFault, call_entry}
-use Rattle.jc_recorded.specs.Results.{reply_in}
+use Rattle.jc_engine.specs.RecordedSteps.{reply_in}
 use Rattle.jc_locked.specs.Finding.{fault_of, answer_fault_of, entry_ended_by, IsOfCall, IsOpen, IsReplied}
 use Rattle.jc_locked.specs.Living.{Refuses}
 use Rattle.jc_locked.specs.Pending.{IsRefusedAnswer}

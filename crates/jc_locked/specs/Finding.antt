@@ -17,7 +17,7 @@ use Rattle.jc_model.specs.Legal.{History, Tells}
 use Rattle.jc_engine.specs.Caches.{lives_of}
 use Rattle.jc_model.specs.Places.{at_place}
 use Rattle.jc_engine.specs.Advances.{is_open_in}
-use Rattle.jc_recorded.specs.Recording.{Recording, HasOpen, HasOpenEntry}
+use Rattle.jc_engine.specs.Recording.{Recording, HasOpen, HasOpenEntry}
 
 -- why a call has no reply, by why the engine refuses it
 abbrev pub fault_of : Cause → CallFault

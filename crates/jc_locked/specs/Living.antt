@@ -1,5 +1,5 @@
 -- What a session is told of caches that are created and destroyed, and of their rows.
-use Rattle.std.specs.Prelude.{◌≡◌, ℕ, Bool, true, false, List, Option, Some, None, IsSome, slice_get, ⊤}
+use Rattle.std.specs.Prelude.{◌≡◌, ◌<◌, ℕ, Bool, true, false, List, Option, Some, None, IsSome, slice_get, ⊤}
 use Rattle.jc_model.specs.declared.config.CacheConfig.{CacheConfig}
 use Rattle.jc_model.specs.declared.event.Cause.{Cause}
 use Rattle.jc_model.specs.declared.event.Cause.TheVariants as cause
@@ -14,9 +14,9 @@ use Rattle.jc_model.specs.Whole.{holds}
 use Rattle.jc_model.specs.Legal.{History, IsLegal, Tells, config_of}
 use Rattle.jc_engine.specs.Advances.{is_open_in}
 use Rattle.jc_engine.specs.Caches.{lives_of}
-use Rattle.jc_recorded.specs.Recording.{Recording}
+use Rattle.jc_engine.specs.Recording.{Recording}
 use Rattle.jc_rows.specs.Images.{last_image}
-use Rattle.jc_stripes.specs.Stripes.{AreReadAtRest}
+use Rattle.jc_index.specs.Stripes.{AreReadAtRest}
 use Rattle.jc_index.specs.Found.{found_in_image}
 use Rattle.jc_locked.specs.declared.fault.CreateFault.{CreateFault}
 use Rattle.jc_locked.specs.declared.fault.CreateFault.TheVariants.{Cache, HooksDiffer, OutOfMemory}
@@ -117,11 +117,12 @@ pub record HasNoOpenCall (configs : List CacheConfig) : Type 0 where
   pub told : IsToldOf configs recorded
   pub idle : (id : ℕ) → is_open_in (at_place recorded.caches id) ≡ false
 
--- the cache's call is open
+-- the cache's call is open, and of no cache with a lesser number
 pub record HasOpenCall (configs : List CacheConfig) (id : ℕ) : Type 0 where
   pub recorded : Recording
   pub told : IsToldOf configs recorded
   pub opened : is_open_in (at_place recorded.caches id) ≡ true
+  pub first : (earlier : ℕ) → earlier < id → is_open_in (at_place recorded.caches earlier) ≡ false
 
 -- whether a cache that may be live has a live row of this key
 abbrev pub has_live_row : ℕ → List ℕ → Option Status → Bool

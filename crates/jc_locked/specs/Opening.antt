@@ -10,7 +10,7 @@ use Rattle.jc_model.specs.declared.config.CacheConfig.{CacheConfig}
 use Rattle.jc_model.specs.Runs.{opened_from}
 use Rattle.jc_model.specs.Legal.{at_first}
 use Rattle.jc_engine.specs.Caches.{lives_of}
-use Rattle.jc_recorded.specs.Recording.{Recording}
+use Rattle.jc_engine.specs.Recording.{Recording}
 use Rattle.jc_engine.specs.Opening.{open_refusal}
 use Rattle.jc_locked.specs.declared.fault.SharedRefusal.{SharedRefusal}
 use Rattle.jc_locked.specs.declared.fault.SharedRefusal.TheVariants.{Caches, HooksDiffer, OutOfMemory}

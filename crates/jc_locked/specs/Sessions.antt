@@ -6,7 +6,7 @@ use Rattle.jc_model.specs.Runs.{Lives}
 use Rattle.jc_model.specs.Legal.{History, IsLegal, Tells, numbered_lives}
 use Rattle.jc_rows.specs.Images.{last_image}
 use Rattle.jc_engine.specs.Caches.{lives_of}
-use Rattle.jc_recorded.specs.Recording.{Recording}
+use Rattle.jc_engine.specs.Recording.{Recording}
 use Rattle.jc_engine.specs.Watching.{ShowsStates, states_of}
 use Rattle.jc_index.specs.Indexes.{Passing}
 

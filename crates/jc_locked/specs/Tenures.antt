@@ -12,7 +12,7 @@ use Rattle.jc_model.specs.declared.event.Outcome.TheVariants as outcome
 use Rattle.jc_model.specs.Runs.{Lives, answer_to, lives_after, for_memory}
 use Rattle.jc_model.specs.Legal.{recorded}
 use Rattle.jc_engine.specs.Caches.{lives_of}
-use Rattle.jc_recorded.specs.Recording.{Recording}
+use Rattle.jc_engine.specs.Recording.{Recording}
 use Rattle.jc_locked.specs.declared.fault.CallFault.{CallFault}
 use Rattle.jc_locked.specs.declared.fault.AnswerFault.{AnswerFault}
 use Rattle.jc_locked.specs.declared.fault.AnswerFault.TheVariants as answering

@@ -6,9 +6,9 @@ ghost use Rattle.std.specs.List.{All};
 ghost use Rattle.jc_locked.specs.Accounts.{calls_of, times, own_of, IsLeastFrom, AreGiven, NoneWaits, AllAgree, PartAt, DiffersFirst, Accounts, IsAuditFault};
 
 use crate::fault::CloseFault;
-use crate::keeping::MOST_SESSIONS;
+use crate::journal_policy::MOST_SESSIONS;
 use jc_model::event::{End, Entry};
-use jc_transcript::{Exact, Transcript};
+use jc_model::{Exact, Transcript};
 
 /// What has a session's number, and the entries of its own calls.
 pub trait Logged {

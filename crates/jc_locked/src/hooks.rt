@@ -8,7 +8,7 @@ ghost use Rattle.jc_locked.specs.Finding.{ok_or_no_processor};
 ghost use Rattle.jc_locked.specs.Stated.{shared_of, locked_of, wants_lock};
 
 use crate::fault::CallFault;
-use jc_hooks::{CacheHooks, Hearer, Loader, Processor, Writer};
+use jc_hooks::{CacheHooks, FilteredListener, Loader, Processor, Writer};
 use jc_model::OutOfMemory;
 use jc_model::call::Call;
 use jc_model::config::CacheConfig;
@@ -158,7 +158,7 @@ fn lock_over<W: Drop, K: Drop>(wanted: bool, locked: LockedHooks<W, K>) -> Openi
 }
 
 /// The callbacks apart, in the order of the caches. Exactly the caches that have any have a lock.
-pub fn apart<L: Loader, W: Writer, P: Processor, K: Hearer>(
+pub fn apart<L: Loader, W: Writer, P: Processor, K: FilteredListener>(
     alloc: Global,
     hooks: Vec<CacheHooks<L, W, P, K>>,
 ) -> Result<AllHooks<L, W, P, K>, OutOfMemory>

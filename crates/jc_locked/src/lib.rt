@@ -4,8 +4,8 @@
 
 pub mod auditing;
 pub mod fault;
+pub mod guarded_state;
 pub mod hooks;
-pub mod keeping;
-pub mod locked;
+pub mod journal_policy;
 pub mod name;
 pub mod tables;

@@ -10,7 +10,7 @@ use Rattle.jc_model.specs.declared.call.Request.TheVariants as request
 use Rattle.jc_model.specs.declared.table.Ask.{Ask}
 use Rattle.jc_model.specs.declared.table.Ask.TheVariants as ask
 use Rattle.jc_model.specs.declared.table.Change.TheVariants as change
-use Rattle.jc_model.specs.declared.table.Line.{Line}
+use Rattle.jc_model.specs.declared.table.TableLine.{TableLine}
 use Rattle.jc_model.proofs.Everywhere.{goes-more, goes-within, goes-and_then}
 
 -- E holds of each way in which a line ends where the key k has this row, if any.
@@ -46,17 +46,17 @@ module _ (c : CacheConfig) (now : ℕ) (k : List ℕ) (o : Op) (W : Request → 
   process-goes : (n processor : ℕ) (v : Option (List ℕ)) (argument : List ℕ) (failed : Run) (next : Verdict → Run) → invoked_by o ≡ Some (processor, argument) → To n failed → ((v : Verdict) → To n (next v)) → To (n + 1) (process k processor v argument p failed next)
   process-goes n processor v argument failed next is f g = grind (arith, common_steps)
 
-  by_loader-goes : (l : Line) (row : Option Item) → may_load o ≡ true → Ends c now k E row p → To 1 (by_loader c now k l row p)
+  by_loader-goes : (l : TableLine) (row : Option Item) → may_load o ≡ true → Ends c now k E row p → To 1 (by_loader c now k l row p)
   by_loader-goes l row may ends =
       let kept = ends change.Keep l.counts None in
       let given = ends l.change l.counts in
       load-goes 0 (failed_by c now k l row by.Loader p) _ may (kept _) (λ loaded. grind (arith, common_steps))
 
-  acted-goes : (l : Line) (row : Option Item) (v answer : Option (List ℕ)) → Ends c now k E row p → To 1 (acted c now k l row v answer p)
+  acted-goes : (l : TableLine) (row : Option Item) (v answer : Option (List ℕ)) → Ends c now k E row p → To 1 (acted c now k l row v answer p)
   acted-goes l row v answer ends =
       by_writer-goes l.asks v (ended_by c now k l row v answer p) (ends change.Keep false None _) (ends l.change l.counts v _)
 
-  by_processor-goes : (processor : ℕ) (argument : List ℕ) (l : Line) (row : Option Item) → invoked_by o ≡ Some (processor, argument) → Ends c now k E row p → To 3 (by_processor c now k processor argument l row p)
+  by_processor-goes : (processor : ℕ) (argument : List ℕ) (l : TableLine) (row : Option Item) → invoked_by o ≡ Some (processor, argument) → Ends c now k E row p → To 3 (by_processor c now k processor argument l row p)
   by_processor-goes processor argument l (Some x) is ends =
       more 2 3 (by_processor c now k processor argument l (Some x) p) (omega arith)
       (process-goes 1 processor (Some x.value) argument (failed_by c now k l (Some x) by.Processor p) (λ v. act_live c now k x p v.action v.answer) is (ends change.Keep l.counts None _)
@@ -67,7 +67,7 @@ module _ (c : CacheConfig) (now : ℕ) (k : List ℕ) (o : Op) (W : Request → 
       (λ v. acted-goes (absent_verdict v.action) None (decided loaded v.action) v.answer ends))
 
   -- a line of the operation, or one that does not ask the loader
-  carried-goes : (l : Line) (row : Option Item) → (asks_loader l.asks ≡ true → may_load o ≡ true) → Ends c now k E row p → To 3 (carried c now k o l row p)
+  carried-goes : (l : TableLine) (row : Option Item) → (asks_loader l.asks ≡ true → may_load o ≡ true) → Ends c now k E row p → To 3 (carried c now k o l row p)
   carried-goes l row may ends = by l.asks may
     where
       written : (a : Ask) → To 3 (by_writer c now k a (value_of o) p (ended_by c now k l row (value_of o) (live_in row) p))

@@ -26,3 +26,7 @@ pub mod Legal
 pub mod Bare
 pub mod Distinct
 pub mod Tests
+pub mod Listing
+pub mod Rebuilt
+pub mod Rosters
+pub mod Members

@@ -10,15 +10,15 @@ use Rattle.jc_model.specs.declared.table.Change.{Change}
 use Rattle.jc_model.specs.declared.table.Change.TheVariants.{Keep, Access, Store, Put, Remove}
 use Rattle.jc_model.specs.declared.table.Replied.{Replied}
 use Rattle.jc_model.specs.declared.table.Replied.TheVariants.{Done, Truth, Shown}
-use Rattle.jc_model.specs.declared.table.Line.{Line}
+use Rattle.jc_model.specs.declared.table.TableLine.{TableLine}
 
 -- whom it asks, whether it counts a hit or a miss, what it changes, what it replies
-abbrev pub line : Ask → Bool → Change → Replied → Line
+abbrev pub line : Ask → Bool → Change → Replied → TableLine
 line asks counts change reply =
     record { asks = asks; counts = counts; change = change; reply = reply }
 
 -- where the key has a live row; of the expected value, where the operation expects one
-abbrev pub live_line : Op → Line
+abbrev pub live_line : Op → TableLine
 live_line op.Get = line ask.Nothing true Access Shown
 live_line (op.Put v) = line ask.Write false Put Done
 live_line (op.GetAndPut v) = line ask.Write true Put Shown
@@ -35,11 +35,11 @@ live_line (op.Load false) = line ask.Nothing false Keep Done
 live_line op.Expire = line ask.Nothing false Keep Done
 
 -- where it expects another live value
-abbrev pub otherwise : Line
+abbrev pub otherwise : TableLine
 otherwise = line ask.Nothing true Access (Truth false)
 
 -- where the key has no row
-abbrev pub absent_line : Op → Line
+abbrev pub absent_line : Op → TableLine
 absent_line op.Get = line ask.Load true Store Shown
 absent_line (op.Put v) = line ask.Write false Put Done
 absent_line (op.GetAndPut v) = line ask.Write true Put Shown
@@ -77,12 +77,12 @@ invoked_by _ = None
 
 -- Once the processor has decided.
 
-abbrev pub live_verdict : Action → Line
+abbrev pub live_verdict : Action → TableLine
 live_verdict action.Keep = line ask.Nothing true Access Shown
 live_verdict (action.Set v) = line ask.Write true Put Shown
 live_verdict action.Remove = line ask.Delete true Remove Shown
 
-abbrev pub absent_verdict : Action → Line
+abbrev pub absent_verdict : Action → TableLine
 absent_verdict action.Keep = line ask.Nothing true Store Shown
 absent_verdict (action.Set v) = line ask.Write true Put Shown
 absent_verdict action.Remove = line ask.Delete true Keep Shown

@@ -50,7 +50,7 @@ pub enum Replied {
 
 /// One line of the table.
 #[derive(Clone, Copy, Debug, PartialEq, Eq)]
-pub struct Line {
+pub struct TableLine {
     pub asks: Ask,
     /// Whether a hit is counted, or a miss where the key has no row. Where the writer fails, nothing is counted.
     pub counts: bool,
@@ -58,10 +58,10 @@ pub struct Line {
     pub reply: Replied,
 }
 
-fn line_of(asks: Ask, counts: bool, change: Change, reply: Replied) -> Line
+fn line_of(asks: Ask, counts: bool, change: Change, reply: Replied) -> TableLine
     ensures { result ≡ record { asks = asks; counts = counts; change = change; reply = reply } }
 {
-    Line {
+    TableLine {
         asks,
         counts,
         change,
@@ -123,7 +123,7 @@ pub fn key_step(call: &Call) -> Result<Option<KeyCall>, OutOfMemory>
 }
 
 /// An operation's line where the key has a live row; of the expected value, where it expects one.
-pub fn live_line(op: &Op) -> Line
+pub fn live_line(op: &Op) -> TableLine
     ensures { result ≡ live_line op.now }
 {
     match op {
@@ -145,7 +145,7 @@ pub fn live_line(op: &Op) -> Line
 }
 
 /// The line of an operation that finds another live value than it expects.
-pub fn otherwise() -> Line
+pub fn otherwise() -> TableLine
     ensures { result ≡ otherwise }
 {
     line_of(Ask::Nothing, true, Change::Access, Replied::Truth(false))
@@ -163,7 +163,7 @@ pub fn expected(op: &Op) -> Option<&Value>
 }
 
 /// An operation's line where the key has no row.
-pub fn absent_line(op: &Op) -> Line
+pub fn absent_line(op: &Op) -> TableLine
     ensures { result ≡ absent_line op.now }
 {
     match op {
@@ -199,7 +199,7 @@ pub fn value_of(op: &Op) -> Option<&Value>
 }
 
 /// A verdict's line where the key has a live row.
-pub fn live_verdict(action: &Action) -> Line
+pub fn live_verdict(action: &Action) -> TableLine
     ensures { result ≡ live_verdict action.now }
 {
     match action {
@@ -210,7 +210,7 @@ pub fn live_verdict(action: &Action) -> Line
 }
 
 /// A verdict's line where the key has no row; a `Keep` stores what was loaded.
-pub fn absent_verdict(action: &Action) -> Line
+pub fn absent_verdict(action: &Action) -> TableLine
     ensures { result ≡ absent_verdict action.now }
 {
     match action {

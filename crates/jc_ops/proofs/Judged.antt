@@ -1,5 +1,5 @@
 -- A processor's step: what each answer leads to.
-use Rattle.jc_ops.proofs.Names.{◌≡◌, ℕ, arith, Bool, false, true, List, common_steps, refl, sym, ◌∙◌, ap, Option, Some, None, is_some, Answer, KeyCall, Request, CacheConfig, Line, Item}
+use Rattle.jc_ops.proofs.Names.{◌≡◌, ℕ, arith, Bool, false, true, List, common_steps, refl, sym, ◌∙◌, ap, Option, Some, None, is_some, Answer, KeyCall, Request, CacheConfig, TableLine, Item}
 use Rattle.jc_ops.proofs.Names.{Progress, find_row, purge, Run}
 use Rattle.jc_ops.proofs.Names.{ended, resume, verdict_of, ended_by, KeyWait, key_run, step, FoundRow, given_by, loaded_in, verdict_in, asks_writer, StepWaits}
 use Rattle.jc_ops.proofs.Names.{IsWaiting, stores_by, subst, is_written, answer_run, Visited, progress_in}
@@ -14,7 +14,7 @@ use Rattle.std.specs.Prelude.{Ok, ◌||◌}
 use Rattle.jc_model.specs.Run.{answered}
 use Rattle.jc_ops.specs.Lines.{awaits_load, loads_for}
 use Rattle.jc_ops.specs.declared.supply.Supply.{Supply}
-use Rattle.jc_state.specs.Noted.{stored_value}
+use Rattle.jc_ops.specs.Noted.{stored_value}
 use Rattle.jc_ops.specs.Carried.{IsReady, judged_run, line_run}
 use Rattle.jc_ops.proofs.Goes.{waits_purged, row_is_there}
 
@@ -42,7 +42,7 @@ awaits_by c f processor there answered x y r same a b is = cc
 module _ (c : CacheConfig) (now : ℕ) (k : List ℕ) where
   -- A verdict asks the writer, or ends at once. By what the code has: the line, whether the key has a row, and the copy for the writer.
 
-  module _ (row : Option Item) (loaded : Option (List ℕ)) (p : Progress) (v : Verdict) (there : Bool) (has : is_some row ≡ there) (l : Line) (line : l ≡ verdict_line v.action there) where
+  module _ (row : Option Item) (loaded : Option (List ℕ)) (p : Progress) (v : Verdict) (there : Bool) (has : is_some row ≡ there) (l : TableLine) (line : l ≡ verdict_line v.action there) where
     module _ (f : CacheConfig) (same : f ≡ c) (copy : Option (List ℕ)) (copied : copy ≡ hands_by c.writer v.action) where
       pub acts_at_once : (stored : Option (List ℕ)) → asks_writer f k l.asks copy ≡ None → stored ≡ stores_by c.writer loaded v.action →
           act_on c now k row loaded p v ≡ ended_by c now k l row stored v.answer p
@@ -70,7 +70,7 @@ module _ (c : CacheConfig) (now : ℕ) (k : List ℕ) (processor : ℕ) (argumen
       failed : (a : Answer) → (a ≡ Written → ⊥) → resume (key_run c p (wait now k processor argument loaded (Some v))) a ≡ ended p (Fault Writer None)
       failed a fails = grind (arith, common_steps)
 
-      agreed : (l : Line) (stored : Option (List ℕ)) → l ≡ verdict_line v.action (is_some (find_row k p)) → stored ≡ stores_by false (loaded_in (given_by loaded (Some v))) v.action →
+      agreed : (l : TableLine) (stored : Option (List ℕ)) → l ≡ verdict_line v.action (is_some (find_row k p)) → stored ≡ stores_by false (loaded_in (given_by loaded (Some v))) v.action →
           resume (key_run c p (wait now k processor argument loaded (Some v))) Written ≡ ended_by c now k l (find_row k p) stored v.answer p
       agreed l stored line stores = grind (arith, common_steps)
 
@@ -86,7 +86,7 @@ module _ (v : Visited) (now : ℕ) (call : KeyCall) (loaded : Option (Option (Li
 
   -- the processor has answered
   module _ (undecided : verdict_in w.given ≡ None) (means : answer_run v w a ≡ judged_run v w (verdict_of a)) (d : Verdict) (gave : a ≡ Processed (Ok d))
-      (l : Line) (line : l ≡ verdict_line d.action (is_some s.row)) (f : CacheConfig) (same : f ≡ v.cache.config) where
+      (l : TableLine) (line : l ≡ verdict_line d.action (is_some s.row)) (f : CacheConfig) (same : f ≡ v.cache.config) where
     decides : answer_run v w a ≡ act_on v.cache.config v.moment call.key (find_row call.key p) (loaded_in w.given) p d
     decides = rw (ap (λ (x : KeyWait). x.call.key) view) (means ∙ ap (judged_run v w) (ap verdict_of gave))
 
@@ -136,7 +136,7 @@ module _ (v : Visited) (now : ℕ) (call : KeyCall) (loaded : Option (Option (Li
       writer_failed fails = rw (← same loaded (Some d) refl decided)
           (failed v.cache.config v.moment call.key processor argument p (gone loaded (Some d) refl decided) loaded d (waits loaded (Some d) refl decided) a fails)
 
-      pub writer_agreed : (l : Line) → a ≡ Written → l ≡ verdict_line d.action (is_some s.row) → answer_run v w a ≡ line_run v call.key l s.values
+      pub writer_agreed : (l : TableLine) → a ≡ Written → l ≡ verdict_line d.action (is_some s.row) → answer_run v w a ≡ line_run v call.key l s.values
       writer_agreed l wrote line =
           let here = same loaded (Some d) refl decided in
           let gave = ready.covered.agreed (ap is_written wrote) d (ap (λ (x : KeyWait). verdict_in x.given) (sym here) ∙ decided_by loaded (Some d)) in

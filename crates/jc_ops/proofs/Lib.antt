@@ -1,3 +1,16 @@
+pub mod StateNames
+mod Vacancies
+mod Shelves
+mod Cells
+pub mod Ties
+pub mod Found
+mod Going
+mod ClockLaw
+pub mod VisitLaws
+pub mod Changes
+pub mod TiedKeys
+pub mod Walk
+pub mod Numbers
 mod Names
 mod Lined
 pub mod Goes

@@ -1,6 +1,6 @@
 -- A line of the table: what its step does as it begins, and at the answer of its writer or its loader.
 use Rattle.jc_ops.proofs.Names.{◌≡◌, ◌<◌, arith, ℕ, Bool, true, false, if◌then◌else◌, List, common_steps, Option, Some, None, is_some, Answer, KeyCall, Op, Request, CacheConfig}
-use Rattle.jc_ops.proofs.Names.{Line, Item, Progress, purge, find_row, ended, resume, is_written, live_in, ended_by, step, key_run, value_of, is_shown}
+use Rattle.jc_ops.proofs.Names.{TableLine, Item, Progress, purge, find_row, ended, resume, is_written, live_in, ended_by, step, key_run, value_of, is_shown}
 use Rattle.jc_ops.proofs.Names.{line_at, is_invoke, shows, first_request, StepWaits, IsWaiting, waits_first}
 use Rattle.std.specs.Option.{option_and}
 use Rattle.jc_model.specs.declared.call.Answer.TheVariants.{Loaded, Written}
@@ -8,8 +8,8 @@ use Rattle.jc_model.specs.declared.call.By.TheVariants.{Loader, Writer}
 use Rattle.jc_model.specs.declared.call.Reply.TheVariants.{Fault}
 use Rattle.jc_model.specs.declared.table.Ask.TheVariants.{Load}
 use Rattle.jc_model.specs.Step.{counted}
-use Rattle.jc_state.specs.declared.stored.Stored.{Stored}
-use Rattle.jc_state.specs.Noted.{stored_value}
+use Rattle.jc_ops.specs.declared.stored.Stored.{Stored}
+use Rattle.jc_ops.specs.Noted.{stored_value}
 use Rattle.jc_ops.specs.Lines.{asks_no_one, takes_value, shows_loaded, stores}
 use Rattle.jc_ops.specs.Supply.{HasRoom, adds}
 use Rattle.jc_ops.proofs.Goes.{waits_purged}
@@ -38,7 +38,7 @@ room_fits o row there writer s n is keeps enough absent adds_row some = grind (a
 
 -- An operation on a key, by what the code has: its line, and what was made of the key's row.
 
-module _ (c : CacheConfig) (now : ℕ) (k : List ℕ) (o : Op) (p : Progress) (l : Line) (is : l ≡ line_at o (live_in (find_row k p))) where
+module _ (c : CacheConfig) (now : ℕ) (k : List ℕ) (o : Op) (p : Progress) (l : TableLine) (is : l ≡ line_at o (live_in (find_row k p))) where
   abbrev call : KeyCall
   call = record { key = k; op = o }
 
@@ -77,7 +77,7 @@ module _ (c : CacheConfig) (now : ℕ) (k : List ℕ) (o : Op) (p : Progress) (l
         let gone : purge c now k p ≡ p = waits_purged c p (waits_first now call) w in let on = rw is at writes in let all = show at plain in rw is (grind (arith, common_steps))
 
 -- an operation that asks no one has no first request
-pub unasked : (c : CacheConfig) (k : List ℕ) (o : Op) (l : Line) (live : Option (List ℕ)) → asks_no_one c o ≡ true → first_request c k o l.asks live ≡ None
+pub unasked : (c : CacheConfig) (k : List ℕ) (o : Op) (l : TableLine) (live : Option (List ℕ)) → asks_no_one c o ≡ true → first_request c k o l.asks live ≡ None
 unasked c k o l live none = grind (arith, common_steps)
 
 -- an operation that replies its row's value, or hands it on, takes it

@@ -5,15 +5,15 @@ use Rattle.jc_model.specs.declared.call.KeyCall.{KeyCall}
 use Rattle.jc_model.specs.declared.call.Request.{Request}
 use Rattle.jc_model.specs.declared.call.Verdict.{Verdict}
 use Rattle.jc_model.specs.declared.table.Change.{Change}
-use Rattle.jc_model.specs.declared.table.Line.{Line}
+use Rattle.jc_model.specs.declared.table.TableLine.{TableLine}
 use Rattle.jc_model.specs.Changes.{Progress}
 use Rattle.jc_model.specs.Run.{Run}
 use Rattle.jc_model.specs.Step.{changed, ended_by}
 use Rattle.jc_model.specs.Suspended.{KeyWait}
-use Rattle.jc_state.specs.declared.stored.Stored.{Stored}
-use Rattle.jc_state.specs.Kept.{key_row, FoundRow}
-use Rattle.jc_state.specs.Noted.{StoredIsTold, stored_value}
-use Rattle.jc_state.specs.Visited.{Visited, SpendsAtMost, HasPlacesIn, progress_in}
+use Rattle.jc_ops.specs.declared.stored.Stored.{Stored}
+use Rattle.jc_ops.specs.Kept.{key_row, FoundRow}
+use Rattle.jc_ops.specs.Noted.{StoredIsTold, stored_value}
+use Rattle.jc_ops.specs.Visited.{Visited, SpendsAtMost, HasPlacesIn, progress_in}
 use Rattle.jc_ops.specs.declared.supply.Supply.{Supply}
 use Rattle.jc_ops.specs.declared.supply.values.Values.{Values}
 use Rattle.jc_ops.specs.Given.{loaded_in}
@@ -27,7 +27,7 @@ abbrev pub HasRoomToStore : Option ℕ → Change → Option Stored → ℕ → 
 HasRoomToStore row change stored spare = is_some row ≡ false → stores change ≡ true → is_some stored ≡ true → 0 < spare
 
 -- the key's row is known, and there is all that carrying the line out may need
-pub record CanEnd (v : Visited) (key : List ℕ) (l : Line) (s : Supply) : Type 0 where
+pub record CanEnd (v : Visited) (key : List ℕ) (l : TableLine) (s : Supply) : Type 0 where
   pub row : FoundRow key v.cache s.row
   pub places : HasPlacesIn (told_of (is_some s.row) l.change) v
   pub told : StoredIsTold v.cache.config s.values.stored
@@ -46,11 +46,11 @@ abbrev pub changed_in : Visited → List ℕ → Change → Option Stored → Pr
 changed_in v key change stored = changed v.cache.config v.moment key change (key_row v.cache key) (stored_value stored) (progress_in v)
 
 -- the run of a line that is carried out
-abbrev pub line_run : Visited → List ℕ → Line → Values → Run
+abbrev pub line_run : Visited → List ℕ → TableLine → Values → Run
 line_run v key line s = ended_by v.cache.config v.moment key line (key_row v.cache key) (stored_value s.stored) s.shown (progress_in v)
 
 -- A step of this line begins on the new visit, where the key's expired row is gone: it asks first, or is carried out.
-pub record IsBegun (old : Visited) (call : KeyCall) (l : Line) (s : Supply) (new : Visited) : Type 0 where
+pub record IsBegun (old : Visited) (call : KeyCall) (l : TableLine) (s : Supply) (new : Visited) : Type 0 where
   pub ready : CanEnd new call.key l s
   pub copy : s.values.copy ≡ handed old.cache.config.writer call.op
   pub asks : (q : Request) → first_request old.cache.config call.key call.op l.asks s.values.entry ≡ Some q →

@@ -1,3 +1,9 @@
+pub mod Noted
+pub mod Shelf
+pub mod Tied
+pub mod Kept
+pub mod Visited
+pub mod Clock
 pub mod Lines
 pub mod Given
 pub mod Verdicts

@@ -13,7 +13,7 @@ use Rattle.jc_model.specs.declared.table.Change.{Change}
 use Rattle.jc_model.specs.declared.table.Change.TheVariants.{Store, Put, Remove}
 use Rattle.jc_model.specs.declared.table.Replied.{Replied}
 use Rattle.jc_model.specs.declared.table.Replied.TheVariants.{Shown}
-use Rattle.jc_model.specs.declared.table.Line.{Line}
+use Rattle.jc_model.specs.declared.table.TableLine.{TableLine}
 use Rattle.jc_model.specs.Table.{live_line, absent_line, otherwise, expected_by, value_of, invoked_by}
 
 abbrev pub is_shown : Replied → Bool
@@ -28,11 +28,11 @@ stores _ = false
 
 -- The line of an operation, by the key's live value.
 
-abbrev pub of_expected : Option (List ℕ) → List ℕ → Line → Line
+abbrev pub of_expected : Option (List ℕ) → List ℕ → TableLine → TableLine
 of_expected None live l = l
 of_expected (Some expected) live l = if bytes_eq live expected then l else otherwise
 
-abbrev pub line_at : Op → Option (List ℕ) → Line
+abbrev pub line_at : Op → Option (List ℕ) → TableLine
 line_at o None = absent_line o
 line_at o (Some live) = of_expected (expected_by o) live (live_line o)
 

@@ -11,7 +11,7 @@ use Rattle.jc_model.specs.Changes.{Progress}
 use Rattle.jc_model.specs.Run.{Run, ended, waiting, resume}
 use Rattle.jc_model.specs.Step.{step}
 use Rattle.jc_model.specs.Suspended.{KeyWait, key_run}
-use Rattle.jc_state.specs.Visited.{Visited, progress_in}
+use Rattle.jc_ops.specs.Visited.{Visited, progress_in}
 use Rattle.jc_ops.specs.declared.step.Next.{Next}
 use Rattle.jc_ops.specs.declared.step.Next.TheVariants.{Ended, Waiting}
 

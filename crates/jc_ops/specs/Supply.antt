@@ -12,9 +12,9 @@ use Rattle.jc_model.specs.Suspended.{KeyWait}
 use Rattle.jc_ops.specs.declared.supply.values.Values.{Values}
 use Rattle.jc_ops.specs.Given.{loaded_in, verdict_in}
 use Rattle.jc_model.specs.Table.{value_of}
-use Rattle.jc_state.specs.Kept.{items_of}
-use Rattle.jc_state.specs.Noted.{StoredIsTold}
-use Rattle.jc_state.specs.Visited.{Visited, HasPlacesIn, has_live_in}
+use Rattle.jc_ops.specs.Kept.{items_of}
+use Rattle.jc_ops.specs.Noted.{StoredIsTold}
+use Rattle.jc_ops.specs.Visited.{Visited, HasPlacesIn, has_live_in}
 use Rattle.jc_ops.specs.Lines.{handed, shows, shows_loaded, creates, is_invoke, most_told}
 use Rattle.jc_ops.specs.Verdicts.{stores_by, hands_by}
 

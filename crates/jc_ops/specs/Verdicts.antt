@@ -6,7 +6,7 @@ use Rattle.jc_model.specs.declared.call.By.TheVariants as by
 use Rattle.jc_model.specs.declared.call.Reply.TheVariants.{Fault}
 use Rattle.jc_model.specs.declared.call.Verdict.{Verdict}
 use Rattle.jc_model.specs.declared.config.CacheConfig.{CacheConfig}
-use Rattle.jc_model.specs.declared.table.Line.{Line}
+use Rattle.jc_model.specs.declared.table.TableLine.{TableLine}
 use Rattle.jc_model.specs.State.{Item}
 use Rattle.jc_model.specs.Changes.{Progress}
 use Rattle.jc_model.specs.Run.{Run, ended}
@@ -26,7 +26,7 @@ hands_by writer (Set v) = if writer then Some v else None
 hands_by writer Remove = None
 
 -- a verdict's line, by whether the key has a row
-abbrev pub verdict_line : Action → Bool → Line
+abbrev pub verdict_line : Action → Bool → TableLine
 verdict_line action true = live_verdict action
 verdict_line action false = absent_verdict action
 

@@ -3,16 +3,16 @@
 //! They are lines of the case table like any other. But most calls are such gets: so they are carried out here without
 //! the means of those that ask and tell.
 ghost use Rattle.std.specs.Prelude.{◌≡◌, None, IfSome, option_map};
-ghost use Rattle.jc_state.specs.Visited.{IsSameVisit, IsUnchanged};
+ghost use Rattle.jc_ops.specs.Visited.{IsSameVisit, IsUnchanged};
 ghost use Rattle.jc_ops.specs.Stepped.{GetFinds};
 
+use crate::visit::Visit;
 use jc_model::OutOfMemory;
-use jc_model::copies::Copies;
 use jc_model::key::Key;
+use jc_model::owners::Owners;
 use jc_model::value::Value;
 use jc_ring::ring::Ring;
 use jc_rows::rows::Rows;
-use jc_state::visit::Visit;
 
 /// A value with as many owners as who asks for it needs: one, or three where it goes into a transcript too.
 pub trait Owned: Drop {
@@ -34,11 +34,11 @@ impl Owned for Value {
     }
 }
 
-impl Owned for Copies<Value> {
+impl Owned for Owners<Value> {
     ghost value = { λ owned. owned };
 
-    fn of(found: &Value) -> Result<Copies<Value>, OutOfMemory> {
-        Copies::of(found)
+    fn of(found: &Value) -> Result<Owners<Value>, OutOfMemory> {
+        Owners::of(found)
     }
 }
 

@@ -1,6 +1,12 @@
-//! The operations of one cache.
+//! The state of one cache, its rows in the shared table, and the operations on them.
 #![tactic(auto)]
 
+pub mod clock;
 pub mod hit;
+pub mod notices;
+pub mod slots;
+pub mod state;
 pub mod step;
+pub mod stored;
 pub mod supply;
+pub mod visit;

@@ -9,8 +9,8 @@ mod request;
 
 ghost use Rattle.std.specs.Prelude.{◌≡◌, true, option_map};
 ghost use Rattle.jc_model.specs.Run.{ended};
-ghost use Rattle.jc_state.specs.Kept.{FoundRow};
-ghost use Rattle.jc_state.specs.Visited.{SpendsAtMost, progress_in};
+ghost use Rattle.jc_ops.specs.Kept.{FoundRow};
+ghost use Rattle.jc_ops.specs.Visited.{SpendsAtMost, progress_in};
 ghost use Rattle.jc_ops.specs.Given.{loaded_in, verdict_in};
 ghost use Rattle.jc_ops.specs.Lines.{asks_no_one};
 ghost use Rattle.jc_ops.specs.Supply.{CoversIn, CoversAnswerIn, HasPlacesFor, HasRoomFor};
@@ -23,12 +23,12 @@ use crate::step::invoke::answer_invoke;
 use crate::step::line::{answer_line, begin};
 use crate::step::request::first_request;
 use crate::supply::Supply;
+use crate::visit::Visit;
 use jc_model::call::{Answer, KeyCall, Op, Reply, Request, Verdict};
-use jc_model::copies::Copies;
+use jc_model::owners::Owners;
 use jc_model::value::Value;
 use jc_ring::ring::Ring;
 use jc_rows::rows::Rows;
-use jc_state::visit::Visit;
 use std::marker::Model;
 
 /// A key's step that waits, with what it was given so far.
@@ -59,7 +59,7 @@ impl Model for KeyStep {
 /// What a step or a call has come to: it has ended with its reply, or its next request is to be answered, and this
 /// waits for the answer.
 #[derive(Drop)]
-pub enum Next<W, E = Copies<Reply>> {
+pub enum Next<W, E = Owners<Reply>> {
     Ended(E),
     Waiting(Request, W),
 }
@@ -134,7 +134,7 @@ impl KeyStep {
         visit: &mut Visit<R, G>,
         call: KeyCall,
         supply: Supply,
-    ) -> Copies<Reply>
+    ) -> Owners<Reply>
         requires row { FoundRow call.key visit.old.cache supply.row }
         requires places { HasPlacesFor call visit.old }
         requires covered { CoversIn visit.old.cache.config.writer visit.old call supply.values }

@@ -8,8 +8,8 @@ pub mod values;
 
 ghost use Rattle.std.specs.Prelude.{◌≡◌, IfOk, OnOk};
 ghost use Rattle.jc_model.specs.Sound.{HasDistinctKeys};
-ghost use Rattle.jc_state.specs.Kept.{items_of, FoundRow};
-ghost use Rattle.jc_state.specs.Visited.{IsUnchanged};
+ghost use Rattle.jc_ops.specs.Kept.{items_of, FoundRow};
+ghost use Rattle.jc_ops.specs.Visited.{IsUnchanged};
 ghost use Rattle.jc_ops.specs.Supply.{CoversIn, CoversAnswerIn};
 ghost use Rattle.jc_ops.specs.Supply.{HasPlacesFor, HasRoomFor, HasRoomAt};
 
@@ -17,11 +17,11 @@ use crate::step::KeyStep;
 use crate::supply::needs::adds_at;
 pub use crate::supply::needs::{asks_no_one, creates, most_notices, takes_value};
 use crate::supply::values::Values;
+use crate::visit::Visit;
 use jc_model::OutOfMemory;
 use jc_model::call::{Answer, KeyCall};
 use jc_ring::ring::Ring;
 use jc_rows::rows::Rows;
-use jc_state::visit::Visit;
 
 /// What one step is given.
 #[derive(Drop)]

@@ -1,4 +1,8 @@
 //! A hash under a placer's secret, for an index of keys beside the buckets.
+
+ghost use Rattle.std.specs.Prelude.{◌≡◌};
+ghost use Rattle.jc_place.specs.Keyed.{keyed_by};
+
 use std::hash::{BuildHasher, DefaultHasher, Hasher};
 
 /// Makes hashers of SipHash-1-3 that have read 128 bits: where these are secret, nobody can choose keys that such a hash
@@ -10,7 +14,9 @@ pub struct KeyedState {
 
 impl KeyedState {
     /// Makes hashers that have read these two numbers.
-    pub fn new(first: u64, second: u64) -> KeyedState {
+    pub fn new(first: u64, second: u64) -> KeyedState
+        ensures { result ≡ keyed_by first second }
+    {
         let mut initial = DefaultHasher::new();
         initial.write(&first.to_le_bytes());
         initial.write(&second.to_le_bytes());

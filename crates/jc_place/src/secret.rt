@@ -35,9 +35,14 @@ impl<S> SecretPlacer<S> {
 
 impl<S: BuildHasher + Copy> Placer for SecretPlacer<S> {
     ghost use Rattle.std.specs.Int.{to_le_bytes, w32};
+    ghost use Rattle.jc_place.specs.Keyed.{keyed_by, index_word, stash_word};
     ghost use Rattle.jc_place.specs.Place.{place_of_hash};
 
     ghost placing = { λ secret id key. place_of_hash (S.Hasher.finish (S.Hasher.write (S.Hasher.write (S.build_hasher secret) (to_le_bytes w32 id)) key)) };
+
+    ghost keying = { λ secret.
+        let read = S.Hasher.write (S.build_hasher secret) index_word in
+        keyed_by (S.Hasher.finish read) (S.Hasher.finish (S.Hasher.write read stash_word)) };
 
     fn place(&self, id: CacheId, key: &Key) -> Place {
         let mut hasher = self.secret.build_hasher();

@@ -64,7 +64,11 @@ fn walk_number(hash: u64, number: u32) -> u64
 }
 
 impl Placer for SeededPlacer {
+    ghost use Rattle.jc_place.specs.Keyed.{keyed_by};
+
     ghost placing = { seeded_place };
+
+    ghost keying = { λ seed. keyed_by seed 0 };
 
     fn place(&self, id: CacheId, key: &Key) -> Place {
         let of_id = walk_number(OFFSET ^ self.seed, id.number());

@@ -6,6 +6,7 @@
 mod answering;
 mod attempt;
 mod manager;
+mod memory;
 mod placer;
 mod playing;
 mod row;
@@ -14,11 +15,11 @@ mod table;
 mod trouble;
 mod twin;
 
+use crate::memory::Memory;
 use crate::playing::report_of;
 use crate::scenes::{SCENES, Scene};
 use crate::table::{displaced, doubled};
 use crate::trouble::Trouble;
-use jc_scarcity::{Fault, Memory};
 use std::alloc::Global;
 use std::{env, io};
 
@@ -75,7 +76,7 @@ fn rehearse(alloc: Global) {
 }
 
 /// The memory that is held: none where the program is given a word, since others refuse allocations then.
-fn held(rt: &HostRuntime) -> io::Result<Result<Memory, Fault>> {
+fn held(rt: &HostRuntime) -> io::Result<Result<Memory, Trouble>> {
     let alloc = rt.alloc();
     if env::args(rt)?.count() > 1 {
         return Ok(Ok(Memory::none(alloc)));
@@ -91,6 +92,6 @@ fn main(rt: HostRuntime) -> io::Result<()> {
     };
     match held {
         Ok(mut memory) => tell_rows(&rt, &mut memory),
-        Err(fault) => println!(rt; "{fault:?}"),
+        Err(trouble) => println!(rt; "{trouble:?}"),
     }
 }

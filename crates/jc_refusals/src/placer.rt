@@ -24,9 +24,12 @@ fn is_capital(key: &Key) -> bool
 }
 
 impl Placer for ByCase {
+    ghost use Rattle.jc_place.specs.Keyed.{keyed_by};
     ghost use Rattle.jc_refusals.specs.Places.{place_by_case};
 
     ghost placing = { λ placer id key. place_by_case key };
+
+    ghost keying = { λ placer. keyed_by 0 0 };
 
     fn place(&self, _id: CacheId, key: &Key) -> Place {
         if is_capital(key) {

@@ -1,12 +1,12 @@
 //! The rows on managers, with a journal and without one.
 
 use crate::manager::{Journaled, Manager, Plain};
+use crate::memory::Memory;
 use crate::row::Row;
 use crate::scenes::Scene;
 use crate::trouble::Trouble;
 use jc_config::{Settings, read_config};
 use jc_report::report;
-use jc_scarcity::Memory;
 use jc_script::{Line, read_script};
 use std::alloc::Global;
 

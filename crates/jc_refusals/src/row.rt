@@ -3,13 +3,13 @@
 
 use crate::attempt::{Attempt, Open, answering};
 use crate::manager::Manager;
+use crate::memory::{MOST_LEFT, Memory, STEP};
 use crate::trouble::Trouble;
 use crate::twin::{IDS, Twin};
 use jc_model::config::CacheConfig;
 use jc_model::event::{CacheId, Event};
 use jc_model::key::Key;
 use jc_model::share::share_all;
-use jc_scarcity::{MOST_LEFT, Memory, STEP};
 use jc_script::Line;
 use std::alloc::Global;
 
@@ -243,7 +243,7 @@ impl<M: Manager> Row<M> {
         lines: Vec<Line>,
         ends: Ends,
     ) -> Result<(), Trouble> {
-        let mut played = memory.leave_enough().map_err(Trouble::from);
+        let mut played = memory.leave_enough();
         for line in lines {
             if played.is_ok() {
                 played = self.obey(memory, line, ends);
@@ -257,8 +257,7 @@ impl<M: Manager> Row<M> {
 
     /// Sees that at least one event was refused.
     pub fn see_all(&self, memory: &Memory) -> Result<(), Trouble> {
-        memory.see_refused(self.refused, 1)?;
-        Ok(())
+        memory.see_refused(self.refused, 1)
     }
 
     /// The manager.

@@ -1,6 +1,7 @@
 //! The memory of the table alone: room for rows, and twice the buckets, are refused in turn. What displaces rows, or
 //! brings them into the stash, takes none.
 
+use crate::memory::{MOST_LEFT, Memory, STEP};
 use crate::placer::ByCase;
 use crate::trouble::Trouble;
 use jc_cuckoo::cuckoo::Cuckoo;
@@ -10,7 +11,6 @@ use jc_model::config::Expiry;
 use jc_model::event::CacheId;
 use jc_model::key::Key;
 use jc_rows::rows::Rows;
-use jc_scarcity::{MOST_LEFT, Memory, STEP};
 use std::alloc::Global;
 
 type Table = Cuckoo<ByCase, NoMirror>;

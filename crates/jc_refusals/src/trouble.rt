@@ -1,7 +1,6 @@
 //! Why a row is not as it should be.
 
 use jc_model::OutOfMemory;
-use jc_scarcity::Fault;
 use std::alloc::AllocFailed;
 
 /// What a row comes to where it is not as it should be.
@@ -34,17 +33,6 @@ pub enum Trouble {
 impl From<OutOfMemory> for Trouble {
     fn from(_: OutOfMemory) -> Trouble {
         Trouble::Memory
-    }
-}
-
-impl From<Fault> for Trouble {
-    fn from(fault: Fault) -> Trouble {
-        match fault {
-            Fault::OutOfMemory => Trouble::Memory,
-            Fault::NotTaken => Trouble::NotTaken,
-            Fault::NoSpare => Trouble::NoSpare,
-            Fault::NotRefused => Trouble::NotRefused,
-        }
     }
 }
 

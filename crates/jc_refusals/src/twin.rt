@@ -3,17 +3,16 @@
 use crate::manager::{counts_of, make_journaled, make_plain};
 use crate::trouble::Trouble;
 use jc_engine::engine::Engine;
-use jc_model::OutOfMemory;
+use jc_engine::recorded::Recorded;
 use jc_model::config::CacheConfig;
 use jc_model::event::{CacheId, Event, Outcome};
 use jc_model::key::Key;
 use jc_model::share::{Share, share_all};
-use jc_recorded::recorded::Recorded;
+use jc_model::{OutOfMemory, Transcript};
 use jc_ring::list_ring::ListRing;
 use jc_ring::ring::Ring;
 use jc_rows::list_rows::ListRows;
 use jc_rows::rows::Rows;
-use jc_transcript::Transcript;
 use std::alloc::Global;
 
 /// Ids from 0 are compared, so many.

@@ -9,10 +9,10 @@ use crate::managed_text::push_managed;
 use crate::quote::push_bytes;
 use crate::reply::{push_number, push_reply, push_spaced};
 use indexmap::IndexMap;
+use jc_model::Transcript;
 use jc_model::call::{Kind, Notice};
 use jc_model::event::{End, Entry, Life};
 use jc_script::{Managed, name_of};
-use jc_transcript::Transcript;
 use std::alloc::{AllocError, Global};
 
 /// What a listener was told of an entry.

@@ -1,5 +1,5 @@
 -- What the table of rows holds.
-use Rattle.std.specs.Prelude.{ℕ, ◌+◌, ◌≤◌, List, Option, Some, None, option_map}
+use Rattle.std.specs.Prelude.{ℕ, ◌+◌, ◌<◌, ◌≤◌, List, Option, Some, None, option_map}
 use Rattle.std.specs.declared.cmp.Ordering.{Ordering}
 use Rattle.std.specs.Ordering.{nat_cmp, ordering_then}
 use Rattle.std.specs.Cmp.Lexicographic.{slice_cmp}
@@ -21,6 +21,10 @@ number_at m place = option_map (λ row. row.0) (map.get m place)
 -- so many rows in all fit, where there is room for this many more
 abbrev pub HasRoomForRows : ℕ → RowMap → ℕ → Type 0
 HasRoomForRows n m spare = n ≤ map.len m + spare
+
+-- or do not
+abbrev pub LacksRoomForRows : ℕ → RowMap → ℕ → Type 0
+LacksRoomForRows n m spare = map.len m + spare < n
 
 -- the map, where the row found at a place has another expiry
 abbrev pub with_expiry_at : RowMap → ℕ × List ℕ → Expiry → Option (ℕ × Expiry) → RowMap

@@ -8,7 +8,7 @@ use jc_model::OutOfMemory;
 use jc_model::config::Expiry;
 use jc_model::event::CacheId;
 use jc_model::key::Key;
-use std::alloc::Global;
+use std::alloc::{AllocError, Global};
 use std::collections::HashMap;
 use std::marker::Model;
 
@@ -52,7 +52,13 @@ impl Rows for ListRows {
         if n <= self.rows.capacity() {
             return Ok(());
         }
-        self.rows.reserve(n - held)
+        // Whether they fit is seen by the room alone: std does not say what a refusal leaves of it.
+        let more = n - held;
+        let _ = self.rows.reserve(more);
+        if self.rows.capacity() - held < more {
+            return Err(AllocError);
+        }
+        Ok(())
     }
 
     fn find(&self, id: CacheId, key: &Key) -> Option<u32> {

@@ -1,7 +1,7 @@
 //! The table of rows: a finite map from a cache and a key to a row number and an expiry.
-ghost use Rattle.std.specs.Prelude.{◌≡◌, ℕ, ◌+◌, ◌<◌, ◌≤◌, None, IsSome, IsOk, OnOk};
+ghost use Rattle.std.specs.Prelude.{◌≡◌, ℕ, ◌+◌, ◌<◌, ◌≤◌, None, IsSome, IsOk, OnOk, OnErr};
 ghost use Rattle.std.specs.FinMap as map;
-ghost use Rattle.jc_rows.specs.Rows.{HasRoomForRows, RowMap, number_at, with_expiry};
+ghost use Rattle.jc_rows.specs.Rows.{HasRoomForRows, LacksRoomForRows, RowMap, number_at, with_expiry};
 
 use jc_model::OutOfMemory;
 use jc_model::config::Expiry;
@@ -21,11 +21,12 @@ pub trait Rows: Drop {
     fn len(&self) -> usize
         ensures { result ≡ map.len (contents self.now) };
 
-    /// Makes room for `n` rows in all. Nothing is done where that room is there. Where memory runs out, the rows and
-    /// the room stay as they were.
+    /// Makes room for `n` rows in all. Nothing is done where that room is there. Where memory runs out, the rows stay as
+    /// they were, and so many do not fit.
     fn make_room(&mut self, n: usize) -> Result<(), OutOfMemory>
         ensures same { contents self.new ≡ contents self.old }
         ensures ok { OnOk result (HasRoomForRows n (contents self.new) (spare self.new)) }
+        ensures refused { OnErr result (LacksRoomForRows n (contents self.new) (spare self.new)) }
         ensures succeeds { HasRoomForRows n (contents self.old) (spare self.old) → IsOk result }
         ensures there { HasRoomForRows n (contents self.old) (spare self.old)
             → spare self.new ≡ spare self.old }

@@ -8,8 +8,8 @@ use Rattle.jc_config.specs.Config.{configuration_in}
 use Rattle.jc_config.specs.declared.fault.ConfigFault.{ConfigFault}
 use Rattle.jc_config.specs.declared.fault.ConfigFault.TheVariants.{TooLong}
 use Rattle.jc_model.specs.Limits.{text_bytes}
-use Rattle.jc_console.specs.declared.fault.ProgramFault.{ProgramFault}
-use Rattle.jc_console.specs.declared.fault.ProgramFault.TheVariants.{Config}
+use Rattle.jc_cli.specs.declared.fault.ProgramFault.{ProgramFault}
+use Rattle.jc_cli.specs.declared.fault.ProgramFault.TheVariants.{Config}
 
 long_text : (input : List ℕ) → text_bytes < length input → configuration_in input ≡ Err TooLong
 unfolding configuration_in

@@ -32,7 +32,7 @@ use Rattle.jc_runner.proofs.Suiting.{suited, each_suits}
 use Rattle.jc_runner.specs.Forms.{report_in}
 use Rattle.jc_runner.specs.Together.{stated_of, refusals_of, Gathers, GathersSo}
 use Rattle.jc_runner.specs.declared.form.Form.{Form}
-use Rattle.jc_console.specs.declared.fault.RunFault.{RunFault}
+use Rattle.jc_cli.specs.declared.fault.RunFault.{RunFault}
 
 -- Why a shared manager does not open.
 

@@ -6,18 +6,18 @@ use Rattle.jc_model.specs.declared.call.Notice.{Notice}
 use Rattle.jc_model.specs.declared.call.ProcessorFault.{ProcessorFault}
 use Rattle.jc_model.specs.declared.call.Request.{Request}
 use Rattle.jc_model.specs.declared.call.Verdict.{Verdict}
-use Rattle.jc_recorded.specs.Recording.{Recording}
+use Rattle.jc_engine.specs.Recording.{Recording}
 use Rattle.jc_hooks.specs.declared.cache_hooks.CacheHooks.{CacheHooks}
 use Rattle.jc_hooks.specs.declared.loader.Loaded.{Loaded}
 use Rattle.jc_script.specs.declared.line.LineCall.{LineCall}
 use Rattle.jc_threads.specs.declared.fault.WorkFault.{WorkFault}
 use Rattle.jc_threads.specs.declared.fault.WorkFault.TheVariants.{Close, OutOfMemory}
-use Rattle.jc_console.specs.Faults.{of_work}
+use Rattle.jc_cli.specs.Faults.{of_work}
 use Rattle.jc_runner.specs.Halfway.{Replies, RepliesAt}
 use Rattle.jc_runner.specs.Hooks.{HasNoHooks}
-use Rattle.jc_console.specs.Streams.{IsOfThreads}
-use Rattle.jc_console.specs.declared.fault.RunFault.{RunFault}
-use Rattle.jc_console.specs.declared.fault.RunFault.TheVariants as run
+use Rattle.jc_cli.specs.Streams.{IsOfThreads}
+use Rattle.jc_cli.specs.declared.fault.RunFault.{RunFault}
+use Rattle.jc_cli.specs.declared.fault.RunFault.TheVariants as run
 use Rattle.jc_runner.proofs.Hearing.{none_heard}
 
 pub map_set_same : {A B : Type 0} (f : A → B) (xs : List A) (k : ℕ) (d x : A) → f x ≡ f (get_or xs k d) → map f (set xs k x) ≡ map f xs

@@ -19,3 +19,4 @@ pub mod Kept
 pub mod Openable
 pub mod Named
 pub mod Traces
+pub mod ProgramTold

@@ -16,7 +16,7 @@ use Rattle.jc_model.specs.Run.{Run}
 use Rattle.jc_model.specs.Runs.{Status, Standing, idle, Lives, begins, shown, has_processor, refuse_last, answer_of}
 use Rattle.jc_model.specs.Legal.{config_of}
 use Rattle.jc_model.proofs.EachCache.{reply_kept}
-use Rattle.jc_recorded.specs.Recording.{Recording}
+use Rattle.jc_engine.specs.Recording.{Recording}
 use Rattle.jc_hooks.specs.declared.cache_hooks.CacheHooks.{CacheHooks}
 use Rattle.jc_hooks.specs.declared.loader.Loaded.{Loaded}
 use Rattle.jc_script.specs.declared.line.Line.{Line}

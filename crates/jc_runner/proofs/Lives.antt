@@ -25,7 +25,7 @@ use Rattle.jc_model.specs.Legal.{History, played, entries_of, config_of, recorde
 use Rattle.jc_model.proofs.Bare.{create_refusal-bare, destroyed-bare}
 use Rattle.jc_model.proofs.Histories.{config_before, config_last, no_entries}
 use Rattle.jc_model.proofs.Lives.{same_length, length_one_more, live_same, live_other, live_last, live_before}
-use Rattle.jc_recorded.specs.Recording.{Recording}
+use Rattle.jc_engine.specs.Recording.{Recording}
 use Rattle.jc_engine.specs.Results.{of_destroy}
 use Rattle.jc_engine.proofs.Places.{length_map}
 use Rattle.jc_hooks.specs.declared.cache_hooks.CacheHooks.{CacheHooks}

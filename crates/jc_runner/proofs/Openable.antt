@@ -3,7 +3,7 @@ use Rattle.std.proofs.Common.{◌≡◌, ℕ, ◌+◌, ◌≤◌, false, ltb, Li
 use Rattle.std.proofs.lemmas.Bool.Decides.{nat_tests}
 use Rattle.jc_engine.specs.Opening.{open_refusal, open_refusal_for, refusal_at, refusal_from, capacities}
 use Rattle.jc_engine.specs.declared.open.OpenRefusal.TheVariants.{TooManyCaches, TotalCapacity}
-use Rattle.jc_json.specs.Totals.{CanOpenEach}
+use Rattle.jc_report.specs.Totals.{CanOpenEach}
 use Rattle.jc_model.specs.Legal.{numbered_lives}
 use Rattle.jc_model.specs.Limits.{most_caches, most_rows_together}
 use Rattle.jc_model.specs.Runs.{Lives, create_refusal, members_of, opened_from}

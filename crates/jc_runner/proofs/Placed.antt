@@ -9,8 +9,8 @@ use Rattle.jc_model.specs.declared.event.Life.{Life}
 use Rattle.jc_model.specs.Runs.{Status}
 use Rattle.jc_model.specs.Legal.{InOrder, config_of}
 use Rattle.jc_model.proofs.Lives.{live_within}
-use Rattle.jc_recorded.specs.Recording.{Recording}
-use Rattle.jc_recorded.proofs.Entries.{some_at}
+use Rattle.jc_engine.specs.Recording.{Recording}
+use Rattle.jc_engine.proofs.Entries.{some_at}
 use Rattle.jc_runner.specs.Halfway.{lives_now, IsAtRest}
 use Rattle.jc_model.specs.Places.{at_place}
 

@@ -15,22 +15,22 @@ use Rattle.jc_hooks.specs.Program.{echo_answer, AllChecked}
 use Rattle.jc_script.specs.declared.line.Line.{Line}
 use Rattle.jc_script.specs.Script.{lines}
 use Rattle.jc_script.specs.declared.fault.ScriptFault.{ScriptFault}
-use Rattle.jc_words.specs.declared.run.Format.{Format}
+use Rattle.jc_cli.specs.declared.run.Format.{Format}
 use Rattle.jc_runner.specs.Forms.{form_of}
 use Rattle.jc_runner.specs.Hooks.{CannotOpen}
-use Rattle.jc_console.specs.Meters.{next_count}
+use Rattle.jc_cli.specs.Meters.{next_count}
 use Rattle.jc_runner.specs.Naming.{ProgramHooks, AllHooksNamed, heard_by}
 use Rattle.jc_runner.specs.Opens.{CanOpenConfiguration}
 use Rattle.jc_runner.specs.Program.{ReportsSerially, GathersFromWorkers, RunEnds}
 use Rattle.jc_runner.specs.Reports.{ReportsOf}
-use Rattle.jc_console.specs.Streams.{WritesFront, IsOfThreads, IsOfStrictness, HasRun}
+use Rattle.jc_cli.specs.Streams.{WritesFront, IsOfThreads, IsOfStrictness, HasRun}
 use Rattle.jc_runner.specs.Strictness.{HasNoStray, HasStray}
 use Rattle.jc_runner.specs.Together.{stated_of, GathersSo}
-use Rattle.jc_console.specs.declared.fault.RunFault.{RunFault}
-use Rattle.jc_console.specs.declared.fault.RunFault.TheVariants as run
+use Rattle.jc_cli.specs.declared.fault.RunFault.{RunFault}
+use Rattle.jc_cli.specs.declared.fault.RunFault.TheVariants as run
 use Rattle.jc_runner.specs.declared.form.Form.{Form}
-use Rattle.jc_console.specs.declared.input.Watched.{Watched}
-use Rattle.jc_console.specs.declared.output.WatchedWriter.{WatchedWriter}
+use Rattle.jc_cli.specs.declared.input.WatchedReader.{WatchedReader}
+use Rattle.jc_cli.specs.declared.output.WatchedWriter.{WatchedWriter}
 use Rattle.jc_runner.proofs.Opening.{all_named_suit}
 use Rattle.jc_runner.proofs.Suiting.{suited}
 
@@ -54,7 +54,7 @@ module _ (format : Format) (c : Configuration) (hooks hooks' : List ProgramHooks
   reported None IsSo r = tt
   reported (Some script) IsSo r = record { hooks = hooks; hooks' = hooks'; named = named; reports = r }
 
-  module _ {I O : Type 0} (remaining : I → Option (List ℕ)) (contents : O → Option (List ℕ)) (strict : Bool) (reader reader' : Watched I) (writer writer' : WatchedWriter O) (opens : CanOpenConfiguration c) where
+  module _ {I O : Type 0} (remaining : I → Option (List ℕ)) (contents : O → Option (List ℕ)) (strict : Bool) (reader reader' : WatchedReader I) (writer writer' : WatchedWriter O) (opens : CanOpenConfiguration c) where
     pub run_ends : (result : Result (Unit {0}) RunFault)
         → OnOk result (IfSome (remaining reader.inner) (λ script. ReportsHere script (Appends (contents writer.inner) (contents writer'.inner))))
         → OnOk result (IsAtEnd (remaining reader'.inner))
@@ -81,7 +81,7 @@ module _ (format : Format) (c : Configuration) (hooks hooks' : List ProgramHooks
     run_ends (Err run.Memory) ok end flushed script entry known long opening closed front write read nothing = nothing (λ e. cc)
 
 -- A script that is refused for its members.
-module _ {I O : Type 0} (remaining : I → Option (List ℕ)) (contents : O → Option (List ℕ)) (serial strict : Bool) (format : Format) (c : Configuration) (reader reader' : Watched I) (writer writer' : WatchedWriter O) where
+module _ {I O : Type 0} (remaining : I → Option (List ℕ)) (contents : O → Option (List ℕ)) (serial strict : Bool) (format : Format) (c : Configuration) (reader reader' : WatchedReader I) (writer writer' : WatchedWriter O) where
   pub stray_ends : (e : RunFault) → IsOfStrictness e → ((n : ℕ) → e ≡ run.Entry n → HasStray strict c.settings (remaining reader.inner) n) → Keeps (contents writer.inner) (contents writer'.inner)
       → RunEnds remaining contents serial strict format c reader reader' writer writer' (Err e)
   stray_ends run.Read of one keeps = absurd of
@@ -107,7 +107,7 @@ module _ (format : Format) (form : Form) (c : Configuration) (hooks : List Progr
   gathered None IsSo read g = tt
   gathered (Some script) IsSo read g = record { hooks = hooks; named = named; all = all; read = read.0; gathers = subst (λ (f : Form). GathersSo f (stated_of (λ l. echo_answer) program_verdict hooks) c.settings all IsSo) read.1 g }
 
-  module _ {I O : Type 0} (remaining : I → Option (List ℕ)) (contents : O → Option (List ℕ)) (strict : Bool) (reader reader' : Watched I) (writer writer' : WatchedWriter O) (opens : CanOpenConfiguration c) (read : IfSome (remaining reader.inner) Says)
+  module _ {I O : Type 0} (remaining : I → Option (List ℕ)) (contents : O → Option (List ℕ)) (strict : Bool) (reader reader' : WatchedReader I) (writer writer' : WatchedWriter O) (opens : CanOpenConfiguration c) (read : IfSome (remaining reader.inner) Says)
       (known : HasNoStray strict (remaining reader.inner)) where
     pub threads_end : (result : Result (Unit {0}) RunFault)
         → IsAtEnd (remaining reader'.inner)

@@ -29,8 +29,8 @@ use Rattle.jc_model.proofs.Law.{whole-within}
 use Rattle.jc_model.proofs.Lives.{live_same}
 use Rattle.jc_model.proofs.Recording.{one_more_event}
 use Rattle.jc_model.proofs.Resume.{answered-append, Fits-append}
-use Rattle.jc_recorded.specs.Recording.{Recording}
-use Rattle.jc_recorded.proofs.Entries.{set_set}
+use Rattle.jc_engine.specs.Recording.{Recording}
+use Rattle.jc_engine.proofs.Entries.{set_set}
 use Rattle.jc_hooks.specs.declared.cache_hooks.CacheHooks.{CacheHooks}
 use Rattle.jc_hooks.specs.declared.loader.Loaded.{Loaded}
 use Rattle.jc_runner.specs.Alone.{exchanges_of_call, end_of, run_alone, entry_by}

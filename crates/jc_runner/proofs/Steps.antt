@@ -24,7 +24,7 @@ use Rattle.jc_model.specs.Whole.{whole}
 use Rattle.jc_model.specs.Solo.{PlayedCall, state_in, standing_left, after_call, standing_from}
 use Rattle.jc_model.specs.Legal.{is_waiting, is_open, entries_of, config_of, was_given_up, played, IsTold}
 use Rattle.jc_model.proofs.Lives.{same_length, live_within, live_same, live_other}
-use Rattle.jc_recorded.specs.Recording.{Recording}
+use Rattle.jc_engine.specs.Recording.{Recording}
 use Rattle.jc_hooks.specs.declared.cache_hooks.CacheHooks.{CacheHooks}
 use Rattle.jc_hooks.specs.declared.loader.Loaded.{Loaded}
 use Rattle.jc_script.specs.declared.line.Line.{Line}

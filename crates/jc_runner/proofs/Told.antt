@@ -15,7 +15,7 @@ use Rattle.jc_model.specs.Runs.{opened, opened_from, Lives}
 use Rattle.jc_model.specs.Legal.{History, IsLegal, Tells, config_of, entries_of, numbered_lives, at_first}
 use Rattle.jc_model.proofs.Histories.{opened_length, opened_so}
 use Rattle.jc_model.proofs.Recording.{nothing_told}
-use Rattle.jc_recorded.specs.Recording.{Recording}
+use Rattle.jc_engine.specs.Recording.{Recording}
 use Rattle.jc_hooks.specs.declared.cache_hooks.CacheHooks.{CacheHooks}
 use Rattle.jc_hooks.specs.declared.loader.Loaded.{Loaded}
 use Rattle.jc_script.specs.declared.line.Line.{Line}
@@ -23,17 +23,17 @@ use Rattle.jc_script.specs.declared.managed.Managed.{Managed}
 use Rattle.jc_script.specs.Managing.{lives_of_script, managed_of, lives_begun_from, managed_from}
 use Rattle.jc_script.specs.Named.{AllName}
 use Rattle.jc_script.specs.Script.{lines}
-use Rattle.jc_strict.specs.Stray.{stray_line}
+use Rattle.jc_script.specs.Stray.{stray_line}
 use Rattle.jc_report.specs.Report.{header, entry_text, lives_text, managed_text}
-use Rattle.jc_json.specs.Report.{json}
-use Rattle.jc_words.specs.declared.run.Format.{Format}
+use Rattle.jc_report.specs.JsonReport.{json}
+use Rattle.jc_cli.specs.declared.run.Format.{Format}
 use Rattle.jc_runner.specs.Alone.{line_of_entry, alone_from}
 use Rattle.jc_runner.specs.Forms.{form_of, report_in, IsToldIn}
 use Rattle.jc_runner.specs.declared.form.Form.{Form}
 use Rattle.jc_runner.specs.declared.form.Form.TheVariants as form
 use Rattle.jc_runner.specs.Halfway.{lives_now, as_read, NoneOpen, IsAtRest, LifeGoesOn, Halfway}
 use Rattle.jc_runner.specs.Reports.{Reports, ReportsOf}
-use Rattle.jc_console.specs.Streams.{IsAll}
+use Rattle.jc_cli.specs.Streams.{IsAll}
 use Rattle.jc_runner.proofs.Hearing.{nothing_heard}
 use Rattle.jc_model.specs.Places.{at_place}
 

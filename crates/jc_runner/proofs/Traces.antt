@@ -6,14 +6,14 @@ use Rattle.jc_replay.specs.Table.{as_table, replay_table}
 use Rattle.jc_replay.specs.Hits.{ratios_of}
 use Rattle.jc_replay.specs.declared.fault.ReplayFault.TheVariants as replay
 use Rattle.jc_replay.proofs.Traces.{too_long}
-use Rattle.jc_console.specs.Faults.{of_trace}
+use Rattle.jc_cli.specs.Faults.{of_trace}
 use Rattle.jc_runner.specs.Program.{TraceEnds}
-use Rattle.jc_console.specs.Streams.{IsOfReading}
-use Rattle.jc_console.specs.Watching.{ReadFails}
-use Rattle.jc_console.specs.declared.fault.RunFault.{RunFault}
-use Rattle.jc_console.specs.declared.fault.RunFault.TheVariants as run
-use Rattle.jc_console.specs.declared.input.Watched.{Watched}
-use Rattle.jc_console.specs.declared.output.WatchedWriter.{WatchedWriter}
+use Rattle.jc_cli.specs.Streams.{IsOfReading}
+use Rattle.jc_cli.specs.Watching.{ReadFails}
+use Rattle.jc_cli.specs.declared.fault.RunFault.{RunFault}
+use Rattle.jc_cli.specs.declared.fault.RunFault.TheVariants as run
+use Rattle.jc_cli.specs.declared.input.WatchedReader.{WatchedReader}
+use Rattle.jc_cli.specs.declared.output.WatchedWriter.{WatchedWriter}
 use Rattle.jc_runner.proofs.Named.{keeps_same}
 
 long_table : (trace capacities : List ℕ) → text_bytes < length trace → replay_table trace capacities ≡ Err replay.TooLong
@@ -23,7 +23,7 @@ if_long : (capacities : List ℕ) (input : Option (List ℕ)) → IfSome input (
 if_long capacities None long = tt
 if_long capacities (Some trace) long = long_table trace capacities long
 
-module _ {I O : Type 0} (remaining : I → Option (List ℕ)) (contents : O → Option (List ℕ)) (capacities : List ℕ) (reader reader' : Watched I) (writer : WatchedWriter O) where
+module _ {I O : Type 0} (remaining : I → Option (List ℕ)) (contents : O → Option (List ℕ)) (capacities : List ℕ) (reader reader' : WatchedReader I) (writer : WatchedWriter O) where
   -- the trace was not read to its end
   pub ends_unread : (fault : RunFault) → IsOfReading fault → (fault ≡ run.Read → ReadFails reader reader') → (fault ≡ run.TooLong → IfSome (remaining reader.inner) (λ trace. text_bytes < length trace))
       → TraceEnds remaining contents capacities reader reader' writer writer (Err (of_trace fault))

@@ -1,8 +1,8 @@
 -- The forms of a report.
 use Rattle.std.specs.Prelude.{◌≡◌, ℕ, List, length}
-use Rattle.jc_json.specs.declared.line_numbers.NumberedLine.{NumberedLine}
-use Rattle.jc_json.specs.Outline.{outline_of}
-use Rattle.jc_json.specs.Report.{json}
+use Rattle.jc_report.specs.declared.line_numbers.NumberedLine.{NumberedLine}
+use Rattle.jc_report.specs.Outline.{outline_of}
+use Rattle.jc_report.specs.JsonReport.{json}
 use Rattle.jc_model.specs.declared.config.CacheConfig.{CacheConfig}
 use Rattle.jc_model.specs.declared.event.Entry.{Entry}
 use Rattle.jc_model.specs.Legal.{History, entries_of}
@@ -10,8 +10,8 @@ use Rattle.jc_script.specs.declared.line.Line.{Line}
 use Rattle.jc_script.specs.declared.managed.Managed.{Managed}
 use Rattle.jc_script.specs.Managing.{lives_of_script, managed_of}
 use Rattle.jc_report.specs.Report as report
-use Rattle.jc_words.specs.declared.run.Format.{Format}
-use Rattle.jc_words.specs.declared.run.Format.TheVariants as format
+use Rattle.jc_cli.specs.declared.run.Format.{Format}
+use Rattle.jc_cli.specs.declared.run.Format.TheVariants as format
 use Rattle.jc_runner.specs.Alone.{alone}
 use Rattle.jc_runner.specs.declared.form.Form.{Form}
 use Rattle.jc_runner.specs.declared.form.Form.TheVariants as form

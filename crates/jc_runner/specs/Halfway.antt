@@ -22,7 +22,7 @@ use Rattle.jc_model.specs.Runs.{Status, Standing, idle, fresh, opened, Lives, sh
 use Rattle.jc_model.specs.Solo.{standing_from}
 use Rattle.jc_model.specs.Legal.{Fits, played, entries_of, config_of, on_open, recorded, Tells}
 use Rattle.jc_engine.specs.Caches.{lives_of}
-use Rattle.jc_recorded.specs.Recording.{Recording}
+use Rattle.jc_engine.specs.Recording.{Recording}
 use Rattle.jc_hooks.specs.declared.cache_hooks.CacheHooks.{CacheHooks}
 use Rattle.jc_hooks.specs.declared.loader.Loaded.{Loaded}
 use Rattle.jc_script.specs.declared.line.Line.{Line}

@@ -14,3 +14,5 @@ pub mod Disks
 pub mod Naming
 pub mod Opens
 pub mod Program
+pub mod Explaining
+pub mod Telling

@@ -13,38 +13,38 @@ use Rattle.jc_model.specs.declared.config.CacheConfig.{CacheConfig}
 use Rattle.jc_replay.specs.Table.{replay_table}
 use Rattle.jc_script.specs.declared.line.Line.{Line}
 use Rattle.jc_script.specs.Script.{lines}
-use Rattle.jc_words.specs.Number.{number_note, EndsWith}
-use Rattle.jc_words.specs.Program.{AsksFor, MayRefuse, asks_to_explain, is_input}
-use Rattle.jc_words.specs.declared.asked.Asked.TheVariants as asks
-use Rattle.jc_words.specs.declared.asked.Check.{Check}
-use Rattle.jc_words.specs.declared.asked.Replay.{Replay}
-use Rattle.jc_words.specs.declared.run.Format.{Format}
-use Rattle.jc_words.specs.declared.run.Format.TheVariants as format
-use Rattle.jc_words.specs.declared.run.Run.{Run}
+use Rattle.jc_cli.specs.Note.{TellsMistake}
+use Rattle.jc_cli.specs.Program.{AsksFor, MayRefuse, asks_to_explain, explains, is_input}
+use Rattle.jc_cli.specs.declared.asked.Asked.TheVariants as asks
+use Rattle.jc_cli.specs.declared.asked.Check.{Check}
+use Rattle.jc_cli.specs.declared.asked.Replay.{Replay}
+use Rattle.jc_cli.specs.declared.run.Format.{Format}
+use Rattle.jc_cli.specs.declared.run.Format.TheVariants as format
+use Rattle.jc_cli.specs.declared.run.Run.{Run}
 use Rattle.jc_runner.specs.Demonstration.{demonstration_caches}
 use Rattle.jc_runner.specs.Disks.{IsFileFound, FailsToOpen, AsksForPath}
-use Rattle.jc_console.specs.Endings.{ending_of, memory_ending, HasStatus, SaysSo, Leaves}
+use Rattle.jc_cli.specs.Endings.{ending_of, memory_ending, HasStatus, SaysSo, Leaves}
 use Rattle.jc_runner.specs.Forms.{form_of}
-use Rattle.jc_console.specs.Meters.{most_reads, AddsAtMost}
+use Rattle.jc_cli.specs.Meters.{most_reads, AddsAtMost}
 use Rattle.jc_runner.specs.Naming.{ProgramHooks, AllHooksNamed, heard_by}
 use Rattle.jc_runner.specs.Reports.{ReportsOf}
 use Rattle.jc_runner.specs.Strictness.{HasNoStray, HasStray}
 use Rattle.jc_runner.specs.Texts.{IsConfiguration, ConfigHasFault, ScriptIsGood, ScriptHasFault}
 use Rattle.jc_runner.specs.Together.{stated_of, GathersSo}
-use Rattle.jc_console.specs.Watching.{unread_reader, InputIsTooLong, ReadFails, AddsText, AddsFront, AddsNothing, WriteFails}
-use Rattle.jc_console.specs.declared.ending.Ended.{Ended}
-use Rattle.jc_console.specs.declared.ending.Ending.{Ending}
-use Rattle.jc_console.specs.declared.ending.Ending.TheVariants.{Refused, Mistaken, NotText}
-use Rattle.jc_console.specs.declared.ending.WordsFault.{WordsFault}
-use Rattle.jc_console.specs.declared.ending.WordsFault.TheVariants as fault
-use Rattle.jc_console.specs.declared.fault.ProgramFault.{ProgramFault}
-use Rattle.jc_console.specs.declared.fault.ProgramFault.TheVariants as program
-use Rattle.jc_console.specs.declared.fault.RunFault.{RunFault}
-use Rattle.jc_console.specs.declared.fault.RunFault.TheVariants as run
+use Rattle.jc_cli.specs.Watching.{unread_reader, InputIsTooLong, ReadFails, AddsText, AddsFront, AddsNothing, WriteFails}
+use Rattle.jc_cli.specs.declared.ending.Ended.{Ended}
+use Rattle.jc_cli.specs.declared.ending.Ending.{Ending}
+use Rattle.jc_cli.specs.declared.ending.Ending.TheVariants.{Refused, Mistaken, NotText}
+use Rattle.jc_cli.specs.declared.ending.WordsFault.{WordsFault}
+use Rattle.jc_cli.specs.declared.ending.WordsFault.TheVariants as fault
+use Rattle.jc_cli.specs.declared.fault.ProgramFault.{ProgramFault}
+use Rattle.jc_cli.specs.declared.fault.ProgramFault.TheVariants as program
+use Rattle.jc_cli.specs.declared.fault.RunFault.{RunFault}
+use Rattle.jc_cli.specs.declared.fault.RunFault.TheVariants as run
 use Rattle.jc_runner.specs.declared.command.streams.Opened.{Opened}
 use Rattle.jc_runner.specs.declared.command.streams.Standard.{Standard}
-use Rattle.jc_console.specs.declared.input.Watched.{Watched}
-use Rattle.jc_console.specs.declared.output.WatchedWriter.{WatchedWriter}
+use Rattle.jc_cli.specs.declared.input.WatchedReader.{WatchedReader}
+use Rattle.jc_cli.specs.declared.output.WatchedWriter.{WatchedWriter}
 
 -- the report of a script, with fresh callbacks of the kinds that the configuration names, of which this is true
 pub record ReportsSerially (format : Format) (c : Configuration) (script : List ℕ) (IsSo : List ℕ → Type 0) : Type 0 where
@@ -67,11 +67,11 @@ ReportsOneWay true format c script IsSo = ReportsSerially format c script IsSo
 ReportsOneWay false format c script IsSo = GathersFromWorkers format c script IsSo
 
 -- what is not told as a failed reading came without one
-abbrev pub HasNotFailed : {T E F : Type 0} → E → Result T E → Watched F → Watched F → Type 0
+abbrev pub HasNotFailed : {T E F : Type 0} → E → Result T E → WatchedReader F → WatchedReader F → Type 0
 HasNotFailed fault result old new = result ≢ Err fault → new.failures ≡ old.failures
 
--- A script that is read and run, by one thread or by workers, strictly or not, and reported in a form: how that ends.
-module _ {I O : Type 0} (remaining : I → Option (List ℕ)) (contents : O → Option (List ℕ)) (serial strict : Bool) (format : Format) (c : Configuration) (reader reader' : Watched I) (writer writer' : WatchedWriter O) where
+-- A script that is read and run, by one thread or by workers, reject_unknown_members or not, and reported in a form: how that ends.
+module _ {I O : Type 0} (remaining : I → Option (List ℕ)) (contents : O → Option (List ℕ)) (serial strict : Bool) (format : Format) (c : Configuration) (reader reader' : WatchedReader I) (writer writer' : WatchedWriter O) where
   abbrev pub RunEnds : Result (Unit {0}) RunFault → Type 0
   RunEnds (Ok done) =
       IfSome (remaining reader.inner) (λ script. ReportsOneWay serial format c script (AddsText contents writer writer'))
@@ -88,7 +88,7 @@ module _ {I O : Type 0} (remaining : I → Option (List ℕ)) (contents : O → 
   RunEnds (Err run.Memory) = AddsNothing contents writer writer'
 
 -- A script that is read and not run: how that ends.
-module _ {I : Type 0} (remaining : I → Option (List ℕ)) (strict : Bool) (caches : List CacheConfig) (reader reader' : Watched I) where
+module _ {I : Type 0} (remaining : I → Option (List ℕ)) (strict : Bool) (caches : List CacheConfig) (reader reader' : WatchedReader I) where
   abbrev pub LinesEnd : Result (Unit {0}) RunFault → Type 0
   LinesEnd (Ok done) = ScriptIsGood remaining caches reader × HasNoStray strict (remaining reader.inner) × IsAtEnd (remaining reader'.inner)
   LinesEnd (Err run.Read) = ReadFails reader reader'
@@ -99,7 +99,7 @@ module _ {I : Type 0} (remaining : I → Option (List ℕ)) (strict : Bool) (cac
   LinesEnd (Err _) = ⊥
 
 -- A configuration that is read.
-module _ {I : Type 0} (remaining : I → Option (List ℕ)) (reader reader' : Watched I) where
+module _ {I : Type 0} (remaining : I → Option (List ℕ)) (reader reader' : WatchedReader I) where
   abbrev pub ConfigRead : Result Configuration ProgramFault → Type 0
   ConfigRead (Ok c) = IsConfiguration remaining reader c × IsAtEnd (remaining reader'.inner)
   ConfigRead (Err program.ConfigRead) = ReadFails reader reader'
@@ -110,60 +110,60 @@ module _ {I : Type 0} (remaining : I → Option (List ℕ)) (reader reader' : Wa
 -- A file that holds this.
 module _ {F : Type 0} (remaining : F → Option (List ℕ)) (held : Option (Option (List ℕ))) where
   -- it was opened, and not read yet
-  abbrev pub IsUnreadFile : Watched F → Type 0
+  abbrev pub IsUnreadFile : WatchedReader F → Type 0
   IsUnreadFile reader = (reader ≡ unread_reader reader.inner) × IsFileFound held (remaining reader.inner)
 
   -- the file does not open, or it is read to its end or its fault
-  abbrev pub ConfigEnds : Option (Watched F) → Result Configuration ProgramFault → Type 0
+  abbrev pub ConfigEnds : Option (WatchedReader F) → Result Configuration ProgramFault → Type 0
   ConfigEnds None result = FailsToOpen (Err program.ConfigRead) (Err (program.Run run.Memory)) held result
   ConfigEnds (Some reader) result =
       (file : F) × IsFileFound held (remaining file) × AddsAtMost most_reads 0 reader.reads × HasNotFailed program.ConfigRead result (unread_reader file) reader × ConfigRead remaining (unread_reader file) reader result
 
   -- the same of the script
   module _ {O : Type 0} (contents : O → Option (List ℕ)) (serial strict : Bool) (format : Format) (c : Configuration) (writer writer' : WatchedWriter O) where
-    abbrev pub ScriptEnds : Option (Watched F) → Result (Unit {0}) RunFault → Type 0
+    abbrev pub ScriptEnds : Option (WatchedReader F) → Result (Unit {0}) RunFault → Type 0
     ScriptEnds None result = FailsToOpen (Err run.Read) (Err run.Memory) held result × AddsNothing contents writer writer'
     ScriptEnds (Some reader) result =
         (file : F) × IsFileFound held (remaining file) × AddsAtMost most_reads 0 reader.reads × HasNotFailed run.Read result (unread_reader file) reader
         × RunEnds remaining contents serial strict format c (unread_reader file) reader writer writer' result
 
   -- of a script that is not run
-  abbrev pub ScriptRead : Bool → List CacheConfig → Option (Watched F) → Result (Unit {0}) RunFault → Type 0
+  abbrev pub ScriptRead : Bool → List CacheConfig → Option (WatchedReader F) → Result (Unit {0}) RunFault → Type 0
   ScriptRead strict caches None result = FailsToOpen (Err run.Read) (Err run.Memory) held result
   ScriptRead strict caches (Some reader) result =
       (file : F) × IsFileFound held (remaining file) × AddsAtMost most_reads 0 reader.reads × HasNotFailed run.Read result (unread_reader file) reader × LinesEnd remaining strict caches (unread_reader file) reader result
 
 -- What a path names: standard input, for which the disk is not asked, or a file. Standard input is read on from where it
 -- stands.
-module _ {F I : Type 0} (of_file : F → Option (List ℕ)) (of_input : I → Option (List ℕ)) (held : Option (Option (List ℕ))) (path : List ℕ) (asked asked' : Option (List (List ℕ))) (input input' : Watched I) where
-  abbrev pub ConfigFrom : Bool → Option (Watched F) → Result Configuration ProgramFault → Type 0
+module _ {F I : Type 0} (of_file : F → Option (List ℕ)) (of_input : I → Option (List ℕ)) (held : Option (Option (List ℕ))) (path : List ℕ) (asked asked' : Option (List (List ℕ))) (input input' : WatchedReader I) where
+  abbrev pub ConfigFrom : Bool → Option (WatchedReader F) → Result Configuration ProgramFault → Type 0
   ConfigFrom true opened result =
       (opened ≡ None) × (asked' ≡ asked) × AddsAtMost most_reads input.reads input'.reads × HasNotFailed program.ConfigRead result input input' × ConfigRead of_input input input' result
   ConfigFrom false opened result = (input' ≡ input) × AsksForPath asked asked' path × ConfigEnds of_file held opened result
 
   module _ {O : Type 0} (contents : O → Option (List ℕ)) (serial strict : Bool) (format : Format) (c : Configuration) (writer writer' : WatchedWriter O) where
-    abbrev pub ScriptFrom : Bool → Option (Watched F) → Result (Unit {0}) RunFault → Type 0
+    abbrev pub ScriptFrom : Bool → Option (WatchedReader F) → Result (Unit {0}) RunFault → Type 0
     ScriptFrom true opened result =
         (opened ≡ None) × (asked' ≡ asked) × AddsAtMost most_reads input.reads input'.reads × HasNotFailed run.Read result input input'
         × RunEnds of_input contents serial strict format c input input' writer writer' result
     ScriptFrom false opened result = (input' ≡ input) × AsksForPath asked asked' path × ScriptEnds of_file held contents serial strict format c writer writer' opened result
 
-  abbrev pub LinesFrom : Bool → List CacheConfig → Bool → Option (Watched F) → Result (Unit {0}) RunFault → Type 0
+  abbrev pub LinesFrom : Bool → List CacheConfig → Bool → Option (WatchedReader F) → Result (Unit {0}) RunFault → Type 0
   LinesFrom strict caches true opened result =
       (opened ≡ None) × (asked' ≡ asked) × AddsAtMost most_reads input.reads input'.reads × HasNotFailed run.Read result input input' × LinesEnd of_input strict caches input input' result
   LinesFrom strict caches false opened result = (input' ≡ input) × AsksForPath asked asked' path × ScriptRead of_file held strict caches opened result
 
 -- The same of the path itself, by what the disk holds there.
-module _ {F I : Type 0} (of_file : F → Option (List ℕ)) (of_input : I → Option (List ℕ)) (holds : List ℕ → Option (Option (List ℕ))) (path : List ℕ) (asked asked' : Option (List (List ℕ))) (input input' : Watched I) where
-  abbrev pub ConfigAt : Option (Watched F) → Result Configuration ProgramFault → Type 0
+module _ {F I : Type 0} (of_file : F → Option (List ℕ)) (of_input : I → Option (List ℕ)) (holds : List ℕ → Option (Option (List ℕ))) (path : List ℕ) (asked asked' : Option (List (List ℕ))) (input input' : WatchedReader I) where
+  abbrev pub ConfigAt : Option (WatchedReader F) → Result Configuration ProgramFault → Type 0
   ConfigAt opened result = ConfigFrom of_file of_input (holds path) path asked asked' input input' (is_input path) opened result
 
-  abbrev pub LinesAt : Bool → List CacheConfig → Option (Watched F) → Result (Unit {0}) RunFault → Type 0
+  abbrev pub LinesAt : Bool → List CacheConfig → Option (WatchedReader F) → Result (Unit {0}) RunFault → Type 0
   LinesAt strict caches opened result = LinesFrom of_file of_input (holds path) path asked asked' input input' strict caches (is_input path) opened result
 
 -- the script that the words name, run as they ask for it
 module _ {F I O : Type 0} (of_file : F → Option (List ℕ)) (of_input : I → Option (List ℕ)) (contents : O → Option (List ℕ)) (holds : List ℕ → Option (Option (List ℕ))) (run : Run) (c : Configuration) where
-  abbrev pub AskedScriptEnds : Option (List (List ℕ)) → Option (List (List ℕ)) → Watched I → Watched I → WatchedWriter O → WatchedWriter O → Option (Watched F) → Result (Unit {0}) RunFault → Type 0
+  abbrev pub AskedScriptEnds : Option (List (List ℕ)) → Option (List (List ℕ)) → WatchedReader I → WatchedReader I → WatchedWriter O → WatchedWriter O → Option (WatchedReader F) → Result (Unit {0}) RunFault → Type 0
   AskedScriptEnds asked asked' input input' writer writer' opened result =
       ScriptFrom of_file of_input (holds (string_bytes run.script)) (string_bytes run.script) asked asked' input input' contents run.serial run.strict run.format c writer writer' (is_input (string_bytes run.script)) opened result
 
@@ -178,9 +178,9 @@ allowed_config strict (Ok c) = if strict && (length c.settings == 0) then Err pr
 
 -- the two files of a run: what the disk holds, what it was asked for, and how they were read
 module _ {F I O : Type 0} (of_file : F → Option (List ℕ)) (of_input : I → Option (List ℕ)) (contents : O → Option (List ℕ)) (holds : List ℕ → Option (Option (List ℕ))) (asked asked' : Option (List (List ℕ))) (run : Run)
-    (config script : Option (Watched F)) (input input' : Watched I) (writer writer' : WatchedWriter O) where
+    (config script : Option (WatchedReader F)) (input input' : WatchedReader I) (writer writer' : WatchedWriter O) where
   -- after the configuration's fault no script is asked for
-  abbrev pub GoesOnToScript : Option (List (List ℕ)) → Watched I → Result Configuration ProgramFault → Result (Unit {0}) ProgramFault → Type 0
+  abbrev pub GoesOnToScript : Option (List (List ℕ)) → WatchedReader I → Result Configuration ProgramFault → Result (Unit {0}) ProgramFault → Type 0
   GoesOnToScript before between (Err fault) result = (result ≡ Err fault) × (script ≡ None) × (asked' ≡ before) × (input' ≡ between) × AddsNothing contents writer writer'
   GoesOnToScript before between (Ok c) result =
       (ran : Result (Unit {0}) RunFault) × (result ≡ as_program ran)
@@ -188,26 +188,26 @@ module _ {F I O : Type 0} (of_file : F → Option (List ℕ)) (of_input : I → 
 
   pub record FilesEnd (result : Result (Unit {0}) ProgramFault) : Type 0 where
     pub before : Option (List (List ℕ))
-    pub between : Watched I
+    pub between : WatchedReader I
     pub read : Result Configuration ProgramFault
     pub reads : ConfigAt of_file of_input holds (string_bytes run.config) asked before input between config read
     pub goes_on : GoesOnToScript before between (allowed_config run.strict read) result
 
 -- the files of a check, of which the second may be left out: the same, and nothing is run
 module _ {F I : Type 0} (of_file : F → Option (List ℕ)) (of_input : I → Option (List ℕ)) (holds : List ℕ → Option (Option (List ℕ))) (asked asked' : Option (List (List ℕ))) (check : Check)
-    (config script : Option (Watched F)) (input input' : Watched I) where
+    (config script : Option (WatchedReader F)) (input input' : WatchedReader I) where
   -- a path that is not there is not asked for, and has no fault
-  abbrev pub ReadsAt : Option (List (List ℕ)) → Watched I → List CacheConfig → Option (String Global) → Result (Unit {0}) RunFault → Type 0
+  abbrev pub ReadsAt : Option (List (List ℕ)) → WatchedReader I → List CacheConfig → Option (String Global) → Result (Unit {0}) RunFault → Type 0
   ReadsAt before between caches None read = (read ≡ Ok tt) × (script ≡ None) × (asked' ≡ before) × (input' ≡ between)
   ReadsAt before between caches (Some path) read = LinesAt of_file of_input holds (string_bytes path) before asked' between input' check.strict caches script read
 
-  abbrev pub ReadsOnToScript : Option (List (List ℕ)) → Watched I → Result Configuration ProgramFault → Result (Unit {0}) ProgramFault → Type 0
+  abbrev pub ReadsOnToScript : Option (List (List ℕ)) → WatchedReader I → Result Configuration ProgramFault → Result (Unit {0}) ProgramFault → Type 0
   ReadsOnToScript before between (Err fault) result = (result ≡ Err fault) × (script ≡ None) × (asked' ≡ before) × (input' ≡ between)
   ReadsOnToScript before between (Ok c) result = (read : Result (Unit {0}) RunFault) × (result ≡ as_program read) × ReadsAt before between c.settings check.script read
 
   pub record CheckEnds (result : Result (Unit {0}) ProgramFault) : Type 0 where
     pub before : Option (List (List ℕ))
-    pub between : Watched I
+    pub between : WatchedReader I
     pub read : Result Configuration ProgramFault
     pub reads : ConfigAt of_file of_input holds (string_bytes check.config) asked before input between config read
     pub goes_on : ReadsOnToScript before between (allowed_config check.strict read) result
@@ -217,7 +217,7 @@ abbrev pub TablesTrace : List ℕ → (List ℕ → Type 0) → List ℕ → Typ
 TablesTrace capacities IsSo trace = (text : List ℕ) × (replay_table trace capacities ≡ Ok text) × IsSo text
 
 -- A trace that is replayed: how that ends. The table is written, or a front of it.
-module _ {I O : Type 0} (remaining : I → Option (List ℕ)) (contents : O → Option (List ℕ)) (capacities : List ℕ) (reader reader' : Watched I) (writer writer' : WatchedWriter O) where
+module _ {I O : Type 0} (remaining : I → Option (List ℕ)) (contents : O → Option (List ℕ)) (capacities : List ℕ) (reader reader' : WatchedReader I) (writer writer' : WatchedWriter O) where
   abbrev pub TraceEnds : Result (Unit {0}) ProgramFault → Type 0
   TraceEnds (Ok done) =
       IfSome (remaining reader.inner) (TablesTrace capacities (AddsText contents writer writer'))
@@ -232,7 +232,7 @@ module _ {I O : Type 0} (remaining : I → Option (List ℕ)) (contents : O → 
 
 -- a trace in a file that holds this
 module _ {F O : Type 0} (of_file : F → Option (List ℕ)) (contents : O → Option (List ℕ)) (held : Option (Option (List ℕ))) (capacities : List ℕ) (writer writer' : WatchedWriter O) where
-  abbrev pub TraceFileEnds : Option (Watched F) → Result (Unit {0}) ProgramFault → Type 0
+  abbrev pub TraceFileEnds : Option (WatchedReader F) → Result (Unit {0}) ProgramFault → Type 0
   TraceFileEnds None result =
       FailsToOpen (Err program.TraceRead) (Err (program.Run run.Memory)) held result × AddsNothing contents writer writer'
   TraceFileEnds (Some reader) result =
@@ -241,8 +241,8 @@ module _ {F O : Type 0} (of_file : F → Option (List ℕ)) (contents : O → Op
 
 -- or on standard input
 module _ {F I O : Type 0} (of_file : F → Option (List ℕ)) (of_input : I → Option (List ℕ)) (contents : O → Option (List ℕ)) (held : Option (Option (List ℕ))) (path : List ℕ) (asked asked' : Option (List (List ℕ))) (capacities : List ℕ)
-    (input input' : Watched I) (writer writer' : WatchedWriter O) where
-  abbrev pub TraceFrom : Bool → Option (Watched F) → Result (Unit {0}) ProgramFault → Type 0
+    (input input' : WatchedReader I) (writer writer' : WatchedWriter O) where
+  abbrev pub TraceFrom : Bool → Option (WatchedReader F) → Result (Unit {0}) ProgramFault → Type 0
   TraceFrom true opened result =
       (opened ≡ None) × (asked' ≡ asked) × AddsAtMost most_reads input.reads input'.reads × HasNotFailed program.TraceRead result input input'
       × TraceEnds of_input contents capacities input input' writer writer' result
@@ -250,7 +250,7 @@ module _ {F I O : Type 0} (of_file : F → Option (List ℕ)) (of_input : I → 
 
 -- the trace of a replay; no configuration is read
 module _ {F I O : Type 0} (of_file : F → Option (List ℕ)) (of_input : I → Option (List ℕ)) (contents : O → Option (List ℕ)) (holds : List ℕ → Option (Option (List ℕ))) (asked asked' : Option (List (List ℕ))) (replay : Replay)
-    (config trace : Option (Watched F)) (input input' : Watched I) (writer writer' : WatchedWriter O) where
+    (config trace : Option (WatchedReader F)) (input input' : WatchedReader I) (writer writer' : WatchedWriter O) where
   pub record ReplayEnds (result : Result (Unit {0}) ProgramFault) : Type 0 where
     pub unconfigured : config ≡ None
     pub ends : TraceFrom of_file of_input contents (holds (string_bytes replay.trace)) (string_bytes replay.trace) asked asked' replay.capacities.items input input' writer writer' (is_input (string_bytes replay.trace)) trace result
@@ -262,21 +262,21 @@ no_kinds = record { loader = None; writer = None; processors = [] }
 abbrev pub demonstration : Configuration
 demonstration = record { settings = demonstration_caches; hooks = no_kinds ∷ no_kinds ∷ [] }
 
--- a mistake is told under the program's name, and below it what is told of a number below 0
-pub record IsMistaken (words : List Text) (e : Error) (ending : Ending) : Type 0 where
+-- a mistake is told under the program's name; standard error is a terminal or not
+pub record IsMistaken (at_terminal : Bool) (words : List Text) (e : Error) (ending : Ending) : Type 0 where
   pub text : String Global
   pub is : ending ≡ Mistaken text
-  pub noted : EndsWith (number_note words) (string_bytes text)
-  pub asked : asks_to_explain words ≡ true
+  pub told : TellsMistake words (string_bytes text)
+  pub asked : asks_to_explain at_terminal words ≡ true
   pub no_help : kind_of e ≢ DisplayHelp
   pub no_version : kind_of e ≢ DisplayVersion
 
 -- words that are refused, where they ask for explanations under the program's name
-abbrev pub RefusesSo : List Text → Error → Ending → Type 0
-RefusesSo words e ending = (ending ≡ Refused e) ⊎ IsMistaken words e ending
+abbrev pub RefusesSo : Bool → List Text → Error → Ending → Type 0
+RefusesSo at_terminal words e ending = (ending ≡ Refused e) ⊎ IsMistaken at_terminal words e ending
 
 module _ {F I O : Type 0} (of_file : F → Option (List ℕ)) (of_input : I → Option (List ℕ)) (contents : O → Option (List ℕ)) (holds : List ℕ → Option (Option (List ℕ))) (asked asked' : Option (List (List ℕ)))
-    (opened opened' : Opened F) (input input' : Watched I) (writer writer' : WatchedWriter O) where
+    (opened opened' : Opened F) (input input' : WatchedReader I) (writer writer' : WatchedWriter O) where
   -- no file is asked for
   abbrev pub OpensNone : Type 0
   OpensNone = (asked' ≡ asked) × (opened' ≡ opened)
@@ -286,20 +286,20 @@ module _ {F I O : Type 0} (of_file : F → Option (List ℕ)) (of_input : I → 
   RunsNone = OpensNone × (input' ≡ input) × (writer' ≡ writer)
 
   -- What words ask for, and how that ends. Where they are mistaken, or memory is wanting, nothing is run.
-  module _ (words : List Text) (ending : Ending) where
+  module _ (at_terminal : Bool) (words : List Text) (ending : Ending) where
     pub data WordsEnd : Type 0 where
       plays : words ≡ [] → (ran : Result (Unit {0}) RunFault) → RunEnds of_input contents true false format.Text demonstration input input' writer writer' ran → AddsAtMost most_reads input.reads input'.reads → HasNotFailed run.Read ran input input' → OpensNone → ending ≡ ending_of false (as_program ran) → WordsEnd
-      runs : (run : Run) → AsksFor words (asks.Run run) → (ran : Result (Unit {0}) ProgramFault) → FilesEnd of_file of_input contents holds asked asked' run opened'.config opened'.script input input' writer writer' ran → ending ≡ ending_of run.explain ran → WordsEnd
-      checks : (check : Check) → AsksFor words (asks.Check check) → (ran : Result (Unit {0}) ProgramFault) → CheckEnds of_file of_input holds asked asked' check opened'.config opened'.script input input' ran → writer' ≡ writer → ending ≡ ending_of check.explain ran → WordsEnd
-      replays : (replay : Replay) → AsksFor words (asks.Replay replay) → (ran : Result (Unit {0}) ProgramFault) → ReplayEnds of_file of_input contents holds asked asked' replay opened'.config opened'.script input input' writer writer' ran → ending ≡ ending_of false ran → WordsEnd
-      refuses : (e : Error) → words ≢ [] → MayRefuse words e → kind_of e ≢ OutOfMemory → RefusesSo words e ending → RunsNone → WordsEnd
+      runs : (run : Run) → AsksFor words (asks.Run run) → (ran : Result (Unit {0}) ProgramFault) → FilesEnd of_file of_input contents holds asked asked' run opened'.config opened'.script input input' writer writer' ran → ending ≡ ending_of (explains at_terminal run.explain) ran → WordsEnd
+      checks : (check : Check) → AsksFor words (asks.Check check) → (ran : Result (Unit {0}) ProgramFault) → CheckEnds of_file of_input holds asked asked' check opened'.config opened'.script input input' ran → writer' ≡ writer → ending ≡ ending_of (explains at_terminal check.explain) ran → WordsEnd
+      replays : (replay : Replay) → AsksFor words (asks.Replay replay) → (ran : Result (Unit {0}) ProgramFault) → ReplayEnds of_file of_input contents holds asked asked' replay opened'.config opened'.script input input' writer writer' ran → ending ≡ ending_of (explains at_terminal replay.explain) ran → WordsEnd
+      refuses : (e : Error) → words ≢ [] → MayRefuse words e → kind_of e ≢ OutOfMemory → RefusesSo at_terminal words e ending → RunsNone → WordsEnd
       lacks_memory : ending ≡ memory_ending → RunsNone → WordsEnd
 
-  abbrev pub Obeys : Result (List Text) WordsFault → Ending → Type 0
-  Obeys (Ok words) ending = WordsEnd words ending
-  Obeys (Err fault.NotText) ending = (ending ≡ NotText) × RunsNone
-  Obeys (Err (fault.Explained text)) ending = (ending ≡ Mistaken text) × RunsNone
-  Obeys (Err fault.OutOfMemory) ending = (ending ≡ memory_ending) × RunsNone
+  abbrev pub Obeys : Bool → Result (List Text) WordsFault → Ending → Type 0
+  Obeys at_terminal (Ok words) ending = WordsEnd at_terminal words ending
+  Obeys at_terminal (Err fault.NotText) ending = (ending ≡ NotText) × RunsNone
+  Obeys at_terminal (Err (fault.Explained text)) ending = (ending ≡ Mistaken text) × RunsNone
+  Obeys at_terminal (Err fault.OutOfMemory) ending = (ending ≡ memory_ending) × RunsNone
 
 module _ {F I O E : Type 0} (of_file : F → Option (List ℕ)) (of_input : I → Option (List ℕ)) (contents : O → Option (List ℕ)) (said : E → Option (List ℕ)) (holds : List ℕ → Option (Option (List ℕ))) (asked asked' : Option (List (List ℕ)))
     (opened opened' : Opened F) (standard standard' : Standard I O E) where
@@ -307,7 +307,7 @@ module _ {F I O E : Type 0} (of_file : F → Option (List ℕ)) (of_input : I �
   pub record ProgramEnds (lines : List ℕ) (words : Result (List Text) WordsFault) (result : Ended) : Type 0 where
     pub ending : Ending
     pub written : WatchedWriter O
-    pub obeys : Obeys of_file of_input contents holds asked asked' opened opened' standard.input standard'.input standard.output written words ending
+    pub obeys : Obeys of_file of_input contents holds asked asked' opened opened' standard.input standard'.input standard.output written standard.at_terminal words ending
     pub status : HasStatus ending result.told standard'.output.unheard result.status
     pub says : SaysSo said lines ending result.told standard'.output.unheard standard.errors standard'.errors
     pub leaves : Leaves ending result.told written standard'.output

@@ -17,9 +17,9 @@ use Rattle.jc_script.specs.Script.{lines}
 use Rattle.jc_runner.specs.Alone.{calls_on, IsAlone, exchanges}
 use Rattle.jc_runner.specs.Answering.{HeardAt}
 use Rattle.jc_script.specs.declared.line.LineCall.{LineCall}
-use Rattle.jc_words.specs.declared.run.Format.{Format}
+use Rattle.jc_cli.specs.declared.run.Format.{Format}
 use Rattle.jc_runner.specs.Forms.{form_of, IsToldIn}
-use Rattle.jc_console.specs.declared.input.Watched.{Watched}
+use Rattle.jc_cli.specs.declared.input.WatchedReader.{WatchedReader}
 use Rattle.jc_runner.specs.declared.form.Form.{Form}
 
 module _ {L W P K : Type 0} (load_of : L → List ℕ → Loaded) (may : W → List (Request × Answer) → Type 0) (verdict_of : P → Option (List ℕ) → List ℕ → Result Verdict ProcessorFault) (state_after : K → List Notice → List ℕ) where
@@ -44,5 +44,5 @@ module _ {L W P K : Type 0} (load_of : L → List ℕ → Loaded) (may : W → L
     pub so : IsSo text
 
   -- the same of the script that a reader has left
-  abbrev pub ReportsInput : {R : Type 0} → (R → Option (List ℕ)) → Watched R → Format → List CacheConfig → List (CacheHooks L W P K) → List (CacheHooks L W P K) → (List ℕ → Type 0) → Type 0
+  abbrev pub ReportsInput : {R : Type 0} → (R → Option (List ℕ)) → WatchedReader R → Format → List CacheConfig → List (CacheHooks L W P K) → List (CacheHooks L W P K) → (List ℕ → Type 0) → Type 0
   ReportsInput remaining reader format caches old new IsSo = IfSome (remaining reader.inner) (λ input. ReportsOf format caches input old new IsSo)

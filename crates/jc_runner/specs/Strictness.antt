@@ -2,7 +2,7 @@
 use Rattle.std.specs.Prelude.{◌≡◌, ℕ, Bool, true, List, Option, Some, None, IfSome, IsOk}
 use Rattle.jc_model.specs.declared.config.CacheConfig.{CacheConfig}
 use Rattle.jc_script.specs.Script.{lines}
-use Rattle.jc_strict.specs.Stray.{stray_line}
+use Rattle.jc_script.specs.Stray.{stray_line}
 
 -- there are none, where that is asked for
 abbrev pub HasNoStray : Bool → Option (List ℕ) → Type 0

@@ -7,30 +7,30 @@ use Rattle.jc_config.specs.declared.kinds.Configuration.{Configuration}
 use Rattle.jc_model.specs.declared.config.CacheConfig.{CacheConfig}
 use Rattle.jc_script.specs.declared.fault.ScriptFault.{ScriptFault}
 use Rattle.jc_script.specs.Script.{lines}
-use Rattle.jc_console.specs.Watching.{InputIsTooLong}
-use Rattle.jc_console.specs.declared.fault.ProgramFault.{ProgramFault}
-use Rattle.jc_console.specs.declared.fault.ProgramFault.TheVariants.{Config}
-use Rattle.jc_console.specs.declared.fault.RunFault.{RunFault}
-use Rattle.jc_console.specs.declared.fault.RunFault.TheVariants.{Script, Entry}
-use Rattle.jc_console.specs.declared.input.Watched.{Watched}
+use Rattle.jc_cli.specs.Watching.{InputIsTooLong}
+use Rattle.jc_cli.specs.declared.fault.ProgramFault.{ProgramFault}
+use Rattle.jc_cli.specs.declared.fault.ProgramFault.TheVariants.{Config}
+use Rattle.jc_cli.specs.declared.fault.RunFault.{RunFault}
+use Rattle.jc_cli.specs.declared.fault.RunFault.TheVariants.{Script, Entry}
+use Rattle.jc_cli.specs.declared.input.WatchedReader.{WatchedReader}
 
 module _ {R : Type 0} (remaining : R → Option (List ℕ)) where
-  abbrev pub IsConfiguration : Watched R → Configuration → Type 0
+  abbrev pub IsConfiguration : WatchedReader R → Configuration → Type 0
   IsConfiguration reader c = IfSome (remaining reader.inner) (λ bytes. configuration_in bytes ≡ Ok c)
 
-  abbrev pub ConfigHasFault : Watched R → ConfigFault → Type 0
+  abbrev pub ConfigHasFault : WatchedReader R → ConfigFault → Type 0
   ConfigHasFault reader fault = IfSome (remaining reader.inner) (λ bytes. configuration_in bytes ≡ Err fault)
 
   -- a fault of the configuration is only that it is too long
-  abbrev pub FaultIsOfLength : Watched R → ProgramFault → Type 0
+  abbrev pub FaultIsOfLength : WatchedReader R → ProgramFault → Type 0
   FaultIsOfLength reader e = (fault : ConfigFault) → e ≡ Config fault → (fault ≡ TooLong) × InputIsTooLong remaining reader
 
   -- a script on these caches
   module _ (caches : List CacheConfig) where
-    abbrev pub ScriptIsGood : Watched R → Type 0
+    abbrev pub ScriptIsGood : WatchedReader R → Type 0
     ScriptIsGood reader = IfSome (remaining reader.inner) (λ script. IsOk (lines caches script))
 
-    abbrev pub ScriptHasFault : Watched R → ScriptFault → Type 0
+    abbrev pub ScriptHasFault : WatchedReader R → ScriptFault → Type 0
     ScriptHasFault reader fault = IfSome (remaining reader.inner) (λ script. lines caches script ≡ Err fault)
 
 -- this is true of the configuration's fault, where one was told

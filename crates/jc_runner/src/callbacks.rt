@@ -7,13 +7,15 @@ ghost use Rattle.jc_runner.specs.Hooks.{AreSuited, HasNoHooks, asked_of};
 pub mod named;
 
 use jc_config::Settings;
-use jc_hooks::{CacheHooks, Hearer, Loader, Processor, Writer, answer_request, first_unsuited};
+use jc_hooks::{
+    CacheHooks, FilteredListener, Loader, Processor, Writer, answer_request, first_unsuited,
+};
 use jc_model::OutOfMemory;
 use jc_model::call::{Answer, Request};
 use std::alloc::Global;
 
 /// Whether each cache has the callbacks that its configuration names, and no others.
-pub fn all_suit<L: Loader, W: Writer, P: Processor, K: Hearer>(
+pub fn all_suit<L: Loader, W: Writer, P: Processor, K: FilteredListener>(
     settings: &Settings,
     hooks: &[CacheHooks<L, W, P, K>],
 ) -> bool
@@ -26,7 +28,7 @@ pub fn all_suit<L: Loader, W: Writer, P: Processor, K: Hearer>(
 }
 
 /// The callbacks of a cache that has none.
-pub(crate) fn no_hooks<L: Loader, W: Writer, P: Processor, K: Hearer>(
+pub(crate) fn no_hooks<L: Loader, W: Writer, P: Processor, K: FilteredListener>(
     alloc: Global,
 ) -> CacheHooks<L, W, P, K>
     ensures { HasNoHooks result }
@@ -40,7 +42,7 @@ pub(crate) fn no_hooks<L: Loader, W: Writer, P: Processor, K: Hearer>(
 }
 
 /// The answer of a cache's callbacks to a request. A callback that is not there fails.
-pub fn answer<L: Loader, W: Writer, P: Processor, K: Hearer>(
+pub fn answer<L: Loader, W: Writer, P: Processor, K: FilteredListener>(
     alloc: Global,
     hooks: &mut CacheHooks<L, W, P, K>,
     request: Request,

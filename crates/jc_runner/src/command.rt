@@ -1,6 +1,8 @@
 //! The program: it does what its words ask for, over a disk and the standard streams, and says how that ended.
 ghost use Rattle.std.specs.Prelude.{◌≡◌, ◌↔◌, ℕ, List, [], IsTrue, IfOk, IfErr, Ok, Err, map, string_bytes};
 ghost use Rattle.clap.specs.Words.{kind_of};
+ghost use Rattle.jc_cli.specs.Endings.{ending_of};
+ghost use Rattle.jc_cli.specs.Program.{explains};
 ghost use Rattle.jc_runner.specs.Program.{WordsEnd, Obeys, ProgramEnds, RefusesSo};
 
 pub mod demonstration;
@@ -15,11 +17,11 @@ use crate::files::replay::replay_file;
 use crate::files::run_files;
 use clap::Error;
 use clap::error::ErrorKind;
-use jc_console::{
-    Ended, Ending, ProgramFault, RunFault, Watched, WatchedWriter, WordsFault, ending_of, say,
+use jc_cli::{
+    Asked, Ended, Ending, Explain, ProgramFault, RunFault, WatchedReader, WatchedWriter,
+    WordsFault, asks_to_explain, ending_of, explains, mistake_text, read_words, say,
 };
 use jc_model::OutOfMemory;
-use jc_words::{Asked, asks_to_explain, mistake_text, read_words};
 use std::alloc::Global;
 use std::io::{Read, Write};
 use std::sync::Wait;
@@ -42,18 +44,24 @@ fn lacks_memory(error: &Error) -> bool
     matches!(error.kind(), ErrorKind::OutOfMemory)
 }
 
-/// How words are refused: under the program's name where they ask for explanations and memory suffices, and then with
-/// the note on a number below 0. Help and the version are no mistakes.
-fn refusal(alloc: Global, words: &[&str], error: Error) -> Ending
-    ensures { RefusesSo (map (λ word. word.now) words.now) error result }
+/// How words are refused: under the program's name where they ask for explanations and memory suffices. Help and the version are no mistakes.
+fn refusal(alloc: Global, words: &[&str], error: Error, at_terminal: bool) -> Ending
+    ensures { RefusesSo at_terminal (map (λ word. word.now) words.now) error result }
 {
-    if !error.use_stderr() || !asks_to_explain(words) {
+    if !error.use_stderr() || !asks_to_explain(words, at_terminal) {
         return Ending::Refused(error);
     }
     match mistake_text(alloc, words, &error) {
         Ok(text) => Ending::Mistaken(text),
         Err(_) => Ending::Refused(error),
     }
+}
+
+/// How a run ended whose fault is explained at some times; standard error is a terminal or not.
+fn ended(explain: Explain, at_terminal: bool, ran: Result<(), ProgramFault>) -> Ending
+    ensures { result ≡ ending_of (explains at_terminal explain) ran }
+{
+    ending_of(explains(explain, at_terminal), ran)
 }
 
 /// Does what the words after the program's name ask for.
@@ -63,12 +71,13 @@ fn obey_words<D: Disk, I: Read, O: Write, R: Threads + Wait + Sync>(
     words: &[String],
     disk: &mut D,
     opened: &mut Opened<D::File>,
-    input: &mut Watched<I>,
+    input: &mut WatchedReader<I>,
     output: &mut WatchedWriter<O>,
+    at_terminal: bool,
 ) -> Ending
     ensures ends { WordsEnd D.File.remaining I.remaining O.contents
         (D.holds disk.old) (D.asked disk.old) (D.asked disk.new) opened.old opened.new
-        input.old input.new output.old output.new (map string_bytes words.now) result }
+        input.old input.new output.old output.new at_terminal (map string_bytes words.now) result }
     ensures same { (other : List ℕ) → D.holds disk.new other ≡ D.holds disk.old other }
 {
     let Ok(texts) = texts_of(alloc, words) else {
@@ -77,15 +86,15 @@ fn obey_words<D: Disk, I: Read, O: Write, R: Threads + Wait + Sync>(
     match read_words(alloc, texts.as_slice()) {
         Ok(Some(Asked::Run(run))) => {
             let ran = run_files(rt, alloc, disk, opened, &run, input, output);
-            ending_of(run.explain, ran)
+            ended(run.explain, at_terminal, ran)
         }
         Ok(Some(Asked::Check(check))) => {
             let ran = check_files(alloc, disk, opened, &check, input);
-            ending_of(check.explain, ran)
+            ended(check.explain, at_terminal, ran)
         }
         Ok(Some(Asked::Replay(replay))) => {
             let ran = replay_file(alloc, disk, opened, &replay, input, output);
-            ending_of(false, ran)
+            ended(replay.explain, at_terminal, ran)
         }
         Ok(None) => match demonstrate(alloc, input, output) {
             Ok(()) => Ending::Done,
@@ -95,31 +104,41 @@ fn obey_words<D: Disk, I: Read, O: Write, R: Threads + Wait + Sync>(
             if lacks_memory(&error) {
                 return Ending::Faulty(ProgramFault::Run(RunFault::Memory));
             }
-            refusal(alloc, texts.as_slice(), error)
+            refusal(alloc, texts.as_slice(), error, at_terminal)
         }
     }
 }
 
-/// Does what the words ask for, where they are there.
-pub fn heed<D: Disk, I: Read, O: Write, R: Threads + Wait + Sync>(
+/// Does what the words ask for, where they are there; standard error is a terminal or not.
+pub fn dispatch<D: Disk, I: Read, O: Write, R: Threads + Wait + Sync>(
     rt: &R,
     alloc: Global,
     words: Result<Vec<String>, WordsFault>,
     disk: &mut D,
     opened: &mut Opened<D::File>,
-    input: &mut Watched<I>,
+    input: &mut WatchedReader<I>,
     output: &mut WatchedWriter<O>,
+    at_terminal: bool,
 ) -> Ending
     ensures obeys { IfOk words (λ v. Obeys D.File.remaining I.remaining O.contents
         (D.holds disk.old) (D.asked disk.old) (D.asked disk.new) opened.old opened.new
-        input.old input.new output.old output.new (Ok (map string_bytes v.items)) result) }
+        input.old input.new output.old output.new at_terminal (Ok (map string_bytes v.items)) result) }
     ensures wordless { IfErr words (λ fault. Obeys D.File.remaining I.remaining O.contents
         (D.holds disk.old) (D.asked disk.old) (D.asked disk.new) opened.old opened.new
-        input.old input.new output.old output.new (Err fault) result) }
+        input.old input.new output.old output.new at_terminal (Err fault) result) }
     ensures same { (other : List ℕ) → D.holds disk.new other ≡ D.holds disk.old other }
 {
     match words {
-        Ok(words) => obey_words(rt, alloc, words.as_slice(), disk, opened, input, output),
+        Ok(words) => obey_words(
+            rt,
+            alloc,
+            words.as_slice(),
+            disk,
+            opened,
+            input,
+            output,
+            at_terminal,
+        ),
         Err(WordsFault::NotText) => Ending::NotText,
         Err(WordsFault::Explained(text)) => Ending::Mistaken(text),
         Err(WordsFault::OutOfMemory) => Ending::Faulty(ProgramFault::Run(RunFault::Memory)),
@@ -153,7 +172,9 @@ pub fn program<D: Disk, I: Read, O: Write, E: Write, R: Threads + Wait + Sync>(
         standard.old standard.new [] (Err fault) result) }
     ensures same { (other : List ℕ) → D.holds disk.new other ≡ D.holds disk.old other }
 {
+    let at_terminal = standard.at_terminal;
     let input = &mut standard.input;
-    let ending = heed(rt, alloc, words, disk, opened, input, &mut standard.output);
+    let output = &mut standard.output;
+    let ending = dispatch(rt, alloc, words, disk, opened, input, output, at_terminal);
     say(&ending, "", &mut standard.output, &mut standard.errors)
 }

@@ -1,10 +1,10 @@
 //! The two files of a run: the configuration, and the script that is played with its callbacks.
 ghost use Rattle.std.specs.Prelude.{◌≡◌, ◌≢◌, ◌<◌, ℕ, true, false, List, IfOk, IfErr, Ok, Err, string_bytes};
 ghost use Rattle.jc_runner.specs.Disks.{AsksForPath, FailsToOpen};
-ghost use Rattle.jc_console.specs.Meters.{most_reads, AddsAtMost};
+ghost use Rattle.jc_cli.specs.Meters.{most_reads, AddsAtMost};
 ghost use Rattle.jc_runner.specs.Opens.{CanOpenConfiguration};
 ghost use Rattle.jc_runner.specs.Program.{RunEnds, ConfigEnds, ScriptEnds, FilesEnd, allowed_config, IsUnreadFile, ConfigAt, AskedScriptEnds};
-ghost use Rattle.jc_console.specs.declared.fault.RunFault.TheVariants.{Read, Memory};
+ghost use Rattle.jc_cli.specs.declared.fault.RunFault.TheVariants.{Read, Memory};
 
 pub mod check;
 pub mod configuration;
@@ -16,12 +16,13 @@ use crate::command::streams::Opened;
 use crate::files::configuration::read_configuration;
 use crate::files::disk::{Disk, OpenFault};
 use crate::form::form_of;
-use crate::serial_run::{lines_of, serial_as, strictly};
+use crate::serial_run::{lines_of, reject_unknown_members, serial_as};
 use crate::threaded_run::{Crew, Setup, threaded_as};
+use jc_cli::{
+    Format, ProgramFault, Run, RunFault, WatchedReader, WatchedWriter, is_input, read_bytes,
+};
 use jc_config::Configuration;
-use jc_console::{ProgramFault, RunFault, Watched, WatchedWriter, read_bytes};
 use jc_threads::OpenGate;
-use jc_words::{Format, Run, is_input};
 use std::alloc::Global;
 use std::io::{Read, Write};
 use std::sync::Wait;
@@ -32,7 +33,7 @@ pub(crate) fn open_configuration<D: Disk>(
     alloc: Global,
     disk: &mut D,
     path: &str,
-    config: &mut Option<Watched<D::File>>,
+    config: &mut Option<WatchedReader<D::File>>,
 ) -> Result<Configuration, ProgramFault>
     ensures ends { ConfigEnds D.File.remaining (D.holds disk.old path.now) config.new result }
     ensures opens { IfOk result CanOpenConfiguration }
@@ -45,7 +46,7 @@ pub(crate) fn open_configuration<D: Disk>(
         Err(OpenFault::Unreadable) => return Err(ProgramFault::ConfigRead),
         Err(OpenFault::OutOfMemory) => return Err(ProgramFault::Run(RunFault::Memory)),
     };
-    let mut reader = Watched::new(file);
+    let mut reader = WatchedReader::new(file);
     let configuration = read_configuration(alloc, &mut reader);
     *config = Some(reader);
     configuration
@@ -56,8 +57,8 @@ pub(crate) fn configured_from<D: Disk, I: Read>(
     alloc: Global,
     disk: &mut D,
     path: &str,
-    config: &mut Option<Watched<D::File>>,
-    input: &mut Watched<I>,
+    config: &mut Option<WatchedReader<D::File>>,
+    input: &mut WatchedReader<I>,
 ) -> Result<Configuration, ProgramFault>
     ensures ends { ConfigAt D.File.remaining I.remaining (D.holds disk.old) path.now
         (D.asked disk.old) (D.asked disk.new) input.old input.new config.new result }
@@ -92,7 +93,7 @@ pub fn play<I: Read, O: Write>(
     seed: u64,
     strict: bool,
     format: Format,
-    reader: &mut Watched<I>,
+    reader: &mut WatchedReader<I>,
     writer: &mut WatchedWriter<O>,
 ) -> Result<(), RunFault>
     requires { CanOpenConfiguration configuration }
@@ -121,7 +122,7 @@ fn play_together<I: Read, O: Write, R: Threads + Wait + Sync>(
     alloc: Global,
     configuration: Configuration,
     run: &Run,
-    reader: &mut Watched<I>,
+    reader: &mut WatchedReader<I>,
     writer: &mut WatchedWriter<O>,
 ) -> Result<(), RunFault>
     requires opens { CanOpenConfiguration configuration }
@@ -134,7 +135,7 @@ fn play_together<I: Read, O: Write, R: Threads + Wait + Sync>(
     let Configuration { settings, hooks } = configuration;
     let bytes = read_bytes(alloc, reader)?;
     let lines = lines_of(alloc, bytes.as_slice(), &settings)?;
-    strictly(alloc, bytes.as_slice(), run.strict)?;
+    reject_unknown_members(alloc, bytes.as_slice(), run.strict)?;
     let form = form_of(alloc, run.format, bytes.as_slice(), lines.as_slice())?;
     let hooks = all_hooks(alloc, settings.caches(), hooks.items())?;
     let setup = Setup {
@@ -155,7 +156,7 @@ fn play_so<I: Read, O: Write, R: Threads + Wait + Sync>(
     alloc: Global,
     configuration: Configuration,
     run: &Run,
-    reader: &mut Watched<I>,
+    reader: &mut WatchedReader<I>,
     writer: &mut WatchedWriter<O>,
 ) -> Result<(), RunFault>
     requires opens { CanOpenConfiguration configuration }
@@ -182,14 +183,17 @@ fn play_so<I: Read, O: Write, R: Threads + Wait + Sync>(
 }
 
 /// Opens a script.
-pub(crate) fn open_script<D: Disk>(disk: &mut D, path: &str) -> Result<Watched<D::File>, RunFault>
+pub(crate) fn open_script<D: Disk>(
+    disk: &mut D,
+    path: &str,
+) -> Result<WatchedReader<D::File>, RunFault>
     ensures unread { IfOk result (IsUnreadFile D.File.remaining (D.holds disk.old path.now)) }
     ensures unopened { IfErr result (FailsToOpen Read Memory (D.holds disk.old path.now)) }
     ensures asked { AsksForPath (D.asked disk.old) (D.asked disk.new) path.now }
     ensures same { (other : List ℕ) → D.holds disk.new other ≡ D.holds disk.old other }
 {
     match disk.open(path) {
-        Ok(file) => Ok(Watched::new(file)),
+        Ok(file) => Ok(WatchedReader::new(file)),
         Err(OpenFault::Unreadable) => Err(RunFault::Read),
         Err(OpenFault::OutOfMemory) => Err(RunFault::Memory),
     }
@@ -202,7 +206,7 @@ fn run_script_file<D: Disk, O: Write, R: Threads + Wait + Sync>(
     disk: &mut D,
     run: &Run,
     configuration: Configuration,
-    script: &mut Option<Watched<D::File>>,
+    script: &mut Option<WatchedReader<D::File>>,
     writer: &mut WatchedWriter<O>,
 ) -> Result<(), RunFault>
     requires opens { CanOpenConfiguration configuration }
@@ -227,8 +231,8 @@ fn scripted_from<D: Disk, I: Read, O: Write, R: Threads + Wait + Sync>(
     disk: &mut D,
     run: &Run,
     configuration: Configuration,
-    script: &mut Option<Watched<D::File>>,
-    input: &mut Watched<I>,
+    script: &mut Option<WatchedReader<D::File>>,
+    input: &mut WatchedReader<I>,
     writer: &mut WatchedWriter<O>,
 ) -> Result<(), RunFault>
     requires opens { CanOpenConfiguration configuration }
@@ -253,7 +257,7 @@ pub fn run_files<D: Disk, I: Read, O: Write, R: Threads + Wait + Sync>(
     disk: &mut D,
     opened: &mut Opened<D::File>,
     run: &Run,
-    input: &mut Watched<I>,
+    input: &mut WatchedReader<I>,
     writer: &mut WatchedWriter<O>,
 ) -> Result<(), ProgramFault>
     requires { 0 < run.now.workers }

@@ -1,15 +1,14 @@
 //! The form of a report: text or JSON.
 ghost use Rattle.std.specs.Prelude.{◌≡◌, IfOk, string_bytes};
-ghost use Rattle.jc_json.specs.Totals.{CanOpenEach};
+ghost use Rattle.jc_report.specs.Totals.{CanOpenEach};
 ghost use Rattle.jc_model.specs.Legal.{IsLegal};
 ghost use Rattle.jc_runner.specs.Forms.{form_of, report_in};
 
-use jc_json::{NumberedLine, outline};
+use jc_cli::Format;
+use jc_model::Transcript;
 use jc_model::list::Sequence;
-use jc_report::report;
+use jc_report::{NumberedLine, json_report, outline, report};
 use jc_script::{Line, Managed};
-use jc_transcript::Transcript;
-use jc_words::Format;
 use std::alloc::{AllocError, Global};
 
 /// As text, or as JSON, which tells the lines by their numbers in the script.
@@ -54,7 +53,7 @@ pub(crate) fn report_in(
     match form {
         Form::Text => report(alloc, transcript, managed),
         Form::Json(outline) => {
-            jc_json::report(alloc, outline.items(), first, transcript, managed, seed)
+            json_report(alloc, outline.items(), first, transcript, managed, seed)
         }
     }
 }

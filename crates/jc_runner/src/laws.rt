@@ -13,7 +13,7 @@ ghost use Rattle.jc_runner.specs.Reports.{Reports};
 ghost use Rattle.jc_runner.specs.Together.{IsMade};
 ghost use Rattle.jc_runner.specs.declared.form.Form.TheVariants as form;
 
-use jc_hooks::{Hearer, Loader, Processor, Writer};
+use jc_hooks::{FilteredListener, Loader, Processor, Writer};
 
 /// Where no two sessions call the same life, a run on worker threads tells each life alone.
 pub fn apart_is_alone()
@@ -25,7 +25,7 @@ pub fn apart_is_alone()
 {}
 
 /// A run in the lines' order tells each life alone, as text.
-pub fn serial_is_alone<L: Loader, W: Writer, P: Processor, K: Hearer>()
+pub fn serial_is_alone<L: Loader, W: Writer, P: Processor, K: FilteredListener>()
     ensures { (caches : List CacheConfig) (all : List Line) (old new : List (Callbacks L W P K))
         (text : List ℕ)
         → (told : Reports L.load_of W.may P.verdict_of K.state_after

@@ -10,15 +10,15 @@ ghost use Rattle.jc_model.specs.Runs.{opened_from};
 ghost use Rattle.jc_runner.specs.Halfway.{lives_now};
 ghost use Rattle.jc_runner.specs.Hooks.{AreKept, AreSuited, CannotOpen};
 ghost use Rattle.jc_runner.specs.Reports.{Reports, ReportsInput};
-ghost use Rattle.jc_console.specs.Meters.{most_reads, AddsAtMost};
-ghost use Rattle.jc_console.specs.Streams.{IsOfRunning, IsOfScript, IsOfStrictness, IsBeforeCalls, HasRun};
+ghost use Rattle.jc_cli.specs.Meters.{most_reads, AddsAtMost};
+ghost use Rattle.jc_cli.specs.Streams.{IsOfRunning, IsOfScript, IsOfStrictness, IsBeforeCalls, HasRun};
 ghost use Rattle.jc_runner.specs.Strictness.{HasNoStray, HasStray};
 ghost use Rattle.jc_runner.specs.Texts.{ScriptIsGood, ScriptHasFault, IfScriptFault, IfStrayLine};
-ghost use Rattle.jc_console.specs.Watching.{InputIsTooLong, ReadFails, AddsText, AddsFront, AddsNothing, FlushesAll, WriteFails};
-ghost use Rattle.jc_strict.specs.Stray.{stray_line};
-ghost use Rattle.jc_console.specs.declared.fault.RunFault.TheVariants as faults;
+ghost use Rattle.jc_cli.specs.Watching.{InputIsTooLong, ReadFails, AddsText, AddsFront, AddsNothing, FlushesAll, WriteFails};
+ghost use Rattle.jc_script.specs.Stray.{stray_line};
+ghost use Rattle.jc_cli.specs.declared.fault.RunFault.TheVariants as faults;
 ghost use Rattle.jc_runner.specs.declared.form.Form.TheVariants as forms;
-ghost use Rattle.jc_words.specs.declared.run.Format.TheVariants as formats;
+ghost use Rattle.jc_cli.specs.declared.run.Format.TheVariants as formats;
 
 mod caches;
 mod calls;
@@ -27,17 +27,15 @@ mod lines;
 use crate::callbacks::all_suit;
 use crate::form::{Form, form_of, report_in};
 use crate::serial_run::lines::run_all;
+use jc_cli::{Format, RunFault, WatchedReader, WatchedWriter, read_bytes, write_text};
 use jc_config::Settings;
-use jc_console::{RunFault, Watched, WatchedWriter, read_bytes, write_text};
 use jc_engine::open::OpenRefusal;
-use jc_hooks::{CacheHooks, Hearer, Loader, Processor, Writer};
-use jc_recorded::recorded::Recorded;
+use jc_engine::recorded::Recorded;
+use jc_hooks::{CacheHooks, FilteredListener, Loader, Processor, Writer};
 use jc_ring::link_ring::LinkRing;
 use jc_rows::rows::Rows;
-use jc_script::{Line, ScriptFault, read_script};
+use jc_script::{Line, ScriptFault, read_script, stray_line};
 use jc_shared::table;
-use jc_strict::stray_line;
-use jc_words::Format;
 use std::alloc::Global;
 use std::io::{Read, Write};
 
@@ -81,7 +79,7 @@ fn open_engine<T: Rows>(
 }
 
 /// The same as `report_on`, with the report in this form. The seed picks places in tables, and changes nothing of it.
-fn report_as<T: Rows, L: Loader, W: Writer, P: Processor, K: Hearer>(
+fn report_as<T: Rows, L: Loader, W: Writer, P: Processor, K: FilteredListener>(
     alloc: Global,
     rows: T,
     settings: Settings,
@@ -119,7 +117,7 @@ fn report_as<T: Rows, L: Loader, W: Writer, P: Processor, K: Hearer>(
 /// that a line creates has no callbacks.
 ///
 /// `Memory`, also where a callback finds none; `Open` where the manager does not open.
-pub fn report_on<T: Rows, L: Loader, W: Writer, P: Processor, K: Hearer>(
+pub fn report_on<T: Rows, L: Loader, W: Writer, P: Processor, K: FilteredListener>(
     alloc: Global,
     rows: T,
     settings: Settings,
@@ -140,7 +138,11 @@ pub fn report_on<T: Rows, L: Loader, W: Writer, P: Processor, K: Hearer>(
 }
 
 /// Refuses a script with a member that its op does not need, where that is asked for.
-pub(crate) fn strictly(alloc: Global, bytes: &[u8], strict: bool) -> Result<(), RunFault>
+pub(crate) fn reject_unknown_members(
+    alloc: Global,
+    bytes: &[u8],
+    strict: bool,
+) -> Result<(), RunFault>
     ensures known { OnOk result (strict ≡ true → stray_line bytes.now ≡ None) }
     ensures entry { IfStrayLine result (λ n. (strict ≡ true) × (stray_line bytes.now ≡ Some n)) }
     ensures others { IfErr result IsOfStrictness }
@@ -156,14 +158,14 @@ pub(crate) fn strictly(alloc: Global, bytes: &[u8], strict: bool) -> Result<(), 
 
 /// The same as `serial`, with the report in this form. Where `strict` says so, `Entry` with the first line that has a
 /// member its op does not need; that is told of a script without other faults.
-pub(crate) fn serial_as<L: Loader, W: Writer, P: Processor, K: Hearer, R: Read, O: Write>(
+pub(crate) fn serial_as<L: Loader, W: Writer, P: Processor, K: FilteredListener, R: Read, O: Write>(
     alloc: Global,
     settings: Settings,
     hooks: &mut [CacheHooks<L, W, P, K>],
     seed: u64,
     strict: bool,
     format: Format,
-    reader: &mut Watched<R>,
+    reader: &mut WatchedReader<R>,
     writer: &mut WatchedWriter<O>,
 ) -> Result<(), RunFault>
     ensures ok { OnOk result (ReportsInput L.load_of W.may P.verdict_of K.state_after
@@ -194,7 +196,7 @@ pub(crate) fn serial_as<L: Loader, W: Writer, P: Processor, K: Hearer, R: Read, 
 {
     let bytes = read_bytes(alloc, reader)?;
     let lines = lines_of(alloc, bytes.as_slice(), &settings)?;
-    strictly(alloc, bytes.as_slice(), strict)?;
+    reject_unknown_members(alloc, bytes.as_slice(), strict)?;
     if !all_suit(&settings, hooks) {
         return Err(RunFault::Open);
     }
@@ -210,12 +212,12 @@ pub(crate) fn serial_as<L: Loader, W: Writer, P: Processor, K: Hearer, R: Read, 
 /// `Read`, `TooLong`; `Script` with the first fault; `Open` where the callbacks are not those that the settings name,
 /// or where the manager does not open; `Memory`, also where a callback finds none; `Write`. Only after `Write` may a
 /// part of the report have been written. The seed picks the places in the table and changes nothing of the report.
-pub fn serial<L: Loader, W: Writer, P: Processor, K: Hearer, R: Read, O: Write>(
+pub fn serial<L: Loader, W: Writer, P: Processor, K: FilteredListener, R: Read, O: Write>(
     alloc: Global,
     settings: Settings,
     hooks: &mut [CacheHooks<L, W, P, K>],
     seed: u64,
-    reader: &mut Watched<R>,
+    reader: &mut WatchedReader<R>,
     writer: &mut WatchedWriter<O>,
 ) -> Result<(), RunFault>
     ensures ok { OnOk result (ReportsInput L.load_of W.may P.verdict_of K.state_after

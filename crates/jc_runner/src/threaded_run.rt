@@ -7,21 +7,21 @@ ghost use Rattle.jc_script.specs.Named.{AllName};
 ghost use Rattle.jc_locked.specs.Stated.{stated_by, shared_of};
 ghost use Rattle.jc_threads.specs.Lines.{AreCallsMade};
 ghost use Rattle.jc_threads.specs.Managing.{AreManaged};
-ghost use Rattle.jc_console.specs.Streams.{IsOfThreads, HasRun};
+ghost use Rattle.jc_cli.specs.Streams.{IsOfThreads, HasRun};
 ghost use Rattle.jc_runner.specs.Together.{refusals_of, SetupSuits, SetupCannotOpen, SetupGathers, SetupGathersSo};
-ghost use Rattle.jc_console.specs.Watching.{AddsText, AddsFront, AddsNothing, FlushesAll, WriteFails};
-ghost use Rattle.jc_console.specs.declared.fault.RunFault.TheVariants as faults;
+ghost use Rattle.jc_cli.specs.Watching.{AddsText, AddsFront, AddsNothing, FlushesAll, WriteFails};
+ghost use Rattle.jc_cli.specs.declared.fault.RunFault.TheVariants as faults;
 ghost use Rattle.jc_runner.specs.declared.form.Form.TheVariants as forms;
 
 use crate::form::{Form, report_in};
+use jc_cli::{RunFault, WatchedWriter, write_text};
 use jc_config::Settings;
-use jc_console::{RunFault, WatchedWriter, write_text};
-use jc_hooks::{CacheHooks, Hearer, Loader, Processor, Writer};
+use jc_hooks::{CacheHooks, FilteredListener, Loader, Processor, Writer};
+use jc_model::Transcript;
 use jc_model::event::CreateRefusal;
 use jc_script::{Followed, Line, Managed, follow, same_lives};
 use jc_shared::{Name, Shared, SharedRefusal};
 use jc_threads::{Gate, Transcription, transcribed};
-use jc_transcript::Transcript;
 use std::alloc::Global;
 use std::io::Write;
 use std::marker::Brand;
@@ -44,7 +44,7 @@ pub struct Crew<'a, G> {
 }
 
 /// The manager, before it has a name.
-fn open_unnamed<L: Loader, W: Writer, P: Processor, K: Hearer>(
+fn open_unnamed<L: Loader, W: Writer, P: Processor, K: FilteredListener>(
     alloc: Global,
     setup: Setup<L, W, P, K>,
 ) -> Result<Shared<L, W, P, K>, RunFault>
@@ -76,7 +76,7 @@ fn make_lines_under<
     L: Loader,
     W: Writer,
     P: Processor,
-    K: Hearer,
+    K: FilteredListener,
     G: Gate,
     R: Threads + Wait + Sync,
 >(
@@ -105,7 +105,14 @@ fn make_lines_under<
 }
 
 /// The same, under a name that this call picks.
-fn make_lines<L: Loader, W: Writer, P: Processor, K: Hearer, G: Gate, R: Threads + Wait + Sync>(
+fn make_lines<
+    L: Loader,
+    W: Writer,
+    P: Processor,
+    K: FilteredListener,
+    G: Gate,
+    R: Threads + Wait + Sync,
+>(
     rt: &R,
     alloc: Global,
     shared: Shared<L, W, P, K>,
@@ -161,7 +168,14 @@ fn compare_lives(followed: &Followed, made: Transcription) -> Result<Transcript,
 }
 
 /// The report of a run on threads, in this form.
-fn gather_report<L: Loader, W: Writer, P: Processor, K: Hearer, G: Gate, R: Threads + Wait + Sync>(
+fn gather_report<
+    L: Loader,
+    W: Writer,
+    P: Processor,
+    K: FilteredListener,
+    G: Gate,
+    R: Threads + Wait + Sync,
+>(
     rt: &R,
     alloc: Global,
     setup: Setup<L, W, P, K>,
@@ -194,7 +208,7 @@ pub(crate) fn threaded_as<
     L: Loader,
     W: Writer,
     P: Processor,
-    K: Hearer,
+    K: FilteredListener,
     G: Gate,
     R: Threads + Wait + Sync,
     O: Write,
@@ -238,7 +252,7 @@ pub fn threaded<
     L: Loader,
     W: Writer,
     P: Processor,
-    K: Hearer,
+    K: FilteredListener,
     G: Gate,
     R: Threads + Wait + Sync,
     O: Write,

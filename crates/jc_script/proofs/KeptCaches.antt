@@ -14,8 +14,8 @@ use Rattle.jc_model.specs.Limits.{most_processors}
 use Rattle.jc_model.specs.Lists.{distinct}
 use Rattle.jc_model.specs.Places.{there, at_place, all_there, named_from}
 use Rattle.jc_model.specs.Runs.{Status, Lives, opened, creates, destroys, answer_in, answer_to_create, answer_to_destroy, lives_by, create_refusal, members_of}
-use Rattle.jc_roster.specs.Members.{id_named}
-use Rattle.jc_roster.proofs.Members.{named_map, at_place_map, allowed}
+use Rattle.jc_model.specs.Members.{id_named}
+use Rattle.jc_model.proofs.Members.{named_map, at_place_map, allowed}
 use Rattle.jc_script.specs.Live.{id_of_live, processors_of, processors_at, lives_in, HaveFewProcessors, IsFollowed}
 use Rattle.jc_model.specs.Refusals.{Member, member_of, rows_of, refusal_beside}
 

@@ -6,3 +6,5 @@ pub mod Lines
 pub mod Existing
 pub mod KeptCaches
 pub mod SameLives
+pub mod Ignored
+pub mod MemberPieces

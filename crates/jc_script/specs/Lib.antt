@@ -10,3 +10,5 @@ pub mod Operation
 pub mod Line
 pub mod Script
 pub mod Named
+pub mod Members
+pub mod Stray

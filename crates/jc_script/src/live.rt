@@ -17,8 +17,8 @@ use jc_model::OutOfMemory;
 use jc_model::config::CacheConfig;
 use jc_model::event::{CacheId, CreateRefusal};
 use jc_model::key::Key;
+use jc_model::roster::Roster;
 use jc_model::share::Share;
-use jc_roster::roster::Roster;
 use std::alloc::Global;
 use std::marker::Model;
 

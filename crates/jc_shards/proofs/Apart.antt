@@ -5,7 +5,7 @@ use Rattle.std.proofs.lemmas.Map.Made.{AllPairs-from_IsDistinct}
 use Rattle.std.specs.Cmp.Lexicographic.{bytes_decides}
 use Rattle.std.specs.List.{IsDistinct, AllByRecursion}
 use Rattle.std.specs.Str.{bytes_eq}
-use Rattle.jc_dealing.specs.Dealing.{Dealt, is_right, of_left, of_right, names_of, AreApart}
+use Rattle.jc_shards.specs.Dealing.{Dealt, is_right, of_left, of_right, names_of, AreApart}
 use Rattle.jc_engine.specs.Opening.{is_taken, open_refusal, open_refusal_for, refusal_at, refusal_from}
 use Rattle.jc_locked.specs.Opening.{HandedIn}
 use Rattle.jc_model.proofs.Refusals.{both_none, not_refused}

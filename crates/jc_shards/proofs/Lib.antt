@@ -1,2 +1,4 @@
+mod Spreads
+mod Turns
 mod Apart
 mod Suited

@@ -10,7 +10,7 @@ use Rattle.jc_locked.specs.declared.fault.CallFault.{CallFault}
 use Rattle.jc_locked.specs.declared.fault.CallFault.TheVariants as faults
 use Rattle.jc_locked.specs.Pending.{Pending, AddsEntry, IsRefusedBegin, IsRefusedAnswer, answered_entry, given_up_entry}
 use Rattle.jc_locked.specs.Sessions.{Sitting}
-use Rattle.jc_recorded.specs.Recording.{blank}
+use Rattle.jc_engine.specs.Recording.{blank}
 use Rattle.jc_shared.specs.declared.pending.Progress.{Progress}
 use Rattle.jc_shared.specs.declared.pending.Progress.TheVariants.{Replied, Waits}
 use Rattle.jc_shared.specs.Progress.{IsBroughtTo}

@@ -1,6 +1,6 @@
 -- Which caches two managers are opened with, and why they do not open.
 use Rattle.std.specs.Prelude.{◌≡◌, ℕ, Bool, true, false, List, Some, None, ⊤}
-use Rattle.jc_dealing.specs.Dealing.{Dealt, of_left, of_right}
+use Rattle.jc_shards.specs.Dealing.{Dealt, of_left, of_right}
 use Rattle.jc_engine.specs.Opening.{open_refusal}
 use Rattle.jc_model.specs.declared.config.CacheConfig.{CacheConfig}
 use Rattle.jc_locked.specs.declared.fault.SharedRefusal.{SharedRefusal}

@@ -4,7 +4,7 @@ use Rattle.std.specs.declared.alloc.AllocError.{AllocError}
 use Rattle.jc_shards.specs.declared.pair.Pair.{Pair}
 use Rattle.jc_shards.specs.declared.side.Side.{Side}
 use Rattle.jc_shards.specs.declared.side.Side.TheVariants.{Left, Right}
-use Rattle.jc_dealing.specs.Dealing.{goes_right}
+use Rattle.jc_shards.specs.Dealing.{goes_right}
 
 -- it happens in the half that has the cache, and the other half is as it was
 abbrev pub InHalf : {A B I J : Type 0} → (A → A → I → Type 0) → (B → B → J → Type 0) → Pair A B → Pair A B → Side I J → Type 0

@@ -1,3 +1,4 @@
+pub mod Dealing
 pub mod ByHand
 pub mod Dealt
 pub mod Halves

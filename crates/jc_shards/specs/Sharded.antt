@@ -1,7 +1,7 @@
 -- A manager of four shards: which caches each is opened with, what its name tells, and what its sessions are.
 use Rattle.std.specs.Prelude.{◌≡◌, ℕ, Bool, true, false, List, [], Option, None, Result}
 use Rattle.atomic_table.specs.Seated.{TableId}
-use Rattle.jc_dealing.specs.Dealing.{Dealt, of_left, of_right}
+use Rattle.jc_shards.specs.Dealing.{Dealt, of_left, of_right}
 use Rattle.jc_engine.specs.Opening.{open_refusal}
 use Rattle.jc_model.specs.declared.config.CacheConfig.{CacheConfig}
 use Rattle.jc_locked.specs.Living.{HasNoOpenCall, HasOpenCall}

@@ -7,11 +7,11 @@ use Rattle.jc_model.specs.declared.call.Reply.{Reply}
 use Rattle.jc_model.specs.declared.config.CacheConfig.{CacheConfig}
 use Rattle.jc_model.specs.declared.event.End.TheVariants.{Replied}
 use Rattle.jc_hooks.specs.declared.cache_hooks.CacheHooks.{CacheHooks}
-use Rattle.jc_hooks.specs.declared.unasked.Unasked.{Unasked}
+use Rattle.jc_hooks.specs.declared.no_hooks.NoHooks.{NoHooks}
 use Rattle.jc_hooks.specs.Suits.{Suits}
 use Rattle.jc_place.specs.Seeded.{seeded_place}
 use Rattle.jc_rows.specs.Images.{last_image}
-use Rattle.jc_stripes.specs.Stripes.{SomeOdd, AreReadAtRest, stripes_in}
+use Rattle.jc_index.specs.Stripes.{SomeOdd, AreReadAtRest, stripes_in}
 use Rattle.jc_index.specs.declared.lookup.Lookup.{Lookup}
 use Rattle.jc_index.specs.declared.lookup.Lookup.TheVariants.{Sure, Unsure}
 use Rattle.jc_index.specs.Found.{found_in_image}
@@ -24,7 +24,7 @@ use Rattle.jc_locked.specs.Calls.{Adds, CallFails, LacksProcessor, TellsLack}
 use Rattle.jc_locked.specs.Living.{HasGone, IsCreated, IsCreateFault, IsSessionDestroyRefusal, TellsLiveRow, IsIdOfName, IsSeen}
 use Rattle.jc_locked.specs.Sessions.{Sitting, SeesSome, log_of}
 use Rattle.jc_locked.specs.Stated.{Stated}
-use Rattle.jc_recorded.specs.Recording.{blank}
+use Rattle.jc_engine.specs.Recording.{blank}
 use Rattle.jc_shared.specs.Progress.{AddsCall, FailsBy}
 
 pub record IsCall (configs : List CacheConfig) (stated : List Stated) (old new : Sitting) (id now : ℕ) (call : Call) (result : Result Reply CallFault) : Type 0 where
@@ -68,9 +68,9 @@ pub record IsRefresh (configs : List CacheConfig) (old new : Sitting) (result : 
 
 -- callbacks that nobody asks
 abbrev pub Hooks : Type 0
-Hooks = CacheHooks Unasked Unasked Unasked Unasked
+Hooks = CacheHooks NoHooks NoHooks NoHooks NoHooks
 
-abbrev pub wants : Unasked → Bool
+abbrev pub wants : NoHooks → Bool
 wants u = u.wants
 
 abbrev pub IsFoundByName : List CacheConfig → List ℕ → Option ℕ → Type 0

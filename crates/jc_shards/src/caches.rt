@@ -1,7 +1,7 @@
 //! Caches that one caller asks, in one manager or in several.
 //!
 //! None of their callbacks is asked: such caches have none, or they are what is lent to calls.
-use jc_hooks::{Responder, UnaskedHooks};
+use jc_hooks::{PlaceholderHooks, Responder};
 use jc_index::lookup::Lookup;
 use jc_model::OutOfMemory;
 use jc_model::call::{Call, Reply};
@@ -81,8 +81,8 @@ pub trait Caches {
         rt: &R,
         spread: u32,
         config: CacheConfig,
-        hooks: UnaskedHooks,
-    ) -> Result<Self::Id, (CreateFault, CacheConfig, UnaskedHooks)>
+        hooks: PlaceholderHooks,
+    ) -> Result<Self::Id, (CreateFault, CacheConfig, PlaceholderHooks)>
         ensures { Creates spread config hooks result };
 
     /// Destroys a cache, as `Session::destroy`.

@@ -13,19 +13,20 @@ mod pair;
 mod quarters;
 mod seats;
 mod shard;
+mod shard_map;
 mod shard_names;
 mod sharded;
 mod side;
 
 pub use by_hand::CallsByHand;
 pub use caches::{Caches, LentCalls};
-pub use jc_dealing::Dealing;
 pub use naming::{create, find};
 pub use opening::{HalfRefusal, Twins, Unnamed, open, open_two};
 pub use pair::Pair;
 pub use quarters::{QuarterRefusal, Quarters, open_four, open_four_in_turn};
 pub use seats::{Both, One, Seats};
 pub use shard::{Shard, Unasking};
+pub use shard_map::ShardMap;
 pub use shard_names::{FirstOf, FourthOf, SecondOf, ShardNames, ThirdOf};
 pub use sharded::{
     PairSeat, Sharded, ShardedCall, ShardedId, ShardedManager, ShardedSeat, ShardedSession,

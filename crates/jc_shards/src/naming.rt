@@ -1,9 +1,9 @@
 //! Where a cache goes by its name.
-ghost use Rattle.jc_dealing.specs.Dealing.{spread_of};
+ghost use Rattle.jc_shards.specs.Dealing.{spread_of};
 
+use crate::ShardMap;
 use crate::caches::Caches;
-use jc_dealing::Dealing;
-use jc_hooks::UnaskedHooks;
+use jc_hooks::PlaceholderHooks;
 use jc_model::config::CacheConfig;
 use jc_model::key::Key;
 use jc_shared::CreateFault;
@@ -11,7 +11,7 @@ use std::sync::Wait;
 
 /// The live cache with this name, in the manager that the dealing picks for it. One that was created or opened under
 /// another dealing may stand elsewhere.
-pub fn find<C: Caches, R: Wait>(caches: &C, rt: &R, dealing: &Dealing, name: &Key) -> Option<C::Id>
+pub fn find<C: Caches, R: Wait>(caches: &C, rt: &R, dealing: &ShardMap, name: &Key) -> Option<C::Id>
     ensures { C.Finds (spread_of dealing.now name.now) name.now result }
 {
     caches.find_by(rt, dealing.spread_of(name), name)
@@ -23,10 +23,10 @@ pub fn find<C: Caches, R: Wait>(caches: &C, rt: &R, dealing: &Dealing, name: &Ke
 pub fn create<C: Caches, R: Wait>(
     caches: &C,
     rt: &R,
-    dealing: &Dealing,
+    dealing: &ShardMap,
     config: CacheConfig,
-    hooks: UnaskedHooks,
-) -> Result<C::Id, (CreateFault, CacheConfig, UnaskedHooks)>
+    hooks: PlaceholderHooks,
+) -> Result<C::Id, (CreateFault, CacheConfig, PlaceholderHooks)>
     ensures { C.Creates (spread_of dealing.now config.name) config hooks result }
 {
     let spread = dealing.spread_of(&config.name);

@@ -1,22 +1,22 @@
 //! Opening managers whose callbacks nobody asks, and of which each has some of the caches.
 ghost use Rattle.std.specs.Prelude.{◌≡◌, IfOk, IfErr};
-ghost use Rattle.jc_hooks.specs.declared.unasked.Unasked.{Unasked as Silent};
+ghost use Rattle.jc_hooks.specs.declared.no_hooks.NoHooks.{NoHooks as Silent};
 ghost use Rattle.jc_hooks.specs.Suits.{AllSuit};
 ghost use Rattle.jc_shards.specs.Dealt.{AreHalves, HasOpened, IsHalfRefusal, IsRefusal};
 
-use jc_dealing::Dealing;
-use jc_hooks::{Unasked, UnaskedHooks, hooks_by_hand};
+use crate::ShardMap;
+use jc_hooks::{NoHooks, PlaceholderHooks, placeholder_hooks};
 use jc_model::OutOfMemory;
 use jc_model::config::CacheConfig;
-use jc_shared::{Keeping, OpenCalls, Shared, SharedRefusal};
+use jc_shared::{JournalPolicy, OpenCalls, Shared, SharedRefusal};
 use std::alloc::Global;
 
 /// A manager before it has a name, whose callbacks nobody asks.
-pub type Unnamed<J = OpenCalls> = Shared<Unasked, Unasked, Unasked, Unasked, J>;
+pub type Unnamed<J = OpenCalls> = Shared<NoHooks, NoHooks, NoHooks, NoHooks, J>;
 
 /// Two managers before they have names, between which caches are dealt out.
 #[derive(Drop)]
-pub struct Twins<J: Keeping = OpenCalls> {
+pub struct Twins<J: JournalPolicy = OpenCalls> {
     pub left: Unnamed<J>,
     pub right: Unnamed<J>,
 }
@@ -30,12 +30,12 @@ pub struct HalfRefusal {
 }
 
 /// Callbacks that suit these configurations.
-fn hooks_of(alloc: Global, configs: &[CacheConfig]) -> Result<Vec<UnaskedHooks>, OutOfMemory>
+fn hooks_of(alloc: Global, configs: &[CacheConfig]) -> Result<Vec<PlaceholderHooks>, OutOfMemory>
     ensures { IfOk result (λ hooks. AllSuit (λ (p : Silent). p.wants) configs.now hooks.items) }
 {
     let mut hooks = Vec::with_capacity(alloc, configs.len())?;
     for config in configs {
-        hooks.push(hooks_by_hand(alloc, config)?)?;
+        hooks.push(placeholder_hooks(alloc, config)?)?;
     }
     Ok(hooks)
 }
@@ -43,7 +43,7 @@ fn hooks_of(alloc: Global, configs: &[CacheConfig]) -> Result<Vec<UnaskedHooks>,
 /// A manager of these caches over an empty table. The seed picks the places there.
 ///
 /// Refused as `Caches` and `OutOfMemory`, as `Shared::open`; memory may be refused before the caches are looked at.
-pub fn open<J: Keeping>(
+pub fn open<J: JournalPolicy>(
     alloc: Global,
     configs: Vec<CacheConfig>,
     seed: u64,
@@ -61,7 +61,7 @@ pub fn open<J: Keeping>(
 }
 
 /// The same for a half.
-fn open_half<J: Keeping>(
+fn open_half<J: JournalPolicy>(
     alloc: Global,
     configs: Vec<CacheConfig>,
     seed: u64,
@@ -80,9 +80,9 @@ fn open_half<J: Keeping>(
 /// Two managers of the caches that the dealing gives each half at this level. The seed picks the places in both tables.
 ///
 /// Refused as `open` of the left half, then of the right; memory may be refused before the caches are looked at.
-pub fn open_two<J: Keeping>(
+pub fn open_two<J: JournalPolicy>(
     alloc: Global,
-    dealing: &Dealing,
+    dealing: &ShardMap,
     level: u32,
     configs: Vec<CacheConfig>,
     seed: u64,

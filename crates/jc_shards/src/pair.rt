@@ -1,11 +1,11 @@
 //! Two halves, each with caches of its own.
 ghost use Rattle.std.specs.Prelude.{◌≡◌};
 ghost use Rattle.jc_shards.specs.Halves.{first_error, IsMadeInHalf};
-ghost use Rattle.jc_dealing.specs.Dealing.{goes_right};
+ghost use Rattle.jc_shards.specs.Dealing.{goes_right};
 
 use crate::caches::{Caches, LentCalls};
 use crate::side::Side;
-use jc_hooks::{Responder, UnaskedHooks};
+use jc_hooks::{PlaceholderHooks, Responder};
 use jc_index::lookup::Lookup;
 use jc_model::OutOfMemory;
 use jc_model::call::{Call, Reply};
@@ -102,8 +102,8 @@ impl<A: Caches, B: Caches> Caches for Pair<A, B> {
         rt: &R,
         spread: u32,
         config: CacheConfig,
-        hooks: UnaskedHooks,
-    ) -> Result<Side<A::Id, B::Id>, (CreateFault, CacheConfig, UnaskedHooks)>
+        hooks: PlaceholderHooks,
+    ) -> Result<Side<A::Id, B::Id>, (CreateFault, CacheConfig, PlaceholderHooks)>
         ensures { IsMadeInHalf (λ rest it. A.Creates rest config hooks it)
             (λ rest it. B.Creates rest config hooks it) spread result }
     {

@@ -1,19 +1,19 @@
 //! Opening four managers, between which caches are dealt out.
 ghost use Rattle.std.specs.Prelude.{◌≡◌, IfOk, IfErr};
-ghost use Rattle.jc_dealing.specs.Dealing.{in_turn, names_of, GoInTurn};
+ghost use Rattle.jc_shards.specs.Dealing.{in_turn, names_of, GoInTurn};
 ghost use Rattle.jc_shards.specs.Dealt.{AreHalves, IsHalfRefusal};
 ghost use Rattle.jc_shards.specs.Sharded.{AreQuarters, IsQuarterRefusal, unseen};
 
+use crate::ShardMap;
 use crate::opening::{HalfRefusal, Twins, open_two};
-use jc_dealing::Dealing;
 use jc_model::config::CacheConfig;
-use jc_shared::{Keeping, OpenCalls, SharedRefusal};
+use jc_shared::{JournalPolicy, OpenCalls, SharedRefusal};
 use std::alloc::Global;
 
 /// Four managers before they have a name, and the dealing by which they have their caches.
 #[derive(Drop)]
-pub struct Quarters<J: Keeping = OpenCalls> {
-    pub dealing: Dealing,
+pub struct Quarters<J: JournalPolicy = OpenCalls> {
+    pub dealing: ShardMap,
     pub left: Twins<J>,
     pub right: Twins<J>,
 }
@@ -39,9 +39,9 @@ fn no_memory() -> QuarterRefusal
 }
 
 /// The two managers of a half.
-fn open_pair<J: Keeping>(
+fn open_pair<J: JournalPolicy>(
     alloc: Global,
-    dealing: &Dealing,
+    dealing: &ShardMap,
     configs: Vec<CacheConfig>,
     seed: u64,
     right: bool,
@@ -61,9 +61,9 @@ fn open_pair<J: Keeping>(
 /// places in all tables.
 ///
 /// Refused as `open_two` of the left half, then of the right; memory may be refused before the caches are looked at.
-pub fn open_four<J: Keeping>(
+pub fn open_four<J: JournalPolicy>(
     alloc: Global,
-    dealing: Dealing,
+    dealing: ShardMap,
     configs: Vec<CacheConfig>,
     seed: u64,
 ) -> Result<Quarters<J>, QuarterRefusal>
@@ -91,7 +91,7 @@ pub fn open_four<J: Keeping>(
 
 /// The same by the dealing under which these caches go in turn, with this seed: the bits of a cache's number are its
 /// spread. So of four that follow each other no two are in one manager, and none has two more than another.
-pub fn open_four_in_turn<J: Keeping>(
+pub fn open_four_in_turn<J: JournalPolicy>(
     alloc: Global,
     configs: Vec<CacheConfig>,
     seed: u64,
@@ -102,7 +102,7 @@ pub fn open_four_in_turn<J: Keeping>(
         four.left.left four.left.right four.right.left four.right.right) }
     ensures refused { IfErr result (IsQuarterRefusal (in_turn seed configs.items) configs.items) }
 {
-    match Dealing::in_turn(alloc, seed, configs.as_slice()) {
+    match ShardMap::in_turn(alloc, seed, configs.as_slice()) {
         Ok(dealing) => open_four(alloc, dealing, configs, seed),
         Err(_) => {
             drop(configs);

@@ -6,7 +6,7 @@ use crate::pair::Pair;
 use crate::shard::{Shard, Unasking};
 use crate::side::Side;
 use jc_model::event::CacheId;
-use jc_shared::{Keeping, Name, SessionRefusal};
+use jc_shared::{JournalPolicy, Name, SessionRefusal};
 use std::sync::Wait;
 
 /// One manager, or several, from which each thread takes a seat.
@@ -33,11 +33,11 @@ pub trait Seats {
 
 /// One manager, whatever it keeps of its calls.
 #[derive(Drop)]
-pub struct One<'a, N: Name, J: Keeping> {
+pub struct One<'a, N: Name, J: JournalPolicy> {
     pub manager: &'a Unasking<N, J>,
 }
 
-impl<'a, N: Name + Send + Sync, J: Keeping + Send> Seats for One<'a, N, J>
+impl<'a, N: Name + Send + Sync, J: JournalPolicy + Send> Seats for One<'a, N, J>
 where
     J::Own: Send,
 {

@@ -5,7 +5,7 @@ ghost use Rattle.jc_locked.specs.Sessions.{SeesSome};
 ghost use Rattle.jc_shards.specs.Sharding.{IsCreation};
 
 use crate::caches::{Caches, LentCalls};
-use jc_hooks::{Responder, Unasked, UnaskedHooks};
+use jc_hooks::{NoHooks, PlaceholderHooks, Responder};
 use jc_index::lookup::Lookup;
 use jc_model::OutOfMemory;
 use jc_model::call::{Call, Reply};
@@ -13,22 +13,22 @@ use jc_model::config::CacheConfig;
 use jc_model::event::CacheId;
 use jc_model::key::Key;
 use jc_shared::{
-    CallFault, CreateFault, DestroyFault, Keeping, Manager, Name, OpenCalls, Session,
+    CallFault, CreateFault, DestroyFault, JournalPolicy, Manager, Name, OpenCalls, Session,
     SessionRefusal,
 };
 use std::sync::Wait;
 
 /// A manager whose callbacks nobody asks: its caches have none, or what is lent to calls answers for them.
-pub type Unasking<N, J> = Manager<N, Unasked, Unasked, Unasked, Unasked, J>;
+pub type Unasking<N, J> = Manager<N, NoHooks, NoHooks, NoHooks, NoHooks, J>;
 
 /// Such a manager, and a session of it.
 #[derive(Drop)]
-pub struct Shard<'a, N: Name, J: Keeping = OpenCalls> {
+pub struct Shard<'a, N: Name, J: JournalPolicy = OpenCalls> {
     pub manager: &'a Unasking<N, J>,
-    pub session: Session<'a, N, Unasked, Unasked, Unasked, Unasked, J>,
+    pub session: Session<'a, N, NoHooks, NoHooks, NoHooks, NoHooks, J>,
 }
 
-impl<'a, N: Name, J: Keeping> Shard<'a, N, J> {
+impl<'a, N: Name, J: JournalPolicy> Shard<'a, N, J> {
     /// A new session beside its manager. Refused as `Manager::session`.
     pub fn new<R: Wait>(
         rt: &R,
@@ -45,7 +45,7 @@ impl<'a, N: Name, J: Keeping> Shard<'a, N, J> {
     }
 }
 
-impl<'a, N: Name, J: Keeping> Caches for Shard<'a, N, J> {
+impl<'a, N: Name, J: JournalPolicy> Caches for Shard<'a, N, J> {
     ghost use Rattle.jc_shards.specs.Sharding.{IsCall, IsCreation, IsDestruction, IsFoundByName, IsLook, IsLookup, IsRefresh};
 
     type Id = CacheId;
@@ -95,8 +95,8 @@ impl<'a, N: Name, J: Keeping> Caches for Shard<'a, N, J> {
         rt: &R,
         _spread: u32,
         config: CacheConfig,
-        hooks: UnaskedHooks,
-    ) -> Result<CacheId, (CreateFault, CacheConfig, UnaskedHooks)>
+        hooks: PlaceholderHooks,
+    ) -> Result<CacheId, (CreateFault, CacheConfig, PlaceholderHooks)>
         ensures { IsCreation N.configs config hooks result }
     {
         self.session.create(rt, config, hooks)

@@ -1,9 +1,10 @@
 //! A manager of four shards.
 ghost use Rattle.std.specs.Prelude.{◌≡◌, None, IfSome, IfOk, IfErr, OnOk};
-ghost use Rattle.jc_dealing.specs.Dealing.{spread_of};
+ghost use Rattle.jc_shards.specs.Dealing.{spread_of};
 ghost use Rattle.jc_shards.specs.Seating.{IsUnseated};
 ghost use Rattle.jc_shards.specs.Sharded.{four_told_by, AreSeated, IsFirstOpen, IsFirstOpenOfFour, IsFoundInFour, IsMadeInFour, NoneIsOpen};
 
+use crate::ShardMap;
 use crate::naming::{create, find};
 use crate::opening::Twins;
 use crate::pair::Pair;
@@ -12,12 +13,11 @@ use crate::shard::{Shard, Unasking};
 use crate::shard_names::{FirstOf, FourthOf, SecondOf, ShardNames, ThirdOf};
 use crate::side::Side;
 use crossbeam_utils::CachePadded;
-use jc_dealing::Dealing;
-use jc_hooks::UnaskedHooks;
+use jc_hooks::PlaceholderHooks;
 use jc_model::config::CacheConfig;
 use jc_model::event::CacheId;
 use jc_model::key::Key;
-use jc_shared::{CreateFault, Keeping, Name, OpenCalls, PendingCall, SessionRefusal};
+use jc_shared::{CreateFault, JournalPolicy, Name, OpenCalls, PendingCall, SessionRefusal};
 use std::sync::Wait;
 
 /// A cache of a sharded manager: its shard, and its id there.
@@ -30,8 +30,8 @@ pub type PairSeat<'a, A, B, J = OpenCalls> = Pair<Shard<'a, A, J>, Shard<'a, B, 
 /// Threads that ask caches of different shards share nothing: shards lie on different lines of a processor's cache, too.
 /// Callbacks are asked of nobody: caches have none, or what is lent to a call answers for them, or its caller does.
 #[derive(Drop)]
-pub struct ShardedManager<A: Name, B: Name, C: Name, D: Name, J: Keeping = OpenCalls> {
-    dealing: Dealing,
+pub struct ShardedManager<A: Name, B: Name, C: Name, D: Name, J: JournalPolicy = OpenCalls> {
+    dealing: ShardMap,
     first: CachePadded<Unasking<A, J>>,
     second: CachePadded<Unasking<B, J>>,
     third: CachePadded<Unasking<C, J>>,
@@ -40,8 +40,8 @@ pub struct ShardedManager<A: Name, B: Name, C: Name, D: Name, J: Keeping = OpenC
 
 /// A session of a sharded manager: one of each shard, and the dealing that tells which shard has a cache.
 #[derive(Drop)]
-pub struct ShardedSession<'a, A: Name, B: Name, C: Name, D: Name, J: Keeping = OpenCalls> {
-    dealing: &'a Dealing,
+pub struct ShardedSession<'a, A: Name, B: Name, C: Name, D: Name, J: JournalPolicy = OpenCalls> {
+    dealing: &'a ShardMap,
     pub caches: Pair<PairSeat<'a, A, B, J>, PairSeat<'a, C, D, J>>,
 }
 
@@ -70,7 +70,7 @@ pub type ShardedCall<N> = Side<
     Side<PendingCall<ThirdOf<N>>, PendingCall<FourthOf<N>>>,
 >;
 
-impl<J: Keeping> Quarters<J> {
+impl<J: JournalPolicy> Quarters<J> {
     /// The manager under a name, which tells what each shard has.
     pub fn named<N: ShardNames>(self) -> Sharded<N, J>
         requires { four_told_by self.left.left self.left.right self.right.left self.right.right ≡ N.shards }
@@ -99,7 +99,7 @@ impl<J: Keeping> Quarters<J> {
     }
 }
 
-impl<A: Name, B: Name, C: Name, D: Name, J: Keeping> ShardedManager<A, B, C, D, J> {
+impl<A: Name, B: Name, C: Name, D: Name, J: JournalPolicy> ShardedManager<A, B, C, D, J> {
     /// A new session, of each shard. Where one refuses, as `Manager::session`, its refusal is told.
     pub fn session<R: Wait>(
         &self,
@@ -212,7 +212,7 @@ fn first_open<A: Name, B: Name>(
 }
 
 /// A session of each of two shards.
-fn seats<'a, A: Name, B: Name, J: Keeping, R: Wait>(
+fn seats<'a, A: Name, B: Name, J: JournalPolicy, R: Wait>(
     rt: &R,
     left: &'a Unasking<A, J>,
     right: &'a Unasking<B, J>,
@@ -227,7 +227,7 @@ fn seats<'a, A: Name, B: Name, J: Keeping, R: Wait>(
     })
 }
 
-impl<'a, A: Name, B: Name, C: Name, D: Name, J: Keeping> ShardedSession<'a, A, B, C, D, J> {
+impl<'a, A: Name, B: Name, C: Name, D: Name, J: JournalPolicy> ShardedSession<'a, A, B, C, D, J> {
     /// The live cache with this name.
     pub fn cache<R: Wait>(&self, rt: &R, name: &Key) -> Option<ShardedId>
         ensures { IsFoundInFour A.configs B.configs C.configs D.configs
@@ -242,8 +242,8 @@ impl<'a, A: Name, B: Name, C: Name, D: Name, J: Keeping> ShardedSession<'a, A, B
         &self,
         rt: &R,
         config: CacheConfig,
-        hooks: UnaskedHooks,
-    ) -> Result<ShardedId, (CreateFault, CacheConfig, UnaskedHooks)>
+        hooks: PlaceholderHooks,
+    ) -> Result<ShardedId, (CreateFault, CacheConfig, PlaceholderHooks)>
         ensures { IsMadeInFour A.configs B.configs C.configs D.configs
             (spread_of self.now.dealing.now config.name) config hooks result }
     {

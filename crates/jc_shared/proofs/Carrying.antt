@@ -16,10 +16,10 @@ use Rattle.jc_model.specs.declared.event.Entry.{Entry}
 use Rattle.jc_model.specs.declared.event.Event.TheVariants as event
 use Rattle.jc_model.specs.declared.event.Step.{Step}
 use Rattle.jc_model.specs.declared.event.Step.TheVariants.{Done, Need}
-use Rattle.jc_recorded.specs.Changed.{begun_entry, replied_at_once}
-use Rattle.jc_recorded.specs.Recording.{blank}
-use Rattle.jc_recorded.specs.Results.{reply_in}
-use Rattle.jc_recorded.specs.declared.journal.change.Begun.{Begun}
+use Rattle.jc_engine.specs.Changed.{begun_entry, replied_at_once}
+use Rattle.jc_engine.specs.Recording.{blank}
+use Rattle.jc_engine.specs.RecordedSteps.{reply_in}
+use Rattle.jc_engine.specs.declared.journal.change.CallHeader.{CallHeader}
 use Rattle.jc_locked.specs.declared.fault.CallFault.{CallFault}
 use Rattle.jc_locked.specs.declared.fault.CallFault.TheVariants as faults
 use Rattle.jc_model.specs.Asking.{AsksOf}
@@ -155,7 +155,7 @@ pub entry_adds : (configs : List CacheConfig) (stated : List Stated) (old new : 
 entry_adds configs stated old new id at call n h = record { answers = []; told = []; added = h.added; stands = h.stands; answered = no_answers (slice_get stated id) call [] refl }
 
 -- it had its reply at once
-pub replied_entry : (configs : List CacheConfig) (old new : Sitting) (id at : ℕ) (call : Call) (begun : Begun) (step : Step) (second : Option Reply) (reply copy : Reply) → step ≡ Done reply → second ≡ Some copy → second ≡ reply_in step
+pub replied_entry : (configs : List CacheConfig) (old new : Sitting) (id at : ℕ) (call : Call) (begun : CallHeader) (step : Step) (second : Option Reply) (reply copy : Reply) → step ≡ Done reply → second ≡ Some copy → second ≡ reply_in step
     → CallGoesOn configs (blank old.number id at call) step (entry_ended_by second (blank old.number id at call)) new.pass → begun_entry begun ≡ blank old.number id at call → new.calls ≡ old.calls ++ replied_at_once begun copy ∷ []
     → AddsEntry configs old new (record (blank old.number id at call) { end = ends.Replied reply })
 replied_entry configs old new id at call begun step second reply copy turns is copied goes begins added =
@@ -169,11 +169,11 @@ replied_entry configs old new id at call begun step second reply copy turns is c
     }
 
 -- it waits
-pub waiting_adds : (old new : Sitting) (id at : ℕ) (call : Call) (begun : Begun) → begun_entry begun ≡ blank old.number id at call → new.calls ≡ old.calls ++ begun_entry begun ∷ [] → AddsWaiting old new id at call
+pub waiting_adds : (old new : Sitting) (id at : ℕ) (call : Call) (begun : CallHeader) → begun_entry begun ≡ blank old.number id at call → new.calls ≡ old.calls ++ begun_entry begun ∷ [] → AddsWaiting old new id at call
 waiting_adds old new id at call begun begins added = record { answers = []; told = []; added = added ∙ ap (λ (x : Entry). old.calls ++ x ∷ []) begins }
 
 -- what it has come to by its first step, at a reply and else
-module _ (configs : List CacheConfig) (stated : List Stated) (old new : Sitting) (id at : ℕ) (call : Call) (begun : Begun) (step : Step) (second : Option Reply) (copied : second ≡ reply_in step) (goes : CallGoesOn configs (blank old.number id at call) step (entry_ended_by second (blank old.number id at call)) new.pass)
+module _ (configs : List CacheConfig) (stated : List Stated) (old new : Sitting) (id at : ℕ) (call : Call) (begun : CallHeader) (step : Step) (second : Option Reply) (copied : second ≡ reply_in step) (goes : CallGoesOn configs (blank old.number id at call) step (entry_ended_by second (blank old.number id at call)) new.pass)
     (begins : begun_entry begun ≡ blank old.number id at call) where
   pub begun_ok : (r : Result Reply CallFault) → AddsBegun begun step old.calls new.calls r → IfOk r (λ reply. Adds configs stated old new id at call (ends.Replied reply))
   begun_ok (Ok reply) h = entry_adds configs stated old new id at call (ends.Replied reply) (replied_entry configs old new id at call begun step second reply reply h.0 (copied ∙ ap reply_in h.0) copied goes begins h.1)

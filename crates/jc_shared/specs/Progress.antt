@@ -12,9 +12,9 @@ use Rattle.jc_model.specs.declared.event.Event.TheVariants as event
 use Rattle.jc_model.specs.declared.event.Step.{Step}
 use Rattle.jc_model.specs.declared.event.Step.TheVariants.{Done, Need}
 use Rattle.jc_model.specs.Asking.{AsksOf}
-use Rattle.jc_recorded.specs.Changed.{begun_entry, replied_at_once}
-use Rattle.jc_recorded.specs.Recording.{blank}
-use Rattle.jc_recorded.specs.declared.journal.change.Begun.{Begun}
+use Rattle.jc_engine.specs.Changed.{begun_entry, replied_at_once}
+use Rattle.jc_engine.specs.Recording.{blank}
+use Rattle.jc_engine.specs.declared.journal.change.CallHeader.{CallHeader}
 use Rattle.jc_locked.specs.Calls.{IsBeginFault, call_entry}
 use Rattle.jc_locked.specs.Living.{IsMissing}
 use Rattle.jc_locked.specs.declared.fault.CallFault.{CallFault}
@@ -37,7 +37,7 @@ ShowsAs old e (Need request) new (progress.Waits p) = (p ≡ record { draft = e;
 ShowsAs old e _ new _ = ⊥
 
 -- a call that has begun is added to a list: with its reply, where it has it at once, or as one that waits
-abbrev pub AddsBegun : Begun → Step → List Entry → List Entry → Result Reply CallFault → Type 0
+abbrev pub AddsBegun : CallHeader → Step → List Entry → List Entry → Result Reply CallFault → Type 0
 AddsBegun begun step old new (Ok reply) = (step ≡ Done reply) × (new ≡ old ++ replied_at_once begun reply ∷ [])
 AddsBegun begun step old new (Err fault) = (fault ≡ faults.Overtaken) × (new ≡ old ++ begun_entry begun ∷ [])
 

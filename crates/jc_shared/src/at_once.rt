@@ -4,34 +4,34 @@ ghost use Rattle.std.specs.Prelude.{◌≡◌, None, IfSome, IfOk, IfErr};
 ghost use mathlib.Core.List.{IsPrefix};
 ghost use Rattle.jc_model.specs.declared.call.Reply.TheVariants.{Found};
 ghost use Rattle.jc_model.specs.declared.event.End.TheVariants.{Replied};
-ghost use Rattle.jc_recorded.specs.Recording.{blank};
-ghost use Rattle.jc_recorded.specs.Results.{reply_in};
+ghost use Rattle.jc_engine.specs.Recording.{blank};
+ghost use Rattle.jc_engine.specs.RecordedSteps.{reply_in};
 ghost use Rattle.jc_locked.specs.Calls.{Adds, CallFails, LacksProcessor, TellsLack};
 ghost use Rattle.jc_locked.specs.Pending.{AddsEntry};
 ghost use Rattle.jc_locked.specs.Stated.{AreCounted};
 ghost use Rattle.jc_shared.specs.Progress.{AddsBegun};
 
 use crate::session::Session;
-use jc_hooks::{Hearer, Loader, Processor, Writer};
+use jc_engine::journal::change::CallHeader;
+use jc_engine::recorded::found_in;
+use jc_hooks::{FilteredListener, Loader, Processor, Writer};
 use jc_locked::fault::CallFault;
 use jc_locked::hooks::SharedHooks;
-use jc_locked::keeping::{Keeping, OwnCalls};
+use jc_locked::journal_policy::{JournalPolicy, SessionJournal};
 use jc_locked::name::Name;
 use jc_model::call::{Call, Reply};
 use jc_model::event::{CacheId, Step};
 use jc_model::value::Value;
-use jc_recorded::journal::change::Begun;
-use jc_recorded::recorded::found_in;
 use std::alloc::Global;
 use std::sync::Wait;
 
 /// Adds a call that has begun, and of which this is kept, to a session's own: with its reply, where its first step is
 /// that, else as one that waits. Beside the step stands a copy of the reply. It is inlined, so that neither is moved.
 #[inline(always)]
-pub(crate) fn add_begun<O: OwnCalls>(
+pub(crate) fn add_begun<O: SessionJournal>(
     own: &mut O,
     alloc: Global,
-    call: (Begun, O::Kept),
+    call: (CallHeader, O::Kept),
     first: (Step, Option<Reply>),
 ) -> Result<Reply, CallFault>
     requires room { O.HasRoom own.old }
@@ -57,15 +57,15 @@ pub(crate) fn add_begun<O: OwnCalls>(
     }
 }
 
-impl<'a, N: Name, L: Loader, W: Writer, P: Processor, K: Hearer, J: Keeping> Session<
+impl<
     'a,
-    N,
-    L,
-    W,
-    P,
-    K,
-    J,
-> {
+    N: Name,
+    L: Loader,
+    W: Writer,
+    P: Processor,
+    K: FilteredListener,
+    J: JournalPolicy,
+> Session<'a, N, L, W, P, K, J> {
     /// Makes a get that has its reply at once, where no entry of it is kept in memory: the value that was found. Of any
     /// other call nothing, and the session is as it was.
     pub(crate) fn get_at_once<R: Wait>(
@@ -89,7 +89,7 @@ impl<'a, N: Name, L: Loader, W: Writer, P: Processor, K: Hearer, J: Keeping> Ses
             return None;
         }
         let manager = self.manager;
-        let begun = Begun::of(self.origin(id, now), call);
+        let begun = CallHeader::of(self.origin(id, now), call);
         let found = manager
             .locked
             .lock(rt)
@@ -150,7 +150,7 @@ impl<'a, N: Name, L: Loader, W: Writer, P: Processor, K: Hearer, J: Keeping> Ses
             drop(call);
             return Err(CallFault::OutOfMemory);
         };
-        let begun = Begun::of(self.origin(id, now), &call);
+        let begun = CallHeader::of(self.origin(id, now), &call);
         let came = manager
             .locked
             .lock(rt)

@@ -4,7 +4,7 @@ ghost use mathlib.Core.List.{IsPrefix};
 ghost use Rattle.jc_model.specs.declared.call.Notice.{Notice as Told};
 ghost use Rattle.jc_model.specs.declared.call.Request.{Request as Requested};
 ghost use Rattle.jc_model.specs.declared.event.End.TheVariants.{Waiting};
-ghost use Rattle.jc_recorded.specs.Recording.{blank};
+ghost use Rattle.jc_engine.specs.Recording.{blank};
 ghost use Rattle.jc_locked.specs.Pending.{AddsEntry, IsRefusedBegin, IsRefusedAnswer, answered_entry, given_up_entry, unless_telling};
 ghost use Rattle.jc_shared.specs.Progress.{IsBroughtTo, ShowsAs};
 ghost use Rattle.jc_locked.specs.Finding.{IsReplied};
@@ -13,16 +13,16 @@ ghost use Rattle.jc_locked.specs.Serving.{TellsOnce, told_behind};
 use crate::carry::{note_answer, take_back, tells_again};
 use crate::pending::{PendingCall, Progress};
 use crate::session::{Session, copy_for};
-use jc_hooks::{Hearer, Loader, Processor, Writer};
+use jc_engine::journal::blank;
+use jc_engine::journal::open_calls::OpenCalls;
+use jc_hooks::{FilteredListener, Loader, Processor, Writer};
 use jc_locked::fault::{AnswerFault, CallFault};
-use jc_locked::locked::Locked;
+use jc_locked::guarded_state::GuardedState;
 use jc_locked::name::Name;
 use jc_model::OutOfMemory;
 use jc_model::call::{Answer, Call, Notice, Reply, Request};
 use jc_model::event::{CacheId, Entry, Step};
 use jc_model::list::Sequence;
-use jc_recorded::journal::blank;
-use jc_recorded::journal::open_calls::OpenCalls;
 use std::alloc::Global;
 use std::mem;
 use std::sync::{MutexGuard, Wait};
@@ -75,7 +75,7 @@ fn call_of(draft: Entry) -> Call
     draft.call
 }
 
-impl<'a, N: Name, L: Loader, W: Writer, P: Processor, K: Hearer> Session<
+impl<'a, N: Name, L: Loader, W: Writer, P: Processor, K: FilteredListener> Session<
     'a,
     N,
     L,
@@ -134,7 +134,7 @@ impl<'a, N: Name, L: Loader, W: Writer, P: Processor, K: Hearer> Session<
     /// Begins the draft's call in this tenure.
     pub(crate) fn begin_in(
         &mut self,
-        mut locked: MutexGuard<'_, Locked<N, OpenCalls>>,
+        mut locked: MutexGuard<'_, GuardedState<N, OpenCalls>>,
         mut draft: Entry,
         call: Call,
     ) -> Result<Progress<PendingCall<N>>, (CallFault, Call)>

@@ -12,10 +12,10 @@ ghost use Rattle.jc_locked.specs.Serving.{ServesRequest, TellsListenersOn, Tells
 ghost use Rattle.jc_locked.specs.Stated.{AreOf, IsStatedBy, AreStated};
 
 use crate::manager::Manager;
-use jc_hooks::{Hearer, Loader, Processor, Writer, answer_request, tell_all};
+use jc_hooks::{FilteredListener, Loader, Processor, Writer, answer_request, tell_all};
 use jc_locked::fault::{AnswerFault, CallFault};
 use jc_locked::hooks::{LockedHooks, SharedHooks};
-use jc_locked::keeping::Keeping;
+use jc_locked::journal_policy::JournalPolicy;
 use jc_locked::name::Name;
 use jc_locked::tables::TablePass;
 use jc_model::OutOfMemory;
@@ -63,7 +63,14 @@ fn keep_told(draft: &mut Entry, request: Request)
     }
 }
 
-impl<N: Name, L: Loader, W: Writer, P: Processor, K: Hearer, J: Keeping> Manager<N, L, W, P, K, J> {
+impl<N: Name, L: Loader, W: Writer, P: Processor, K: FilteredListener, J: JournalPolicy> Manager<
+    N,
+    L,
+    W,
+    P,
+    K,
+    J,
+> {
     /// The answer of a cache's callbacks to a request. One that is not there fails.
     fn answer(
         &self,

@@ -6,25 +6,25 @@ ghost use Rattle.jc_locked.specs.Calls.{Adds, CallFails, LacksProcessor, TellsLa
 
 use crate::at_once::add_begun;
 use crate::session::Session;
-use jc_hooks::{Hearer, Loader, Processor, Writer};
+use jc_engine::journal::change::CallHeader;
+use jc_hooks::{FilteredListener, Loader, Processor, Writer};
 use jc_locked::fault::CallFault;
 use jc_locked::hooks::OwnHooks;
-use jc_locked::keeping::{Keeping, OwnCalls};
+use jc_locked::journal_policy::{JournalPolicy, SessionJournal};
 use jc_locked::name::Name;
 use jc_model::call::{Call, Reply};
 use jc_model::event::CacheId;
-use jc_recorded::journal::change::Begun;
 use std::sync::Wait;
 
-impl<'a, N: Name, L: Loader, W: Writer, P: Processor, K: Hearer, J: Keeping> Session<
+impl<
     'a,
-    N,
-    L,
-    W,
-    P,
-    K,
-    J,
-> {
+    N: Name,
+    L: Loader,
+    W: Writer,
+    P: Processor,
+    K: FilteredListener,
+    J: JournalPolicy,
+> Session<'a, N, L, W, P, K, J> {
     /// Makes a call on a cache that a session has created, as `call`. One without callbacks has its reply in one tenure of
     /// the manager's lock, and no other lock is taken.
     #[inline(never)]
@@ -55,7 +55,7 @@ impl<'a, N: Name, L: Loader, W: Writer, P: Processor, K: Hearer, J: Keeping> Ses
             drop(call);
             return Err(CallFault::OutOfMemory);
         };
-        let begun = Begun::of(self.origin(id, now), &call);
+        let begun = CallHeader::of(self.origin(id, now), &call);
         let came = locked.begin_call(self.number, id, now, call, &mut self.pass);
         drop(locked);
         match came {

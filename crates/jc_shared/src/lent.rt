@@ -2,22 +2,22 @@
 ghost use Rattle.std.specs.Prelude.{◌≡◌, None, IfOk, IfErr, slice_get};
 ghost use mathlib.Core.List.{IsPrefix};
 ghost use Rattle.jc_model.specs.declared.event.End.TheVariants.{Replied};
-ghost use Rattle.jc_recorded.specs.Recording.{blank};
+ghost use Rattle.jc_engine.specs.Recording.{blank};
 ghost use Rattle.jc_shared.specs.Progress.{AddsCall, EndsBy, FailsBy};
 
 use crate::pending::{PendingCall, Progress};
 use crate::session::Session;
-use jc_hooks::{Hearer, Loader, Processor, Responder, Writer};
+use jc_engine::journal::open_calls::OpenCalls;
+use jc_hooks::{FilteredListener, Loader, Processor, Responder, Writer};
 use jc_locked::fault::CallFault;
-use jc_locked::locked::Locked;
+use jc_locked::guarded_state::GuardedState;
 use jc_locked::name::Name;
 use jc_model::call::{Call, Notice, Reply, Request};
 use jc_model::event::{CacheId, Entry};
 use jc_model::list::Sequence;
-use jc_recorded::journal::open_calls::OpenCalls;
 use std::sync::{MutexGuard, Wait};
 
-impl<'a, N: Name, L: Loader, W: Writer, P: Processor, K: Hearer> Session<
+impl<'a, N: Name, L: Loader, W: Writer, P: Processor, K: FilteredListener> Session<
     'a,
     N,
     L,
@@ -120,7 +120,7 @@ impl<'a, N: Name, L: Loader, W: Writer, P: Processor, K: Hearer> Session<
     fn make_by<R: Wait, A: Responder>(
         &mut self,
         rt: &R,
-        locked: MutexGuard<'_, Locked<N, OpenCalls>>,
+        locked: MutexGuard<'_, GuardedState<N, OpenCalls>>,
         draft: Entry,
         call: Call,
         responder: &mut A,

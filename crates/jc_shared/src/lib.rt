@@ -14,16 +14,16 @@ mod session;
 mod shared;
 mod unfound;
 
+pub use jc_engine::journal::all_calls::AllCalls;
+pub use jc_engine::journal::open_calls::OpenCalls;
 pub use jc_locked::auditing::{Logged, SessionLog, audit};
 pub use jc_locked::fault::{
     AnswerFault, CallFault, CloseFault, CreateFault, DestroyFault, SessionRefusal, SharedRefusal,
 };
 pub use jc_locked::hooks::SharedHooks;
-pub use jc_locked::keeping::{Keeping, OwnCalls, OwnList, OwnPast};
+pub use jc_locked::journal_policy::{JournalPolicy, OwnList, OwnPast, SessionJournal};
 pub use jc_locked::name::Name;
 pub use jc_locked::tables::{Table, table};
-pub use jc_recorded::journal::all_calls::AllCalls;
-pub use jc_recorded::journal::open_calls::OpenCalls;
 pub use manager::Manager;
 pub use pending::{PendingCall, Progress};
 pub use session::Session;

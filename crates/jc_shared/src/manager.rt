@@ -14,18 +14,18 @@ use crate::brief_lock::BriefLock;
 use crate::directory::{Directory, HooksLock};
 use crate::session::Session;
 use crate::unfound::Unfound;
-use jc_hooks::{Hearer, Loader, Processor, Writer};
+use jc_engine::journal::all_calls::AllCalls;
+use jc_engine::journal::open_calls::OpenCalls;
+use jc_hooks::{FilteredListener, Loader, Processor, Writer};
 use jc_locked::auditing::SessionLog;
 use jc_locked::fault::{CallFault, CloseFault, SessionRefusal};
+use jc_locked::guarded_state::GuardedState;
 use jc_locked::hooks::{LockedHooks, OpeningLock, SharedHooks};
-use jc_locked::keeping::{Keeping, OwnCalls};
-use jc_locked::locked::Locked;
+use jc_locked::journal_policy::{JournalPolicy, SessionJournal};
 use jc_locked::name::Name;
+use jc_model::Transcript;
 use jc_model::event::CacheId;
 use jc_model::key::Key;
-use jc_recorded::journal::all_calls::AllCalls;
-use jc_recorded::journal::open_calls::OpenCalls;
-use jc_transcript::Transcript;
 use std::alloc::Global;
 use std::sync::{Mutex, Wait};
 
@@ -36,19 +36,33 @@ use std::sync::{Mutex, Wait};
 /// callbacks stand under a lock for each cache that has any, which a call on the cache holds from its begin to its end.
 /// The way from a created cache to that lock stands under a lock of its own.
 #[derive(Drop)]
-pub struct Manager<N: Name, L: Loader, W: Writer, P: Processor, K: Hearer, J: Keeping = AllCalls> {
+pub struct Manager<
+    N: Name,
+    L: Loader,
+    W: Writer,
+    P: Processor,
+    K: FilteredListener,
+    J: JournalPolicy = AllCalls,
+> {
     pub(crate) alloc: Global,
     pub(crate) shared: Vec<SharedHooks<L, P>>,
     /// Of the caches of the opening.
     pub(crate) locks: Vec<OpeningLock<W, K>>,
     /// Of those that sessions have created.
     pub(crate) directory: Mutex<Directory<L, W, P, K>>,
-    pub(crate) locked: BriefLock<Locked<N, J>>,
+    pub(crate) locked: BriefLock<GuardedState<N, J>>,
     ghost stated_are: { map (stated_by L.load_of P.verdict_of) shared.items ≡ N.stated },
     ghost counted: { processor_counts shared.items ≡ wanted_counts N.configs },
 }
 
-impl<N: Name, L: Loader, W: Writer, P: Processor, K: Hearer, J: Keeping> Manager<N, L, W, P, K, J> {
+impl<N: Name, L: Loader, W: Writer, P: Processor, K: FilteredListener, J: JournalPolicy> Manager<
+    N,
+    L,
+    W,
+    P,
+    K,
+    J,
+> {
     /// The id of the live cache with this name.
     pub fn cache<R: Wait>(&self, rt: &R, name: &Key) -> Option<CacheId>
         ensures { IsIdOfName N.configs name.now result }
@@ -136,7 +150,7 @@ impl<N: Name, L: Loader, W: Writer, P: Processor, K: Hearer, J: Keeping> Manager
     }
 }
 
-impl<N: Name, L: Loader, W: Writer, P: Processor, K: Hearer> Manager<N, L, W, P, K> {
+impl<N: Name, L: Loader, W: Writer, P: Processor, K: FilteredListener> Manager<N, L, W, P, K> {
     /// Ends the manager, and hands the transcript out, in which every session's entries are its own calls, in their
     /// order, each once, and no others. The sessions are this manager's.
     ///
@@ -202,7 +216,14 @@ impl<N: Name, L: Loader, W: Writer, P: Processor, K: Hearer> Manager<N, L, W, P,
     }
 }
 
-impl<N: Name, L: Loader, W: Writer, P: Processor, K: Hearer> Manager<N, L, W, P, K, OpenCalls> {
+impl<N: Name, L: Loader, W: Writer, P: Processor, K: FilteredListener> Manager<
+    N,
+    L,
+    W,
+    P,
+    K,
+    OpenCalls,
+> {
     /// The first cache whose call is open, if any is. No session borrows the manager now, so no lock is taken.
     pub fn open_call(&mut self) -> Option<CacheId>
         ensures none { result ≡ None → HasNoOpenCall N.configs }

@@ -3,7 +3,7 @@ ghost use Rattle.std.specs.Prelude.{◌≡◌, ◌<◌, ◌⊎◌, suc, Bool, tr
 ghost use mathlib.Core.List.{IsPrefix};
 ghost use Rattle.jc_model.specs.declared.event.End.TheVariants.{Replied};
 ghost use Rattle.jc_hooks.specs.Suits.{Suits};
-ghost use Rattle.jc_stripes.specs.Stripes.{AreReadAtRest};
+ghost use Rattle.jc_index.specs.Stripes.{AreReadAtRest};
 ghost use Rattle.jc_index.specs.declared.lookup.Lookup.TheVariants.{Sure, Unsure};
 ghost use Rattle.jc_locked.specs.Accounts.{own_log};
 ghost use Rattle.jc_locked.specs.Calls.{Adds, CallFails, LacksProcessor, TellsLack};
@@ -13,12 +13,15 @@ ghost use Rattle.jc_locked.specs.Sessions.{SeesSome, log_of};
 ghost use Rattle.jc_locked.specs.Stated.{AreOf, AreCounted};
 
 use crate::manager::Manager;
-use jc_hooks::{CacheHooks, Hearer, Loader, Processor, Writer, suits};
+use jc_engine::journal::all_calls::AllCalls;
+use jc_engine::journal::blank;
+use jc_engine::journal::change::Origin;
+use jc_hooks::{CacheHooks, FilteredListener, Loader, Processor, Writer, suits};
 use jc_index::lookup::Lookup;
 use jc_locked::auditing::{Logged, SessionLog};
 use jc_locked::fault::{CallFault, CreateFault, DestroyFault};
 use jc_locked::hooks::{LockedHooks, OwnHooks, SharedHooks};
-use jc_locked::keeping::{Keeping, OwnCalls};
+use jc_locked::journal_policy::{JournalPolicy, SessionJournal};
 use jc_locked::name::Name;
 use jc_locked::tables::TablePass;
 use jc_model::OutOfMemory;
@@ -27,9 +30,6 @@ use jc_model::config::CacheConfig;
 use jc_model::event::{CacheId, Entry, Step};
 use jc_model::key::Key;
 use jc_model::share::Share;
-use jc_recorded::journal::all_calls::AllCalls;
-use jc_recorded::journal::blank;
-use jc_recorded::journal::change::Origin;
 use std::marker::Model;
 use std::mem;
 use std::sync::Wait;
@@ -43,8 +43,8 @@ pub struct Session<
     L: Loader,
     W: Writer,
     P: Processor,
-    K: Hearer,
-    J: Keeping = AllCalls,
+    K: FilteredListener,
+    J: JournalPolicy = AllCalls,
 > {
     pub(crate) manager: &'a Manager<N, L, W, P, K, J>,
     pub(crate) number: u32,
@@ -52,7 +52,7 @@ pub struct Session<
     pub(crate) pass: TablePass<N>,
 }
 
-impl<'a, N: Name, L: Loader, W: Writer, P: Processor, K: Hearer, J: Keeping> Model
+impl<'a, N: Name, L: Loader, W: Writer, P: Processor, K: FilteredListener, J: JournalPolicy> Model
     for Session<'a, N, L, W, P, K, J> {
     ghost use Rattle.jc_locked.specs.Sessions.{Sitting};
 
@@ -61,7 +61,7 @@ impl<'a, N: Name, L: Loader, W: Writer, P: Processor, K: Hearer, J: Keeping> Mod
     ghost view = { λ s. record { number = s.number; calls = J.Own.calls s.own; pass = s.pass } };
 }
 
-impl<'a, N: Name, L: Loader, W: Writer, P: Processor, K: Hearer> Logged
+impl<'a, N: Name, L: Loader, W: Writer, P: Processor, K: FilteredListener> Logged
     for Session<'a, N, L, W, P, K> {
     ghost use Rattle.jc_locked.specs.Sessions.{log_of};
 
@@ -76,7 +76,14 @@ impl<'a, N: Name, L: Loader, W: Writer, P: Processor, K: Hearer> Logged
     }
 }
 
-impl<'a, N: Name, L: Loader, W: Writer, P: Processor, K: Hearer> Session<'a, N, L, W, P, K> {
+impl<'a, N: Name, L: Loader, W: Writer, P: Processor, K: FilteredListener> Session<
+    'a,
+    N,
+    L,
+    W,
+    P,
+    K,
+> {
     /// What it has kept of its calls. The session ends, and borrows its manager no longer.
     pub fn into_log(self) -> SessionLog
         ensures { own_log result ≡ log_of self.entry }
@@ -90,7 +97,7 @@ impl<'a, N: Name, L: Loader, W: Writer, P: Processor, K: Hearer> Session<'a, N, 
 }
 
 /// Room for an entry more among a session's own, and a copy of its call.
-pub(crate) fn copy_for<O: OwnCalls>(own: &mut O, call: &Call) -> Result<Call, OutOfMemory>
+pub(crate) fn copy_for<O: SessionJournal>(own: &mut O, call: &Call) -> Result<Call, OutOfMemory>
     ensures copy { IfOk result (λ copy. copy ≡ call.now) }
     ensures room { OnOk result (O.HasRoom own.new) }
     ensures same { O.calls own.new ≡ O.calls own.old }
@@ -99,15 +106,15 @@ pub(crate) fn copy_for<O: OwnCalls>(own: &mut O, call: &Call) -> Result<Call, Ou
     call.share()
 }
 
-impl<'a, N: Name, L: Loader, W: Writer, P: Processor, K: Hearer, J: Keeping> Session<
+impl<
     'a,
-    N,
-    L,
-    W,
-    P,
-    K,
-    J,
-> {
+    N: Name,
+    L: Loader,
+    W: Writer,
+    P: Processor,
+    K: FilteredListener,
+    J: JournalPolicy,
+> Session<'a, N, L, W, P, K, J> {
     pub(crate) fn new(
         manager: &'a Manager<N, L, W, P, K, J>,
         number: u32,

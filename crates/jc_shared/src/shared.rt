@@ -11,19 +11,19 @@ ghost use Rattle.jc_locked.specs.Stated.{stated_by, shared_of};
 use crate::brief_lock::BriefLock;
 use crate::directory::Directory;
 use crate::manager::Manager;
+use jc_engine::journal::all_calls::AllCalls;
 use jc_engine::open::open_refusal;
-use jc_hooks::{CacheHooks, Hearer, Loader, Processor, Writer, first_unsuited};
+use jc_engine::recorded::Recorded;
+use jc_hooks::{CacheHooks, FilteredListener, Loader, Processor, Writer, first_unsuited};
 use jc_locked::fault::SharedRefusal;
+use jc_locked::guarded_state::GuardedState;
 use jc_locked::hooks::{AllHooks, apart};
-use jc_locked::keeping::Keeping;
-use jc_locked::locked::Locked;
+use jc_locked::journal_policy::JournalPolicy;
 use jc_locked::name::Name;
 use jc_locked::tables::BlankTable;
 use jc_model::OutOfMemory;
 use jc_model::config::CacheConfig;
 use jc_model::share::Share;
-use jc_recorded::journal::all_calls::AllCalls;
-use jc_recorded::recorded::Recorded;
 use jc_ring::link_ring::LinkRing;
 use jc_rows::list_rows::ListRows;
 use std::alloc::{AllocError, Global};
@@ -33,7 +33,7 @@ use std::sync::Mutex;
 /// What will be a manager once it has a name. Contracts see the configurations, of each cache its loader and processors,
 /// the index and the seed.
 #[derive(Drop)]
-pub struct Shared<L, W, P, K, J: Keeping = AllCalls> {
+pub struct Shared<L, W, P, K, J: JournalPolicy = AllCalls> {
     alloc: Global,
     configs: Vec<CacheConfig>,
     hooks: AllHooks<L, W, P, K>,
@@ -42,7 +42,7 @@ pub struct Shared<L, W, P, K, J: Keeping = AllCalls> {
     table: BlankTable,
 }
 
-impl<L, W, P, K, J: Keeping> Model for Shared<L, W, P, K, J> {
+impl<L, W, P, K, J: JournalPolicy> Model for Shared<L, W, P, K, J> {
     ghost use Rattle.jc_locked.specs.Opening.{HandedIn, IsOpened};
 
     ghost Value = { HandedIn L P };
@@ -68,7 +68,7 @@ fn copies(alloc: Global, configs: &[CacheConfig]) -> Result<Vec<CacheConfig>, Ou
 }
 
 /// The recorded engine over an empty list of rows.
-fn open_recorded<J: Keeping>(
+fn open_recorded<J: JournalPolicy>(
     alloc: Global,
     configs: Vec<CacheConfig>,
 ) -> Result<Recorded<ListRows, LinkRing, J>, OutOfMemory>
@@ -83,7 +83,7 @@ fn open_recorded<J: Keeping>(
 }
 
 /// All that a manager has, where memory suffices.
-fn open_parts<L: Loader, W: Writer, P: Processor, K: Hearer, J: Keeping>(
+fn open_parts<L: Loader, W: Writer, P: Processor, K: FilteredListener, J: JournalPolicy>(
     alloc: Global,
     configs: Vec<CacheConfig>,
     hooks: Vec<CacheHooks<L, W, P, K>>,
@@ -108,7 +108,13 @@ fn open_parts<L: Loader, W: Writer, P: Processor, K: Hearer, J: Keeping>(
     })
 }
 
-impl<L: Loader, W: Writer, P: Processor, K: Hearer, J: Keeping> Shared<L, W, P, K, J> {
+impl<L: Loader, W: Writer, P: Processor, K: FilteredListener, J: JournalPolicy> Shared<
+    L,
+    W,
+    P,
+    K,
+    J,
+> {
     /// Opens a manager with these caches and their callbacks, over an empty table. The seed picks the places there.
     ///
     /// Refused as `Caches`, with the engine's refusal; as `HooksDiffer`; as `OutOfMemory`.
@@ -158,7 +164,7 @@ impl<L: Loader, W: Writer, P: Processor, K: Hearer, J: Keeping> Shared<L, W, P, 
             shared,
             locks,
             directory: Mutex::new(Directory::new(alloc)),
-            locked: BriefLock::new(Locked::new(recorded.over(table.named::<N>()))),
+            locked: BriefLock::new(GuardedState::new(recorded.over(table.named::<N>()))),
         }
     }
 }

@@ -5,7 +5,7 @@ ghost use Rattle.jc_threads.specs.Dealing.{idle_share, session_in, sessions_in, 
 use crate::batches::Batches;
 use crate::fault::WorkFault;
 use crate::worker::Worker;
-use jc_hooks::{Hearer, Loader, Processor, Writer};
+use jc_hooks::{FilteredListener, Loader, Processor, Writer};
 use jc_model::OutOfMemory;
 use jc_script::{Line, LineCall};
 use jc_shared::{Manager, Name, Session};
@@ -33,7 +33,7 @@ fn sessions_of(lines: &[Line]) -> usize
 }
 
 /// Workers that have nothing.
-fn idle_workers<'a, N: Name, L: Loader, W: Writer, P: Processor, K: Hearer>(
+fn idle_workers<'a, N: Name, L: Loader, W: Writer, P: Processor, K: FilteredListener>(
     alloc: Global,
     workers: usize,
 ) -> Result<Vec<Worker<'a, N, L, W, P, K>>, OutOfMemory>
@@ -50,7 +50,7 @@ fn idle_workers<'a, N: Name, L: Loader, W: Writer, P: Processor, K: Hearer>(
 }
 
 /// Gives a session that has made no call to its worker, if it has this number.
-fn seat_session<'a, N: Name, L: Loader, W: Writer, P: Processor, K: Hearer>(
+fn seat_session<'a, N: Name, L: Loader, W: Writer, P: Processor, K: FilteredListener>(
     crew: &mut [Worker<'a, N, L, W, P, K>],
     session: Session<'a, N, L, W, P, K>,
     number: usize,
@@ -74,7 +74,7 @@ fn seat_session<'a, N: Name, L: Loader, W: Writer, P: Processor, K: Hearer>(
 }
 
 /// Opens so many sessions, the numbers from 0 upward, and gives each to its worker.
-fn seat_all<'a, N: Name, L: Loader, W: Writer, P: Processor, K: Hearer, R: Wait>(
+fn seat_all<'a, N: Name, L: Loader, W: Writer, P: Processor, K: FilteredListener, R: Wait>(
     rt: &R,
     manager: &'a Manager<N, L, W, P, K>,
     crew: &mut [Worker<'a, N, L, W, P, K>],
@@ -93,7 +93,7 @@ fn seat_all<'a, N: Name, L: Loader, W: Writer, P: Processor, K: Hearer, R: Wait>
 }
 
 /// Gives a call to the worker that has its session.
-pub(crate) fn hand_call<'a, N: Name, L: Loader, W: Writer, P: Processor, K: Hearer>(
+pub(crate) fn hand_call<'a, N: Name, L: Loader, W: Writer, P: Processor, K: FilteredListener>(
     crew: &mut [Worker<'a, N, L, W, P, K>],
     line: LineCall,
 ) -> Result<(), OutOfMemory>
@@ -106,7 +106,15 @@ pub(crate) fn hand_call<'a, N: Name, L: Loader, W: Writer, P: Processor, K: Hear
 }
 
 /// Opens the sessions that the lines need, and gives each to its worker.
-pub(crate) fn deal_sessions<'a, N: Name, L: Loader, W: Writer, P: Processor, K: Hearer, R: Wait>(
+pub(crate) fn deal_sessions<
+    'a,
+    N: Name,
+    L: Loader,
+    W: Writer,
+    P: Processor,
+    K: FilteredListener,
+    R: Wait,
+>(
     rt: &R,
     alloc: Global,
     manager: &'a Manager<N, L, W, P, K>,

@@ -7,7 +7,7 @@ ghost use Rattle.jc_threads.specs.Managing.{IsCreating, IsDestroying};
 
 use crate::fault::{WorkFault, of_create};
 use crate::worker::Worker;
-use jc_hooks::{CacheHooks, Hearer, Loader, Processor, Writer};
+use jc_hooks::{CacheHooks, FilteredListener, Loader, Processor, Writer};
 use jc_model::config::CacheConfig;
 use jc_model::event::{CacheId, CreateRefusal};
 use jc_shared::{Name, Session};
@@ -15,7 +15,7 @@ use std::alloc::Global;
 use std::sync::Wait;
 
 /// Creates a cache without callbacks by a session, and says why not, if it is refused.
-fn create_by<'a, N: Name, L: Loader, W: Writer, P: Processor, K: Hearer, R: Wait>(
+fn create_by<'a, N: Name, L: Loader, W: Writer, P: Processor, K: FilteredListener, R: Wait>(
     rt: &R,
     alloc: Global,
     session: &Session<'a, N, L, W, P, K>,
@@ -40,7 +40,7 @@ fn create_by<'a, N: Name, L: Loader, W: Writer, P: Processor, K: Hearer, R: Wait
 }
 
 /// The session of this number, where it stands at its place in the crew.
-fn own_session<'s, 'a, N: Name, L: Loader, W: Writer, P: Processor, K: Hearer>(
+fn own_session<'s, 'a, N: Name, L: Loader, W: Writer, P: Processor, K: FilteredListener>(
     crew: &'s [Worker<'a, N, L, W, P, K>],
     session: u32,
 ) -> Result<&'s Session<'a, N, L, W, P, K>, WorkFault>
@@ -62,7 +62,7 @@ fn own_session<'s, 'a, N: Name, L: Loader, W: Writer, P: Processor, K: Hearer>(
 }
 
 /// Creates a cache by the session of this number, once the round has ended.
-pub(crate) fn create<'a, N: Name, L: Loader, W: Writer, P: Processor, K: Hearer, R: Wait>(
+pub(crate) fn create<'a, N: Name, L: Loader, W: Writer, P: Processor, K: FilteredListener, R: Wait>(
     rt: &R,
     alloc: Global,
     crew: &[Worker<'a, N, L, W, P, K>],
@@ -79,7 +79,15 @@ pub(crate) fn create<'a, N: Name, L: Loader, W: Writer, P: Processor, K: Hearer,
 }
 
 /// Destroys a cache by the session at a place, if it has this number.
-pub(crate) fn destroy_by<'a, N: Name, L: Loader, W: Writer, P: Processor, K: Hearer, R: Wait>(
+pub(crate) fn destroy_by<
+    'a,
+    N: Name,
+    L: Loader,
+    W: Writer,
+    P: Processor,
+    K: FilteredListener,
+    R: Wait,
+>(
     rt: &R,
     sessions: &mut [Session<'a, N, L, W, P, K>],
     place: usize,
@@ -102,7 +110,15 @@ pub(crate) fn destroy_by<'a, N: Name, L: Loader, W: Writer, P: Processor, K: Hea
 }
 
 /// Destroys a cache by the session of this number, once the round has ended.
-pub(crate) fn destroy<'a, N: Name, L: Loader, W: Writer, P: Processor, K: Hearer, R: Wait>(
+pub(crate) fn destroy<
+    'a,
+    N: Name,
+    L: Loader,
+    W: Writer,
+    P: Processor,
+    K: FilteredListener,
+    R: Wait,
+>(
     rt: &R,
     crew: &mut [Worker<'a, N, L, W, P, K>],
     session: u32,

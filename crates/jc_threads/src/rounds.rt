@@ -11,7 +11,7 @@ use crate::fault::WorkFault;
 use crate::gate::Gate;
 use crate::managing::{create, destroy};
 use crate::worker::{Worker, work};
-use jc_hooks::{Hearer, Loader, Processor, Writer};
+use jc_hooks::{FilteredListener, Loader, Processor, Writer};
 use jc_model::OutOfMemory;
 use jc_model::config::CacheConfig;
 use jc_model::event::{CacheId, CreateRefusal};
@@ -28,7 +28,7 @@ fn work_all<
     L: Loader,
     W: Writer,
     P: Processor,
-    K: Hearer,
+    K: FilteredListener,
     G: Gate,
     R: Threads + Wait + Sync,
 >(
@@ -52,7 +52,7 @@ fn work_all<
 }
 
 /// The workers, if each has done its work; else the fault of one that has not.
-fn gather_workers<'a, N: Name, L: Loader, W: Writer, P: Processor, K: Hearer>(
+fn gather_workers<'a, N: Name, L: Loader, W: Writer, P: Processor, K: FilteredListener>(
     alloc: Global,
     results: Vec<Result<Worker<'a, N, L, W, P, K>, WorkFault>>,
 ) -> Result<Vec<Worker<'a, N, L, W, P, K>>, WorkFault>
@@ -69,7 +69,7 @@ fn gather_workers<'a, N: Name, L: Loader, W: Writer, P: Processor, K: Hearer>(
 }
 
 /// Whether no worker holds a call.
-fn are_at_rest<'a, N: Name, L: Loader, W: Writer, P: Processor, K: Hearer>(
+fn are_at_rest<'a, N: Name, L: Loader, W: Writer, P: Processor, K: FilteredListener>(
     crew: &[Worker<'a, N, L, W, P, K>],
 ) -> bool
     ensures { IsTrue result ↔ AreAtRest crew.now }
@@ -89,7 +89,7 @@ pub(crate) fn end_round<
     L: Loader,
     W: Writer,
     P: Processor,
-    K: Hearer,
+    K: FilteredListener,
     G: Gate,
     R: Threads + Wait + Sync,
 >(
@@ -111,7 +111,7 @@ pub(crate) fn end_round<
 }
 
 /// Takes a line that makes a call.
-fn take_call<'a, N: Name, L: Loader, W: Writer, P: Processor, K: Hearer>(
+fn take_call<'a, N: Name, L: Loader, W: Writer, P: Processor, K: FilteredListener>(
     crew: Vec<Worker<'a, N, L, W, P, K>>,
     line: LineCall,
 ) -> Result<Vec<Worker<'a, N, L, W, P, K>>, OutOfMemory>
@@ -131,7 +131,7 @@ fn take_create<
     L: Loader,
     W: Writer,
     P: Processor,
-    K: Hearer,
+    K: FilteredListener,
     G: Gate,
     R: Threads + Wait + Sync,
 >(
@@ -162,7 +162,7 @@ fn take_destroy<
     L: Loader,
     W: Writer,
     P: Processor,
-    K: Hearer,
+    K: FilteredListener,
     G: Gate,
     R: Threads + Wait + Sync,
 >(
@@ -193,7 +193,7 @@ fn take_line<
     L: Loader,
     W: Writer,
     P: Processor,
-    K: Hearer,
+    K: FilteredListener,
     G: Gate,
     R: Threads + Wait + Sync,
 >(
@@ -228,7 +228,7 @@ pub(crate) fn take_all<
     L: Loader,
     W: Writer,
     P: Processor,
-    K: Hearer,
+    K: FilteredListener,
     G: Gate,
     R: Threads + Wait + Sync,
 >(

@@ -13,12 +13,11 @@ use crate::fault::WorkFault;
 use crate::gate::Gate;
 use crate::rounds::{end_round, take_all};
 use crate::worker::Worker;
-use jc_hooks::{Hearer, Loader, Processor, Writer};
-use jc_model::OutOfMemory;
+use jc_hooks::{FilteredListener, Loader, Processor, Writer};
 use jc_model::event::CreateRefusal;
+use jc_model::{OutOfMemory, Transcript};
 use jc_script::Line;
 use jc_shared::{Manager, Name, Session, SessionLog};
-use jc_transcript::Transcript;
 use std::alloc::Global;
 use std::sync::Wait;
 use std::thread::Threads;
@@ -32,7 +31,7 @@ pub struct Transcription {
 }
 
 /// All sessions of the workers.
-fn all_sessions<'a, N: Name, L: Loader, W: Writer, P: Processor, K: Hearer>(
+fn all_sessions<'a, N: Name, L: Loader, W: Writer, P: Processor, K: FilteredListener>(
     alloc: Global,
     crew: Vec<Worker<'a, N, L, W, P, K>>,
 ) -> Result<Vec<Session<'a, N, L, W, P, K>>, OutOfMemory>
@@ -47,7 +46,7 @@ fn all_sessions<'a, N: Name, L: Loader, W: Writer, P: Processor, K: Hearer>(
 }
 
 /// What all sessions of the workers have kept of their calls.
-fn all_logs<'a, N: Name, L: Loader, W: Writer, P: Processor, K: Hearer>(
+fn all_logs<'a, N: Name, L: Loader, W: Writer, P: Processor, K: FilteredListener>(
     alloc: Global,
     crew: Vec<Worker<'a, N, L, W, P, K>>,
 ) -> Result<Vec<SessionLog>, OutOfMemory>
@@ -68,7 +67,7 @@ fn made_by_sessions<
     L: Loader,
     W: Writer,
     P: Processor,
-    K: Hearer,
+    K: FilteredListener,
     G: Gate,
     R: Threads + Wait + Sync,
 >(
@@ -106,7 +105,7 @@ pub fn transcribed<
     L: Loader,
     W: Writer,
     P: Processor,
-    K: Hearer,
+    K: FilteredListener,
     G: Gate,
     R: Threads + Wait + Sync,
 >(

@@ -10,7 +10,7 @@ use crate::batches::Batches;
 use crate::fault::WorkFault;
 use crate::gate::Gate;
 use crate::managing::destroy_by;
-use jc_hooks::{Hearer, Loader, Processor, Writer};
+use jc_hooks::{FilteredListener, Loader, Processor, Writer};
 use jc_model::OutOfMemory;
 use jc_model::call::Reply;
 use jc_model::event::CacheId;
@@ -22,12 +22,12 @@ use std::sync::Wait;
 
 /// A worker's sessions, session s being at place s / workers, and the calls that it is to make.
 #[derive(Drop)]
-pub(crate) struct Worker<'a, N: Name, L: Loader, W: Writer, P: Processor, K: Hearer> {
+pub(crate) struct Worker<'a, N: Name, L: Loader, W: Writer, P: Processor, K: FilteredListener> {
     pub(crate) sessions: Vec<Session<'a, N, L, W, P, K>>,
     pub(crate) lines: Batches,
 }
 
-impl<'a, N: Name, L: Loader, W: Writer, P: Processor, K: Hearer> Model
+impl<'a, N: Name, L: Loader, W: Writer, P: Processor, K: FilteredListener> Model
     for Worker<'a, N, L, W, P, K> {
     ghost use Rattle.jc_threads.specs.Dealing.{Share};
 
@@ -36,7 +36,14 @@ impl<'a, N: Name, L: Loader, W: Writer, P: Processor, K: Hearer> Model
     ghost view = { λ w. record { sessions = w.sessions.items; lines = w.lines } };
 }
 
-impl<'a, N: Name, L: Loader, W: Writer, P: Processor, K: Hearer> Worker<'a, N, L, W, P, K> {
+impl<'a, N: Name, L: Loader, W: Writer, P: Processor, K: FilteredListener> Worker<
+    'a,
+    N,
+    L,
+    W,
+    P,
+    K,
+> {
     /// Takes a session, where this is the next place.
     pub(crate) fn seat(
         &mut self,
@@ -117,7 +124,16 @@ fn outcome(replied: Result<Reply, CallFault>) -> Result<(), WorkFault>
 }
 
 /// Makes a call by its session.
-fn make_call<'a, N: Name, L: Loader, W: Writer, P: Processor, K: Hearer, G: Gate, R: Wait>(
+fn make_call<
+    'a,
+    N: Name,
+    L: Loader,
+    W: Writer,
+    P: Processor,
+    K: FilteredListener,
+    G: Gate,
+    R: Wait,
+>(
     rt: &R,
     gate: &G,
     session: &mut Session<'a, N, L, W, P, K>,
@@ -146,7 +162,16 @@ fn make_call<'a, N: Name, L: Loader, W: Writer, P: Processor, K: Hearer, G: Gate
 }
 
 /// Makes a call by that of the worker's sessions whose call it is.
-fn make_line<'a, N: Name, L: Loader, W: Writer, P: Processor, K: Hearer, G: Gate, R: Wait>(
+fn make_line<
+    'a,
+    N: Name,
+    L: Loader,
+    W: Writer,
+    P: Processor,
+    K: FilteredListener,
+    G: Gate,
+    R: Wait,
+>(
     rt: &R,
     gate: &G,
     workers: usize,
@@ -167,7 +192,16 @@ fn make_line<'a, N: Name, L: Loader, W: Writer, P: Processor, K: Hearer, G: Gate
 }
 
 /// Makes the calls of a batch.
-fn make_batch<'a, N: Name, L: Loader, W: Writer, P: Processor, K: Hearer, G: Gate, R: Wait>(
+fn make_batch<
+    'a,
+    N: Name,
+    L: Loader,
+    W: Writer,
+    P: Processor,
+    K: FilteredListener,
+    G: Gate,
+    R: Wait,
+>(
     rt: &R,
     gate: &G,
     workers: usize,
@@ -184,7 +218,7 @@ fn make_batch<'a, N: Name, L: Loader, W: Writer, P: Processor, K: Hearer, G: Gat
 }
 
 /// Makes these calls.
-fn make_all<'a, N: Name, L: Loader, W: Writer, P: Processor, K: Hearer, G: Gate, R: Wait>(
+fn make_all<'a, N: Name, L: Loader, W: Writer, P: Processor, K: FilteredListener, G: Gate, R: Wait>(
     rt: &R,
     gate: &G,
     workers: usize,
@@ -202,7 +236,16 @@ fn make_all<'a, N: Name, L: Loader, W: Writer, P: Processor, K: Hearer, G: Gate,
 }
 
 /// Makes the calls that a worker holds.
-pub(crate) fn work<'a, N: Name, L: Loader, W: Writer, P: Processor, K: Hearer, G: Gate, R: Wait>(
+pub(crate) fn work<
+    'a,
+    N: Name,
+    L: Loader,
+    W: Writer,
+    P: Processor,
+    K: FilteredListener,
+    G: Gate,
+    R: Wait,
+>(
     rt: &R,
     alloc: Global,
     gate: &G,

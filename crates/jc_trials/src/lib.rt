@@ -1,5 +1,5 @@
-//! What trials share: callbacks that note what they are asked, places that a trial picks, mirrors and tables that find no
-//! memory when it says so, and why a trial did not go on.
+//! What tests share: callbacks that note what they are asked, places that a test picks, mirrors and tables that find no
+//! memory when it says so, and why a test did not go on.
 #![tactic(auto)]
 
 mod fakes;

@@ -1,4 +1,4 @@
-//! What callbacks were asked, in order, in words that they share with their trial.
+//! What callbacks were asked, in order, in words that they share with their test.
 
 use jc_model::OutOfMemory;
 use std::alloc::Global;

@@ -1,4 +1,4 @@
-//! Places that a trial picks.
+//! Places that a test picks.
 
 use jc_model::event::CacheId;
 use jc_model::key::Key;
@@ -10,7 +10,11 @@ use jc_place::place::{Place, Placer};
 pub struct ConstantPlacer;
 
 impl Placer for ConstantPlacer {
+    ghost use Rattle.jc_place.specs.Keyed.{keyed_by};
+
     ghost placing = { λ placer id key. record { first = 3; tag = 1 } };
+
+    ghost keying = { λ placer. keyed_by 0 0 };
 
     fn place(&self, _id: CacheId, _key: &Key) -> Place {
         Place { first: 3, tag: 1 }
@@ -29,9 +33,12 @@ pub struct TablePlacer {
 }
 
 impl Placer for TablePlacer {
+    ghost use Rattle.jc_place.specs.Keyed.{keyed_by};
     ghost use Rattle.jc_trials.specs.Places.{listed_place};
 
     ghost placing = { λ placer id key. listed_place placer.firsts placer.tags key };
+
+    ghost keying = { λ placer. keyed_by 0 0 };
 
     fn place(&self, _id: CacheId, key: &Key) -> Place {
         let at = (key.text().as_bytes()[0] % 128) as usize;

@@ -1,4 +1,4 @@
-//! Mirrors and a table that find no memory when a trial says so, or note what they are told.
+//! Mirrors and a table that find no memory when a test says so, or note what they are told.
 ghost use Rattle.std.specs.Prelude.{min};
 
 use crate::log::{Log, Text};

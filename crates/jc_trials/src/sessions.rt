@@ -1,13 +1,13 @@
 //! Sessions of a shared manager.
 
 use crate::trouble::Trouble;
-use jc_hooks::{Hearer, Loader, Processor, Writer};
+use jc_hooks::{FilteredListener, Loader, Processor, Writer};
 use jc_shared::{Manager, Name, Session};
 use std::alloc::Global;
 use std::sync::Wait;
 
 /// So many sessions of a manager.
-pub fn seated<'a, N: Name, L: Loader, W: Writer, P: Processor, K: Hearer, R: Wait>(
+pub fn seated<'a, N: Name, L: Loader, W: Writer, P: Processor, K: FilteredListener, R: Wait>(
     rt: &R,
     alloc: Global,
     manager: &'a Manager<N, L, W, P, K>,

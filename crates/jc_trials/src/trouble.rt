@@ -1,4 +1,4 @@
-//! Why a trial did not go on, and what all trials make.
+//! Why a test did not go on, and what all tests make.
 
 use jc_config::ConfigFault;
 use jc_cuckoo::cuckoo::TableRefusal;
@@ -7,28 +7,23 @@ use jc_hooks::CacheHooks;
 use jc_model::OutOfMemory;
 use jc_model::config::{CacheConfig, Policy};
 use jc_model::key::{Key, KeyFault};
-use jc_model::keys::ListFault;
 use jc_model::value::{Value, ValueFault};
 use jc_script::ScriptFault;
-use jc_shared::{CloseFault, SessionRefusal, SharedRefusal};
+use jc_shared::{SessionRefusal, SharedRefusal};
 use std::alloc::{AllocFailed, Global};
 
-/// What stopped a trial: want of memory, what the part that was called refused, or that something else came of a call
-/// that the trial builds on.
-#[derive(Debug, Drop, PartialEq, Eq)]
+/// What stopped a test: want of memory, what was refused, or that something else came of a call that the test builds on.
+#[derive(Clone, Copy, Debug, PartialEq, Eq)]
 pub enum Trouble {
     Memory,
     Unexpected,
-    Opening(OpenRefusal),
-    NoConfig(ConfigFault),
-    NoScript(ScriptFault),
-    NoKey(KeyFault),
-    NoValue(ValueFault),
-    NoList(ListFault),
-    NoTable(TableRefusal),
-    NoManager(SharedRefusal),
-    NoSession(SessionRefusal),
-    NotClosed(CloseFault),
+    NoManager,
+    NoConfig,
+    NoScript,
+    NoKey,
+    NoValue,
+    NoTable,
+    NoSession,
 }
 
 impl From<OutOfMemory> for Trouble {
@@ -44,56 +39,50 @@ impl<T: Drop> From<AllocFailed<T>> for Trouble {
 }
 
 impl From<OpenRefusal> for Trouble {
-    fn from(refusal: OpenRefusal) -> Trouble {
-        Trouble::Opening(refusal)
-    }
-}
-
-impl From<ConfigFault> for Trouble {
-    fn from(fault: ConfigFault) -> Trouble {
-        Trouble::NoConfig(fault)
-    }
-}
-
-impl From<ScriptFault> for Trouble {
-    fn from(fault: ScriptFault) -> Trouble {
-        Trouble::NoScript(fault)
-    }
-}
-
-impl From<KeyFault> for Trouble {
-    fn from(fault: KeyFault) -> Trouble {
-        Trouble::NoKey(fault)
-    }
-}
-
-impl From<ValueFault> for Trouble {
-    fn from(fault: ValueFault) -> Trouble {
-        Trouble::NoValue(fault)
-    }
-}
-
-impl From<ListFault> for Trouble {
-    fn from(fault: ListFault) -> Trouble {
-        Trouble::NoList(fault)
-    }
-}
-
-impl From<TableRefusal> for Trouble {
-    fn from(refusal: TableRefusal) -> Trouble {
-        Trouble::NoTable(refusal)
+    fn from(_: OpenRefusal) -> Trouble {
+        Trouble::NoManager
     }
 }
 
 impl From<SharedRefusal> for Trouble {
-    fn from(refusal: SharedRefusal) -> Trouble {
-        Trouble::NoManager(refusal)
+    fn from(_: SharedRefusal) -> Trouble {
+        Trouble::NoManager
+    }
+}
+
+impl From<ConfigFault> for Trouble {
+    fn from(_: ConfigFault) -> Trouble {
+        Trouble::NoConfig
+    }
+}
+
+impl From<ScriptFault> for Trouble {
+    fn from(_: ScriptFault) -> Trouble {
+        Trouble::NoScript
+    }
+}
+
+impl From<KeyFault> for Trouble {
+    fn from(_: KeyFault) -> Trouble {
+        Trouble::NoKey
+    }
+}
+
+impl From<ValueFault> for Trouble {
+    fn from(_: ValueFault) -> Trouble {
+        Trouble::NoValue
+    }
+}
+
+impl From<TableRefusal> for Trouble {
+    fn from(_: TableRefusal) -> Trouble {
+        Trouble::NoTable
     }
 }
 
 impl From<SessionRefusal> for Trouble {
-    fn from(refusal: SessionRefusal) -> Trouble {
-        Trouble::NoSession(refusal)
+    fn from(_: SessionRefusal) -> Trouble {
+        Trouble::NoSession
     }
 }
 
@@ -102,7 +91,7 @@ pub fn is<T: PartialEq + Drop>(found: T, wanted: T) -> bool {
     found == wanted
 }
 
-/// What a call came to that a trial builds on: it must not be refused.
+/// What a call came to that a test builds on: it must not be refused.
 pub fn done<T: Drop, E: Drop>(came: Result<T, E>) -> Result<(), Trouble> {
     match came {
         Ok(_) => Ok(()),

@@ -2,17 +2,12 @@
 #![tactic(auto)]
 
 ghost use Rattle.std.specs.Prelude.{◌≡◌, true};
-ghost use Rattle.jc_model.specs.Run.{is_answer_to};
+ghost use Rattle.jc.specs.Words.{is_answer_to};
 
-use jc_engine::engine::Engine;
-use jc_model::call::{Answer, Call, ProcessorFault, Request};
-use jc_model::config::CacheConfig;
-use jc_model::event::{CacheId, Step};
-use jc_model::key::Key;
-use jc_model::value::Value;
-use jc_report::reply_text;
-use jc_ring::list_ring::ListRing;
-use jc_rows::list_rows::ListRows;
+use jc::{
+    Answer, CacheConfig, CacheId, Call, Engine, Key, ListRing, ListRows, ProcessorFault, Request,
+    Step, Value, reply_text,
+};
 use std::alloc::Global;
 use std::process::ExitCode;
 

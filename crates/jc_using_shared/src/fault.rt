@@ -1,33 +1,24 @@
 //! What may go wrong.
 
-use jc_model::OutOfMemory;
-use jc_model::key::KeyFault;
-use jc_model::value::ValueFault;
-use jc_shared::{CallFault, SessionRefusal, SharedRefusal};
+use jc::{
+    AnswerFault, CallFault, KeyFault, OutOfMemory, SessionRefusal, SharedRefusal, ValueFault,
+};
 use std::alloc::AllocFailed;
 use std::io;
 
 /// Why the program ends without its report.
 #[derive(Debug, Drop)]
 pub enum Fault {
-    Database(sqlite::Error),
     Key(KeyFault),
     Value(ValueFault),
     Open(SharedRefusal),
     Session(SessionRefusal),
     Call(CallFault),
+    Answer(AnswerFault),
     /// A call by hand came to something else than was expected.
     Unexpected,
-    /// No thread could be started.
-    NoThread,
     Print(io::Error),
     OutOfMemory,
-}
-
-impl From<sqlite::Error> for Fault {
-    fn from(error: sqlite::Error) -> Fault {
-        Fault::Database(error)
-    }
 }
 
 impl From<KeyFault> for Fault {
@@ -43,14 +34,14 @@ impl From<ValueFault> for Fault {
 }
 
 impl From<SharedRefusal> for Fault {
-    fn from(refusal: SharedRefusal) -> Fault {
-        Fault::Open(refusal)
+    fn from(fault: SharedRefusal) -> Fault {
+        Fault::Open(fault)
     }
 }
 
 impl From<SessionRefusal> for Fault {
-    fn from(refusal: SessionRefusal) -> Fault {
-        Fault::Session(refusal)
+    fn from(fault: SessionRefusal) -> Fault {
+        Fault::Session(fault)
     }
 }
 

@@ -67,6 +67,7 @@ final class ListenerChecks {
         deregistered();
         failing();
         nested();
+        afterAnError();
         laterOnes();
     }
 
@@ -336,6 +337,20 @@ final class ListenerChecks {
                 });
                 same(List.of("processor ends", "hears l"), List.copyOf(order));
                 same("by the listener", cache.get("k"));
+            });
+        });
+    }
+
+    private static void afterAnError() {
+        Check.that(SECTION, "what follows a call that ended by an error is told", () -> {
+            Notes notes = new Notes();
+            CacheEntryListenerConfiguration<String, String> listener = of(notes, null, true, true);
+            Caches.with(Caches.texts().addCacheEntryListenerConfiguration(listener), cache -> {
+                thrown(AssertionError.class, () -> cache.invoke("k", (entry, words) -> {
+                    throw new AssertionError();
+                }));
+                cache.put("k", "v");
+                same(1, notes.heard.size());
             });
         });
     }

@@ -52,6 +52,7 @@ final class ThroughChecks {
         loaderFails();
         loadsAll();
         loadsInTheBackground();
+        loaderEndsByAnError();
         writes();
         deletes();
         processes();
@@ -212,6 +213,26 @@ final class ThroughChecks {
                 cache.loadAll(Set.of("!"), true, (CompletionListener) null);
                 all(cache, false, "l");
                 holds(cache.containsKey("l"));
+            });
+        });
+    }
+
+    private static void loaderEndsByAnError() {
+        Check.that("Cache.loadAll", "a loader's error is told to who waits", () -> {
+            CacheLoader<String, String> loader = new CacheLoader<>() {
+                @Override
+                public String load(String key) {
+                    throw new AssertionError();
+                }
+
+                @Override
+                public Map<String, String> loadAll(Iterable<? extends String> keys) {
+                    throw new AssertionError();
+                }
+            };
+            Caches.with(Caches.texts().setCacheLoaderFactory(gives(loader)), cache -> {
+                ExecutionException told = thrown(ExecutionException.class, () -> all(cache, true, "k"));
+                holds(told.getCause().getCause() instanceof AssertionError);
             });
         });
     }

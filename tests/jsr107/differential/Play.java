@@ -258,7 +258,7 @@ final class Play {
                 return entry.getValue();
             };
             case 'f' -> (entry, words) -> {
-                throw new EntryProcessorException(entry.getValue());
+                throw new EntryProcessorException();
             };
             case 'd' -> (entry, words) -> {
                 String value = entry.exists() ? entry.getValue() : null;

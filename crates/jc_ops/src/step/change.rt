@@ -3,23 +3,23 @@ ghost use Rattle.std.specs.Prelude.{◌≡◌, Option, is_some};
 ghost use Rattle.jc_model.specs.State.{Item};
 ghost use Rattle.jc_model.specs.Run.{ended};
 ghost use Rattle.jc_model.specs.Step.{counted};
-ghost use Rattle.jc_state.specs.Noted.{StoredIsTold};
-ghost use Rattle.jc_state.specs.Kept.{FoundRow};
-ghost use Rattle.jc_state.specs.Visited.{SpendsAtMost, HasPlacesIn, progress_in};
+ghost use Rattle.jc_ops.specs.Noted.{StoredIsTold};
+ghost use Rattle.jc_ops.specs.Kept.{FoundRow};
+ghost use Rattle.jc_ops.specs.Visited.{SpendsAtMost, HasPlacesIn, progress_in};
 ghost use Rattle.jc_ops.specs.Carried.{CanEnd, HasRoomToStore, changed_in, line_run};
 ghost use Rattle.jc_ops.specs.Lines.{told_of};
 
 use crate::step::reply::reply_of;
+use crate::stored::Stored;
 use crate::supply::Supply;
 use crate::supply::values::Values;
+use crate::visit::Visit;
 use jc_model::call::Reply;
-use jc_model::copies::Copies;
 use jc_model::key::Key;
-use jc_model::table::{Change, Line};
+use jc_model::owners::Owners;
+use jc_model::table::{Change, TableLine};
 use jc_ring::ring::Ring;
 use jc_rows::rows::Rows;
-use jc_state::stored::Stored;
-use jc_state::visit::Visit;
 
 /// Counts a hit where the key has a row, else a miss, if the line counts.
 pub(super) fn count<R: Rows, G: Ring>(visit: &mut Visit<R, G>, counts: bool, there: bool)
@@ -98,9 +98,9 @@ fn change<R: Rows, G: Ring>(
 pub(super) fn end<R: Rows, G: Ring>(
     visit: &mut Visit<R, G>,
     key: &Key,
-    line: Line,
+    line: TableLine,
     supply: Supply,
-) -> Copies<Reply>
+) -> Owners<Reply>
     requires ready { CanEnd visit.old key.now line supply }
     ensures spends { SpendsAtMost 1 (told_of (is_some supply.row) line.change)
         visit.old visit.new }

@@ -3,7 +3,7 @@ ghost use Rattle.std.specs.Prelude.{◌≡◌, ℕ, List, true, None, is_some};
 ghost use Rattle.jc_model.specs.declared.call.Op.TheVariants.{Invoke};
 ghost use Rattle.jc_model.specs.declared.table.Change.TheVariants.{Put};
 ghost use Rattle.jc_model.specs.Run.{verdict_of};
-ghost use Rattle.jc_state.specs.Visited.{SpendsAtMost};
+ghost use Rattle.jc_ops.specs.Visited.{SpendsAtMost};
 ghost use Rattle.jc_ops.specs.Carried.{IsReady, judged_run};
 ghost use Rattle.jc_ops.specs.Given.{verdict_in};
 ghost use Rattle.jc_ops.specs.Lines.{is_invoke, told_of};
@@ -15,14 +15,14 @@ use crate::step::reply::fault;
 use crate::step::request::{ask_writer, awaits_load, process};
 use crate::step::{KeyStep, Next};
 use crate::supply::Supply;
+use crate::visit::Visit;
 use jc_model::call::{Action, Answer, By};
-use jc_model::table::{Line, absent_verdict, live_verdict};
+use jc_model::table::{TableLine, absent_verdict, live_verdict};
 use jc_ring::ring::Ring;
 use jc_rows::rows::Rows;
-use jc_state::visit::Visit;
 
 /// A verdict's line, by whether the key has a row.
-fn verdict_line(action: &Action, there: bool) -> Line
+fn verdict_line(action: &Action, there: bool) -> TableLine
     ensures { result ≡ verdict_line action.now there }
 {
     if there {

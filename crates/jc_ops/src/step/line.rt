@@ -1,8 +1,8 @@
 //! A step of a line of the case table: its line, and the answer of its writer or loader.
 ghost use Rattle.std.specs.Prelude.{◌≡◌, ◌≤◌, false, is_some};
 ghost use Rattle.jc_model.specs.Step.{live_in};
-ghost use Rattle.jc_state.specs.Kept.{key_row, FoundRow};
-ghost use Rattle.jc_state.specs.Visited.{SpendsAtMost};
+ghost use Rattle.jc_ops.specs.Kept.{key_row, FoundRow};
+ghost use Rattle.jc_ops.specs.Visited.{SpendsAtMost};
 ghost use Rattle.jc_ops.specs.Carried.{IsBegun, IsReady};
 ghost use Rattle.jc_ops.specs.Lines.{is_invoke, line_at, told_of, told_on};
 ghost use Rattle.jc_ops.specs.Stepped.{StepsFrom, StaysAt, answer_run, waits_first};
@@ -12,18 +12,18 @@ use crate::step::change::{count, end};
 use crate::step::reply::fault;
 use crate::step::{KeyStep, Next};
 use crate::supply::Supply;
+use crate::visit::Visit;
 use jc_model::call::{Answer, By, KeyCall};
-use jc_model::table::{Ask, Line, absent_line, expected, live_line, otherwise};
+use jc_model::table::{Ask, TableLine, absent_line, expected, live_line, otherwise};
 use jc_ring::ring::Ring;
 use jc_rows::rows::Rows;
-use jc_state::visit::Visit;
 
 /// The line of a call, by the value of its key's row.
 pub(super) fn line_of<R: Rows, G: Ring>(
     visit: &Visit<R, G>,
     row: Option<u32>,
     call: &KeyCall,
-) -> Line
+) -> TableLine
     requires row { FoundRow call.now.key visit.now.cache row }
     ensures line { result
         ≡ line_at call.now.op (live_in (key_row visit.now.cache call.now.key)) }
@@ -49,7 +49,7 @@ pub(super) fn begin<R: Rows, G: Ring>(
     visit: &mut Visit<R, G>,
     call: &KeyCall,
     supply: &mut Supply,
-) -> Line
+) -> TableLine
     requires row { FoundRow call.now.key visit.old.cache supply.old.row }
     requires places { HasPlacesFor call.now visit.old }
     requires covered { CoversIn visit.old.cache.config.writer visit.old call.now

@@ -3,22 +3,22 @@ ghost use Rattle.std.specs.Prelude.{◌≡◌, None};
 ghost use Rattle.jc_model.specs.Step.{reply_by};
 
 use jc_model::call::{By, Reply};
-use jc_model::copies::Copies;
+use jc_model::owners::Owners;
 use jc_model::table::Replied;
 use jc_model::value::Value;
 
 /// The reply that all went well.
-pub fn done() -> Copies<Reply>
+pub fn done() -> Owners<Reply>
     ensures { result ≡ Reply.Done }
 {
-    Copies::new(Reply::Done, Reply::Done, Reply::Done)
+    Owners::new(Reply::Done, Reply::Done, Reply::Done)
 }
 
 /// A yes or a no.
-pub fn truth(answer: bool) -> Copies<Reply>
+pub fn truth(answer: bool) -> Owners<Reply>
     ensures { result ≡ Reply.Truth answer }
 {
-    Copies::new(
+    Owners::new(
         Reply::Truth(answer),
         Reply::Truth(answer),
         Reply::Truth(answer),
@@ -26,20 +26,20 @@ pub fn truth(answer: bool) -> Copies<Reply>
 }
 
 /// The value that a key has, if any.
-pub fn found(value: Option<Copies<Value>>) -> Copies<Reply>
+pub fn found(value: Option<Owners<Value>>) -> Owners<Reply>
     ensures { result ≡ Reply.Found value }
 {
     match value {
-        None => Copies::new(Reply::Found(None), Reply::Found(None), Reply::Found(None)),
+        None => Owners::new(Reply::Found(None), Reply::Found(None), Reply::Found(None)),
         Some(value) => value.map(Some).map(Reply::Found),
     }
 }
 
 /// A hook's fault; of a call on many keys with the number of keys that were done before.
-pub fn fault(by: By, done: Option<u32>) -> Copies<Reply>
+pub fn fault(by: By, done: Option<u32>) -> Owners<Reply>
     ensures { result ≡ Reply.Fault by done }
 {
-    Copies::new(
+    Owners::new(
         Reply::Fault { by, done },
         Reply::Fault { by, done },
         Reply::Fault { by, done },
@@ -47,7 +47,7 @@ pub fn fault(by: By, done: Option<u32>) -> Copies<Reply>
 }
 
 /// The reply of a line, where `shown` is the value to be shown.
-pub(crate) fn reply_of(replied: Replied, shown: Option<Copies<Value>>) -> Copies<Reply>
+pub(crate) fn reply_of(replied: Replied, shown: Option<Owners<Value>>) -> Owners<Reply>
     ensures { result ≡ reply_by replied shown }
 {
     match replied {

@@ -9,7 +9,7 @@ ghost use Rattle.jc_ops.specs.Supply.{adds_at};
 use crate::step::KeyStep;
 use jc_model::call::{Action, Answer, Op, Verdict};
 use jc_model::config::CacheConfig;
-use jc_model::table::{Ask, Change, Line, Replied, absent_line, live_line, value_of};
+use jc_model::table::{Ask, Change, Replied, TableLine, absent_line, live_line, value_of};
 use jc_model::value::Value;
 
 /// Whether an operation hands its entry to a processor.
@@ -50,7 +50,7 @@ pub fn creates(op: &Op) -> bool
 
 /// How many notices a line may tell: of a live row one, and of a new one its victim's too. A processor may decide for any
 /// change.
-fn told_by(there: bool, line: Line) -> usize
+fn told_by(there: bool, line: TableLine) -> usize
     ensures { result ≡ told_by there line.asks line.change }
 {
     let change = match line.asks {

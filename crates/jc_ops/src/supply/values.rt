@@ -1,23 +1,23 @@
 //! The values of one step, each an owner of its bytes, made before any change.
 ghost use Rattle.std.specs.Prelude.{◌≡◌, ℕ, List, true, Some, option_map, IfOk};
 ghost use Rattle.jc_model.specs.State.{Item};
-ghost use Rattle.jc_state.specs.Shelf.{has_row};
-ghost use Rattle.jc_state.specs.Kept.{key_row, FoundRow};
+ghost use Rattle.jc_ops.specs.Shelf.{has_row};
+ghost use Rattle.jc_ops.specs.Kept.{key_row, FoundRow};
 ghost use Rattle.jc_ops.specs.Lines.{takes_value};
 ghost use Rattle.jc_ops.specs.Supply.{CoversIn, CoversLoaded, CoversVerdict, CoversAnswerIn};
 
 use crate::step::KeyStep;
+use crate::stored::Stored;
 use crate::supply::needs::{handed, handed_by, is_invoke, shows, stored_by, stored_now};
+use crate::visit::Visit;
 use jc_model::OutOfMemory;
 use jc_model::call::{Answer, KeyCall, Op, Verdict};
 use jc_model::config::CacheConfig;
-use jc_model::copies::Copies;
+use jc_model::owners::Owners;
 use jc_model::table::{Replied, absent_line};
 use jc_model::value::Value;
 use jc_ring::ring::Ring;
 use jc_rows::rows::Rows;
-use jc_state::stored::Stored;
-use jc_state::visit::Visit;
 
 /// The values of one step.
 #[derive(Default, Drop)]
@@ -25,21 +25,21 @@ pub struct Values {
     /// What the step stores.
     pub stored: Option<Stored>,
     /// What the step replies.
-    pub shown: Option<Copies<Value>>,
+    pub shown: Option<Owners<Value>>,
     /// What the writer is given, or the processor as its argument.
     pub copy: Option<Value>,
     /// What the processor is given as the value of its entry.
     pub entry: Option<Value>,
 }
 
-/// Copies of what is replied, if a value is.
-fn to_show(value: Option<&Value>) -> Result<Option<Copies<Value>>, OutOfMemory>
+/// Owners of what is replied, if a value is.
+fn to_show(value: Option<&Value>) -> Result<Option<Owners<Value>>, OutOfMemory>
     ensures { IfOk result (λ shown. shown ≡ option_map (λ v. v.now) value.entry) }
 {
     match value {
         None => Ok(None),
         Some(value) => {
-            let shown = Copies::of(value)?;
+            let shown = Owners::of(value)?;
             Ok(Some(shown))
         }
     }

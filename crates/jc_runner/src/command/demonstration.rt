@@ -2,19 +2,18 @@
 ghost use Rattle.std.specs.Prelude.{◌≡◌, ◌≢◌, ◌≤◌, true, false, IfOk, Err, length};
 ghost use Rattle.jc_model.specs.Limits.{key_bytes};
 ghost use Rattle.jc_runner.specs.Demonstration.{demonstration_caches};
-ghost use Rattle.jc_console.specs.Meters.{most_reads, AddsAtMost};
+ghost use Rattle.jc_cli.specs.Meters.{most_reads, AddsAtMost};
 ghost use Rattle.jc_runner.specs.Program.{RunEnds, no_kinds, demonstration as demonstration_read};
-ghost use Rattle.jc_console.specs.declared.fault.RunFault.TheVariants.{Read};
-ghost use Rattle.jc_words.specs.declared.run.Format.TheVariants as formats;
+ghost use Rattle.jc_cli.specs.declared.fault.RunFault.TheVariants.{Read};
+ghost use Rattle.jc_cli.specs.declared.run.Format.TheVariants as formats;
 
 use crate::files::play;
+use jc_cli::{Format, RunFault, WatchedReader, WatchedWriter};
 use jc_config::{Configuration, HookKinds, Settings, plain_cache};
-use jc_console::{RunFault, Watched, WatchedWriter};
 use jc_model::OutOfMemory;
 use jc_model::config::Policy;
 use jc_model::key::Key;
 use jc_model::list::Sequence;
-use jc_words::Format;
 use std::alloc::Global;
 use std::io::{Read, Write};
 
@@ -70,7 +69,7 @@ fn demonstration_configuration(alloc: Global) -> Result<Configuration, OutOfMemo
 /// Runs the script on standard input on the demonstration's caches.
 pub(crate) fn demonstrate<I: Read, O: Write>(
     alloc: Global,
-    input: &mut Watched<I>,
+    input: &mut WatchedReader<I>,
     output: &mut WatchedWriter<O>,
 ) -> Result<(), RunFault>
     ensures ends { RunEnds I.remaining O.contents true false formats.Text demonstration_read

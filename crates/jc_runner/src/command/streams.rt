@@ -1,24 +1,25 @@
 //! The files that the program opens, and its standard streams.
 
-ghost use Rattle.std.specs.Prelude.{◌≡◌, None};
-ghost use Rattle.jc_console.specs.Watching.{unread_reader, unused_writer};
+ghost use Rattle.std.specs.Prelude.{◌≡◌, None, false};
+ghost use Rattle.jc_cli.specs.Watching.{unread_reader, unused_writer};
 
-use jc_console::{Watched, WatchedWriter};
+use jc_cli::{WatchedReader, WatchedWriter};
 use std::io::{Read, Write};
 
 /// The files of a run, as far as they were opened, and how they were read.
 #[derive(Drop)]
 pub struct Opened<F> {
-    pub config: Option<Watched<F>>,
-    pub script: Option<Watched<F>>,
+    pub config: Option<WatchedReader<F>>,
+    pub script: Option<WatchedReader<F>>,
 }
 
-/// The standard streams.
+/// The standard streams; standard error is a terminal or not.
 #[derive(Drop)]
 pub struct Standard<I, O, E> {
-    pub input: Watched<I>,
+    pub input: WatchedReader<I>,
     pub output: WatchedWriter<O>,
     pub errors: WatchedWriter<E>,
+    pub at_terminal: bool,
 }
 
 impl<F> Opened<F> {
@@ -34,18 +35,20 @@ impl<F> Opened<F> {
 }
 
 impl<I: Read, O: Write, E: Write> Standard<I, O, E> {
-    /// Streams that were not used yet.
+    /// Streams that were not used yet, none of them a terminal.
     pub fn new(input: I, output: O, errors: E) -> Standard<I, O, E>
         ensures { result ≡ record {
           input = unread_reader input;
           output = unused_writer output;
           errors = unused_writer errors;
+          at_terminal = false;
         } }
     {
         Standard {
-            input: Watched::new(input),
+            input: WatchedReader::new(input),
             output: WatchedWriter::new(output),
             errors: WatchedWriter::new(errors),
+            at_terminal: false,
         }
     }
 }

@@ -1,17 +1,16 @@
 //! A check of the two files of a run, which runs nothing.
 ghost use Rattle.std.specs.Prelude.{◌≡◌, ◌≢◌, ℕ, List, Err};
 ghost use Rattle.jc_runner.specs.Disks.{AsksForPath};
-ghost use Rattle.jc_console.specs.Meters.{most_reads, AddsAtMost};
+ghost use Rattle.jc_cli.specs.Meters.{most_reads, AddsAtMost};
 ghost use Rattle.jc_runner.specs.Program.{LinesEnd, ScriptRead, CheckEnds, LinesAt};
-ghost use Rattle.jc_console.specs.declared.fault.RunFault.TheVariants.{Read};
+ghost use Rattle.jc_cli.specs.declared.fault.RunFault.TheVariants.{Read};
 
 use crate::command::streams::Opened;
 use crate::files::disk::Disk;
 use crate::files::{configured_from, open_script, require_caches};
-use crate::serial_run::{lines_of, strictly};
+use crate::serial_run::{lines_of, reject_unknown_members};
+use jc_cli::{Check, ProgramFault, RunFault, WatchedReader, is_input, read_bytes};
 use jc_config::Settings;
-use jc_console::{ProgramFault, RunFault, Watched, read_bytes};
-use jc_words::{Check, is_input};
 use std::alloc::Global;
 use std::io::Read;
 
@@ -20,7 +19,7 @@ fn check_lines<I: Read>(
     alloc: Global,
     settings: &Settings,
     strict: bool,
-    reader: &mut Watched<I>,
+    reader: &mut WatchedReader<I>,
 ) -> Result<(), RunFault>
     ensures ends { LinesEnd I.remaining strict settings.now reader.old reader.new result }
     ensures unfailed { result ≢ Err Read → reader.new.failures ≡ reader.old.failures }
@@ -28,7 +27,7 @@ fn check_lines<I: Read>(
 {
     let bytes = read_bytes(alloc, reader)?;
     match lines_of(alloc, bytes.as_slice(), settings) {
-        Ok(_) => strictly(alloc, bytes.as_slice(), strict),
+        Ok(_) => reject_unknown_members(alloc, bytes.as_slice(), strict),
         Err(fault) => Err(fault),
     }
 }
@@ -40,7 +39,7 @@ fn check_script<D: Disk>(
     path: &str,
     settings: &Settings,
     strict: bool,
-    script: &mut Option<Watched<D::File>>,
+    script: &mut Option<WatchedReader<D::File>>,
 ) -> Result<(), RunFault>
     ensures ends { ScriptRead D.File.remaining (D.holds disk.old path.now) strict settings.now
         script.new result }
@@ -61,8 +60,8 @@ fn check_from<D: Disk, I: Read>(
     path: &str,
     settings: &Settings,
     strict: bool,
-    script: &mut Option<Watched<D::File>>,
-    input: &mut Watched<I>,
+    script: &mut Option<WatchedReader<D::File>>,
+    input: &mut WatchedReader<I>,
 ) -> Result<(), RunFault>
     ensures ends { LinesAt D.File.remaining I.remaining (D.holds disk.old) path.now
         (D.asked disk.old) (D.asked disk.new) input.old input.new strict settings.now
@@ -84,7 +83,7 @@ pub fn check_files<D: Disk, I: Read>(
     disk: &mut D,
     opened: &mut Opened<D::File>,
     check: &Check,
-    input: &mut Watched<I>,
+    input: &mut WatchedReader<I>,
 ) -> Result<(), ProgramFault>
     ensures ends { CheckEnds D.File.remaining I.remaining
         (D.holds disk.old) (D.asked disk.old) (D.asked disk.new)

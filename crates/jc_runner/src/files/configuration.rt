@@ -2,19 +2,19 @@
 ghost use Rattle.std.specs.Prelude.{◌≡◌, ◌≢◌, IfOk, IfErr, OnOk, Ok, Err};
 ghost use Rattle.std.specs.Io.KnownBytes.{IsAtEnd};
 ghost use Rattle.jc_config.specs.Config.{configuration_in};
-ghost use Rattle.jc_console.specs.Meters.{most_reads, AddsAtMost};
+ghost use Rattle.jc_cli.specs.Meters.{most_reads, AddsAtMost};
 ghost use Rattle.jc_runner.specs.Opens.{CanOpenConfiguration};
-ghost use Rattle.jc_console.specs.Streams.{IsOfConfiguring};
+ghost use Rattle.jc_cli.specs.Streams.{IsOfConfiguring};
 ghost use Rattle.jc_runner.specs.Texts.{IsConfiguration, ConfigHasFault, FaultIsOfLength, IfConfigFault};
-ghost use Rattle.jc_console.specs.Watching.{ReadsAll, ReadFails};
-ghost use Rattle.jc_console.specs.declared.fault.ProgramFault.TheVariants.{ConfigRead};
+ghost use Rattle.jc_cli.specs.Watching.{ReadsAll, ReadFails};
+ghost use Rattle.jc_cli.specs.declared.fault.ProgramFault.TheVariants.{ConfigRead};
 
+use jc_cli::{ProgramFault, RunFault, WatchedReader, read_bytes};
 use jc_config::{ConfigFault, Configuration, read_config};
-use jc_console::{ProgramFault, RunFault, Watched, read_bytes};
 use std::alloc::Global;
 use std::io::Read;
 
-fn text_of<R: Read>(alloc: Global, reader: &mut Watched<R>) -> Result<Vec<u8>, ProgramFault>
+fn text_of<R: Read>(alloc: Global, reader: &mut WatchedReader<R>) -> Result<Vec<u8>, ProgramFault>
     ensures all { IfOk result (λ v. ReadsAll R.remaining reader.old reader.new v.items) }
     ensures long { IfErr result (FaultIsOfLength R.remaining reader.old) }
     ensures failed { result ≡ Err ConfigRead → ReadFails reader.old reader.new }
@@ -48,7 +48,7 @@ fn configuration_in(alloc: Global, bytes: &[u8]) -> Result<Configuration, Progra
 /// `ConfigRead` where the reader failed; `Config` with the first fault; want of memory is the run's `Memory`.
 pub fn read_configuration<R: Read>(
     alloc: Global,
-    reader: &mut Watched<R>,
+    reader: &mut WatchedReader<R>,
 ) -> Result<Configuration, ProgramFault>
     ensures ok { IfOk result (IsConfiguration R.remaining reader.old) }
     ensures opens { IfOk result CanOpenConfiguration }

@@ -3,17 +3,18 @@ ghost use Rattle.std.specs.Prelude.{◌≡◌, ◌≢◌, ℕ, List, IfOk, IfErr
 ghost use Rattle.std.specs.List.{All};
 ghost use Rattle.jc_replay.specs.Hits.{IsCapacity};
 ghost use Rattle.jc_runner.specs.Disks.{AsksForPath, FailsToOpen};
-ghost use Rattle.jc_console.specs.Faults.{of_trace, of_replay};
-ghost use Rattle.jc_console.specs.Meters.{most_reads, AddsAtMost};
+ghost use Rattle.jc_cli.specs.Faults.{of_trace, of_replay};
+ghost use Rattle.jc_cli.specs.Meters.{most_reads, AddsAtMost};
 ghost use Rattle.jc_runner.specs.Program.{TraceEnds, TraceFileEnds, ReplayEnds, IsUnreadFile};
-ghost use Rattle.jc_console.specs.declared.fault.ProgramFault.TheVariants.{TraceRead};
+ghost use Rattle.jc_cli.specs.declared.fault.ProgramFault.TheVariants.{TraceRead};
 
 use crate::command::streams::Opened;
 use crate::files::disk::Disk;
 use crate::files::open_script;
-use jc_console::{ProgramFault, RunFault, Watched, WatchedWriter, read_bytes, write_text};
+use jc_cli::{
+    ProgramFault, Replay, RunFault, WatchedReader, WatchedWriter, is_input, read_bytes, write_text,
+};
 use jc_replay::{ReplayFault, replay_table};
-use jc_words::{Replay, is_input};
 use std::alloc::Global;
 use std::io::{Read, Write};
 
@@ -42,7 +43,7 @@ fn replay_fault(fault: ReplayFault) -> ProgramFault
 fn replay_all<I: Read, O: Write>(
     alloc: Global,
     capacities: &[u32],
-    reader: &mut Watched<I>,
+    reader: &mut WatchedReader<I>,
     writer: &mut WatchedWriter<O>,
 ) -> Result<(), ProgramFault>
     requires { All IsCapacity capacities.now }
@@ -66,7 +67,7 @@ fn replay_all<I: Read, O: Write>(
 }
 
 /// Opens a trace.
-fn open_trace<D: Disk>(disk: &mut D, path: &str) -> Result<Watched<D::File>, ProgramFault>
+fn open_trace<D: Disk>(disk: &mut D, path: &str) -> Result<WatchedReader<D::File>, ProgramFault>
     ensures unread { IfOk result (IsUnreadFile D.File.remaining (D.holds disk.old path.now)) }
     ensures unopened { IfErr result (FailsToOpen TraceRead (ProgramFault.Run RunFault.Memory)
         (D.holds disk.old path.now)) }
@@ -85,7 +86,7 @@ fn replay_opened<D: Disk, O: Write>(
     disk: &mut D,
     path: &str,
     capacities: &[u32],
-    trace: &mut Option<Watched<D::File>>,
+    trace: &mut Option<WatchedReader<D::File>>,
     writer: &mut WatchedWriter<O>,
 ) -> Result<(), ProgramFault>
     requires { All IsCapacity capacities.now }
@@ -107,7 +108,7 @@ pub fn replay_file<D: Disk, I: Read, O: Write>(
     disk: &mut D,
     opened: &mut Opened<D::File>,
     replay: &Replay,
-    input: &mut Watched<I>,
+    input: &mut WatchedReader<I>,
     writer: &mut WatchedWriter<O>,
 ) -> Result<(), ProgramFault>
     requires { All IsCapacity replay.now.capacities.items }

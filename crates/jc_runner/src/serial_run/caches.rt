@@ -4,13 +4,13 @@ ghost use Rattle.jc_model.specs.declared.event.Life.{Life as Lived};
 ghost use Rattle.jc_script.specs.declared.line.Line.TheVariants as lines;
 ghost use Rattle.jc_script.specs.Named.{IsLive};
 ghost use Rattle.jc_runner.specs.Halfway.{lives_now, as_read, IsAtRest, refusal_now, CreatesCache, DestroysCache, NotesLine};
-ghost use Rattle.jc_console.specs.declared.fault.RunFault.TheVariants as faults;
+ghost use Rattle.jc_cli.specs.declared.fault.RunFault.TheVariants as faults;
 
-use jc_console::RunFault;
+use jc_cli::RunFault;
+use jc_engine::recorded::Recorded;
 use jc_model::config::CacheConfig;
 use jc_model::event::{CacheId, CreateRefusal, Life};
 use jc_model::key::Key;
-use jc_recorded::recorded::Recorded;
 use jc_ring::ring::Ring;
 use jc_rows::rows::Rows;
 use jc_script::{ManageOp, Managed};

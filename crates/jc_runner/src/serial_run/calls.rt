@@ -3,14 +3,14 @@ ghost use Rattle.std.specs.Prelude.{◌≡◌, Some, IfOk, IfErr, OnOk};
 ghost use Rattle.jc_model.specs.declared.event.Event.TheVariants.{Answer as Answered};
 ghost use Rattle.jc_runner.specs.Halfway.{event_of, CanMove, IsLineReady, Replies, RepliesAt, BeginsLineCall, HandsAnswer};
 ghost use Rattle.jc_runner.specs.Hooks.{asked_of, AreKept};
-ghost use Rattle.jc_console.specs.declared.fault.RunFault.TheVariants as faults;
+ghost use Rattle.jc_cli.specs.declared.fault.RunFault.TheVariants as faults;
 
 use crate::callbacks::{answer, no_hooks};
-use jc_console::RunFault;
-use jc_hooks::{CacheHooks, Hearer, Loader, Processor, Writer};
+use jc_cli::RunFault;
+use jc_engine::recorded::Recorded;
+use jc_hooks::{CacheHooks, FilteredListener, Loader, Processor, Writer};
 use jc_model::call::Answer;
 use jc_model::event::{CacheId, Cause, Step};
-use jc_recorded::recorded::Recorded;
 use jc_ring::ring::Ring;
 use jc_rows::rows::Rows;
 use jc_script::LineCall;
@@ -65,7 +65,7 @@ fn resume<R: Rows, G: Ring>(
 }
 
 /// Makes the call of a line: these callbacks answer each of its requests, until it replies.
-fn carry_out<R: Rows, G: Ring, L: Loader, W: Writer, P: Processor, K: Hearer>(
+fn carry_out<R: Rows, G: Ring, L: Loader, W: Writer, P: Processor, K: FilteredListener>(
     alloc: Global,
     recorded: &mut Recorded<R, G>,
     hooks: &mut CacheHooks<L, W, P, K>,
@@ -87,7 +87,7 @@ fn carry_out<R: Rows, G: Ring, L: Loader, W: Writer, P: Processor, K: Hearer>(
 }
 
 /// Makes the call of a line with the callbacks of its cache, or with none where it has none.
-pub(crate) fn run_call<R: Rows, G: Ring, L: Loader, W: Writer, P: Processor, K: Hearer>(
+pub(crate) fn run_call<R: Rows, G: Ring, L: Loader, W: Writer, P: Processor, K: FilteredListener>(
     alloc: Global,
     recorded: &mut Recorded<R, G>,
     hooks: &mut [CacheHooks<L, W, P, K>],

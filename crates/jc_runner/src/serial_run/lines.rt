@@ -6,20 +6,20 @@ ghost use Rattle.jc_script.specs.declared.line.Line.{Line as ScriptLine};
 ghost use Rattle.jc_script.specs.Named.{Names, AllName};
 ghost use Rattle.jc_runner.specs.Halfway.{lives_now, as_read, IsAtRest, RunsLine, Halfway, NotesLine};
 ghost use Rattle.jc_runner.specs.Hooks.{AreKept};
-ghost use Rattle.jc_console.specs.declared.fault.RunFault.TheVariants as faults;
+ghost use Rattle.jc_cli.specs.declared.fault.RunFault.TheVariants as faults;
 
 use crate::serial_run::caches::{run_create, run_destroy};
 use crate::serial_run::calls::run_call;
-use jc_console::RunFault;
-use jc_hooks::{CacheHooks, Hearer, Loader, Processor, Writer};
-use jc_recorded::recorded::Recorded;
+use jc_cli::RunFault;
+use jc_engine::recorded::Recorded;
+use jc_hooks::{CacheHooks, FilteredListener, Loader, Processor, Writer};
 use jc_ring::ring::Ring;
 use jc_rows::rows::Rows;
 use jc_script::{Line, Managed};
 use std::alloc::Global;
 
 /// Runs a line. What became of it is noted where it creates or destroys a cache.
-fn run_line<R: Rows, G: Ring, L: Loader, W: Writer, P: Processor, K: Hearer>(
+fn run_line<R: Rows, G: Ring, L: Loader, W: Writer, P: Processor, K: FilteredListener>(
     alloc: Global,
     recorded: &mut Recorded<R, G>,
     hooks: &mut [CacheHooks<L, W, P, K>],
@@ -43,7 +43,7 @@ fn run_line<R: Rows, G: Ring, L: Loader, W: Writer, P: Processor, K: Hearer>(
 }
 
 /// Runs all lines in their order. The result is what became of those that create and destroy caches.
-pub(crate) fn run_all<R: Rows, G: Ring, L: Loader, W: Writer, P: Processor, K: Hearer>(
+pub(crate) fn run_all<R: Rows, G: Ring, L: Loader, W: Writer, P: Processor, K: FilteredListener>(
     alloc: Global,
     recorded: &mut Recorded<R, G>,
     hooks: &mut [CacheHooks<L, W, P, K>],

@@ -7,6 +7,7 @@ import java.util.Objects;
 import java.util.Set;
 import java.util.function.Supplier;
 import javax.cache.Cache;
+import javax.cache.CacheException;
 import javax.cache.CacheManager;
 import javax.cache.configuration.CacheEntryListenerConfiguration;
 import javax.cache.configuration.CompleteConfiguration;
@@ -85,7 +86,7 @@ final class JcacheCache<K, V> implements Cache<K, V> {
         R result;
         try {
             result = call.get();
-        } catch (RuntimeException e) {
+        } catch (RuntimeException | Error e) {
             tellAfter(e, tells);
             throw e;
         }
@@ -98,7 +99,7 @@ final class JcacheCache<K, V> implements Cache<K, V> {
         return result;
     }
 
-    private void tellAfter(RuntimeException failure, boolean tells) {
+    private void tellAfter(Throwable failure, boolean tells) {
         try {
             if (tells) {
                 telling.end();
@@ -255,20 +256,30 @@ final class JcacheCache<K, V> implements Cache<K, V> {
         checkOpen();
         Set<K> checked = types.checkedKeys(keys);
         manager.later(() -> {
-            try {
-                if (through.hasLoader()) {
-                    done(null, () -> manyCalls.loadAll(checked, replace));
-                }
-            } catch (RuntimeException e) {
-                if (listener != null) {
-                    listener.onException(e);
-                }
+            Exception failure = loadFailure(checked, replace);
+            if (listener == null) {
                 return;
             }
-            if (listener != null) {
+            if (failure == null) {
                 listener.onCompletion();
+            } else {
+                listener.onException(failure);
             }
         });
+    }
+
+    /** Loads keys. What ends that, or null: an error too, for somebody may wait to be told. */
+    private Exception loadFailure(Set<K> keys, boolean replace) {
+        try {
+            if (through.hasLoader()) {
+                done(null, () -> manyCalls.loadAll(keys, replace));
+            }
+            return null;
+        } catch (RuntimeException e) {
+            return e;
+        } catch (Error e) {
+            return new CacheException(e);
+        }
     }
 
     @Override

@@ -55,7 +55,7 @@ final class Listener<K, V> {
             }
         } catch (CacheEntryListenerException e) {
             throw e;
-        } catch (RuntimeException e) {
+        } catch (RuntimeException | Error e) {
             throw new CacheEntryListenerException(e);
         }
     }

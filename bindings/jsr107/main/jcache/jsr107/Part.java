@@ -107,7 +107,7 @@ final class Part {
         }
     }
 
-    // Calls on one key. `name` is what is held of it.
+    // Calls on one key. `name` is what is held of it. The first two are made most often, and make no object of their own.
 
     byte[] get(byte[] key, long now) {
         lock.lock();

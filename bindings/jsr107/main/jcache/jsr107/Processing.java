@@ -5,8 +5,7 @@ import javax.cache.processor.EntryProcessor;
 import javax.cache.processor.EntryProcessorException;
 import javax.cache.processor.MutableEntry;
 
-/** Entry processors (JSR 107, Entry Processors): each runs while its key is held,
-        and its entry is changed when it has ended. */
+/** Entry processors (JSR 107, Entry Processors): each runs while its key is held, and its entry is changed when it ends. */
 final class Processing<K, V> {
     private final Store<K, V> store;
     private final KeyCalls<K, V> calls;

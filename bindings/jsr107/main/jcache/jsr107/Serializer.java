@@ -1,8 +1,9 @@
 package jcache.jsr107;
 
 /**
- * Objects as bytes and back, for those that are no String, Integer, Long, UUID or byte[]. One of the user's own is named by
- * the property {@code jcache.serializer}; it has a constructor without parameters, and threads share it.
+ * Objects as bytes and back: values that are no String, Integer, Long or byte[], and keys that are no String, Integer, Long
+ * or UUID. One of the user's own is named by the property {@code jcache.serializer}; it has a constructor without
+ * parameters, and threads share it.
  */
 public interface Serializer {
     /** The bytes of an object. What is thrown ends the call as a CacheException. */

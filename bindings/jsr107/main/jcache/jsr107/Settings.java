@@ -83,7 +83,13 @@ final class Settings {
     /** Milliseconds. */
     LongSupplier clock() {
         String type = property("jcache.clock");
-        return type == null ? System::currentTimeMillis : made("jcache.clock", type, LongSupplier.class);
+        return type == null ? wallClock() : made("jcache.clock", type, LongSupplier.class);
+    }
+
+    /** Milliseconds since 1970: the system's clock is read once, and one that nobody sets counts on. So it never falls. */
+    private static LongSupplier wallClock() {
+        long start = System.currentTimeMillis() * 1_000_000 - System.nanoTime();
+        return () -> (start + System.nanoTime()) / 1_000_000;
     }
 
     Serializer serializer(Class<?> keys, Class<?> values) {

@@ -68,7 +68,7 @@ final class Store<K, V> {
     }
 
     Part part(Object key) {
-        return parts.length == 1 ? parts[0] : parts[Math.floorMod(key.hashCode() * 0x9E3779B9 >>> 7, parts.length)];
+        return parts[partNumber(key)];
     }
 
     int partNumber(Object key) {

@@ -1,7 +1,7 @@
 use Rattle.std.proofs.Common.{◌∙◌, [], refl, sym, ap, arith}
 use Rattle.jc_model.proofs.Refusals.{none_mapped}
-use Rattle.jc_state.proofs.VisitLaws.{same_on, same_visit}
-use Rattle.jc_state.specs.Visited.{has_live_in}
+use Rattle.jc_ops.proofs.VisitLaws.{same_on, same_visit}
+use Rattle.jc_ops.specs.Visited.{has_live_in}
 use Rattle.jc_bulk.proofs.Names.{Ahead, Sum, progress_in, calls_ahead, step_run, sum_of}
 use Rattle.jc_bulk.proofs.EachStep.{step_ended, step_waits}
 use Rattle.jc_bulk.proofs.Left.{covered-stays}

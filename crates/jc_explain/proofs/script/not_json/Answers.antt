@@ -1,5 +1,6 @@
+use Rattle.std.proofs.Common.{◌++◌, ap, ◌∙◌, string_bytes}
 use Rattle.std.proofs.lemmas.Result.{IfOk-weaker}
 use Rattle.jc_explain.proofs.script.not_json.Goals as goal
 
 pub returns : goal.returns
-returns c = IfOk-weaker c.column_line.result _ _ (λ s h. (_, _, h)) c.column_line.ensures
+returns c = IfOk-weaker c.join.result _ _ (λ s h. (string_bytes c.in_ok-place.place, c.in_ok-place.ensures, h ∙ ap (λ shape. string_bytes c.in_ok-place.place ++ shape) c.in_ok-shape.ensures)) c.join.ensures

@@ -9,7 +9,7 @@ loop-listeners-preserved g c =
     let after = c.tell_next-turn.new.listeners in
     let notice = c.args.notice.now in
     let t = c.tell_next-turn.ensures.told in
-    let same = as_many g.K.Hearer.state_after before after i notice t in
+    let same = as_many g.K.FilteredListener.state_after before after i notice t in
     let left = c.has_listener.ensures.0 c.loop-listeners-test.true in
     let many = c.loop-listeners.invariant.many in
     record {
@@ -17,5 +17,5 @@ loop-listeners-preserved g c =
       all = same ∙ c.loop-listeners.invariant.all;
       many = omega (arith, same, c.tell_next-turn.ensures.all, many);
       notices = c.tell_next-turn.ensures.notices ∙ c.loop-listeners.invariant.notices;
-      told = λ rest. rw c.tell_next-turn.ensures.next (next_told g.K.Hearer.state_after before after i notice (omega (arith, left, many)) t rest ∙ c.loop-listeners.invariant.told rest);
+      told = λ rest. rw c.tell_next-turn.ensures.next (next_told g.K.FilteredListener.state_after before after i notice (omega (arith, left, many)) t rest ∙ c.loop-listeners.invariant.told rest);
     }

@@ -11,8 +11,8 @@ invariant-loop-listeners g l = record {
   many : l.turn.listeners ≡ length l.listeners;
   notices : l.turn.notices ≡ l.fn.turn.notices;
   told : (rest : List Notice)
-      → states_after g.K.Hearer.state_after (take l.turn.told l.listeners) rest ++ states_after g.K.Hearer.state_after (drop l.turn.told l.listeners) (l.notice ∷ rest)
-      ≡ states_after g.K.Hearer.state_after l.fn.listeners (l.notice ∷ rest);
+      → states_after g.K.FilteredListener.state_after (take l.turn.told l.listeners) rest ++ states_after g.K.FilteredListener.state_after (drop l.turn.told l.listeners) (l.notice ∷ rest)
+      ≡ states_after g.K.FilteredListener.state_after l.fn.listeners (l.notice ∷ rest);
 }
 
 abbrev pub decreases-loop-listeners : goal.decreases-loop-listeners

@@ -10,6 +10,6 @@ invariant-loop-notice g l = record {
   many : length l.listeners ≡ length l.fn.listeners;
   order : HasTold l.turn (length l.listeners) l.notice-index;
   told : (rest : List Notice) →
-      states_after g.K.Hearer.state_after l.listeners (drop l.notice-index l.notices ++ rest)
-      ≡ states_after g.K.Hearer.state_after l.fn.listeners (l.notices ++ rest);
+      states_after g.K.FilteredListener.state_after l.listeners (drop l.notice-index l.notices ++ rest)
+      ≡ states_after g.K.FilteredListener.state_after l.fn.listeners (l.notices ++ rest);
 }

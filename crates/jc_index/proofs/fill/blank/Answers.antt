@@ -1,7 +1,7 @@
 use Rattle.std.proofs.Common.{rules, ◌≡◌, ◌-◌, ◌*◌, ◌++◌, ℕ, length, suc, take, replicate, arith, ap, ◌∙◌}
 use Rattle.std.specs.Vec.{vec_len}
 use Rattle.std.proofs.lemmas.List.{take_all}
-use Rattle.jc_stripes.specs.Layout.{versions_at}
+use Rattle.jc_index.specs.StripeLayout.{versions_at}
 use Rattle.jc_index.specs.Layout.{bucket_words, table_words}
 use Rattle.jc_index.proofs.fill.blank.Goals as goal
 

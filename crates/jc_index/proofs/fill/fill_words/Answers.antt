@@ -3,7 +3,7 @@ use mathlib.Core.Logic.{dite}
 use native.Mathlib.Decide.{ℕ_discrete}
 use Rattle.jc_cuckoo.specs.declared.held.Held.{Held}
 use Rattle.jc_cuckoo.specs.Images.{shown_row}
-use Rattle.jc_stripes.specs.Layout.{versions_at}
+use Rattle.jc_index.specs.StripeLayout.{versions_at}
 use Rattle.jc_index.specs.Spelling.{IsCoded, words_of_slot, words_of_slots}
 use Rattle.jc_index.proofs.Changing.{any_default}
 use Rattle.jc_index.proofs.Blank.{words_more}

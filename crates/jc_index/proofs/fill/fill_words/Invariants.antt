@@ -1,7 +1,7 @@
 use Rattle.std.proofs.Common.{◌≡◌, ◌++◌, ◌<◌, ℕ, take, get_or, Option, option_map}
 use Rattle.jc_cuckoo.specs.declared.held.Held.{Held}
 use Rattle.jc_cuckoo.specs.Images.{grown_image, shown_row}
-use Rattle.jc_stripes.specs.Layout.{versions_at}
+use Rattle.jc_index.specs.StripeLayout.{versions_at}
 use Rattle.jc_index.specs.Spelling.{IsCoded, words_of_image}
 use Rattle.jc_index.proofs.fill.fill_words.Given as goal
 

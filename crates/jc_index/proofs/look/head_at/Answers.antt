@@ -1,6 +1,6 @@
 use Rattle.std.proofs.Common.{◌≡◌, ◌+◌, ◌/◌, ◌<◌, ◌%◌, ◌^◌, ℕ, suc, List, take, get_or, inl, inr, refl, arith, ap, sym, subst, ◌∙◌}
 use Rattle.jc_model.specs.Limits.{key_words}
-use Rattle.jc_stripes.specs.Stripes.{IsOneOf, glance_of}
+use Rattle.jc_index.specs.Stripes.{IsOneOf, glance_of}
 use Rattle.jc_index.specs.Layout.{bucket_slots, slot_place, slot_words, stripe_of}
 use Rattle.jc_index.specs.Spelling.{group_of, key_words_at, words_at}
 use Rattle.jc_index.proofs.Judging.{whole}

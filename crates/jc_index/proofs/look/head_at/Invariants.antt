@@ -1,5 +1,5 @@
 use Rattle.std.proofs.Common.{◌≡◌, ◌/◌, ◌≤◌, ℕ, suc, List, take, slice_index, false}
-use Rattle.jc_stripes.specs.Stripes.{IsOneOf, glance_of}
+use Rattle.jc_index.specs.Stripes.{IsOneOf, glance_of}
 use Rattle.jc_index.specs.Layout.{bucket_slots, slot_place, stripe_of}
 use Rattle.jc_index.specs.Spelling.{words_at}
 use Rattle.jc_index.specs.Passes.{IsNoted}

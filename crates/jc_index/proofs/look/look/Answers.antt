@@ -1,5 +1,5 @@
 use Rattle.std.proofs.Common.{ℕ, None, ap, sym, subst, ◌∙◌}
-use Rattle.jc_stripes.specs.Stripes.{IsOneOf}
+use Rattle.jc_index.specs.Stripes.{IsOneOf}
 use Rattle.jc_index.specs.Found.{answer_with_stash}
 use Rattle.jc_index.proofs.Firsts.{answered, passed, taken, unanswered}
 use Rattle.jc_index.proofs.Noting.{group_zero, note_is, noted_and, noted_as}

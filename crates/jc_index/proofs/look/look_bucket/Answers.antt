@@ -1,5 +1,5 @@
 use Rattle.std.proofs.Common.{◌≡◌, ◌+◌, ◌-◌, ◌*◌, ◌/◌, ◌<◌, ◌≤◌, ℕ, List, drop, refl, arith, ap, sym, subst, ◌∙◌}
-use Rattle.jc_stripes.specs.Stripes.{IsOneOf}
+use Rattle.jc_index.specs.Stripes.{IsOneOf}
 use Rattle.jc_index.specs.Layout.{bucket_slots, stripe_of}
 use Rattle.jc_index.specs.Spelling.{key_of_words}
 use Rattle.jc_index.specs.Found.{first_seen}

@@ -1,5 +1,5 @@
 use Rattle.std.proofs.Common.{◌+◌, ℕ, arith, sym, subst}
-use Rattle.jc_stripes.specs.Stripes.{IsOneOf}
+use Rattle.jc_index.specs.Stripes.{IsOneOf}
 use Rattle.jc_index.specs.Layout.{moment_place, slot_place}
 use Rattle.jc_index.specs.Spelling.{group_of}
 use Rattle.jc_index.specs.Passes.{IsHeadAt}

@@ -1,9 +1,9 @@
 use Rattle.std.proofs.Common.{◌≡◌, ◌≢◌, ◌⊎◌, ◌<◌, ℕ, List, [], length, arith, ap, sym, subst, ◌∙◌, true}
-use Rattle.jc_stripes.specs.Layout.{version_count}
+use Rattle.jc_index.specs.StripeLayout.{version_count}
 use Rattle.jc_index.specs.Versions.{onto, versions_of}
 use Rattle.std.specs.List.{All}
 use mathlib.Core.List.{IsPrefix}
-use Rattle.jc_stripes.specs.Stripes.{AreReadAtRest, Front, SomeOdd, last_of, stack_of, glance_of, stripes_in}
+use Rattle.jc_index.specs.Stripes.{AreReadAtRest, Front, SomeOdd, last_of, stack_of, glance_of, stripes_in}
 use Rattle.jc_index.specs.Spelling.{image_in, key_of_words}
 use Rattle.jc_rows.specs.Images.{Image}
 use Rattle.jc_index.specs.Found.{found_in_image}

@@ -5,7 +5,7 @@ use Rattle.jc_model.specs.declared.call.Reply.TheVariants.{Found}
 use Rattle.jc_model.specs.Changes.{access, hit}
 use Rattle.jc_model.specs.State.{live, is_live}
 use Rattle.jc_model.specs.Whole.{holds}
-use Rattle.jc_state.specs.Kept.{Kept, IsRow, has_live, record_of}
+use Rattle.jc_ops.specs.Kept.{Kept, IsRow, has_live, record_of}
 use Rattle.jc_ops.proofs.hit.get_at_once.Goals as goal
 
 -- a get of a live row is counted, uses the row, and shows its value

@@ -1,11 +1,11 @@
 use Rattle.std.proofs.Common.{◌≡◌, ◌∙◌, sym, ap, subst, refl, false, map, Bor, List, ℕ, Result}
 use Rattle.std.proofs.lemmas.Bool.{false≢true}
 use Rattle.jc_runner.proofs.Pushed.{of_some, none_of, not_both}
-use Rattle.jc_words.specs.Program.{AsksFor, MayRefuse}
-use Rattle.jc_words.specs.declared.asked.Asked.{Asked}
-use Rattle.jc_console.specs.Endings.{ending_of}
+use Rattle.jc_cli.specs.Program.{AsksFor, MayRefuse}
+use Rattle.jc_cli.specs.declared.asked.Asked.{Asked}
+use Rattle.jc_cli.specs.Endings.{ending_of}
 use Rattle.jc_runner.specs.Program.{RefusesSo, as_program, plays, runs, checks, replays, refuses}
-use Rattle.jc_console.specs.declared.fault.RunFault.{RunFault}
+use Rattle.jc_cli.specs.declared.fault.RunFault.{RunFault}
 use Rattle.jc_runner.proofs.command.obey_words.Goals as goal
 
 abbrev shown : List (Bor (List ℕ)) → List (List ℕ)
@@ -18,19 +18,19 @@ pub returns-in-Ok-Some-Run-clause-ends : goal.returns-in-Ok-Some-Run-clause-ends
 returns-in-Ok-Some-Run-clause-ends g c =
     let same = ap shown c.as_slice.ensures.value ∙ c.in-Ok.ensures in
     let told = of_some c.in-Ok-Some-Run.field-0 c.in-Ok-Some-Run.field-0-0 _ c.in-Ok-Some-Run.field-0-is c.in-Ok-Some-Run.ensures.exact in
-    runs c.in-Ok-Some-Run.run' (asked_for _ _ _ _ same c.in-Ok-Some-Run.field-0-0-is told) c.run_files-ran.result c.run_files-ran.ensures.ends c.ending_of.ensures
+    runs c.in-Ok-Some-Run.run' (asked_for _ _ _ _ same c.in-Ok-Some-Run.field-0-0-is told) c.run_files-ran.result c.run_files-ran.ensures.ends c.ended.ensures
 
 pub returns-in-Ok-Some-Check-clause-ends : goal.returns-in-Ok-Some-Check-clause-ends
 returns-in-Ok-Some-Check-clause-ends g c =
     let same = ap shown c.as_slice.ensures.value ∙ c.in-Ok.ensures in
     let told = of_some c.in-Ok-Some-Check.field-0 c.in-Ok-Some-Check.field-0-0 _ c.in-Ok-Some-Check.field-0-is c.in-Ok-Some-Check.ensures.exact in
-    checks c.in-Ok-Some-Check.check (asked_for _ _ _ _ same c.in-Ok-Some-Check.field-0-0-is told) c.check_files-ran.result c.check_files-ran.ensures.ends refl c.ending_of-in-Ok-Some-Check.ensures
+    checks c.in-Ok-Some-Check.check (asked_for _ _ _ _ same c.in-Ok-Some-Check.field-0-0-is told) c.check_files-ran.result c.check_files-ran.ensures.ends refl c.ended-in-Ok-Some-Check.ensures
 
 pub returns-in-Ok-Some-Replay-clause-ends : goal.returns-in-Ok-Some-Replay-clause-ends
 returns-in-Ok-Some-Replay-clause-ends g c =
     let same = ap shown c.as_slice.ensures.value ∙ c.in-Ok.ensures in
     let told = of_some c.in-Ok-Some-Replay.field-0 c.in-Ok-Some-Replay.field-0-0 _ c.in-Ok-Some-Replay.field-0-is c.in-Ok-Some-Replay.ensures.exact in
-    replays c.in-Ok-Some-Replay.replay (asked_for _ _ _ _ same c.in-Ok-Some-Replay.field-0-0-is told) c.replay_file-ran.result c.replay_file-ran.ensures.ends c.ending_of-in-Ok-Some-Replay.ensures
+    replays c.in-Ok-Some-Replay.replay (asked_for _ _ _ _ same c.in-Ok-Some-Replay.field-0-0-is told) c.replay_file-ran.result c.replay_file-ran.ensures.ends c.ended-in-Ok-Some-Replay.ensures
 
 pub returns-in-Ok-demonstrate-clause-ends : goal.returns-in-Ok-demonstrate-clause-ends
 returns-in-Ok-demonstrate-clause-ends g c =
@@ -45,4 +45,4 @@ returns-in-Ok-None-clause-ends g c =
 pub returns-clause-ends : goal.returns-clause-ends
 returns-clause-ends g c =
     let same = ap shown c.as_slice.ensures.value ∙ c.in-Ok.ensures in
-    refuses c.in-Err.error (λ none. not_both _ _ (c.in-Err.ensures.wordless (none_of _ _ (same ∙ none)))) (subst (λ (ws : List (List ℕ)). MayRefuse ws c.in-Err.error) same c.in-Err.ensures.refused) (λ e. absurd (false≢true (sym c.if-lacks_memory.false ∙ c.lacks_memory.ensures.1 e))) (subst (λ (ws : List (List ℕ)). RefusesSo ws c.in-Err.error c.refusal.result) (ap shown c.as_slice-in-Err.ensures.value ∙ c.in-Ok.ensures) c.refusal.ensures) ((refl, refl), refl, refl)
+    refuses c.in-Err.error (λ none. not_both _ _ (c.in-Err.ensures.wordless (none_of _ _ (same ∙ none)))) (subst (λ (ws : List (List ℕ)). MayRefuse ws c.in-Err.error) same c.in-Err.ensures.refused) (λ e. absurd (false≢true (sym c.if-lacks_memory.false ∙ c.lacks_memory.ensures.1 e))) (subst (λ (ws : List (List ℕ)). RefusesSo c.args.at_terminal ws c.in-Err.error c.refusal.result) (ap shown c.as_slice-in-Err.ensures.value ∙ c.in-Ok.ensures) c.refusal.ensures) ((refl, refl), refl, refl)

@@ -7,7 +7,7 @@ returns-in-Ok c =
     inr (record {
       text = c.in-Ok.text;
       is = refl;
-      noted = c.in-Ok.ensures;
+      told = c.in-Ok.ensures;
       asked = sym c.asks_to_explain.ensures ∙ search rules;
       no_help = no.0;
       no_version = no.1;

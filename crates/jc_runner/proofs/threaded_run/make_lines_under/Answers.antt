@@ -1,5 +1,5 @@
 use Rattle.std.proofs.Common.{Err, refl, sym, subst}
-use Rattle.jc_console.specs.Streams.{IsOfThreads}
+use Rattle.jc_cli.specs.Streams.{IsOfThreads}
 use Rattle.jc_runner.proofs.Kept.{never_open, of_threads}
 use Rattle.jc_runner.proofs.threaded_run.make_lines_under.Goals as goal
 

@@ -2,9 +2,9 @@ use Rattle.std.proofs.Common.{◌≡◌, ◌≢◌, ◌∙◌, List, ℕ, Err, a
 use Rattle.std.specs.Io.KnownBytes.{Appends, Keeps}
 use Rattle.std.proofs.lemmas.Result.{on_ok_weaker, err_from_is_err_and}
 use Rattle.jc_threads.proofs.Lists.{on_ok_both}
-use Rattle.jc_console.specs.Streams.{WritesFront, IsOfThreads}
+use Rattle.jc_cli.specs.Streams.{WritesFront, IsOfThreads}
 use Rattle.jc_runner.specs.Together.{stated_of}
-use Rattle.jc_console.specs.declared.fault.RunFault.TheVariants.{Write}
+use Rattle.jc_cli.specs.declared.fault.RunFault.TheVariants.{Write}
 use Rattle.jc_runner.proofs.Gathering.{gathers_so, passed_fault}
 use Rattle.jc_runner.proofs.Pushed.{if_err_weaker}
 use Rattle.jc_runner.proofs.threaded_run.threaded_as.Goals as goal

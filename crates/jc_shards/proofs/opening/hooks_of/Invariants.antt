@@ -1,5 +1,5 @@
 use Rattle.std.proofs.Common.{take}
-use Rattle.jc_hooks.specs.declared.unasked.Unasked.{Unasked as Silent}
+use Rattle.jc_hooks.specs.declared.no_hooks.NoHooks.{NoHooks as Silent}
 use Rattle.jc_hooks.specs.Suits.{AllSuit}
 use Rattle.jc_shards.proofs.opening.hooks_of.Given as goal
 

@@ -1,5 +1,5 @@
 use Rattle.std.proofs.Common.{List, Result, Ok, Err, IfOk, sym, subst}
-use Rattle.jc_dealing.specs.Dealing.{Dealt, names_of, AreApart, GoInTurn}
+use Rattle.jc_shards.specs.Dealing.{Dealt, names_of, AreApart, GoInTurn}
 use Rattle.jc_model.specs.declared.config.CacheConfig.{CacheConfig}
 use Rattle.jc_shards.proofs.Apart.{apart}
 use Rattle.jc_shards.proofs.quarters.open_four_in_turn.Goals as goal

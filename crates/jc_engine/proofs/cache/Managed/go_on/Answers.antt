@@ -1,5 +1,5 @@
 use Rattle.std.proofs.Common.{◌≡◌, ap, refl, subst, sym, ◌∙◌}
-use Rattle.jc_state.specs.Visited.{Visited, IsSameVisit}
+use Rattle.jc_ops.specs.Visited.{Visited, IsSameVisit}
 use Rattle.jc_bulk.specs.Calls.{ComesFrom, answered_run}
 use Rattle.jc_engine.specs.Waiting.{WaitState}
 use Rattle.jc_engine.specs.declared.turn.Turn.{Turn}

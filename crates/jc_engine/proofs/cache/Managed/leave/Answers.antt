@@ -1,5 +1,5 @@
 use Rattle.std.proofs.Common.{◌≡◌, [], subst}
-use Rattle.jc_state.specs.Visited.{Visited}
+use Rattle.jc_ops.specs.Visited.{Visited}
 use Rattle.jc_engine.proofs.Tables.{none_left}
 use Rattle.jc_engine.proofs.cache.Managed.leave.Goals as goal
 

@@ -1,5 +1,5 @@
 use Rattle.std.proofs.Common.{subst, sym, ap, ◌∙◌}
-use Rattle.jc_state.specs.Visited.{Visited}
+use Rattle.jc_ops.specs.Visited.{Visited}
 use Rattle.jc_engine.proofs.Names.{Noted, WaitsOn, progress_of}
 use Rattle.jc_engine.proofs.Calls.{settled_waiting}
 use Rattle.jc_engine.proofs.cache.Managed.settle.Goals as goal

@@ -1,5 +1,5 @@
 use Rattle.std.proofs.Common.{subst}
-use Rattle.jc_state.specs.Visited.{Visited}
+use Rattle.jc_ops.specs.Visited.{Visited}
 use Rattle.jc_bulk.specs.Calls.{EndsFrom, call_run}
 use Rattle.jc_engine.proofs.Calls.{has_begun, idle_before}
 use Rattle.jc_engine.proofs.cache.Managed.start.Goals as goal

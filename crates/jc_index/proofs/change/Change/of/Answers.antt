@@ -1,7 +1,7 @@
 use Rattle.std.proofs.Common.{◌≡◌, ◌<◌, ◌+◌, ℕ, List, Some, None, length, subst, sym, ap, ◌∙◌, inl, inr, ⊎_elim}
 use Rattle.std.specs.List.{All}
-use Rattle.jc_stripes.specs.Stripes.{AreUnderVersions, set_all}
-use Rattle.jc_stripes.specs.Layout.{version_count}
+use Rattle.jc_index.specs.Stripes.{AreUnderVersions, set_all}
+use Rattle.jc_index.specs.StripeLayout.{version_count}
 use Rattle.jc_index.specs.Layout.{table_words}
 use Rattle.jc_index.specs.Spelling.{IsSpelt, group_of, image_in}
 use Rattle.jc_cuckoo.specs.Images.{written_image}

@@ -1,5 +1,5 @@
 use Rattle.std.proofs.Common.{◌≡◌, ℕ, List, [], ◌∷◌, length, map, refl, ap, sym, subst, ◌∙◌, arith}
-use Rattle.jc_stripes.specs.Stripes.{last_of}
+use Rattle.jc_index.specs.Stripes.{last_of}
 use Rattle.jc_rows.specs.Images.{Image}
 use Rattle.jc_index.specs.Spelling.{IsLawful, IsSpelt, image_in}
 use Rattle.jc_index.proofs.Blank.{split_versions, blank, blank_image, blank_spelt, blank_lawful, empty_is}

@@ -1,11 +1,11 @@
 use Rattle.std.proofs.Common.{◌≡◌, ◌+◌, ◌<◌, ◌++◌, ℕ, List, [], ◌∷◌, Some, length, map, ap, sym, subst, ◌∙◌, arith, take}
 use Rattle.std.specs.List.{All}
 use mathlib.Core.List.{map-append}
-use Rattle.jc_stripes.specs.Stripes.{Changes, IsVersionCommitted, desk_of, last_of, set_all}
-use Rattle.jc_stripes.proofs.Lists.{last-append}
+use Rattle.jc_index.specs.Stripes.{Changes, IsVersionCommitted, desk_of, last_of, set_all}
+use Rattle.jc_index.proofs.Lists.{last-append}
 use Rattle.jc_rows.specs.Images.{Image, last_image}
 use Rattle.jc_cuckoo.specs.Images.{IsImage, written_image}
-use Rattle.jc_stripes.specs.Layout.{version_count}
+use Rattle.jc_index.specs.StripeLayout.{version_count}
 use Rattle.jc_index.specs.Layout.{table_words}
 use Rattle.jc_index.specs.Spelling.{IsSpelt, IsLawful, image_in}
 use Rattle.jc_index.specs.Batches.{count_for, is_some, stripes_for}

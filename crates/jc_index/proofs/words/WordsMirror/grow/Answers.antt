@@ -1,7 +1,7 @@
 use Rattle.std.proofs.Common.{◌≡◌, ◌*◌, ◌++◌, ℕ, List, [], ◌∷◌, Some, length, map, ap, sym, subst, ◌∙◌, arith}
 use mathlib.Core.List.{map-append}
-use Rattle.jc_stripes.specs.Stripes.{last_of}
-use Rattle.jc_stripes.proofs.Lists.{last-append}
+use Rattle.jc_index.specs.Stripes.{last_of}
+use Rattle.jc_index.proofs.Lists.{last-append}
 use Rattle.jc_rows.specs.Images.{Image}
 use Rattle.jc_cuckoo.specs.Images.{grown_image}
 use Rattle.jc_index.specs.Spelling.{IsLawful, IsSpelt, words_of_image, image_in}

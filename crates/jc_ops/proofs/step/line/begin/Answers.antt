@@ -1,6 +1,6 @@
 use Rattle.jc_ops.proofs.Names.{◌≡◌, ◌<◌, ◌+◌, if◌then◌else◌, told_on, sym, ◌∙◌, ap, subst, arith, Some, is_some, Item, Run, StepWaits, find_row, purge, step, waits_first, progress_in}
 use Rattle.jc_model.proofs.Purge.{purged_row, purge-again, step-purged}
-use Rattle.jc_state.proofs.VisitLaws.{same_on}
+use Rattle.jc_ops.proofs.VisitLaws.{same_on}
 use Rattle.jc_ops.specs.Supply.{most_told_in}
 use Rattle.jc_ops.proofs.Goes.{row_is_there, most_is}
 use Rattle.jc_ops.proofs.Lined.{room_fits, begins_ended, begins_waiting}

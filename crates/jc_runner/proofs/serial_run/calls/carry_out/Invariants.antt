@@ -7,7 +7,7 @@ use Rattle.jc_runner.proofs.serial_run.calls.carry_out.Given as goal
 
 abbrev pub invariant-loop-step : goal.invariant-loop-step
 invariant-loop-step g l = record {
-  reached : Reached g.L.Loader.load_of g.W.Writer.may g.P.Processor.verdict_of g.K.Hearer.state_after l.fn.recorded l.recorded (Some l.fn.hooks) (Some l.hooks) l.fn.line l.step;
+  reached : Reached g.L.Loader.load_of g.W.Writer.may g.P.Processor.verdict_of g.K.FilteredListener.state_after l.fn.recorded l.recorded (Some l.fn.hooks) (Some l.hooks) l.fn.line l.step;
   kept : asked_of l.hooks ≡ asked_of l.fn.hooks;
 }
 

@@ -13,5 +13,5 @@ returns-clause-replies g c =
     let hooks = c.args.hooks.now in
     let out = subst (λ (n : ℕ). length hooks ≤ n) c.number-place.ensures c.if-place-hooks.false in
     where_ok c.carry_out-2.result
-    (without g.L.Loader.load_of g.W.Writer.may g.P.Processor.verdict_of g.K.Hearer.state_after c.args.recorded.now c.carry_out-2.new.recorded c.no_hooks-none.result c.carry_out-2.new.hooks hooks c.args.line c.no_hooks-none.ensures (none_there hooks c.args.line.id out))
+    (without g.L.Loader.load_of g.W.Writer.may g.P.Processor.verdict_of g.K.FilteredListener.state_after c.args.recorded.now c.carry_out-2.new.recorded c.no_hooks-none.result c.carry_out-2.new.hooks hooks c.args.line c.no_hooks-none.ensures (none_there hooks c.args.line.id out))
     c.carry_out-2.ensures.replies

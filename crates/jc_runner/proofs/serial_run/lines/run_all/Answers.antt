@@ -15,12 +15,12 @@ run_line-requires-clause-named g c = λ _ _. (subst (AllName (as_read (lives_now
 pub loop-line-preserved : goal.loop-line-preserved
 loop-line-preserved g c =
     let named = subst (AllName (as_read (lives_now c.loop-line.recorded))) c.in-Some.ensures.steps.0 c.loop-line.invariant.named in
-    let follows = line_follows g.L.Loader.load_of g.W.Writer.may g.P.Processor.verdict_of g.K.Hearer.state_after c.loop-line.recorded c.run_line.new.recorded c.loop-line.hooks c.run_line.new.hooks c.in-Some.line c.loop-line.invariant.rest named.0 c.in_ok-run_line.ensures.ran in
+    let follows = line_follows g.L.Loader.load_of g.W.Writer.may g.P.Processor.verdict_of g.K.FilteredListener.state_after c.loop-line.recorded c.run_line.new.recorded c.loop-line.hooks c.run_line.new.hooks c.in-Some.line c.loop-line.invariant.rest named.0 c.in_ok-run_line.ensures.ran in
     record {
       halfway = λ caches handed all first.
-          one_line_more g.L.Loader.load_of g.W.Writer.may g.P.Processor.verdict_of g.K.Hearer.state_after handed all _ c.loop-line.recorded c.run_line.new.recorded c.loop-line.hooks c.run_line.new.hooks c.loop-line.invariant.rest caches c.in-Some.line c.loop-line.managed.items
+          one_line_more g.L.Loader.load_of g.W.Writer.may g.P.Processor.verdict_of g.K.FilteredListener.state_after handed all _ c.loop-line.recorded c.run_line.new.recorded c.loop-line.hooks c.run_line.new.hooks c.loop-line.invariant.rest caches c.in-Some.line c.loop-line.managed.items
           c.run_line.new.managed.items c.in_ok-run_line.ensures.managed named.0 c.in_ok-run_line.ensures.ran
-          (subst (λ (rest : List Line). Halfway g.L.Loader.load_of g.W.Writer.may g.P.Processor.verdict_of g.K.Hearer.state_after caches handed all rest c.loop-line.recorded c.loop-line.hooks c.loop-line.managed.items) c.in-Some.ensures.steps.0
+          (subst (λ (rest : List Line). Halfway g.L.Loader.load_of g.W.Writer.may g.P.Processor.verdict_of g.K.FilteredListener.state_after caches handed all rest c.loop-line.recorded c.loop-line.hooks c.loop-line.managed.items) c.in-Some.ensures.steps.0
           (c.loop-line.invariant.halfway caches handed all first));
       rest = follows.rest;
       kept = c.run_line.ensures.kept ∙ c.loop-line.invariant.kept;
@@ -30,5 +30,5 @@ loop-line-preserved g c =
 pub returns-clause-done : goal.returns-clause-done
 returns-clause-done g c = λ caches handed all first.
     let left : List Line = into_iter_items c.loop-line.line-iterator in
-    subst (λ (rest : List Line). Halfway g.L.Loader.load_of g.W.Writer.may g.P.Processor.verdict_of g.K.Hearer.state_after caches handed all rest c.loop-line.recorded c.loop-line.hooks c.loop-line.managed.items) (none_left left (sym c.loop-line.line-iterator.rest.ok.0 ∙ c.in-None.ensures.steps.0))
+    subst (λ (rest : List Line). Halfway g.L.Loader.load_of g.W.Writer.may g.P.Processor.verdict_of g.K.FilteredListener.state_after caches handed all rest c.loop-line.recorded c.loop-line.hooks c.loop-line.managed.items) (none_left left (sym c.loop-line.line-iterator.rest.ok.0 ∙ c.in-None.ensures.steps.0))
     (c.loop-line.invariant.halfway caches handed all first)

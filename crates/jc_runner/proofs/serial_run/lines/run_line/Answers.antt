@@ -13,5 +13,5 @@ run_call-requires-after_bounds g c κs within =
 
 pub returns-in-Create-clause-ran : goal.returns-in-Create-clause-ran
 returns-in-Create-clause-ran g c =
-    subst (λ (l : Line). OnOk c.run_create.result (RunsLine g.L.Loader.load_of g.W.Writer.may g.P.Processor.verdict_of g.K.Hearer.state_after c.args.recorded.now c.run_create.new.recorded c.args.hooks.now c.args.hooks.now l)) (sym c.in-Create.is)
+    subst (λ (l : Line). OnOk c.run_create.result (RunsLine g.L.Loader.load_of g.W.Writer.may g.P.Processor.verdict_of g.K.FilteredListener.state_after c.args.recorded.now c.run_create.new.recorded c.args.hooks.now c.args.hooks.now l)) (sym c.in-Create.is)
     (on_ok_weaker c.run_create.result (λ moved. (moved, refl)) c.run_create.ensures.moves)

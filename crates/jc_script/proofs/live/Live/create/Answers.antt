@@ -1,7 +1,7 @@
 use Rattle.std.proofs.Common.{◌≡◌, ap, sym, ◌∙◌, subst, rules, true, false, List, Option, None, is_some}
 use Rattle.jc_model.specs.declared.config.CacheConfig.{CacheConfig}
 use Rattle.jc_model.specs.Runs.{creates, answer_in, lives_by}
-use Rattle.jc_roster.proofs.Members.{allowed}
+use Rattle.jc_model.proofs.Members.{allowed}
 use Rattle.jc_script.specs.Live.{lives_in}
 use Rattle.jc_script.proofs.KeptCaches.{none_there, refused, accepted, one_more}
 use Rattle.jc_model.specs.Refusals.{refusal_beside}

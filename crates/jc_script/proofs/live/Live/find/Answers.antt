@@ -1,5 +1,5 @@
 use Rattle.std.proofs.Common.{ap, ◌∙◌}
-use Rattle.jc_roster.specs.Members.{id_named}
+use Rattle.jc_model.specs.Members.{id_named}
 use Rattle.jc_script.specs.Live.{id_of_live, lives_in}
 use Rattle.jc_script.proofs.KeptCaches.{id_by_members}
 use Rattle.jc_script.proofs.live.Live.find.Goals as goal

@@ -3,7 +3,7 @@ use Rattle.jc_model.specs.declared.call.Notice.{Notice}
 use Rattle.jc_model.specs.declared.event.Entry.{Entry}
 use Rattle.jc_locked.specs.Calls.{IsSameCall}
 use Rattle.jc_locked.specs.Serving.{told_behind, TellsListeners}
-use Rattle.jc_recorded.proofs.Recordings.{on_ok}
+use Rattle.jc_engine.proofs.Recordings.{on_ok}
 use Rattle.jc_shared.proofs.Carrying.{second_on_err, on_err, served_on, noted_waits, goes_stays, goes_untold, goes_unanswered}
 use Rattle.jc_shared.proofs.manager.Manager.advance.Goals as goal
 
@@ -18,8 +18,8 @@ returns-then-is_err-clause-told g c =
     let told = told_behind c.args.request c.args.draft.now.told in
     let same : c.note_answer.new.draft ≡ c.keep_told.new.draft = on_err c.note_answer.result c.note_answer.ensures.err (sym c.is_err.ensures.value ∙ c.if-is_err.true) in
     let kept : c.note_answer.new.draft.told ≡ told = ap (λ (e : Entry). e.told) same ∙ ap (λ (e : Entry). e.told) c.keep_told.ensures in
-    let served = served_on g.K.Hearer.state_after g.W.Writer.may c.args.hooks.now c.answer.new.hooks c.args.request c.in-Ok.answer c.args.draft.now.told (c.tells_again.ensures c.if-tells_again.false) c.in-Ok.ensures.served in
-    λ first h. c.give_up-then-is_err.ensures.told first (subst (λ (ns : List Notice). TellsListeners g.K.Hearer.state_after first c.answer.new.hooks ns) (sym kept) (served first h))
+    let served = served_on g.K.FilteredListener.state_after g.W.Writer.may c.args.hooks.now c.answer.new.hooks c.args.request c.in-Ok.answer c.args.draft.now.told (c.tells_again.ensures c.if-tells_again.false) c.in-Ok.ensures.served in
+    λ first h. c.give_up-then-is_err.ensures.told first (subst (λ (ns : List Notice). TellsListeners g.K.FilteredListener.state_after first c.answer.new.hooks ns) (sym kept) (served first h))
 
 pub returns-in-Err-OutOfMemory-clause-told : goal.returns-in-Err-OutOfMemory-clause-told
 returns-in-Err-OutOfMemory-clause-told g c =
@@ -28,8 +28,8 @@ returns-in-Err-OutOfMemory-clause-told g c =
     let same : c.resume-resumed.new.draft ≡ c.note_answer.new.draft = second_on_err _ _ _ c.resume-resumed.result _ c.in-Err-OutOfMemory.is c.resume-resumed.ensures.same in
     let back = c.take_back.ensures.taken c.keep_told.new.draft.answers c.in-Ok.answer (ap (λ (e : Entry). e.answers) (same ∙ noted)) in
     let kept : c.take_back.new.draft.told ≡ told = ap (λ (e : Entry). e.told) back ∙ ap (λ (e : Entry). e.told) (same ∙ noted) ∙ ap (λ (e : Entry). e.told) c.keep_told.ensures in
-    let served = served_on g.K.Hearer.state_after g.W.Writer.may c.args.hooks.now c.answer.new.hooks c.args.request c.in-Ok.answer c.args.draft.now.told (c.tells_again.ensures c.if-tells_again.false) c.in-Ok.ensures.served in
-    λ first h. c.give_up-in-Err-OutOfMemory.ensures.told first (subst (λ (ns : List Notice). TellsListeners g.K.Hearer.state_after first c.answer.new.hooks ns) (sym kept) (served first h))
+    let served = served_on g.K.FilteredListener.state_after g.W.Writer.may c.args.hooks.now c.answer.new.hooks c.args.request c.in-Ok.answer c.args.draft.now.told (c.tells_again.ensures c.if-tells_again.false) c.in-Ok.ensures.served in
+    λ first h. c.give_up-in-Err-OutOfMemory.ensures.told first (subst (λ (ns : List Notice). TellsListeners g.K.FilteredListener.state_after first c.answer.new.hooks ns) (sym kept) (served first h))
 
 pub returns-in-Err : goal.returns-in-Err
 returns-in-Err g c =
@@ -41,14 +41,14 @@ returns-in-Err g c =
     let same : c.resume-resumed.new.draft ≡ record held { answers = held.answers ++ c.in-Ok.answer ∷ [] } = c.in-Err.ensures.same.1 ∙ noted in
     let back : new ≡ record draft { told = told } =
     c.take_back-in-Err.ensures.taken held.answers c.in-Ok.answer (ap (λ (e : Entry). e.answers) same) ∙ (ap (λ (e : Entry). record e { answers = held.answers }) same ∙ c.keep_told.ensures) in
-    let served = served_on g.K.Hearer.state_after g.W.Writer.may c.args.hooks.now c.answer.new.hooks c.args.request c.in-Ok.answer draft.told (c.tells_again.ensures c.if-tells_again.false) c.in-Ok.ensures.served in
+    let served = served_on g.K.FilteredListener.state_after g.W.Writer.may c.args.hooks.now c.answer.new.hooks c.args.request c.in-Ok.answer draft.told (c.tells_again.ensures c.if-tells_again.false) c.in-Ok.ensures.served in
     record {
       same = subst (IsSameCall draft) (sym back) refl;
       served = tt;
       kept = ap (λ (e : Entry). e.answers) back;
       brought = ap (λ (e : Entry). e.end) back ∙ c.requires.asked.waits;
       front = c.resume-resumed.ensures.front;
-      told = λ first h. subst (λ (ns : List Notice). TellsListeners g.K.Hearer.state_after first c.answer.new.hooks ns) (sym (ap (λ (e : Entry). e.told) back)) (served first h);
+      told = λ first h. subst (λ (ns : List Notice). TellsListeners g.K.FilteredListener.state_after first c.answer.new.hooks ns) (sym (ap (λ (e : Entry). e.told) back)) (served first h);
     }
 
 pub returns-in-Ok-resumed-clause-told : goal.returns-in-Ok-resumed-clause-told
@@ -57,8 +57,8 @@ returns-in-Ok-resumed-clause-told g c =
     let noted = on_ok c.note_answer.result c.note_answer.ensures.ok (sym c.is_err.ensures.value ∙ c.if-is_err.false) in
     let kept : c.resume-resumed.new.draft.told ≡ told =
     goes_untold g.N.Name.configs c.note_answer.new.draft c.resume-resumed.new.draft c.resume-resumed.new.pass c.in-Ok-resumed.step c.in-Ok-resumed.ensures.ok ∙ ap (λ (e : Entry). e.told) noted ∙ ap (λ (e : Entry). e.told) c.keep_told.ensures in
-    let served = served_on g.K.Hearer.state_after g.W.Writer.may c.args.hooks.now c.answer.new.hooks c.args.request c.in-Ok.answer c.args.draft.now.told (c.tells_again.ensures c.if-tells_again.false) c.in-Ok.ensures.served in
-    λ first h. subst (λ (ns : List Notice). TellsListeners g.K.Hearer.state_after first c.answer.new.hooks ns) (sym kept) (served first h)
+    let served = served_on g.K.FilteredListener.state_after g.W.Writer.may c.args.hooks.now c.answer.new.hooks c.args.request c.in-Ok.answer c.args.draft.now.told (c.tells_again.ensures c.if-tells_again.false) c.in-Ok.ensures.served in
+    λ first h. subst (λ (ns : List Notice). TellsListeners g.K.FilteredListener.state_after first c.answer.new.hooks ns) (sym kept) (served first h)
 
 pub returns-in-Ok-resumed-clause-served : goal.returns-in-Ok-resumed-clause-served
 returns-in-Ok-resumed-clause-served g c =

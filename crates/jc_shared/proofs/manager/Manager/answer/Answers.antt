@@ -5,7 +5,7 @@ use Rattle.jc_shared.proofs.manager.Manager.answer.Goals as goal
 
 pub returns-clause-served : goal.returns-clause-served
 returns-clause-served g c =
-    served_lent g.W.Writer.may g.K.Hearer.state_after c.args.hooks.now c.answer_request.new.writer c.as_mut_slice.result.now c.answer_request.new.listeners c.args.request.now c.answer_request.result
+    served_lent g.W.Writer.may g.K.FilteredListener.state_after c.args.hooks.now c.answer_request.new.writer c.as_mut_slice.result.now c.answer_request.new.listeners c.args.request.now c.answer_request.result
     c.as_mut_slice.ensures.value (search rules) c.answer_request.ensures.asked c.answer_request.ensures.told
 
 pub returns-clause-untold : goal.returns-clause-untold

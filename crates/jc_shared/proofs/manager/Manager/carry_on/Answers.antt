@@ -1,6 +1,6 @@
 use Rattle.std.proofs.Common.{sym, subst}
 use Rattle.std.proofs.lemmas.Result.{err_from_is_err_and}
-use Rattle.jc_stripes.proofs.Lists.{prefix_trans}
+use Rattle.jc_index.proofs.Lists.{prefix_trans}
 use Rattle.jc_locked.specs.Serving.{HasStated}
 use Rattle.jc_shared.proofs.Carrying.{same_call}
 use Rattle.jc_shared.proofs.Writing.{has_stated, takes_in}
@@ -16,7 +16,7 @@ loop-preserved g c =
       step.brought,
       prefix_trans c.args.pass.now.images c.loop.pass.images c.advance.new.pass.images before.4 step.front,
       λ first h. step.told first (before.5 first h),
-      λ first h. takes_in g.W.Writer.may g.K.Hearer.state_after c.loop.hooks c.advance.new.hooks c.loop.draft.answers _ c.advance.new.draft.answers step.served first (before.6 first h),
+      λ first h. takes_in g.W.Writer.may g.K.FilteredListener.state_after c.loop.hooks c.advance.new.hooks c.loop.draft.answers _ c.advance.new.draft.answers step.served first (before.6 first h),
     )
 
 pub returns-in_err-step-in-Need-clause-wrote : goal.returns-in_err-step-in-Need-clause-wrote

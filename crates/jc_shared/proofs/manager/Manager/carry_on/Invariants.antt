@@ -6,5 +6,5 @@ use Rattle.jc_shared.proofs.manager.Manager.carry_on.Given as goal
 -- it is the same call, and stands as it was brought to
 abbrev pub invariant-loop : goal.invariant-loop
 invariant-loop g l =
-    (goal.iterator-loop g).can_next l.iterator' × (goal.iterator-loop g).is_finite l.iterator' × IsSameCall l.fn.draft l.draft × CallStands g.N.Name.configs g.N.Name.stated l.step l.draft l.pass × IsPrefix l.fn.pass.images l.pass.images × TellsListenersOn g.K.Hearer.state_after l.fn.hooks l.hooks l.fn.draft.told l.draft.told
+    (goal.iterator-loop g).can_next l.iterator' × (goal.iterator-loop g).is_finite l.iterator' × IsSameCall l.fn.draft l.draft × CallStands g.N.Name.configs g.N.Name.stated l.step l.draft l.pass × IsPrefix l.fn.pass.images l.pass.images × TellsListenersOn g.K.FilteredListener.state_after l.fn.hooks l.hooks l.fn.draft.told l.draft.told
     × WritesOn g.W.Writer.may l.fn.hooks l.hooks l.fn.draft.answers l.draft.answers

@@ -1,8 +1,8 @@
 use Rattle.std.proofs.Common.{◌≡◌, ◌∙◌, List, subst}
 use Rattle.jc_model.specs.declared.event.Entry.{Entry}
-use Rattle.jc_recorded.specs.Changed.{begun_entry}
-use Rattle.jc_recorded.specs.Recording.{blank}
-use Rattle.jc_recorded.proofs.Recordings.{begun_is}
+use Rattle.jc_engine.specs.Changed.{begun_entry}
+use Rattle.jc_engine.specs.Recording.{blank}
+use Rattle.jc_engine.proofs.Recordings.{begun_is}
 use Rattle.jc_locked.specs.Sessions.{Sitting}
 use Rattle.jc_shared.specs.Progress.{AddsBegun}
 use Rattle.jc_shared.proofs.Carrying.{begun_ok, begun_err}
@@ -10,8 +10,8 @@ use Rattle.jc_shared.proofs.session.Session.call_created.Goals as goal
 
 pub returns-in-Ok-came-clause-ok : goal.returns-in-Ok-came-clause-ok
 returns-in-Ok-came-clause-ok g c =
-    let old : Sitting = record { number = c.self.inside.number; calls = g.J.Own.OwnCalls.calls c.self.inside.own; pass = c.self.inside.pass } in
-    let new : Sitting = record { number = c.self.inside.number; calls = g.J.Own.OwnCalls.calls c.add_begun.new.own; pass = c.begin_call-came.new.pass } in
+    let old : Sitting = record { number = c.self.inside.number; calls = g.J.Own.SessionJournal.calls c.self.inside.own; pass = c.self.inside.pass } in
+    let new : Sitting = record { number = c.self.inside.number; calls = g.J.Own.SessionJournal.calls c.add_begun.new.own; pass = c.begin_call-came.new.pass } in
     let begun = c.of-begun.result in
     let step = c.in-Ok-came.pair.0 in
     let begins : begun_entry begun ≡ blank old.number c.args.id c.args.now c.args.call = begun_is begun (record { session = old.number; id = c.args.id; at = c.args.now }) c.args.call (c.of-begun.ensures.origin ∙ c.origin.ensures) c.of-begun.ensures.call in
@@ -21,8 +21,8 @@ returns-in-Ok-came-clause-ok g c =
 
 pub returns-in-Ok-came-clause-err : goal.returns-in-Ok-came-clause-err
 returns-in-Ok-came-clause-err g c =
-    let old : Sitting = record { number = c.self.inside.number; calls = g.J.Own.OwnCalls.calls c.self.inside.own; pass = c.self.inside.pass } in
-    let new : Sitting = record { number = c.self.inside.number; calls = g.J.Own.OwnCalls.calls c.add_begun.new.own; pass = c.begin_call-came.new.pass } in
+    let old : Sitting = record { number = c.self.inside.number; calls = g.J.Own.SessionJournal.calls c.self.inside.own; pass = c.self.inside.pass } in
+    let new : Sitting = record { number = c.self.inside.number; calls = g.J.Own.SessionJournal.calls c.add_begun.new.own; pass = c.begin_call-came.new.pass } in
     let begun = c.of-begun.result in
     let step = c.in-Ok-came.pair.0 in
     let begins : begun_entry begun ≡ blank old.number c.args.id c.args.now c.args.call = begun_is begun (record { session = old.number; id = c.args.id; at = c.args.now }) c.args.call (c.of-begun.ensures.origin ∙ c.origin.ensures) c.of-begun.ensures.call in

@@ -1,9 +1,9 @@
 use Rattle.std.proofs.Common.{◌≡◌, ◌∙◌, refl, Some, subst}
 use Rattle.jc_model.specs.declared.call.Reply.TheVariants.{Found}
 use Rattle.jc_model.specs.declared.event.Step.TheVariants.{Done}
-use Rattle.jc_recorded.specs.declared.journal.change.Origin.{Origin}
-use Rattle.jc_recorded.specs.Recording.{blank_of}
-use Rattle.jc_recorded.proofs.Recordings.{begun_is}
+use Rattle.jc_engine.specs.declared.journal.change.Origin.{Origin}
+use Rattle.jc_engine.specs.Recording.{blank_of}
+use Rattle.jc_engine.proofs.Recordings.{begun_is}
 use Rattle.jc_locked.specs.Calls.{CallGoesOnTo}
 use Rattle.jc_locked.specs.Sessions.{Sitting}
 use Rattle.jc_shared.proofs.Carrying.{replied_entry}
@@ -11,8 +11,8 @@ use Rattle.jc_shared.proofs.session.Session.get_at_once.Goals as goal
 
 pub returns-clause-some : goal.returns-clause-some
 returns-clause-some g c =
-    let old : Sitting = record { number = c.self.inside.number; calls = g.J.Own.OwnCalls.calls c.self.inside.own; pass = c.self.inside.pass } in
-    let new : Sitting = record { number = c.self.inside.number; calls = g.J.Own.OwnCalls.calls c.note.new.self; pass = c.get_at_once-found.new.pass } in
+    let old : Sitting = record { number = c.self.inside.number; calls = g.J.Own.SessionJournal.calls c.self.inside.own; pass = c.self.inside.pass } in
+    let new : Sitting = record { number = c.self.inside.number; calls = g.J.Own.SessionJournal.calls c.note.new.self; pass = c.get_at_once-found.new.pass } in
     let origin : Origin = record { session = old.number; id = c.args.id; at = c.args.now } in
     let call = c.args.call.now in
     let begun = c.of-begun.result in

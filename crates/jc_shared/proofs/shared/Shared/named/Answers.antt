@@ -1,6 +1,6 @@
 use Rattle.std.proofs.Common.{ap, ◌∙◌, subst, List}
 use Rattle.jc_model.specs.declared.config.CacheConfig.{CacheConfig}
-use Rattle.jc_recorded.specs.Recording.{Recording}
+use Rattle.jc_engine.specs.Recording.{Recording}
 use Rattle.jc_locked.specs.Opening.{HandedIn}
 use Rattle.jc_locked.specs.Sessions.{BeginsWith}
 use Rattle.jc_locked.proofs.Opened.{begins_opened}

@@ -1,0 +1,189 @@
+-- What is shown by cache, before and after an event.
+use Rattle.std.proofs.Common.{◌≡◌, ◌≢◌, ◌<◌, ◌+◌, ℕ, zero, suc, Bool, true, false, is_some, List, [], ◌∷◌, ◌++◌, length, option_map, slice_set, Option, Some, None, inl, inr, refl, sym, ap, ap₂, subst, ◌∙◌, arith}
+use Rattle.std.proofs.lemmas.Bool.{cases_eq}
+use Rattle.std.proofs.lemmas.List.{length-map, length_push}
+use Rattle.jc_model.specs.declared.config.CacheConfig.{CacheConfig}
+use Rattle.jc_model.specs.declared.event.Event.{Event}
+use Rattle.jc_model.specs.declared.event.Event.TheVariants.{Create}
+use Rattle.jc_model.specs.declared.event.Outcome.{Outcome}
+use Rattle.jc_model.specs.declared.event.Outcome.TheVariants.{Created, Destroyed}
+use Rattle.jc_model.specs.Places.{at_place, there}
+use Rattle.jc_model.specs.Runs.{Lives, Status, CacheEvent, on_cache, moved, put_moved, answer_of, answer_in, answer_to, answer_to_destroy, answer_to_create, create_refusal, for_memory, is_refused, lives_after, lives_by}
+use Rattle.jc_model.proofs.Lives.{at_same, at_other, same_length}
+use Rattle.jc_engine.proofs.Names.{at_place_map}
+use Rattle.jc_engine.specs.Caches.{Cache, status_of, lives_of, fresh_cache}
+use Rattle.jc_engine.specs.Free.{takes_none}
+use Rattle.jc_engine.specs.Sound.{NoneFrom, places_of}
+use Rattle.jc_engine.proofs.Numbered.{Puts, put_here, put_other, places_put, places_more}
+use Rattle.jc_engine.proofs.Places.{place_of}
+use Rattle.jc_c.specs.Seated.{HaveSlots, Does, shown_with}
+pub use Rattle.jc_c.specs.Seated.{seated_of}
+
+pub some_map : {A B : Type 0} (h : A → B) (o : Option A) → is_some (option_map h o) ≡ is_some o
+some_map h None = refl
+some_map h (Some x) = refl
+
+-- whether a cache is live, by the caches or by how they stand
+pub live_there : (caches : List (Option Cache)) (id : ℕ) → is_some (at_place (lives_of caches) id) ≡ is_some (at_place caches id)
+live_there caches id = ap is_some (at_place_map status_of caches id) ∙ some_map status_of (at_place caches id)
+
+some_of : {A : Type 0} (o : Option A) → is_some o ≡ true → (x : A) × (o ≡ Some x)
+some_of None is = absurd cc
+some_of (Some x) is = (x, refl)
+
+pub below : {A : Type 0} (xs : List (Option A)) (id : ℕ) → is_some (at_place xs id) ≡ true → id < length xs
+below [] id is = absurd cc
+below (x ∷ xs) zero is = omega arith
+below (x ∷ xs) (suc id) is = let less = below xs id is in omega (arith, less)
+
+-- a place is set, and the others stay
+set_here : {A : Type 0} (xs : List (Option A)) (id : ℕ) (o : Option A) → is_some (at_place xs id) ≡ true → at_place (slice_set xs id o) id ≡ o
+set_here xs id o is = let had = some_of (at_place xs id) is in ap there (at_same xs id (Some had.0) o (place_of xs id had.0 had.1))
+
+set_there : {A : Type 0} (xs : List (Option A)) (id other : ℕ) (o : Option A) → id ≢ other → at_place (slice_set xs id o) other ≡ at_place xs other
+set_there xs id other o differ = ap there (at_other xs id other o differ)
+
+-- an accepted event finds its cache
+accepted_live : (found : Option Status) (said : CacheEvent) (memory : Bool) (o : Outcome) → o ≡ answer_of found said memory → is_refused o ≡ false → is_some found ≡ true
+accepted_live None said memory o is accepted = (let refused = ap is_refused is in absurd cc)
+accepted_live (Some k) said memory o is accepted = refl
+
+moved_live : (lives : Lives) (id : ℕ) (said : CacheEvent) (found : Option Status) → at_place lives id ≡ found → (i : ℕ) → is_some (at_place (put_moved lives id said found) i) ≡ is_some (at_place lives i)
+moved_live lives id said None at i = refl
+moved_live lives id said (Some k) at i = elim (cases_eq id i) [
+  | inl same ↦ subst (λ (n : ℕ). is_some (at_place (slice_set lives id (Some (moved k said))) n) ≡ is_some (at_place lives n)) same
+      (ap is_some (set_here lives id (Some (moved k said)) (ap is_some at)) ∙ sym (ap is_some at))
+  | inr differ ↦ ap is_some (set_there lives id i (Some (moved k said)) differ)
+]
+
+moved_length : (lives : Lives) (id : ℕ) (said : CacheEvent) (found : Option Status) → length (put_moved lives id said found) ≡ length lives
+moved_length lives id said None = refl
+moved_length lives id said (Some k) = same_length lives id (Some (moved k said))
+
+pub same_places : {A : Type 0} (f g : ℕ → Option A) (n : ℕ) → ((i : ℕ) → g i ≡ f i) → places_of g n ≡ places_of f n
+same_places f g zero same = refl
+same_places f g (suc n) same = ap₂ (λ xs x. xs ++ x ∷ []) (same_places f g n same) (same n)
+
+-- An event of one cache was accepted.
+module _ (caches caches' : List (Option Cache)) (f g : ℕ → Option Outcome) (id : ℕ) (said : CacheEvent) (o : Outcome) (slots : HaveSlots caches f)
+    (memory : Bool) (answer : o ≡ answer_in (lives_of caches) (on_cache id said) memory) (accepted : is_refused o ≡ false) where
+  live : is_some (at_place caches id) ≡ true
+  live = sym (live_there caches id) ∙ accepted_live (at_place (lives_of caches) id) said memory o answer accepted
+
+  pub slot : is_some (f id) ≡ true
+  slot = slots id ∙ live
+
+  module _ (after : lives_of caches' ≡ lives_by (lives_of caches) (on_cache id said) o) (puts : Puts f id (Some o) g) where
+    changed : lives_of caches' ≡ put_moved (lives_of caches) id said (at_place (lives_of caches) id)
+    changed = rw accepted at after
+
+    live_after : (i : ℕ) → is_some (at_place caches' i) ≡ is_some (at_place caches i)
+    live_after i =
+        sym (live_there caches' i) ∙ ap (λ (ls : Lives). is_some (at_place ls i)) changed
+        ∙ moved_live (lives_of caches) id said (at_place (lives_of caches) id) refl i ∙ live_there caches i
+
+    length_after : length caches' ≡ length caches
+    length_after =
+        sym (length-map caches' (option_map status_of)) ∙ ap length changed
+        ∙ moved_length (lives_of caches) id said (at_place (lives_of caches) id) ∙ length-map caches (option_map status_of)
+
+    pub slots_after : HaveSlots caches' g
+    slots_after i = elim (cases_eq i id) [
+      | inl same ↦ subst (λ (n : ℕ). is_some (g n) ≡ is_some (at_place caches' n)) (sym same) (ap is_some (put_here f g id (Some o) puts) ∙ sym (live_after id ∙ live))
+      | inr differ ↦ ap is_some (put_other f g id (Some o) puts i differ) ∙ slots i ∙ sym (live_after i)
+    ]
+
+    pub shown_after : places_of g (length caches') ≡ slice_set (places_of f (length caches)) id (Some o)
+    shown_after = ap (places_of g) length_after ∙ places_put f g id (Some o) puts (length caches) (below caches id live)
+
+pub refused_does : (caches caches' : List (Option Cache)) (f g : ℕ → Option Outcome) (event : Event) (o : Outcome) → is_refused o ≡ true → o ≡ answer_to (lives_of caches) event (for_memory o)
+    → lives_of caches' ≡ lives_after (lives_of caches) event o → (takes_none event ≡ true → o ≡ answer_to (lives_of caches) event false) → caches' ≡ caches → ((i : ℕ) → g i ≡ f i)
+    → Does (seated_of caches f) event o (seated_of caches' g)
+refused_does caches caches' f g event o refused answer lives free same also =
+    let shown : places_of g (length caches') ≡ places_of f (length caches) = ap (λ (ks : List (Option Cache)). places_of g (length ks)) same ∙ same_places f g (length caches) also in
+    record {
+      outcome_is = answer;
+      lives = lives;
+      free = free;
+      shows = rw refused shown;
+      refused = λ _. ap₂ (λ ks os. record { caches = ks; shown = os }) same shown;
+    }
+
+pub accepted_does : (caches caches' : List (Option Cache)) (f g : ℕ → Option Outcome) (event : Event) (o : Outcome) → is_refused o ≡ false → o ≡ answer_to (lives_of caches) event (for_memory o)
+    → lives_of caches' ≡ lives_after (lives_of caches) event o → (takes_none event ≡ true → o ≡ answer_to (lives_of caches) event false)
+    → places_of g (length caches') ≡ shown_with (places_of f (length caches)) event o
+    → Does (seated_of caches f) event o (seated_of caches' g)
+accepted_does caches caches' f g event o accepted answer lives free shown =
+    record {
+      outcome_is = answer;
+      lives = lives;
+      free = free;
+      shows = rw accepted shown;
+      refused = λ refused. (let clash = sym accepted ∙ refused in absurd cc);
+    }
+
+-- A cache was destroyed.
+module _ (caches caches' : List (Option Cache)) (f g : ℕ → Option Outcome) (id : ℕ) (slots : HaveSlots caches f) (answer : Destroyed ≡ answer_to_destroy (at_place (lives_of caches) id))
+    (gone : caches' ≡ slice_set caches id None) (puts : Puts f id None g) where
+  there_to_destroy : (found : Option Status) → Destroyed ≡ answer_to_destroy found → is_some found ≡ true
+  there_to_destroy None is = absurd cc
+  there_to_destroy (Some k) is = refl
+
+  was_live : is_some (at_place caches id) ≡ true
+  was_live = sym (live_there caches id) ∙ there_to_destroy (at_place (lives_of caches) id) answer
+
+  pub slots_without : HaveSlots caches' g
+  slots_without i = elim (cases_eq i id) [
+    | inl same ↦ subst (λ (n : ℕ). is_some (g n) ≡ is_some (at_place caches' n)) (sym same)
+        (ap is_some (put_here f g id None puts) ∙ sym (ap (λ (ks : List (Option Cache)). is_some (at_place ks id)) gone ∙ ap is_some (set_here caches id None was_live)))
+    | inr differ ↦ ap is_some (put_other f g id None puts i differ) ∙ slots i
+        ∙ sym (ap (λ (ks : List (Option Cache)). is_some (at_place ks i)) gone ∙ ap is_some (set_there caches id i None (λ e. differ (sym e))))
+  ]
+
+  pub shown_without : places_of g (length caches') ≡ slice_set (places_of f (length caches)) id None
+  shown_without =
+      ap (λ (ks : List (Option Cache)). places_of g (length ks)) gone ∙ ap (places_of g) (same_length caches id None)
+      ∙ places_put f g id None puts (length caches) (below caches id was_live)
+
+-- A cache was created.
+
+at_last : {A : Type 0} (xs : List (Option A)) (y : Option A) → at_place (xs ++ y ∷ []) (length xs) ≡ y
+at_last [] y = refl
+at_last (x ∷ xs) y = at_last xs y
+
+at_front : {A : Type 0} (xs : List (Option A)) (y : Option A) (i : ℕ) → i ≢ length xs → at_place (xs ++ y ∷ []) i ≡ at_place xs i
+at_front [] y zero differ = absurd (differ refl)
+at_front [] y (suc i) differ = refl
+at_front (x ∷ xs) y zero differ = refl
+at_front (x ∷ xs) y (suc i) differ = at_front xs y i (λ e. differ (ap suc e))
+
+module _ (caches caches' : List (Option Cache)) (f g : ℕ → Option Outcome) (id : ℕ) (config : CacheConfig) (slots : HaveSlots caches f) (answer : Created id ≡ answer_to (lives_of caches) (Create config) false)
+    (added : caches' ≡ caches ++ Some (fresh_cache config) ∷ []) (puts : Puts f id (Some (Created id)) g) where
+  next_id : (refusal : _) → Created id ≡ answer_to_create refusal (length (lives_of caches)) false → id ≡ length (lives_of caches)
+  next_id None is = cc
+  next_id (Some refusal) is = absurd cc
+
+  id_is : id ≡ length caches
+  id_is = next_id (create_refusal (lives_of caches) config) answer ∙ length-map caches (option_map status_of)
+
+  pub slots_more : HaveSlots caches' g
+  slots_more i = elim (cases_eq i id) [
+    | inl same ↦ subst (λ (n : ℕ). is_some (g n) ≡ is_some (at_place caches' n)) (sym same)
+        (ap is_some (put_here f g id (Some (Created id)) puts)
+        ∙ sym (ap (λ (ks : List (Option Cache)). is_some (at_place ks id)) added ∙ ap (λ (n : ℕ). is_some (at_place (caches ++ Some (fresh_cache config) ∷ []) n)) id_is ∙ ap is_some (at_last caches (Some (fresh_cache config)))))
+    | inr differ ↦ ap is_some (put_other f g id (Some (Created id)) puts i differ) ∙ slots i
+        ∙ sym (ap (λ (ks : List (Option Cache)). is_some (at_place ks i)) added ∙ ap is_some (at_front caches (Some (fresh_cache config)) i (λ e. differ (e ∙ sym id_is))))
+  ]
+
+  pub shown_more : places_of g (length caches') ≡ places_of f (length caches) ++ Some (Created id) ∷ []
+  shown_more =
+      ap (λ (ks : List (Option Cache)). places_of g (length ks)) added ∙ ap (places_of g) (length_push caches (Some (fresh_cache config)) ∙ ap (λ n. n + 1) (sym id_is))
+      ∙ places_more f g id (Some (Created id)) puts ∙ ap (λ n. places_of f n ++ Some (Created id) ∷ []) id_is
+
+-- nothing is shown of ids that have not been given
+pub none_beyond : (caches : List (Option Cache)) (f : ℕ → Option Outcome) → HaveSlots caches f → NoneFrom (length caches) f
+none_beyond caches f slots id past = by (f id) (slots id)
+  where
+    by : (o : Option Outcome) → is_some o ≡ is_some (at_place caches id) → o ≡ None
+    by None is = refl
+    by (Some x) is = (let less = below caches id (sym is) in absurd (omega (arith, less, past)))

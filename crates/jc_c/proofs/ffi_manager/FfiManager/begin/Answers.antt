@@ -1,0 +1,21 @@
+use Rattle.std.proofs.Common.{false, refl, nat_eq}
+use Rattle.std.specs.HashMap.{get}
+use Rattle.jc_model.specs.declared.event.Event.TheVariants.{Begin}
+use Rattle.jc_model.specs.declared.event.Outcome.TheVariants.{Step as Stepped}
+use Rattle.jc_model.specs.Runs.{begins}
+use Rattle.jc_c.proofs.SeatSlots.{slots_after, shown_after, accepted_does}
+use Rattle.jc_c.proofs.ffi_manager.FfiManager.begin.Goals as goal
+
+pub invariant_of-self : goal.invariant_of-self
+invariant_of-self c =
+    slots_after c.self.inside.engine c.begin.new.self (get nat_eq c.self.inside.shown) (get nat_eq c.show.new.shown) c.args.id (begins c.args.now c.args.call) (Stepped c.in-Ok.step) c.self.invariant
+    false c.in-Ok.ensures.outcome refl c.in-Ok.ensures.lives c.show.ensures.shown
+
+pub returns-in-Ok : goal.returns-in-Ok
+returns-in-Ok c = rw (← c.self.view_is) (record {
+  outcome = Stepped c.in-Ok.step;
+  does = accepted_does c.self.inside.engine c.begin.new.self (get nat_eq c.self.inside.shown) (get nat_eq c.show.new.shown) (Begin c.args.id c.args.now c.args.call) (Stepped c.in-Ok.step) refl c.in-Ok.ensures.outcome c.in-Ok.ensures.lives c.in-Ok.ensures.free
+      (shown_after c.self.inside.engine c.begin.new.self (get nat_eq c.self.inside.shown) (get nat_eq c.show.new.shown) c.args.id (begins c.args.now c.args.call) (Stepped c.in-Ok.step) c.self.invariant
+      false c.in-Ok.ensures.outcome refl c.in-Ok.ensures.lives c.show.ensures.shown);
+  status_is = c.show.ensures.status;
+})

@@ -1,0 +1,78 @@
+//! What a cache is created with.
+ghost use Rattle.std.specs.Prelude.{◌≡◌, IfOk, map, IfErr};
+ghost use Rattle.jc_c.specs.Reading.{IsRead, is_set, policy_said, config_said};
+
+use crate::reading::read_key;
+use crate::status::Fault;
+use jc_model::config::{CacheConfig, Policy};
+use jc_model::list::Sequence;
+use std::alloc::Global;
+
+/// The numbers of a configuration. A flag is set where it is not 0.
+#[repr(C)]
+#[derive(Clone, Copy)]
+pub struct FfiSettings {
+    /// In milliseconds; an eternal policy has none.
+    pub duration: u64,
+    /// How many rows the cache may have.
+    pub capacity: u32,
+    /// 0 eternal, 1 created, 2 accessed, 3 modified, 4 touched.
+    pub policy: u32,
+    /// Whether a missing key is loaded.
+    pub loader: u8,
+    /// Whether changes are written.
+    pub writer: u8,
+    /// How many listeners are told.
+    pub listeners: u8,
+}
+
+/// The policy of this number.
+fn policy_of(choice: u32, duration: u64) -> Result<Policy, Fault>
+    ensures { result ≡ policy_said choice duration }
+{
+    match choice {
+        0 => Ok(Policy::Eternal),
+        1 => Ok(Policy::Created(duration)),
+        2 => Ok(Policy::Accessed(duration)),
+        3 => Ok(Policy::Modified(duration)),
+        4 => Ok(Policy::Touched(duration)),
+        _ => Err(Fault::BadChoice),
+    }
+}
+
+/// The flags that bytes are.
+fn flags_of(alloc: Global, bytes: &[u8]) -> Result<Vec<bool>, Fault>
+    ensures flags { IfOk result (λ flags. flags.items ≡ map is_set bytes.now) }
+    ensures memory { IfErr result (λ fault. fault ≡ Fault.OutOfMemory) }
+{
+    let mut flags = Vec::new(alloc);
+    for byte in bytes {
+        if flags.push(*byte != 0).is_err() {
+            return Err(Fault::OutOfMemory);
+        }
+    }
+    Ok(flags)
+}
+
+/// The configuration of this name and these numbers; `wants` has a flag for each processor, whether it wants the value.
+pub fn read_config(
+    alloc: Global,
+    name: &[u8],
+    settings: &FfiSettings,
+    wants: &[u8],
+) -> Result<CacheConfig, Fault>
+    ensures { IsRead (config_said name.now settings.now wants.now) result }
+{
+    let name = read_key(name)?;
+    let policy = policy_of(settings.policy, settings.duration)?;
+    let processors = Sequence::new(flags_of(alloc, wants)?);
+    Ok(CacheConfig {
+        name,
+        capacity: settings.capacity,
+        policy,
+        loader: settings.loader != 0,
+        writer: settings.writer != 0,
+        processors,
+        listeners: settings.listeners,
+    })
+}

@@ -1,0 +1,9 @@
+pub mod NoText
+pub mod Note
+pub mod Number
+pub mod Program
+pub mod Meters
+pub mod Streams
+pub mod Watching
+pub mod Faults
+pub mod Endings

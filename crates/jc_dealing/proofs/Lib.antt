@@ -1,2 +1,0 @@
-mod Spreads
-mod Turns

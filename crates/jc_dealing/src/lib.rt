@@ -1,6 +1,0 @@
-//! How caches are dealt out to managers, by their names.
-#![tactic(auto)]
-
-mod dealing;
-
-pub use dealing::Dealing;

@@ -1,5 +1,0 @@
-pub mod Again
-pub mod Taken
-pub mod Lives
-pub mod SoFar
-pub mod Shown

@@ -1,7 +1,0 @@
-use Rattle.jc_json.proofs.Lives.{made_again}
-use Rattle.jc_json.proofs.report_json.report.Goals as goal
-
-pub push_lives-requires : goal.push_lives-requires
-push_lives-requires c =
-    rw (c.lives-lives.ensures, c.entries-entries.ensures)
-    (made_again 0 c.args.transcript.now.lives c.args.transcript.now.entries c.requires.legal.ordered c.requires.legal.each c.requires.opens)

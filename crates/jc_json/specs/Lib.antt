@@ -1,9 +1,0 @@
-pub mod Again
-pub mod Arguments
-pub mod Callers
-pub mod Lines
-pub mod Outline
-pub mod Replies
-pub mod Report
-pub mod Totals
-pub mod Values

@@ -1,0 +1,13 @@
+use Rattle.std.proofs.Common.{◌≡◌, ◌-◌, length}
+use Rattle.std.specs.Vec.{vec_capacity}
+use Rattle.jc_ops.proofs.Walk.{WalkedTo}
+use Rattle.jc_ops.proofs.visit.Visit.keys.Given as goal
+
+abbrev pub invariant-rows : goal.invariant-rows
+invariant-rows g l = record {
+  walked : WalkedTo l.cache.cells l.keys.items l.next;
+  room : vec_capacity l.keys ≡ length l.cache.cells;
+}
+
+abbrev pub decreases-rows : goal.decreases-rows
+decreases-rows g l = length l.cache.cells - length l.keys.items

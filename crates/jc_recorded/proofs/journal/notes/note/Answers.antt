@@ -1,6 +1,0 @@
-use Rattle.std.proofs.Common.{arith}
-use Rattle.jc_recorded.proofs.Entries.{asked_same}
-use Rattle.jc_recorded.proofs.journal.notes.note.Goals as goal
-
-pub returns-in-Asked-clause-noted : goal.returns-in-Asked-clause-noted
-returns-in-Asked-clause-noted c = grind (arith, asked_same)

@@ -1,4 +1,0 @@
-pub mod Listing
-pub mod Rebuilt
-pub mod Rosters
-pub mod Members

@@ -1,4 +1,0 @@
-//! The live caches by name and number.
-#![tactic(auto)]
-
-pub mod roster;

@@ -1,9 +1,0 @@
-pub mod Status
-pub mod Reading
-pub mod Calls
-pub mod Items
-pub mod Lent
-pub mod Parts
-pub mod Seated
-pub mod Looks
-pub mod Walk

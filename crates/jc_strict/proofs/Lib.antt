@@ -1,2 +1,0 @@
-pub mod Ignored
-pub mod Pieces

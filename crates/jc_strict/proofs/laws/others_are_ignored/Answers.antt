@@ -1,5 +1,0 @@
-use Rattle.jc_strict.proofs.Ignored.{line_same}
-use Rattle.jc_strict.proofs.laws.others_are_ignored.Goals as goal
-
-pub returns : goal.returns
-returns c lives n op line line' named agree = line_same n line line' op agree named lives

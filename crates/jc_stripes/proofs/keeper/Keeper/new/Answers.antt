@@ -1,5 +1,0 @@
-use Rattle.jc_stripes.proofs.Rolling.{opens}
-use Rattle.jc_stripes.proofs.keeper.Keeper.new.Goals as goal
-
-pub of_words-requires : goal.of_words-requires
-of_words-requires g c = opens

@@ -1,5 +1,0 @@
-use Rattle.std.proofs.Common.{refl, arith}
-use Rattle.jc_table_trials.proofs.lookups.lookups_tell_what_the_last_image_shows.Goals as goal
-
-pub new-requires : goal.new-requires
-new-requires g c = record { exponent = 4; power = refl; least = omega arith; most = omega arith }
