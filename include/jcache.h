@@ -123,11 +123,11 @@ enum {
     JC_CLOSED = 64,
     JC_IN_USE = 65,
     JC_BAD_KEY = 66,       /* not from 1 to 63 bytes of UTF-8 */
-    JC_BAD_VALUE = 67,     /* more than 65,535 bytes */
+    JC_BAD_VALUE = 67,     /* more than 65,535 bytes, or than the cache's `max_value` */
     JC_BAD_LENGTHS = 68,   /* lengths that don't come to the bytes */
     JC_TOO_MANY_KEYS = 69, /* more than 64 */
     JC_DUPLICATE_KEY = 70,
-    JC_BAD_CHOICE = 71, /* a number that names no policy, no action */
+    JC_BAD_CHOICE = 71, /* a number that names no policy, no action; a reserved one that is not 0 */
     /* Of reading what is shown. */
     JC_NO_ITEM = 72,     /* no such item, part or number */
     JC_SHORT_BUFFER = 73 /* the buffer took the first bytes alone */
@@ -146,14 +146,18 @@ enum { JC_CREATED_ROW = 0, JC_UPDATED_ROW = 1, JC_REMOVED_ROW = 2, JC_EXPIRED_RO
 /* The moment of a row that never expires, or at that moment. */
 #define JC_NEVER UINT64_MAX
 
-/* What a cache is created with, its name aside. */
+/* What a cache is created with, its name aside. Begin with {0}: members of later versions take the reserved place.
+ * `max_value` bounds values that are put, loaded or set by a processor: a longer one is JC_BAD_VALUE before the manager is
+ * asked, and an open call stays open. So an operator can reckon with `capacity` times 63 and `max_value` bytes. */
 struct jc_settings {
     uint64_t duration;
     uint32_t capacity; /* the most rows; beyond them CLOCK evicts */
     uint32_t policy;
-    uint8_t loader;    /* not 0: missing keys are loaded */
-    uint8_t writer;    /* not 0: puts, replaces and removes are written */
-    uint8_t listeners; /* how many are told */
+    uint8_t loader;     /* not 0: missing keys are loaded */
+    uint8_t writer;     /* not 0: puts, replaces and removes are written */
+    uint8_t listeners;  /* how many are told */
+    uint32_t max_value; /* the most bytes of a value; 0: no bound but 65,535 */
+    uint64_t reserved;  /* 0 */
 };
 
 /* How many bytes a pair has in a list: its key's, then its value's. */
@@ -172,6 +176,9 @@ uint32_t jc_version(void);
 /* Managers. Any seed serves: it decides where keys stand in the table, and is no protection against keys that are
  * chosen to share their places. JC_DONE, JC_IN_USE, JC_OUT_OF_MEMORY. */
 jc_status jc_open(struct jc_manager *m, uint64_t seed);
+/* The same, for keys that strangers choose: places are by a hash under a secret of 16 bytes, which the caller draws at
+ * random. Who does not know it can't choose keys that share their places. */
+jc_status jc_open_secret(struct jc_manager *m, const uint8_t secret[16]);
 /* Frees all. JC_DONE, JC_CLOSED. */
 jc_status jc_close(struct jc_manager *m);
 
@@ -191,7 +198,7 @@ jc_status jc_get(struct jc_manager *m, uint32_t id, uint64_t now, const uint8_t 
  * is room for, are copied. With any other status nothing is written. */
 jc_status jc_get_into(struct jc_manager *m, uint32_t id, uint64_t now, const uint8_t *key, size_t key_len,
                       uint8_t *out, size_t room, size_t *len);
-/* JC_TRUE or JC_FALSE; it loads, counts and renews nothing, and takes no memory. */
+/* JC_TRUE or JC_FALSE; it loads, counts and renews nothing, and is never refused for want of memory. */
 jc_status jc_contains(struct jc_manager *m, uint32_t id, uint64_t now, const uint8_t *key, size_t key_len);
 /* JC_DONE. */
 jc_status jc_put(struct jc_manager *m, uint32_t id, uint64_t now, const uint8_t *key, size_t key_len,
@@ -234,7 +241,7 @@ jc_status jc_invoke_all(struct jc_manager *m, uint32_t id, uint64_t now, const u
                         size_t argument_len);
 
 /* Calls on the whole cache: removes all rows, as jc_remove does; drops them, and tells no one; lists them (JC_LISTED);
- * the counters (JC_COUNTED), and sets them to zero. The second and the last two take no memory. */
+ * the counters (JC_COUNTED), and sets them to zero. The second and the last two are never refused for want of memory. */
 jc_status jc_remove_all(struct jc_manager *m, uint32_t id, uint64_t now);
 jc_status jc_clear(struct jc_manager *m, uint32_t id, uint64_t now);
 jc_status jc_entries(struct jc_manager *m, uint32_t id, uint64_t now);
@@ -268,7 +275,8 @@ jc_status jc_argument(struct jc_manager *m, uint32_t id, size_t item, uint8_t *o
 /* A number, the first one having place 0. */
 jc_status jc_number(struct jc_manager *m, uint32_t id, size_t place, uint64_t *number);
 
-/* Looks. They change, count and show nothing, are no calls, take no memory, and go on beside an open call.
+/* Looks. They change, count and show nothing, are no calls, are never refused for want of memory, and go on beside an
+ * open call.
  *
  * The value of a row that is live at `now`, and the moment at which it expires or JC_NEVER: JC_FOUND, and both are
  * written, the value as jc_get_into writes it; or JC_NOTHING. JC_NO_SUCH_CACHE, JC_BAD_KEY, JC_CLOSED. */
@@ -276,6 +284,9 @@ jc_status jc_peek(struct jc_manager *m, uint32_t id, uint64_t now, const uint8_t
                   uint64_t *expires, uint8_t *out, size_t room, size_t *len);
 /* How many rows a cache has, expired ones that no call has met among them. JC_DONE, JC_NO_SUCH_CACHE, JC_CLOSED. */
 jc_status jc_rows(struct jc_manager *m, uint32_t id, size_t *rows);
+/* How many bytes the keys and the values of a cache's rows have, those of expired rows among them. It goes over all
+ * numbers of rows, and so takes time by the cache's capacity. JC_DONE, JC_NO_SUCH_CACHE, JC_CLOSED. */
+jc_status jc_bytes(struct jc_manager *m, uint32_t id, uint64_t *bytes);
 /* Rows by their numbers, from number `from` on, as many whole ones as there is room for, expired ones among them. Of each
  * row 8 bytes for the moment at which it expires (JC_NEVER: never), 1 for its key's length, 2 for its value's, little
  * endian, then key and value. JC_LISTED, *len bytes are written, and *next is the number to go on from; JC_NOTHING: no

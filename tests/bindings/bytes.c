@@ -42,13 +42,15 @@ static int number_is(size_t place, jc_status status, uint64_t wanted) {
 }
 
 static void managed(void) {
-    struct jc_settings no_room = settings, strange = settings;
+    struct jc_settings no_room = settings, strange = settings, later = settings;
     no_room.capacity = 0;
     strange.policy = 5;
+    later.reserved = 1;
     WANT(creates("a", &settings, JC_DONE, 0));
     WANT(creates("a", &settings, JC_DUPLICATE_NAME, NONE));
     WANT(creates("b", &no_room, JC_BAD_CAPACITY, NONE));
     WANT(creates("b", &strange, JC_BAD_CHOICE, NONE));
+    WANT(creates("b", &later, JC_BAD_CHOICE, NONE));
     WANT(creates("", &settings, JC_BAD_KEY, NONE));
     WANT(creates("b", &settings, JC_DONE, 1));
     WANT(finds("b", JC_DONE, 1));
@@ -119,12 +121,65 @@ static void limits(void) {
     WANT(list_of(65, 0) == JC_TOO_MANY_KEYS && list_of(65, 1) == JC_TOO_MANY_KEYS);
 }
 
+/* Whether a cache's keys and values have so many bytes. */
+static int has_bytes(uint32_t id, uint64_t wanted) {
+    uint64_t bytes = NONE;
+    return jc_bytes(&m, id, &bytes) == JC_DONE && bytes == wanted;
+}
+
+/* A cache whose values have at most three bytes: each call and answer that may store one, and those that store none. */
+static void bounded(void) {
+    const struct jc_settings three = {.capacity = 2, .policy = JC_ETERNAL, .loader = 1, .max_value = 3};
+    const struct jc_pair_lengths pairs[] = {{1, 3}, {1, 4}}, same[] = {{1, 4}, {1, 4}};
+    const uint8_t *four = (const uint8_t *)"four";
+    uint32_t id = NONE;
+    WANT(jc_create(&m, JC_TEXT("three"), &three, wants, 2, &id) == JC_DONE && has_bytes(id, 0));
+    WANT(jc_put(&m, id, 0, JC_TEXT("a"), four, 3) == JC_DONE && jc_put(&m, id, 0, JC_TEXT("a"), four, 4) == JC_BAD_VALUE);
+    WANT(jc_get_and_put(&m, id, 0, JC_TEXT("a"), four, 4) == JC_BAD_VALUE);
+    WANT(jc_put_if_absent(&m, id, 0, JC_TEXT("a"), four, 4) == JC_BAD_VALUE);
+    WANT(jc_replace(&m, id, 0, JC_TEXT("a"), four, 4) == JC_BAD_VALUE);
+    WANT(jc_replace_if(&m, id, 0, JC_TEXT("a"), four, 3, four, 4) == JC_BAD_VALUE);
+    WANT(jc_replace_if(&m, id, 0, JC_TEXT("a"), four, 4, four, 3) == JC_FALSE);
+    WANT(jc_get_and_replace(&m, id, 0, JC_TEXT("a"), four, 4) == JC_BAD_VALUE);
+    WANT(jc_remove_if(&m, id, 0, JC_TEXT("a"), four, 4) == JC_FALSE);
+    WANT(jc_put_all(&m, id, 0, pairs, 2, JC_TEXT("bonecfour")) == JC_BAD_VALUE);
+    WANT(jc_put_all(&m, id, 0, same, 2, JC_TEXT("bfourbfour")) == JC_DUPLICATE_KEY);
+    WANT(jc_put(&m, id, 0, JC_EMPTY, four, 4) == JC_BAD_KEY && jc_put(&m, 77, 0, JC_TEXT("a"), four, 4) == JC_NO_SUCH_CACHE);
+    WANT(has_bytes(id, 4));
+    WANT(jc_loaded(&m, id, four, 4) == JC_BAD_VALUE && jc_loaded(&m, id, four, 3) == JC_NO_TURN);
+    WANT(jc_get(&m, id, 0, JC_TEXT("bb")) == JC_NEED_LOAD && jc_put(&m, id, 0, JC_TEXT("a"), four, 4) == JC_BAD_VALUE);
+    WANT(jc_loaded(&m, id, four, 4) == JC_BAD_VALUE && copies(jc_key, id, 4, JC_DONE, 2, "bb.."));
+    WANT(has_bytes(id, 4) && jc_loaded(&m, id, four, 2) == JC_FOUND && has_bytes(id, 8));
+    WANT(jc_invoke(&m, id, 0, JC_TEXT("a"), 1, four, 4) == JC_NEED_PROCESS);
+    WANT(jc_processed(&m, id, JC_SET, four, 4, 0, JC_EMPTY) == JC_BAD_VALUE);
+    WANT(jc_processed(&m, id, JC_SET, four, 0, 1, four, 4) == JC_FOUND && has_bytes(id, 5));
+}
+
+/* Bytes of rows that are changed, evicted, expired, removed and cleared. */
+static void counted(void) {
+    const struct jc_settings timed = {.capacity = 2, .policy = JC_CREATED, .duration = 10};
+    uint64_t bytes = NONE;
+    uint32_t id = NONE;
+    static uint8_t value[65535];
+    WANT(jc_create(&m, JC_TEXT("timed"), &timed, JC_EMPTY, &id) == JC_DONE && has_bytes(id, 0));
+    WANT(jc_put(&m, id, 0, JC_TEXT("a"), value, 65535) == JC_DONE && has_bytes(id, 65536));
+    WANT(jc_put(&m, id, 0, JC_TEXT("bb"), JC_EMPTY) == JC_DONE && has_bytes(id, 65538));
+    WANT(jc_put(&m, id, 0, JC_TEXT("a"), value, 1) == JC_DONE && has_bytes(id, 4));
+    WANT(jc_put(&m, id, 0, JC_TEXT("cccc"), value, 4) == JC_DONE && has_bytes(id, 10));
+    WANT(jc_contains(&m, id, 10, JC_TEXT("cccc")) == JC_FALSE && has_bytes(id, 10));
+    WANT(jc_get(&m, id, 10, JC_TEXT("cccc")) == JC_NOTHING && has_bytes(id, 2));
+    WANT(jc_clear(&m, id, 0) == JC_DONE && has_bytes(id, 0));
+    WANT(jc_bytes(&m, 77, &bytes) == JC_NO_SUCH_CACHE && bytes == NONE);
+}
+
 int main(void) {
     WANT(jc_open(&m, 7) == JC_DONE);
     managed();
     loaded();
     listed();
     limits();
+    bounded();
+    counted();
     WANT(jc_close(&m) == JC_DONE);
     puts("ok");
     return 0;

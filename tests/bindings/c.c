@@ -51,6 +51,7 @@ static void closed_handles(void) {
     WANT(jc_get_into(&m, 0, 0, JC_TEXT("k"), out, sizeof out, &len) == JC_CLOSED && len == 9);
     WANT(jc_peek(&m, 0, 0, JC_TEXT("k"), &number, out, sizeof out, &len) == JC_CLOSED && number == 9 && len == 9);
     WANT(jc_rows(&m, 0, &len) == JC_CLOSED && len == 9);
+    WANT(jc_bytes(&m, 0, &number) == JC_CLOSED && number == 9);
     WANT(jc_walk(&m, 0, 0, out, sizeof out, &len, &id) == JC_CLOSED && len == 9 && id == 9 && out[0] == 1);
     WANT(jc_version() == JCACHE_VERSION);
 }
@@ -307,8 +308,27 @@ static void threads(void) {
     WANT(jc_get(&m, 0, 0, JC_TEXT("n")) == JC_FOUND && part_is(jc_value, 0, 0, "1000"));
 }
 
+/* A manager under a secret; the same calls as under a seed have the same replies. */
+static void secrets(void) {
+    uint8_t secret[16] = "0123456789abcdef";
+    struct jc_manager other = {0};
+    uint64_t bytes = 9;
+    uint32_t id = 9;
+    WANT(jc_open_secret(&other, secret) == JC_DONE && other.at);
+    WANT(jc_open_secret(&other, secret) == JC_IN_USE && jc_open(&other, 7) == JC_IN_USE && other.at);
+    WANT(jc_create(&other, JC_TEXT("a"), &plain, JC_EMPTY, &id) == JC_DONE && id == 0);
+    WANT(jc_put(&other, 0, 0, JC_TEXT("k"), JC_TEXT("first")) == JC_DONE && jc_contains(&other, 0, 0, JC_TEXT("k")) == JC_TRUE);
+    WANT(jc_get(&other, 0, 0, JC_TEXT("k")) == JC_FOUND && jc_get(&other, 0, 0, JC_TEXT("l")) == JC_NOTHING);
+    WANT(jc_bytes(&other, 0, &bytes) == JC_DONE && bytes == 6);
+    WANT(jc_close(&other) == JC_DONE && !other.at && jc_close(&other) == JC_CLOSED);
+    for (int n = 0; n < 16; n++)
+        secret[n] = 0;
+    WANT(jc_open_secret(&other, secret) == JC_DONE && jc_close(&other) == JC_DONE);
+}
+
 int main(void) {
     closed_handles();
+    secrets();
     caches();
     one_key();
     many_keys();

@@ -1,11 +1,14 @@
 pub mod Numbers
 pub mod Listing
 pub mod Keys
-pub mod SeatSlots
+pub mod Seating
 pub mod Saying
 pub mod Walking
 pub mod Covering
 pub mod Walks
+pub mod Sizes
+pub mod Looking
+pub mod Taking
 pub mod AsBox
 pub mod Slots
 pub mod Holding

@@ -3,12 +3,13 @@ use Rattle.std.specs.Prelude.{◌≡◌, ℕ, List, [], Result}
 use Rattle.std.specs.Prelude.{Option, Some, None}
 use Rattle.jc_model.specs.declared.call.Answer.{Answer}
 use Rattle.jc_model.specs.declared.call.Call.{Call}
-use Rattle.jc_model.specs.declared.config.CacheConfig.{CacheConfig}
 use Rattle.jc_model.specs.declared.event.Event.{Event}
 use Rattle.jc_model.specs.declared.event.Outcome.{Outcome}
 use Rattle.jc_model.specs.Places.{at_place}
 use Rattle.jc_engine.specs.Caches.{Cache}
+use Rattle.jc_c.specs.declared.ffi_settings.NewCache.{NewCache}
 use Rattle.jc_c.specs.declared.items.Part.{Part}
+use Rattle.jc_c.specs.declared.placer.FfiPlacer.{FfiPlacer}
 use Rattle.jc_c.specs.declared.status.Fault.{Fault}
 use Rattle.jc_c.specs.declared.status.Status.{Status}
 use Rattle.jc_c.specs.declared.status.Status.TheVariants.{Closed, Done, InUse, OutOfMemory}
@@ -16,7 +17,7 @@ use Rattle.jc_c.specs.Status.{status_number}
 use Rattle.jc_c.specs.Items.{Bytes}
 use Rattle.jc_c.specs.Looks.{value_found}
 use Rattle.jc_c.specs.Parts.{number_shown, part_shown, part_status}
-use Rattle.jc_c.specs.Seated.{Seated, DoesWithStatus, BeginsCall, BeginsCallOr, CreatesOr, ResumesCall, ResumesCallOr, shown_of}
+use Rattle.jc_c.specs.Seated.{Seated, DoesWithStatus, BeginsCall, BeginsCallOr, CreatesOr, ResumesCall, ResumesCallOr, fresh_seat, shown_of}
 use Rattle.jc_c.specs.declared.exports.handle.Handle.{Handle}
 
 -- the number is that of a status with which the manager does this
@@ -54,7 +55,7 @@ abbrev pub SeatAnswers : Event → Handle → ℕ → Handle → Type 0
 SeatAnswers event h number h' = OnSeat h.held (λ old status new. DoesWithStatus old event status new) number h'.held
 
 -- it creates the cache that bytes say, or memory was wanting
-abbrev pub SeatCreatesOr : Result CacheConfig Fault → ℕ → ℕ → Handle → ℕ → Handle → Type 0
+abbrev pub SeatCreatesOr : Result NewCache Fault → ℕ → ℕ → Handle → ℕ → Handle → Type 0
 SeatCreatesOr said id id' h number h' = OnSeat h.held (λ old status new. CreatesOr old said status id id' new) number h'.held
 
 -- it tells this status, by what it is
@@ -75,11 +76,12 @@ SeatTellsAt id told h number h' = SeatTells (λ old. told (at_place old.caches i
 
 -- Handles that are opened and closed, and what is seen of them.
 
--- a manager without caches is made behind a handle without one, unless memory is wanting; a handle with one keeps it
-abbrev pub OpensManager : Option Seated → ℕ → Option Seated → Type 0
-OpensManager (Some old) number held = (number ≡ status_number InUse) × (held ≡ Some old)
-OpensManager None number None = number ≡ status_number OutOfMemory
-OpensManager None number (Some new) = (number ≡ status_number Done) × (new ≡ record { caches = []; shown = [] })
+-- a manager without caches, with this placer, is made behind a handle without one, unless memory is wanting; a handle
+-- with one keeps it
+abbrev pub OpensManager : FfiPlacer → Option Seated → ℕ → Option Seated → Type 0
+OpensManager placer (Some old) number held = (number ≡ status_number InUse) × (held ≡ Some old)
+OpensManager placer None number None = number ≡ status_number OutOfMemory
+OpensManager placer None number (Some new) = (number ≡ status_number Done) × (new ≡ fresh_seat placer)
 
 abbrev pub closing : Option Seated → Status
 closing None = Closed

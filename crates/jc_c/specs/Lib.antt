@@ -4,8 +4,11 @@ pub mod Calls
 pub mod Items
 pub mod Lent
 pub mod Parts
+pub mod Desks
+pub mod Placing
 pub mod Seated
 pub mod Looks
 pub mod Walk
+pub mod Bytes
 pub mod Slot
 pub mod Held

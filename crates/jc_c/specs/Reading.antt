@@ -11,6 +11,7 @@ use Rattle.jc_model.specs.declared.keys.ListFault.{ListFault}
 use Rattle.jc_model.specs.declared.keys.ListFault.TheVariants as list
 use Rattle.jc_c.specs.declared.reading.PairLengths.{PairLengths}
 use Rattle.jc_c.specs.declared.ffi_settings.FfiSettings.{FfiSettings}
+use Rattle.jc_c.specs.declared.ffi_settings.NewCache.{NewCache}
 use Rattle.jc_c.specs.declared.status.Fault.{Fault}
 use Rattle.jc_c.specs.declared.status.Fault.TheVariants.{BadKey, BadValue, BadLengths, BadChoice, OutOfMemory, TooManyKeys, DuplicateKey}
 
@@ -87,8 +88,16 @@ policy_said choice duration =
     else (if nat_eq choice 3 then Ok (policy.Modified duration)
     else (if nat_eq choice 4 then Ok (policy.Touched duration) else Err BadChoice))))
 
+-- the most bytes of a value; 0 stands for no bound of the cache's own
+abbrev pub bound_said : ℕ → ℕ
+bound_said n = if nat_eq n 0 then value_bytes else n
+
 abbrev pub config_by : List ℕ → Policy → FfiSettings → List ℕ → CacheConfig
 config_by name p s wants = record { name = name; capacity = s.capacity; policy = p; loader = is_set s.loader; writer = is_set s.writer; processors = map is_set wants; listeners = s.listeners }
 
-abbrev pub config_said : List ℕ → FfiSettings → List ℕ → Result CacheConfig Fault
-config_said name s wants = read_then (key_said name) (λ n. read_then (policy_said s.policy s.duration) (λ p. Ok (config_by n p s wants)))
+-- a number that is reserved is 0
+abbrev pub cache_by : List ℕ → Policy → FfiSettings → List ℕ → Result NewCache Fault
+cache_by name p s wants = if nat_eq s.reserved 0 then Ok (record { config = config_by name p s wants; max_value = bound_said s.max_value }) else Err BadChoice
+
+abbrev pub cache_said : List ℕ → FfiSettings → List ℕ → Result NewCache Fault
+cache_said name s wants = read_then (key_said name) (λ n. read_then (policy_said s.policy s.duration) (λ p. cache_by n p s wants))

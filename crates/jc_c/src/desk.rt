@@ -2,7 +2,7 @@
 ghost use Rattle.std.specs.Prelude.{◌≡◌, Result, length};
 ghost use Rattle.jc_model.specs.declared.call.Answer.{Answer as SomeAnswer};
 ghost use Rattle.jc_model.specs.declared.call.Call.{Call as SomeCall};
-ghost use Rattle.jc_model.specs.declared.config.CacheConfig.{CacheConfig as SomeConfig};
+ghost use Rattle.jc_c.specs.declared.ffi_settings.NewCache.{NewCache as SomeCache};
 ghost use Rattle.jc_c.specs.declared.status.Fault.{Fault as SomeFault};
 ghost use Rattle.jc_c.specs.Items.{buffer_after, length_told};
 ghost use Rattle.jc_c.specs.Parts.{part_shown, part_status, count_shown, count_status, or_before, number_shown, number_status, cache_found, find_status};
@@ -10,46 +10,55 @@ ghost use Rattle.jc_c.specs.Reading.{IsRead, key_said};
 ghost use Rattle.jc_c.specs.Seated.{BeginsCall, BeginsCallOr, Creates, CreatesOr, ResumesCall, ResumesCallOr, shown_of};
 
 use crate::ffi_manager::FfiManager;
+use crate::ffi_settings::NewCache;
 use crate::items::{self, Part};
 use crate::reading::read_key;
 use crate::status::{Fault, Status};
 use jc_model::call::{Answer, Call};
-use jc_model::config::CacheConfig;
 use jc_model::event::CacheId;
 
 impl FfiManager {
-    /// Begins the call that bytes say, if they say one.
-    pub fn call(&mut self, id: u32, now: u64, said: Result<Call, Fault>) -> Status
-        ensures called { BeginsCall self.old id now said result self.new }
-        ensures or_memory { (what : Result SomeCall SomeFault) → IsRead what said
+    /// Begins the call that bytes say, if they say one and its values are taken at the cache's desk.
+    pub fn call(&mut self, id: u32, now: u64, said: &Result<Call, Fault>) -> Status
+        ensures called { BeginsCall self.old id now said.now result self.new }
+        ensures or_memory { (what : Result SomeCall SomeFault) → IsRead what said.now
             → BeginsCallOr self.old id now what result self.new }
     {
+        let id = CacheId::new(id);
         match said {
-            Ok(call) => self.begin(CacheId::new(id), now, call),
-            Err(fault) => Status::of_fault(fault),
+            Ok(call) if self.takes_call(id, call) => self.begin(id, now, call),
+            Ok(_) => Status::of_fault(Fault::BadValue),
+            Err(fault) => Status::of_fault(*fault),
         }
     }
 
-    /// Answers the open call's request as bytes say, if they say an answer.
+    /// Answers the open call's request as bytes say, if they say an answer and its value is taken at the cache's desk.
     pub fn answer(&mut self, id: u32, said: Result<Answer, Fault>) -> Status
         ensures called { ResumesCall self.old id said result self.new }
         ensures or_memory { (what : Result SomeAnswer SomeFault) → IsRead what said
             → ResumesCallOr self.old id what result self.new }
     {
+        let id = CacheId::new(id);
         match said {
-            Ok(answer) => self.resume(CacheId::new(id), answer),
+            Ok(answer) => {
+                if self.takes_answer(id, &answer) {
+                    return self.resume(id, answer);
+                }
+                drop(answer);
+                Status::of_fault(Fault::BadValue)
+            }
             Err(fault) => Status::of_fault(fault),
         }
     }
 
     /// Creates the cache that bytes say, if they say one, and tells its id.
-    pub fn create_cache(&mut self, said: Result<CacheConfig, Fault>, id: &mut u32) -> Status
+    pub fn create_cache(&mut self, said: Result<NewCache, Fault>, id: &mut u32) -> Status
         ensures called { Creates self.old said result id.old id.new self.new }
-        ensures or_memory { (what : Result SomeConfig SomeFault) → IsRead what said
+        ensures or_memory { (what : Result SomeCache SomeFault) → IsRead what said
             → CreatesOr self.old what result id.old id.new self.new }
     {
         match said {
-            Ok(config) => match self.create(config) {
+            Ok(asked) => match self.create(asked) {
                 Ok(given) => {
                     *id = given.number();
                     Status::Done
@@ -82,9 +91,9 @@ impl FfiManager {
         ensures status { result ≡ count_status (shown_of id self.now) }
         ensures count { count.new ≡ count_shown count.old (shown_of id self.now) }
     {
-        match self.shown(CacheId::new(id)) {
-            Some(outcome) => {
-                *count = items::count(outcome);
+        match self.desk(CacheId::new(id)) {
+            Some(desk) => {
+                *count = items::count(&desk.shown);
                 Status::Done
             }
             None => Status::NoSuchCache,
@@ -104,8 +113,8 @@ impl FfiManager {
         ensures out { out.new ≡ buffer_after (part_shown part place (shown_of id self.now)) out.old }
         ensures len { len.new ≡ length_told (part_shown part place (shown_of id self.now)) len.old }
     {
-        match self.shown(CacheId::new(id)) {
-            Some(outcome) => items::copy(items::part_at(outcome, place, part), out, len),
+        match self.desk(CacheId::new(id)) {
+            Some(desk) => items::copy(items::part_at(&desk.shown, place, part), out, len),
             None => Status::NoSuchCache,
         }
     }
@@ -116,10 +125,10 @@ impl FfiManager {
         ensures number { number.new
             ≡ or_before number.old (number_shown place (shown_of id self.now)) }
     {
-        let Some(outcome) = self.shown(CacheId::new(id)) else {
+        let Some(desk) = self.desk(CacheId::new(id)) else {
             return Status::NoSuchCache;
         };
-        match items::number(outcome, place) {
+        match items::number(&desk.shown, place) {
             Some(shown) => {
                 *number = shown;
                 Status::Done

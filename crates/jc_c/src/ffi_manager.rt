@@ -1,20 +1,25 @@
-//! A manager and what its caches have shown last.
-ghost use Rattle.std.specs.Prelude.{◌≡◌, ℕ, [], IfSome, MatchResult, option_map};
+//! A manager and the desks of its caches.
+ghost use Rattle.std.specs.Prelude.{◌≡◌, ℕ, None, IfSome, MatchResult, option_map};
 ghost use Rattle.jc_model.specs.declared.event.Event.TheVariants.{Begin, Answer as Answers, GiveUp, Create, Destroy};
 ghost use Rattle.jc_model.specs.declared.event.Outcome.TheVariants.{Created};
+ghost use Rattle.std.specs.FinMap as map;
+ghost use Rattle.jc_cuckoo.specs.Cells.{rows_in};
 ghost use Rattle.jc_engine.specs.Caches.{id_of};
-ghost use Rattle.jc_c.specs.Seated.{Does, DoesWithStatus, Creates, shown_of};
+ghost use Rattle.jc_engine.specs.Managed.{step_of};
+ghost use Rattle.jc_c.specs.Seated.{Creates, DoesWith, DoesWithStatus, desk_of, fresh_seat};
 
-use crate::shown::{hide, show, show_first};
+use crate::desks::{Desk, add, show, take_away};
+use crate::ffi_settings::NewCache;
+use crate::placer::FfiPlacer;
 use crate::status::Status;
 use jc_cuckoo::cuckoo::Cuckoo;
 use jc_cuckoo::mirror::NoMirror;
 use jc_engine::engine::Engine;
-use jc_model::call::{Answer, Call};
-use jc_model::config::CacheConfig;
-use jc_model::event::{CacheId, Outcome};
+use jc_engine::turn::EngineStep;
+use jc_model::call::{Answer, Call, Reply, Request};
+use jc_model::event::{CacheId, Outcome, Step};
 use jc_model::key::Key;
-use jc_place::seeded::SeededPlacer;
+use jc_model::value::Value;
 use jc_ring::link_ring::LinkRing;
 use std::alloc::Global;
 use std::collections::HashMap;
@@ -23,37 +28,62 @@ use std::marker::Model;
 /// How many buckets the table begins with.
 const BUCKETS: u32 = 64;
 
-/// Many caches, and of each live one the outcome of the last event that it accepted: its creation, its open call's
-/// request, a reply, or the notices that a give-up left.
+/// The table of rows.
+type Table = Cuckoo<FfiPlacer, NoMirror>;
+
+/// Many caches, and of each live one its desk. Contracts see where keys have their rows, too.
 #[derive(Drop)]
 pub struct FfiManager {
-    pub(crate) engine: Engine<Cuckoo<SeededPlacer, NoMirror>, LinkRing>,
-    shown: HashMap<u32, Outcome>,
+    pub(crate) engine: Engine<Table, LinkRing>,
+    desks: HashMap<u32, Desk>,
+    /// That of the engine's table.
+    placer: FfiPlacer,
 }
 
 impl Model for FfiManager {
     ghost use Rattle.std.specs.Prelude.{nat_eq};
     ghost use Rattle.std.specs.HashMap.{get};
-    ghost use Rattle.jc_c.specs.Seated.{Seated, HaveSlots, seated_of};
+    ghost use Rattle.jc_c.specs.Seated.{Seated, HaveDesks, seated_of};
 
     ghost Value = { Seated };
 
-    ghost view = { λ s. seated_of s.engine (get nat_eq s.shown) };
+    ghost view = { λ s. seated_of s.engine (get nat_eq s.desks) s.placer };
 
-    ghost invariant = { λ s. HaveSlots s.engine (get nat_eq s.shown) };
+    ghost invariant = { λ s. HaveDesks s.engine (get nat_eq s.desks) };
+}
+
+/// What a call has come to, without the copies that a transcript needs.
+#[inline(always)]
+fn step_of(advance: EngineStep) -> Step
+    ensures { result ≡ step_of advance }
+{
+    match advance {
+        EngineStep::Replied(reply) => Step::Done(reply.into_first()),
+        EngineStep::Asked(request) => Step::Need(request),
+        EngineStep::Told(notices) => Step::Need(Request::Tell(notices.into_lists().0)),
+    }
 }
 
 impl FfiManager {
-    /// A manager without caches, where memory is found for it. Any seed serves; it decides where keys stand in the table
-    /// and nothing else.
-    pub fn open(alloc: Global, seed: u64) -> Option<FfiManager>
-        ensures { IfSome result (λ s. s ≡ record { caches = []; shown = [] }) }
+    /// A manager without caches, where memory is found for it.
+    pub fn open(alloc: Global, placer: &FfiPlacer) -> Option<FfiManager>
+        ensures { IfSome result (λ s. s ≡ fresh_seat placer.now) }
     {
-        let table = Cuckoo::new(alloc, SeededPlacer::new(seed), NoMirror, BUCKETS).ok()?;
+        let table = Cuckoo::new(alloc, *placer, NoMirror, BUCKETS).ok()?;
+        FfiManager::over(alloc, table, placer)
+    }
+
+    /// The same over an empty table, which has this placer.
+    fn over(alloc: Global, table: Table, placer: &FfiPlacer) -> Option<FfiManager>
+        requires empty { rows_in table.cells ≡ map.empty }
+        requires placer { table.placer ≡ placer.now }
+        ensures { IfSome result (λ s. s ≡ fresh_seat placer.now) }
+    {
         let engine = Engine::open(alloc, table, Vec::new(alloc)).ok()?;
         Some(FfiManager {
             engine,
-            shown: HashMap::new(alloc),
+            desks: HashMap::new(alloc),
+            placer: *placer,
         })
     }
 
@@ -64,25 +94,29 @@ impl FfiManager {
         self.engine.cache(name)
     }
 
-    /// What was shown last of a cache.
-    pub fn shown(&self, id: CacheId) -> Option<&Outcome>
-        ensures { option_map (λ outcome. outcome.now) result ≡ shown_of id self.now }
+    /// The desk of a live cache.
+    pub fn desk(&self, id: CacheId) -> Option<&Desk>
+        ensures { option_map (λ desk. desk.now) result ≡ desk_of id self.now }
     {
         let number = id.number();
-        self.shown.get(&number)
+        self.desks.get(&number)
     }
 
-    /// Creates a cache of a configuration. Memory may be wanting before the manager is asked.
-    pub fn create(&mut self, config: CacheConfig) -> Result<CacheId, Status>
-        ensures { MatchResult result (λ id. Does self.old (Create config) (Created id) self.new)
-            (λ status. (id : ℕ) → Creates self.old (Ok config) status id id self.new) }
+    /// Creates a cache. Memory may be wanting before the manager is asked.
+    pub fn create(&mut self, asked: NewCache) -> Result<CacheId, Status>
+        ensures { MatchResult result
+            (λ id. DoesWith asked.max_value self.old (Create asked.config) (Created id) self.new)
+            (λ status. (id : ℕ) → Creates self.old (Ok asked) status id id self.new) }
     {
-        if self.shown.reserve(1).is_err() {
+        if self.desks.reserve(1).is_err() {
+            drop(asked);
             return Err(Status::OutOfMemory);
         }
+        let NewCache { config, max_value } = asked;
         match self.engine.create(config) {
             Ok(id) => {
-                show_first(&mut self.shown, id, Outcome::Created(id));
+                let shown = Outcome::Created(id);
+                add(&mut self.desks, id, Desk { shown, max_value });
                 Ok(id)
             }
             Err((refusal, config)) => {
@@ -98,23 +132,73 @@ impl FfiManager {
     {
         match self.engine.destroy(id) {
             Ok(()) => {
-                hide(&mut self.shown, id);
+                take_away(&mut self.desks, id);
                 Status::Done
             }
             Err(cause) => Status::of_cause(cause),
         }
     }
 
-    /// Begins a call.
-    pub fn begin(&mut self, id: CacheId, now: u64, call: Call) -> Status
-        ensures { DoesWithStatus self.old (Begin id now call) result self.new }
+    /// Whether a cache has a live row of this key, as the call that asks for it tells: where that begins at all. It changes
+    /// nothing but what is shown. Nothing for any other call.
+    fn contains_at_once(&mut self, id: CacheId, now: u64, call: &Call) -> Option<Status>
+        ensures status { IfSome result (λ status.
+            DoesWithStatus self.old (Begin id now call.now) status self.new) }
+        ensures same { result ≡ None → self.new ≡ self.old }
     {
-        match self.engine.begin(id, now, call) {
-            Ok(step) => show(&mut self.shown, id, Outcome::Step(step)),
-            Err((cause, call)) => {
-                drop(call);
-                Status::of_cause(cause)
+        let Call::Contains(key) = call else {
+            return None;
+        };
+        let None = self.engine.begin_refusal(id, call) else {
+            return None;
+        };
+        let truth = Reply::Truth(self.engine.has(id, key, now));
+        Some(show(&mut self.desks, id, Outcome::Step(Step::Done(truth))))
+    }
+
+    /// What a get finds at once: the value of a live row, or that there is none and no loader. Else nothing, and nothing
+    /// has changed.
+    fn get_at_once(&mut self, id: CacheId, now: u64, call: &Call) -> Option<Status>
+        ensures status { IfSome result (λ status.
+            DoesWithStatus self.old (Begin id now call.now) status self.new) }
+        ensures same { result ≡ None → self.new ≡ self.old }
+    {
+        match self.engine.get_at_once::<Value>(id, now, call) {
+            Some(found) => {
+                let outcome = Outcome::Step(Step::Done(Reply::Found(found)));
+                Some(show(&mut self.desks, id, outcome))
             }
+            None => None,
+        }
+    }
+
+    /// Begins a call that is not answered at once.
+    fn start(&mut self, id: CacheId, now: u64, call: &Call) -> Status
+        ensures { DoesWithStatus self.old (Begin id now call.now) result self.new }
+    {
+        match self.engine.start(id, now, call) {
+            Ok(advance) => show(&mut self.desks, id, Outcome::Step(step_of(advance))),
+            Err(cause) => Status::of_cause(cause),
+        }
+    }
+
+    /// Begins a call that no get answers.
+    fn look_or_start(&mut self, id: CacheId, now: u64, call: &Call) -> Status
+        ensures { DoesWithStatus self.old (Begin id now call.now) result self.new }
+    {
+        match self.contains_at_once(id, now, call) {
+            Some(status) => status,
+            None => self.start(id, now, call),
+        }
+    }
+
+    /// Begins a call.
+    pub fn begin(&mut self, id: CacheId, now: u64, call: &Call) -> Status
+        ensures { DoesWithStatus self.old (Begin id now call.now) result self.new }
+    {
+        match self.get_at_once(id, now, call) {
+            Some(status) => status,
+            None => self.look_or_start(id, now, call),
         }
     }
 
@@ -123,7 +207,7 @@ impl FfiManager {
         ensures { DoesWithStatus self.old (Answers id answer) result self.new }
     {
         match self.engine.resume(id, answer) {
-            Ok(step) => show(&mut self.shown, id, Outcome::Step(step)),
+            Ok(step) => show(&mut self.desks, id, Outcome::Step(step)),
             Err((cause, answer)) => {
                 drop(answer);
                 Status::of_cause(cause)
@@ -136,7 +220,7 @@ impl FfiManager {
         ensures { DoesWithStatus self.old (GiveUp id) result self.new }
     {
         match self.engine.give_up(id) {
-            Ok(notices) => show(&mut self.shown, id, Outcome::GivenUp(notices)),
+            Ok(notices) => show(&mut self.desks, id, Outcome::GivenUp(notices)),
             Err(cause) => Status::of_cause(cause),
         }
     }

@@ -1,10 +1,11 @@
 //! What a cache is created with.
 ghost use Rattle.std.specs.Prelude.{◌≡◌, IfOk, map, IfErr};
-ghost use Rattle.jc_c.specs.Reading.{IsRead, is_set, policy_said, config_said};
+ghost use Rattle.jc_c.specs.Reading.{IsRead, bound_said, cache_said, is_set, policy_said};
 
 use crate::reading::read_key;
 use crate::status::Fault;
 use jc_model::config::{CacheConfig, Policy};
+use jc_model::limits::VALUE_BYTES;
 use jc_model::list::Sequence;
 use std::alloc::Global;
 
@@ -24,6 +25,17 @@ pub struct FfiSettings {
     pub writer: u8,
     /// How many listeners are told.
     pub listeners: u8,
+    /// The most bytes of a value; 0 where the cache has no bound of its own.
+    pub max_value: u32,
+    /// 0.
+    pub reserved: u64,
+}
+
+/// A cache to be created: its configuration, and the most bytes of a value.
+#[derive(Drop)]
+pub struct NewCache {
+    pub config: CacheConfig,
+    pub max_value: u32,
 }
 
 /// The policy of this number.
@@ -54,19 +66,33 @@ fn flags_of(alloc: Global, bytes: &[u8]) -> Result<Vec<bool>, Fault>
     Ok(flags)
 }
 
-/// The configuration of this name and these numbers; `wants` has a flag for each processor, whether it wants the value.
-pub fn read_config(
+/// The most bytes of a value, of which 0 says that there is no bound of the cache's own.
+fn bound_of(max_value: u32) -> u32
+    ensures { result ≡ bound_said max_value }
+{
+    if max_value == 0 {
+        VALUE_BYTES as u32
+    } else {
+        max_value
+    }
+}
+
+/// The cache of this name and these numbers; `wants` has a flag for each processor, whether it wants the value.
+pub fn read_cache(
     alloc: Global,
     name: &[u8],
     settings: &FfiSettings,
     wants: &[u8],
-) -> Result<CacheConfig, Fault>
-    ensures { IsRead (config_said name.now settings.now wants.now) result }
+) -> Result<NewCache, Fault>
+    ensures { IsRead (cache_said name.now settings.now wants.now) result }
 {
     let name = read_key(name)?;
     let policy = policy_of(settings.policy, settings.duration)?;
+    if settings.reserved != 0 {
+        return Err(Fault::BadChoice);
+    }
     let processors = Sequence::new(flags_of(alloc, wants)?);
-    Ok(CacheConfig {
+    let config = CacheConfig {
         name,
         capacity: settings.capacity,
         policy,
@@ -74,5 +100,7 @@ pub fn read_config(
         writer: settings.writer != 0,
         processors,
         listeners: settings.listeners,
-    })
+    };
+    let max_value = bound_of(settings.max_value);
+    Ok(NewCache { config, max_value })
 }

@@ -2,15 +2,18 @@
 //! of the caller's, empty at null. Each call takes the manager out of its handle and puts it back.
 #![tactic(auto)]
 
-pub mod calls;
-pub mod desk;
+mod bytes;
+mod calls;
+mod desk;
+mod desks;
 mod exports;
-pub mod ffi_manager;
-pub mod ffi_settings;
-pub mod items;
+mod ffi_manager;
+mod ffi_settings;
+mod items;
 pub mod laws;
-pub mod looks;
-pub mod reading;
-mod shown;
-pub mod status;
-pub mod walk;
+mod looks;
+mod placer;
+mod reading;
+mod status;
+mod taken;
+mod walk;

@@ -46,7 +46,9 @@ impl FfiManager {
         ensures len { len.new
             ≡ length_told (value_found id (status_number result) self.new) len.old }
     {
-        let status = self.call(id, now, calls::get(key));
+        let said = calls::get(key);
+        let status = self.call(id, now, &said);
+        drop(said);
         self.copy_found(id, status.number(), out, len);
         status
     }

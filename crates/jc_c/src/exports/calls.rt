@@ -28,7 +28,8 @@ pub(crate) fn begin(
         drop(said);
         return Status::Closed.number();
     };
-    let status = seat.call(id, now, said);
+    let status = seat.call(id, now, &said);
+    drop(said);
     h.put_in(seat);
     status.number()
 }

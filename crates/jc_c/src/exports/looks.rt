@@ -2,6 +2,7 @@
 ghost use Rattle.std.specs.Prelude.{◌≡◌, length};
 ghost use Rattle.jc_model.specs.Places.{at_place};
 ghost use Rattle.jc_engine.specs.Caches.{count_in};
+ghost use Rattle.jc_c.specs.Bytes.{bytes_in};
 ghost use Rattle.jc_c.specs.Calls.{call_with_key};
 ghost use Rattle.jc_c.specs.Items.{buffer_after, length_told};
 ghost use Rattle.jc_c.specs.Looks.{moment_peeked, peek_status, row_peeked, rows_status, value_peeked};
@@ -85,6 +86,20 @@ pub extern "C" fn jc_rows(alloc: Global, h: &mut Handle, id: u32, rows: &mut usi
         return Status::Closed.number();
     };
     let status = seat.count_rows(id, rows);
+    h.put_in(seat);
+    status.number()
+}
+
+#[unsafe(no_mangle)]
+pub extern "C" fn jc_bytes(alloc: Global, h: &mut Handle, id: u32, bytes: &mut u64) -> u32
+    ensures same { h.new.held ≡ h.old.held }
+    ensures status { SeatTellsAt id rows_status h.old result h.new }
+    ensures bytes { bytes.new ≡ or_before bytes.old (bytes_in (cache_held id h.old.held)) }
+{
+    let Some(seat) = h.take(alloc) else {
+        return Status::Closed.number();
+    };
+    let status = seat.count_bytes(id, bytes);
     h.put_in(seat);
     status.number()
 }

@@ -2,26 +2,28 @@
 ghost use Rattle.std.specs.Prelude.{◌≡◌, None};
 ghost use Rattle.jc_model.specs.declared.event.Event.TheVariants.{Destroy};
 ghost use Rattle.jc_c.specs.Parts.{or_before, find_status, cache_found};
-ghost use Rattle.jc_c.specs.Reading.{key_said, config_said};
+ghost use Rattle.jc_c.specs.Placing.{secret_placer};
+ghost use Rattle.jc_c.specs.Reading.{cache_said, key_said};
 ghost use Rattle.jc_c.specs.Status.{status_number};
 ghost use Rattle.jc_c.specs.Held.{OpensManager, SeatAnswers, SeatCreatesOr, SeatTells, caches_held, closing};
 
 use crate::exports::handle::Handle;
 use crate::ffi_manager::FfiManager;
-use crate::ffi_settings::{FfiSettings, read_config};
+use crate::ffi_settings::{FfiSettings, read_cache};
+use crate::placer::FfiPlacer;
 use crate::status::Status;
 use jc_model::event::CacheId;
 use std::alloc::Global;
 
-#[unsafe(no_mangle)]
-pub extern "C" fn jc_open(alloc: Global, h: &mut Handle, seed: u64) -> u32
-    ensures { OpensManager h.old.held result h.new.held }
+/// Makes a manager with this placer behind a handle that is empty.
+fn open(alloc: Global, h: &mut Handle, placer: FfiPlacer) -> u32
+    ensures { OpensManager placer h.old.held result h.new.held }
 {
     if let Some(seat) = h.take(alloc) {
         h.put_in(seat);
         return Status::InUse.number();
     }
-    let Some(seat) = FfiManager::open(alloc, seed) else {
+    let Some(seat) = FfiManager::open(alloc, &placer) else {
         return Status::OutOfMemory.number();
     };
     match Box::new(alloc, seat) {
@@ -31,6 +33,20 @@ pub extern "C" fn jc_open(alloc: Global, h: &mut Handle, seed: u64) -> u32
         }
         Err(_) => Status::OutOfMemory.number(),
     }
+}
+
+#[unsafe(no_mangle)]
+pub extern "C" fn jc_open(alloc: Global, h: &mut Handle, seed: u64) -> u32
+    ensures { OpensManager (FfiPlacer.Seeded seed) h.old.held result h.new.held }
+{
+    open(alloc, h, FfiPlacer::seeded(seed))
+}
+
+#[unsafe(no_mangle)]
+pub extern "C" fn jc_open_secret(alloc: Global, h: &mut Handle, secret: &[u8; 16]) -> u32
+    ensures { OpensManager (secret_placer secret.now) h.old.held result h.new.held }
+{
+    open(alloc, h, FfiPlacer::secret(secret))
 }
 
 #[unsafe(no_mangle)]
@@ -56,14 +72,14 @@ pub extern "C" fn jc_create(
     wants: &[u8],
     id: &mut u32,
 ) -> u32
-    ensures created { SeatCreatesOr (config_said name.now settings.now wants.now) id.old id.new
+    ensures created { SeatCreatesOr (cache_said name.now settings.now wants.now) id.old id.new
         h.old result h.new }
     ensures closed { h.old.held ≡ None → id.new ≡ id.old }
 {
     let Some(mut seat) = h.take(alloc) else {
         return Status::Closed.number();
     };
-    let status = seat.create_cache(read_config(alloc, name, settings, wants), id);
+    let status = seat.create_cache(read_cache(alloc, name, settings, wants), id);
     h.put_in(seat);
     status.number()
 }

@@ -1,5 +1,5 @@
--- What is shown by cache, before and after an event.
-use Rattle.std.proofs.Common.{◌≡◌, ◌≢◌, ◌<◌, ◌+◌, ℕ, zero, suc, Bool, true, false, is_some, List, [], ◌∷◌, ◌++◌, length, option_map, slice_set, Option, Some, None, inl, inr, refl, sym, ap, ap₂, subst, ◌∙◌, arith}
+-- The desks of caches, before and after an event.
+use Rattle.std.proofs.Common.{◌≡◌, ◌≢◌, ◌<◌, ◌+◌, ℕ, zero, suc, Bool, true, false, is_some, List, [], ◌∷◌, ◌++◌, length, option_map, slice_set, if◌then◌else◌, Option, Some, None, inl, inr, refl, sym, ap, ap₂, subst, ◌∙◌, arith}
 use Rattle.std.proofs.lemmas.Bool.{cases_eq}
 use Rattle.std.proofs.lemmas.List.{length-map, length_push}
 use Rattle.jc_model.specs.declared.config.CacheConfig.{CacheConfig}
@@ -14,9 +14,12 @@ use Rattle.jc_engine.proofs.Names.{at_place_map}
 use Rattle.jc_engine.specs.Caches.{Cache, status_of, lives_of, fresh_cache}
 use Rattle.jc_engine.specs.Free.{takes_none}
 use Rattle.jc_engine.specs.Sound.{NoneFrom, places_of}
-use Rattle.jc_engine.proofs.Numbered.{Puts, put_here, put_other, places_put, places_more}
+use Rattle.jc_engine.proofs.Numbered.{Puts, put_here, put_other, places_put, places_more, at-places}
 use Rattle.jc_engine.proofs.Places.{place_of}
-use Rattle.jc_c.specs.Seated.{HaveSlots, Does, shown_with}
+use Rattle.jc_c.specs.declared.desks.Desk.{Desk}
+use Rattle.jc_c.specs.declared.placer.FfiPlacer.{FfiPlacer}
+use Rattle.jc_c.specs.Desks.{showing}
+use Rattle.jc_c.specs.Seated.{HaveDesks, DoesWith, desks_with, showing_at}
 pub use Rattle.jc_c.specs.Seated.{seated_of}
 
 pub some_map : {A B : Type 0} (h : A → B) (o : Option A) → is_some (option_map h o) ≡ is_some o
@@ -64,8 +67,16 @@ pub same_places : {A : Type 0} (f g : ℕ → Option A) (n : ℕ) → ((i : ℕ)
 same_places f g zero same = refl
 same_places f g (suc n) same = ap₂ (λ xs x. xs ++ x ∷ []) (same_places f g n same) (same n)
 
+-- ids that have not been given have no desk
+pub none_beyond : (caches : List (Option Cache)) (f : ℕ → Option Desk) → HaveDesks caches f → NoneFrom (length caches) f
+none_beyond caches f slots id past = by (f id) (slots id)
+  where
+    by : (o : Option Desk) → is_some o ≡ is_some (at_place caches id) → o ≡ None
+    by None is = refl
+    by (Some x) is = (let less = below caches id (sym is) in absurd (omega (arith, less, past)))
+
 -- An event of one cache was accepted.
-module _ (caches caches' : List (Option Cache)) (f g : ℕ → Option Outcome) (id : ℕ) (said : CacheEvent) (o : Outcome) (slots : HaveSlots caches f)
+module _ (caches caches' : List (Option Cache)) (f g : ℕ → Option Desk) (id : ℕ) (said : CacheEvent) (o : Outcome) (slots : HaveDesks caches f)
     (memory : Bool) (answer : o ≡ answer_in (lives_of caches) (on_cache id said) memory) (accepted : is_refused o ≡ false) where
   live : is_some (at_place caches id) ≡ true
   live = sym (live_there caches id) ∙ accepted_live (at_place (lives_of caches) id) said memory o answer accepted
@@ -73,7 +84,7 @@ module _ (caches caches' : List (Option Cache)) (f g : ℕ → Option Outcome) (
   pub slot : is_some (f id) ≡ true
   slot = slots id ∙ live
 
-  module _ (after : lives_of caches' ≡ lives_by (lives_of caches) (on_cache id said) o) (puts : Puts f id (Some o) g) where
+  module _ (after : lives_of caches' ≡ lives_by (lives_of caches) (on_cache id said) o) (puts : Puts f id (showing o (f id)) g) where
     changed : lives_of caches' ≡ put_moved (lives_of caches) id said (at_place (lives_of caches) id)
     changed = rw accepted at after
 
@@ -87,43 +98,47 @@ module _ (caches caches' : List (Option Cache)) (f g : ℕ → Option Outcome) (
         sym (length-map caches' (option_map status_of)) ∙ ap length changed
         ∙ moved_length (lives_of caches) id said (at_place (lives_of caches) id) ∙ length-map caches (option_map status_of)
 
-    pub slots_after : HaveSlots caches' g
+    pub slots_after : HaveDesks caches' g
     slots_after i = elim (cases_eq i id) [
-      | inl same ↦ subst (λ (n : ℕ). is_some (g n) ≡ is_some (at_place caches' n)) (sym same) (ap is_some (put_here f g id (Some o) puts) ∙ sym (live_after id ∙ live))
-      | inr differ ↦ ap is_some (put_other f g id (Some o) puts i differ) ∙ slots i ∙ sym (live_after i)
+      | inl same ↦ subst (λ (n : ℕ). is_some (g n) ≡ is_some (at_place caches' n)) (sym same) (ap is_some (put_here f g id (showing o (f id)) puts) ∙ some_map (λ (d : Desk). record d { shown = o }) (f id) ∙ slot ∙ sym (live_after id ∙ live))
+      | inr differ ↦ ap is_some (put_other f g id (showing o (f id)) puts i differ) ∙ slots i ∙ sym (live_after i)
     ]
 
-    pub shown_after : places_of g (length caches') ≡ slice_set (places_of f (length caches)) id (Some o)
-    shown_after = ap (places_of g) length_after ∙ places_put f g id (Some o) puts (length caches) (below caches id live)
+    pub shown_after : places_of g (length caches') ≡ showing_at id o (places_of f (length caches))
+    shown_after =
+        ap (places_of g) length_after ∙ places_put f g id (showing o (f id)) puts (length caches) (below caches id live)
+        ∙ ap (λ (d : Option Desk). slice_set (places_of f (length caches)) id (showing o d)) (sym (at-places f (length caches) id (none_beyond caches f slots)))
 
-pub refused_does : (caches caches' : List (Option Cache)) (f g : ℕ → Option Outcome) (event : Event) (o : Outcome) → is_refused o ≡ true → o ≡ answer_to (lives_of caches) event (for_memory o)
+pub refused_does : (most : ℕ) (p : FfiPlacer) (caches caches' : List (Option Cache)) (f g : ℕ → Option Desk) (event : Event) (o : Outcome) → is_refused o ≡ true → o ≡ answer_to (lives_of caches) event (for_memory o)
     → lives_of caches' ≡ lives_after (lives_of caches) event o → (takes_none event ≡ true → o ≡ answer_to (lives_of caches) event false) → caches' ≡ caches → ((i : ℕ) → g i ≡ f i)
-    → Does (seated_of caches f) event o (seated_of caches' g)
-refused_does caches caches' f g event o refused answer lives free same also =
+    → DoesWith most (seated_of caches f p) event o (seated_of caches' g p)
+refused_does most p caches caches' f g event o refused answer lives free same also =
     let shown : places_of g (length caches') ≡ places_of f (length caches) = ap (λ (ks : List (Option Cache)). places_of g (length ks)) same ∙ same_places f g (length caches) also in
     record {
       outcome_is = answer;
       lives = lives;
       free = free;
       shows = rw refused shown;
-      refused = λ _. ap₂ (λ ks os. record { caches = ks; shown = os }) same shown;
+      placer_is = refl;
+      refused = λ _. ap₂ (λ (ks : List (Option Cache)) (ds : List (Option Desk)). record { caches = ks; desks = ds; placer = p }) same shown;
     }
 
-pub accepted_does : (caches caches' : List (Option Cache)) (f g : ℕ → Option Outcome) (event : Event) (o : Outcome) → is_refused o ≡ false → o ≡ answer_to (lives_of caches) event (for_memory o)
+pub accepted_does : (most : ℕ) (p : FfiPlacer) (caches caches' : List (Option Cache)) (f g : ℕ → Option Desk) (event : Event) (o : Outcome) → is_refused o ≡ false → o ≡ answer_to (lives_of caches) event (for_memory o)
     → lives_of caches' ≡ lives_after (lives_of caches) event o → (takes_none event ≡ true → o ≡ answer_to (lives_of caches) event false)
-    → places_of g (length caches') ≡ shown_with (places_of f (length caches)) event o
-    → Does (seated_of caches f) event o (seated_of caches' g)
-accepted_does caches caches' f g event o accepted answer lives free shown =
+    → places_of g (length caches') ≡ desks_with most (places_of f (length caches)) event o
+    → DoesWith most (seated_of caches f p) event o (seated_of caches' g p)
+accepted_does most p caches caches' f g event o accepted answer lives free shown =
     record {
       outcome_is = answer;
       lives = lives;
       free = free;
       shows = rw accepted shown;
+      placer_is = refl;
       refused = λ refused. (let clash = sym accepted ∙ refused in absurd cc);
     }
 
 -- A cache was destroyed.
-module _ (caches caches' : List (Option Cache)) (f g : ℕ → Option Outcome) (id : ℕ) (slots : HaveSlots caches f) (answer : Destroyed ≡ answer_to_destroy (at_place (lives_of caches) id))
+module _ (caches caches' : List (Option Cache)) (f g : ℕ → Option Desk) (id : ℕ) (slots : HaveDesks caches f) (answer : Destroyed ≡ answer_to_destroy (at_place (lives_of caches) id))
     (gone : caches' ≡ slice_set caches id None) (puts : Puts f id None g) where
   there_to_destroy : (found : Option Status) → Destroyed ≡ answer_to_destroy found → is_some found ≡ true
   there_to_destroy None is = absurd cc
@@ -132,7 +147,7 @@ module _ (caches caches' : List (Option Cache)) (f g : ℕ → Option Outcome) (
   was_live : is_some (at_place caches id) ≡ true
   was_live = sym (live_there caches id) ∙ there_to_destroy (at_place (lives_of caches) id) answer
 
-  pub slots_without : HaveSlots caches' g
+  pub slots_without : HaveDesks caches' g
   slots_without i = elim (cases_eq i id) [
     | inl same ↦ subst (λ (n : ℕ). is_some (g n) ≡ is_some (at_place caches' n)) (sym same)
         (ap is_some (put_here f g id None puts) ∙ sym (ap (λ (ks : List (Option Cache)). is_some (at_place ks id)) gone ∙ ap is_some (set_here caches id None was_live)))
@@ -157,8 +172,8 @@ at_front [] y (suc i) differ = refl
 at_front (x ∷ xs) y zero differ = refl
 at_front (x ∷ xs) y (suc i) differ = at_front xs y i (λ e. differ (ap suc e))
 
-module _ (caches caches' : List (Option Cache)) (f g : ℕ → Option Outcome) (id : ℕ) (config : CacheConfig) (slots : HaveSlots caches f) (answer : Created id ≡ answer_to (lives_of caches) (Create config) false)
-    (added : caches' ≡ caches ++ Some (fresh_cache config) ∷ []) (puts : Puts f id (Some (Created id)) g) where
+module _ (caches caches' : List (Option Cache)) (f g : ℕ → Option Desk) (id : ℕ) (config : CacheConfig) (slots : HaveDesks caches f) (answer : Created id ≡ answer_to (lives_of caches) (Create config) false)
+    (added : caches' ≡ caches ++ Some (fresh_cache config) ∷ []) (desk : Desk) (puts : Puts f id (Some desk) g) where
   next_id : (refusal : _) → Created id ≡ answer_to_create refusal (length (lives_of caches)) false → id ≡ length (lives_of caches)
   next_id None is = cc
   next_id (Some refusal) is = absurd cc
@@ -166,24 +181,16 @@ module _ (caches caches' : List (Option Cache)) (f g : ℕ → Option Outcome) (
   id_is : id ≡ length caches
   id_is = next_id (create_refusal (lives_of caches) config) answer ∙ length-map caches (option_map status_of)
 
-  pub slots_more : HaveSlots caches' g
+  pub slots_more : HaveDesks caches' g
   slots_more i = elim (cases_eq i id) [
     | inl same ↦ subst (λ (n : ℕ). is_some (g n) ≡ is_some (at_place caches' n)) (sym same)
-        (ap is_some (put_here f g id (Some (Created id)) puts)
+        (ap is_some (put_here f g id (Some desk) puts)
         ∙ sym (ap (λ (ks : List (Option Cache)). is_some (at_place ks id)) added ∙ ap (λ (n : ℕ). is_some (at_place (caches ++ Some (fresh_cache config) ∷ []) n)) id_is ∙ ap is_some (at_last caches (Some (fresh_cache config)))))
-    | inr differ ↦ ap is_some (put_other f g id (Some (Created id)) puts i differ) ∙ slots i
+    | inr differ ↦ ap is_some (put_other f g id (Some desk) puts i differ) ∙ slots i
         ∙ sym (ap (λ (ks : List (Option Cache)). is_some (at_place ks i)) added ∙ ap is_some (at_front caches (Some (fresh_cache config)) i (λ e. differ (e ∙ sym id_is))))
   ]
 
-  pub shown_more : places_of g (length caches') ≡ places_of f (length caches) ++ Some (Created id) ∷ []
+  pub shown_more : places_of g (length caches') ≡ places_of f (length caches) ++ Some desk ∷ []
   shown_more =
       ap (λ (ks : List (Option Cache)). places_of g (length ks)) added ∙ ap (places_of g) (length_push caches (Some (fresh_cache config)) ∙ ap (λ n. n + 1) (sym id_is))
-      ∙ places_more f g id (Some (Created id)) puts ∙ ap (λ n. places_of f n ++ Some (Created id) ∷ []) id_is
-
--- nothing is shown of ids that have not been given
-pub none_beyond : (caches : List (Option Cache)) (f : ℕ → Option Outcome) → HaveSlots caches f → NoneFrom (length caches) f
-none_beyond caches f slots id past = by (f id) (slots id)
-  where
-    by : (o : Option Outcome) → is_some o ≡ is_some (at_place caches id) → o ≡ None
-    by None is = refl
-    by (Some x) is = (let less = below caches id (sym is) in absurd (omega (arith, less, past)))
+      ∙ places_more f g id (Some desk) puts ∙ ap (λ n. places_of f n ++ Some desk ∷ []) id_is
