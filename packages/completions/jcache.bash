@@ -20,7 +20,7 @@ _jcache() {
     fi
     case ${COMP_WORDS[1]} in
         run) options="--workers --seed --serial --format --strict --explain --help --version" ;;
-        check) options="--strict --explain --help --version" ;;
+        check) options="--strict --all --explain --help --version" ;;
         replay) options="--capacity --explain --help --version" ;;
         help) mapfile -t COMPREPLY < <(compgen -W "run check replay help" -- "$word"); return ;;
         *) return ;;

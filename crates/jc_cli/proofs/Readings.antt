@@ -31,6 +31,9 @@ same_text t u e = cc
 same_rows : (r s : List Row) → Some r ≡ Some s → r ≡ s
 same_rows r s e = cc
 
+same_pair : (p q : Text × List Row) → Some p ≡ Some q → p ≡ q
+same_pair p q e = cc
+
 -- the name alone, of a name that is read with its rows
 pub name_read : {B : Type 0} (o : Option B) (f : B → Text) (g : B → List Row) → option_map f o ≡ option_map (λ (p : Text × List Row). p.0) (option_map (λ b. (f b, g b)) o)
 name_read None f g = refl
@@ -69,6 +72,18 @@ some_clash o clash rows e is none = cc
 pub clashing : (o : Option (Text × List Row)) (rows : List Row) → Some rows ≡ option_map (λ p. p.1) o → clash_of rows ≢ None → (p : Text × List Row) × (o ≡ Some p) × (clash_of p.1 ≢ None)
 clashing None rows has apart = cc
 clashing (Some p) rows has apart = (p, refl, subst (λ (r : List Row). clash_of r ≢ None) (same_rows rows p.1 has) apart)
+
+-- the rows of the subcommand that was met stand together
+pub standing : (o : Option (Text × List Row)) (rows : List Row) → Some rows ≡ option_map (λ p. p.1) o → clash_of rows ≡ None → (p : Text × List Row) → o ≡ Some p → clash_of p.1 ≡ None
+standing None rows has apart p is = absurd cc
+standing (Some q) rows has apart p is =
+    let same : q ≡ p = same_pair q p is in
+    subst (λ (r : Text × List Row). clash_of r.1 ≡ None) same (subst (λ (r : List Row). clash_of r ≡ None) (same_rows rows q.1 has) apart)
+
+-- none was met
+pub none_standing : (o : Option (Text × List Row)) → ◌≡◌ {A = Option (List Row)} None (option_map (λ p. p.1) o) → (p : Text × List Row) → o ≡ Some p → clash_of p.1 ≡ None
+none_standing None has p is = absurd cc
+none_standing (Some q) has p is = absurd cc
 
 pub is_simple_program : is_simple program ≡ true
 unfolding clap_on_literals
@@ -130,9 +145,6 @@ no_asked (Some p) name rows a is has none asked within =
     let (q, same, apart, asks) = asked in
     let at_p : p ≡ (name, rows) = ap₂ (λ (n : Text) (r : List Row). (n, r)) (sym (same_text name p.0 is)) (sym (same_rows rows p.1 has)) in
     none a (subst (λ (r : Text × List Row). AsksBy r a) (sym (same_pair p q same) ∙ at_p) asks) within
-  where
-    same_pair : (p q : Text × List Row) → Some p ≡ Some q → p ≡ q
-    same_pair p q e = cc
 
 -- none was met
 pub none_met : (o : Option (Text × List Row)) (a : Asked) → ◌≡◌ {A = Option (List Row)} None (option_map (λ p. p.1) o) → (p : Text × List Row) × (o ≡ Some p) × (clash_of p.1 ≡ None) × AsksBy p a → ⊥

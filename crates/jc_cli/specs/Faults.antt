@@ -76,10 +76,22 @@ fault_line (Run fault) = run_line fault
 abbrev pub explained_line : ProgramFault → List ℕ → List ℕ
 explained_line fault lines = codes "jcache: " ++ (fault_line fault ++ lines)
 
+-- a fault with others behind it, each told alone or explained
+abbrev pub listed_line : Bool → ProgramFault → List ℕ → List ℕ
+listed_line false fault lines = fault_line fault ++ lines
+listed_line true fault lines = explained_line fault lines
+
 -- alone, or with an explanation
 abbrev pub told_lines : ProgramFault → Option (List ℕ) → List ℕ
 told_lines fault None = fault_line fault
 told_lines fault (Some lines) = explained_line fault lines
+
+-- a fault is in the configuration, not in the script or the trace
+abbrev pub is_of_config : ProgramFault → Bool
+is_of_config ConfigRead = true
+is_of_config (Config fault) = true
+is_of_config NoCaches = true
+is_of_config _ = false
 
 -- the report could not be written
 abbrev pub is_of_report : ProgramFault → Bool

@@ -56,7 +56,7 @@ abbrev pub run_app : App
 run_app = with_rule (with_rule (with_rule (with_rule (with_rule (with_rule (files_app (codes "run") true) workers_rule) seed_rule) (flag_rule (codes "serial"))) format_rule) (flag_rule (codes "strict"))) explain_rule
 
 abbrev pub check_app : App
-check_app = with_rule (with_rule (files_app (codes "check") false) (flag_rule (codes "strict"))) explain_rule
+check_app = with_rule (with_rule (with_rule (files_app (codes "check") false) (flag_rule (codes "strict"))) (flag_rule (codes "all"))) explain_rule
 
 abbrev pub capacity_rule : Rule
 capacity_rule = record (new_rule (codes "capacity")) { long = Some (codes "capacity"); required = true; action = Some Set; value_names = 1 }
@@ -177,6 +177,7 @@ pub record AsksCheck (rows : List Row) (check : Check) : Type 0 where
   pub config : first_of (codes "CONFIG") rows ≡ Some (string_bytes check.config)
   pub script : first_of (codes "SCRIPT") rows ≡ option_map string_bytes check.script
   pub strict : one_of (codes "strict") rows ≡ Some (truth check.strict)
+  pub all : one_of (codes "all") rows ≡ Some (truth check.all)
   pub explain : first_of (codes "explain") rows ≡ Some (explain_text check.explain)
 
 -- how many rows a cache may have
@@ -244,6 +245,10 @@ AsksFor words a = AsksInFull (written_out words) a
 abbrev pub Clashes : List Text → Type 0
 Clashes words = (p : Text × List Row) × (subcommand_of program words ≡ Some p) × (clash_of p.1 ≢ None)
 
+-- where they name one, its matches can stand together
+abbrev pub StandTogether : List Text → Type 0
+StandTogether words = (p : Text × List Row) → subcommand_of program words ≡ Some p → clash_of p.1 ≡ None
+
 abbrev pub IsWithinLimits : Options → Type 0
 IsWithinLimits options = (1 ≤ options.workers) × (options.workers ≤ 8) × (options.seed < 2 ^ 63)
 
@@ -287,12 +292,12 @@ first_explain (word ∷ words) = unwrap_or (says_explain word) (first_explain wo
 abbrev pub asks_to_explain : Bool → List Text → Bool
 asks_to_explain at_terminal words = explains at_terminal (first_explain words)
 
--- A kind of fault that `clap` has for the words, or want of memory; or that some of them can't stand together; or that
--- they ask for nothing.
+-- A kind of fault that `clap` has for the words, or want of memory; or that some of them can't stand together; or, where
+-- they can, that they ask for nothing.
 abbrev pub MayRefuseInFull : List Text → Error → Type 0
 MayRefuseInFull words e =
     HasKind (fault_of program words) e
-    ⊎ ((HasKind (kinds.ArgumentConflict ∷ []) e × Clashes words) ⊎ (HasKind (kinds.InvalidSubcommand ∷ []) e × AskForNone words))
+    ⊎ ((HasKind (kinds.ArgumentConflict ∷ []) e × Clashes words) ⊎ (HasKind (kinds.InvalidSubcommand ∷ []) e × StandTogether words × AskForNone words))
 
 abbrev pub MayRefuse : List Text → Error → Type 0
 MayRefuse words e = MayRefuseInFull (written_out words) e

@@ -13,7 +13,7 @@ unread_reader reader = record { inner = reader; reads = 0; failures = 0 }
 
 -- a writer that was not called yet
 abbrev pub unused_writer : {W : Type 0} → W → WatchedWriter W
-unused_writer writer = record { inner = writer; failures = 0; unheard = false; flushed = false }
+unused_writer writer = record { inner = writer; texts = 0; failures = 0; unheard = false; flushed = false }
 
 -- What a reader has left, before and after.
 module _ {R : Type 0} (remaining : R → Option (List ℕ)) where
@@ -42,6 +42,10 @@ module _ {W : Type 0} (contents : W → Option (List ℕ)) where
 -- what the writer took was flushed, and nothing failed
 abbrev pub FlushesAll : {W : Type 0} → WatchedWriter W → WatchedWriter W → Type 0
 FlushesAll old new = (new.flushed ≡ true) × (new.failures ≡ old.failures)
+
+-- the writer was given one text more, whether it took it or not
+abbrev pub IsGivenText : {W : Type 0} → WatchedWriter W → WatchedWriter W → Type 0
+IsGivenText old new = new.texts ≡ next_count old.texts
 
 -- the writer failed once
 abbrev pub WriteFails : {W : Type 0} → WatchedWriter W → WatchedWriter W → Type 0

@@ -2,12 +2,14 @@
 
 use crate::run::{Explain, Run};
 
-/// A check of a configuration and, where its path is there, of a script; `strict` and `explain` are a run's.
+/// A check of a configuration and, where its path is there, of a script. Whether all faults are told; `strict` and
+/// `explain` are a run's.
 #[derive(Drop)]
 pub struct Check {
     pub config: String,
     pub script: Option<String>,
     pub strict: bool,
+    pub all: bool,
     pub explain: Explain,
 }
 

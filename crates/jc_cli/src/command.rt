@@ -121,6 +121,7 @@ fn check<'a>(alloc: Global) -> Result<Command<'a>, AllocError>
         .arg(path(alloc, "CONFIG", help::CONFIG))?
         .arg(optional_path(alloc, "SCRIPT", help::SCRIPT))?
         .arg(flag(alloc, "strict", help::STRICT))?
+        .arg(flag(alloc, "all", help::ALL))?
         .arg(explain(alloc))
 }
 

@@ -1,12 +1,15 @@
 //! How the program ends, with which status, and what it says; and, before that, what it says to a person at a terminal.
 ghost use Rattle.std.specs.Prelude.{◌≡◌, ◌++◌, ◌&&◌, ◌==◌, length, true, is_err, OnOk, IfOk, IfErr, [], codes};
 ghost use Rattle.std.specs.Option.{option_copied};
-ghost use Rattle.jc_cli.specs.Endings.{Greets, HasStatus, SaysNothing, SaysSo, SaysFault, TellsLine, IsPrinted, Leaves, ending_of, is_unheard, unwritten_status, no_text_line};
-ghost use Rattle.jc_cli.specs.Faults.{told_lines};
+ghost use Rattle.jc_cli.specs.Endings.{Greets, HasStatus, SaysNothing, SaysSo, SaysFault, TellsLine, IsPrinted, Leaves, ending_of, is_unheard, unwritten_status, no_text_line, path_of, checked_path, ending_of_check};
+ghost use Rattle.jc_cli.specs.Faults.{listed_line, told_lines};
 ghost use Rattle.jc_cli.specs.Meters.{next_count_if};
 ghost use Rattle.jc_cli.specs.Watching.{AddsText};
 
-use crate::fault::{ProgramFault, is_of_report, write_lines, write_name, write_told};
+use crate::asked::Check;
+use crate::fault::{
+    ProgramFault, is_of_config, is_of_report, write_lines, write_listed, write_name, write_told,
+};
 use crate::output::WatchedWriter;
 use clap::Error;
 use std::io;
@@ -19,8 +22,17 @@ pub enum Ending {
     Done,
     /// A fault, whose line is to be told on standard error.
     Faulty(ProgramFault),
-    /// A fault that is to be explained: its line has the program's name before it, and the explanation's lines below it.
-    Explained(ProgramFault),
+    /// A fault that is to be explained, with the path of its file: its line has the program's name before it, and the
+    /// explanation's lines below it.
+    Explained(ProgramFault, String),
+    /// A fault of files that were checked, with the path of its file, which is told with all that stand behind it: each
+    /// explained or not; members that an op does not need are faults or not.
+    Listed {
+        fault: ProgramFault,
+        path: String,
+        explain: bool,
+        strict: bool,
+    },
     /// Help was asked for, or the words are mistaken.
     Refused(Error),
     /// The words are mistaken and ask for explanations: this text is told, with the program's name before it.
@@ -79,19 +91,82 @@ pub fn greet<E: Write>(
     }
 }
 
-/// How a run ended: `Done`, or with its fault, which may have to be explained.
-pub fn ending_of(explain: bool, ran: Result<(), ProgramFault>) -> Ending
-    ensures { result ≡ ending_of explain ran }
+/// The path of the file in which a fault is: that of the configuration, or of the script.
+fn path_of(config: String, script: String, fault: &ProgramFault) -> String
+    ensures { result ≡ path_of config script fault.now }
+{
+    if is_of_config(fault) { config } else { script }
+}
+
+/// How a run of these files ended: `Done`, or with its fault, which may have to be explained.
+pub fn ending_of(
+    explain: bool,
+    config: String,
+    script: String,
+    ran: Result<(), ProgramFault>,
+) -> Ending
+    ensures { result ≡ ending_of explain (path_of config script) ran }
 {
     match ran {
         Ok(()) => Ending::Done,
         Err(fault) => {
             if explain {
-                Ending::Explained(fault)
+                let path = path_of(config, script, &fault);
+                Ending::Explained(fault, path)
             } else {
                 Ending::Faulty(fault)
             }
         }
+    }
+}
+
+/// The same of one file.
+pub fn ending_in(explain: bool, path: String, ran: Result<(), ProgramFault>) -> Ending
+    ensures { result ≡ ending_of explain (λ fault. path) ran }
+{
+    match ran {
+        Ok(()) => Ending::Done,
+        Err(fault) => {
+            if explain {
+                Ending::Explained(fault, path)
+            } else {
+                Ending::Faulty(fault)
+            }
+        }
+    }
+}
+
+fn checked_path(config: String, script: Option<String>, fault: &ProgramFault) -> String
+    ensures { result ≡ checked_path config script fault.now }
+{
+    match script {
+        Some(script) => path_of(config, script, fault),
+        None => config,
+    }
+}
+
+/// How a check ended: `Done`, or with its fault, or with all.
+pub fn ending_of_check(explain: bool, check: Check, ran: Result<(), ProgramFault>) -> Ending
+    ensures { result ≡ ending_of_check explain check ran }
+{
+    let Err(fault) = ran else {
+        return Ending::Done;
+    };
+    let strict = check.strict;
+    let all = check.all;
+    let path = checked_path(check.config, check.script, &fault);
+    if all {
+        return Ending::Listed {
+            fault,
+            path,
+            explain,
+            strict,
+        };
+    }
+    if explain {
+        Ending::Explained(fault, path)
+    } else {
+        Ending::Faulty(fault)
     }
 }
 
@@ -167,7 +242,31 @@ fn say_fault<E: Write>(
     }
 }
 
-/// Says how the program ends, and with which status; the lines are those of an explanation.
+/// Tells a fault with others behind it, but for a report that nobody reads any more.
+fn say_listed<E: Write>(
+    explain: bool,
+    fault: &ProgramFault,
+    lines: &str,
+    unheard: bool,
+    errors: &mut WatchedWriter<E>,
+) -> Ended
+    ensures status { result.status ≡ unwritten_status (is_unheard fault.now unheard) }
+    ensures says { SaysFault E.contents (is_unheard fault.now unheard)
+        (listed_line explain fault.now lines.now) result.told errors.old errors.new }
+{
+    if is_of_report(fault) && unheard {
+        return Ended {
+            status: 141,
+            told: true,
+        };
+    }
+    Ended {
+        status: 1,
+        told: write_listed(explain, fault, lines, errors),
+    }
+}
+
+/// Says how the program ends, and with which status; the lines are those of an explanation, or of other faults.
 pub fn say<O: Write, E: Write>(
     ending: &Ending,
     lines: &str,
@@ -185,7 +284,14 @@ pub fn say<O: Write, E: Write>(
             told: true,
         },
         Ending::Faulty(fault) => say_fault(fault, None, output.unheard(), errors),
-        Ending::Explained(fault) => say_fault(fault, Some(lines), output.unheard(), errors),
+        Ending::Explained(fault, _) => say_fault(fault, Some(lines), output.unheard(), errors),
+        Ending::Listed { fault, explain, .. } => say_listed(
+            *explain,
+            fault,
+            lines,
+            output.unheard(),
+            errors,
+        ),
         Ending::Refused(error) => refuse(error, output, errors),
         Ending::Mistaken(text) => Ended {
             status: 2,

@@ -1,9 +1,9 @@
 //! The faults of a run and of the program, and the line that tells each.
-ghost use Rattle.std.specs.Prelude.{◌≡◌, not, is_err, OnOk, codes};
+ghost use Rattle.std.specs.Prelude.{◌≡◌, not, is_err, IfOk, OnOk, codes, string_bytes};
 ghost use Rattle.std.specs.Bool.{OnTrue};
 ghost use Rattle.std.specs.Option.{option_copied};
 ghost use Rattle.jc_cli.specs.declared.fault.RunFault.TheVariants.{Memory};
-ghost use Rattle.jc_cli.specs.Faults.{of_work, bad_line, bad_cache_line, script_line, config_line, trace_line, run_line, fault_line, explained_line, told_lines, is_of_report};
+ghost use Rattle.jc_cli.specs.Faults.{of_work, bad_line, bad_cache_line, script_line, config_line, trace_line, run_line, fault_line, explained_line, told_lines, is_of_config, is_of_report, listed_line};
 ghost use Rattle.jc_cli.specs.Meters.{next_count_if};
 ghost use Rattle.jc_cli.specs.Watching.{AddsText};
 
@@ -12,7 +12,7 @@ use jc_config::ConfigFault;
 use jc_replay::ReplayFault;
 use jc_script::ScriptFault;
 use jc_threads::WorkFault;
-use std::alloc::{AllocError, AllocFailed};
+use std::alloc::{AllocError, AllocFailed, Global};
 use std::io;
 use std::io::Write;
 use thiserror::Error;
@@ -160,6 +160,16 @@ fn write_replay_fault<W: Write>(fault: ReplayFault, writer: &mut WatchedWriter<W
     }
 }
 
+/// Whether a fault is in the configuration, not in the script or the trace.
+pub fn is_of_config(fault: &ProgramFault) -> bool
+    ensures { result ≡ is_of_config fault.now }
+{
+    match fault {
+        ProgramFault::ConfigRead | ProgramFault::Config(_) | ProgramFault::NoCaches => true,
+        ProgramFault::TraceRead | ProgramFault::Trace(_) | ProgramFault::Run(_) => false,
+    }
+}
+
 /// Whether a fault is that the report could not be written.
 pub fn is_of_report(fault: &ProgramFault) -> bool
     ensures { result ≡ is_of_report fault.now }
@@ -228,6 +238,40 @@ fn write_explained<W: Write>(
         return false;
     }
     write_lines(lines, writer)
+}
+
+/// Writes a fault with others behind it; false where the writer failed.
+pub(crate) fn write_listed<W: Write>(
+    explain: bool,
+    fault: &ProgramFault,
+    lines: &str,
+    writer: &mut WatchedWriter<W>,
+) -> bool
+    ensures told { OnTrue result (AddsText W.contents writer.old writer.new
+        (listed_line explain fault.now lines.now)) }
+    ensures failures { writer.new.failures ≡ next_count_if (not result) writer.old.failures }
+{
+    if explain {
+        return write_explained(fault, lines, writer);
+    }
+    if !write_fault(fault, writer) {
+        return false;
+    }
+    write_lines(lines, writer)
+}
+
+/// The line of a fault.
+pub fn fault_text(alloc: Global, fault: &ProgramFault) -> Result<String, AllocError>
+    ensures { IfOk result (λ s. string_bytes s ≡ fault_line fault.now) }
+{
+    let mut writer = WatchedWriter::new(Vec::new(alloc));
+    if !write_fault(fault, &mut writer) {
+        return Err(AllocError);
+    }
+    match String::from_utf8(writer.into_inner()) {
+        Ok(text) => Ok(text),
+        Err(_) => Err(AllocError),
+    }
 }
 
 /// Writes the line of a fault, and its explanation where there is one; false where the writer failed.

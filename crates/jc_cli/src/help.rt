@@ -10,7 +10,7 @@ pub const ABOUT: &str = "Runs a script of cache calls and prints what each cache
 pub const RUN: &str = "Runs the calls of SCRIPT on the caches of CONFIG";
 
 /// What `check` does, in a line.
-pub const CHECK: &str = "Reads CONFIG and SCRIPT, runs nothing, and tells the first fault";
+pub const CHECK: &str = "Reads CONFIG and SCRIPT, runs nothing, and tells the first fault, or all";
 
 /// What `replay` does, in a line.
 pub const REPLAY: &str = "Counts the lookups of TRACE that find a value, by capacity";
@@ -52,6 +52,9 @@ pub const FORMAT: &str =
 /// The option `--strict`, in a line.
 pub const STRICT: &str =
     "Refuses members of a line that its op does not need, and a configuration without caches";
+
+/// The option `--all`, in a line.
+pub const ALL: &str = "Tells the faults of all lines of SCRIPT, and not the first alone";
 
 /// The option `--explain`, in a line.
 pub const EXPLAIN: &str =

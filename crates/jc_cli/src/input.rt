@@ -15,7 +15,7 @@ use std::io;
 use std::io::Read;
 
 /// One more. A count goes round after `u64::MAX`, so that what was added to it is always seen in full.
-fn next(count: u64) -> u64
+pub(crate) fn next(count: u64) -> u64
     ensures { result ≡ next_count count }
 {
     if count == u64::MAX { 0 } else { count + 1 }

@@ -23,9 +23,9 @@ mod run;
 
 pub use asked::{Asked, Check, Replay};
 pub use clash::{Clash, is_input};
-pub use ending::{Ended, Ending, WordsFault, ending_of, greet, say};
+pub use ending::{Ended, Ending, WordsFault, ending_in, ending_of, ending_of_check, greet, say};
 pub use explain::explains;
-pub use fault::{ProgramFault, RunFault, write_fault};
+pub use fault::{ProgramFault, RunFault, fault_text, is_of_config, write_fault};
 pub use given::told_of_words;
 pub use input::{WatchedReader, read_bytes};
 pub use no_text::no_text_mistake;

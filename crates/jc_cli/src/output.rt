@@ -4,11 +4,11 @@ ghost use Rattle.std.specs.Io.{WritesAtMost};
 ghost use Rattle.std.specs.Io.KnownBytes.{WriteAppends};
 ghost use Rattle.jc_cli.specs.Meters.{next_count_if};
 ghost use Rattle.jc_cli.specs.Streams.{takes_nothing, UnheardAfter};
-ghost use Rattle.jc_cli.specs.Watching.{unused_writer, AddsText, AddsFront, AddsNothing, WriteFails};
+ghost use Rattle.jc_cli.specs.Watching.{unused_writer, AddsText, AddsFront, AddsNothing, IsGivenText, WriteFails};
 ghost use Rattle.jc_cli.specs.declared.fault.RunFault.TheVariants as faults;
 
 use crate::fault::RunFault;
-use crate::input::next_if;
+use crate::input::{next, next_if};
 use std::fmt::Display;
 use std::io;
 use std::io::{ErrorKind, Write};
@@ -23,11 +23,12 @@ fn unheard_after<T>(outcome: &io::Result<T>, before: bool) -> bool
     }
 }
 
-/// A writer, with how often it failed, by a fault or by taking no byte, whether its last fault was that nobody reads any
-/// more, and whether what it took last was flushed.
+/// A writer, with how many whole texts it was given, how often it failed, by a fault or by taking no byte, whether its
+/// last fault was that nobody reads any more, and whether what it took last was flushed.
 #[derive(Drop)]
 pub struct WatchedWriter<W> {
     inner: W,
+    texts: u64,
     failures: u64,
     unheard: bool,
     flushed: bool,
@@ -40,6 +41,7 @@ impl<W: Write> WatchedWriter<W> {
     {
         WatchedWriter {
             inner,
+            texts: 0,
             failures: 0,
             unheard: false,
             flushed: false,
@@ -65,11 +67,13 @@ impl<W: Write> WatchedWriter<W> {
     pub(crate) fn write_fmt<T: Display + Drop>(&mut self, text: T) -> io::Result<()>
         ensures bytes { OnOk result (IfSome (T.output text)
             (AddsText W.contents self.old self.new)) }
+        ensures given { IsGivenText self.old self.new }
         ensures failures { self.new.failures ≡ next_count_if (is_err result) self.old.failures }
         ensures unheard { UnheardAfter result self.old.unheard self.new.unheard }
         ensures flushed { self.new.flushed ≡ false }
     {
         let result = self.inner.write_fmt(text);
+        self.texts = next(self.texts);
         self.failures = next_if(result.is_err(), self.failures);
         self.unheard = unheard_after(&result, self.unheard);
         self.flushed = false;
@@ -80,6 +84,7 @@ impl<W: Write> WatchedWriter<W> {
         ensures bound { WritesAtMost result buf.now }
         ensures bytes { WriteAppends (W.contents self.old.inner) (W.contents self.new.inner)
             result buf.now }
+        ensures given { self.new.texts ≡ self.old.texts }
         ensures failures { self.new.failures ≡ next_count_if (takes_nothing result) self.old.failures }
         ensures unheard { UnheardAfter result self.old.unheard self.new.unheard }
         ensures flushed { self.new.flushed ≡ false }
@@ -97,6 +102,7 @@ impl<W: Write> WatchedWriter<W> {
 
     pub(crate) fn flush(&mut self) -> io::Result<()>
         ensures bytes { AddsNothing W.contents self.old self.new }
+        ensures given { self.new.texts ≡ self.old.texts }
         ensures failures { self.new.failures ≡ next_count_if (is_err result) self.old.failures }
         ensures unheard { UnheardAfter result self.old.unheard self.new.unheard }
         ensures flushed { self.new.flushed ≡ is_ok result }

@@ -93,6 +93,9 @@ fn check_asked(alloc: Global, matches: &ArgMatches<'_>) -> Result<Option<Check>,
     let Some(strict) = matches.get_one::<bool>("strict") else {
         return Ok(None);
     };
+    let Some(all) = matches.get_one::<bool>("all") else {
+        return Ok(None);
+    };
     let Some(explain) = explain_in(matches) else {
         return Ok(None);
     };
@@ -102,6 +105,7 @@ fn check_asked(alloc: Global, matches: &ArgMatches<'_>) -> Result<Option<Check>,
         config,
         script,
         strict,
+        all,
         explain,
     }))
 }

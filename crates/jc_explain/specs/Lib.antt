@@ -1,5 +1,7 @@
 pub mod Config
+pub mod Every
 pub mod Found
+pub mod Kept
 pub mod Lines
 pub mod Methods
 pub mod Other

@@ -2,6 +2,7 @@
 #![tactic(auto)]
 
 mod config;
+mod every;
 mod found;
 mod kept;
 mod lines;
@@ -20,6 +21,7 @@ mod unread;
 mod words;
 
 pub use config::{explain_config, explain_no_caches};
+pub use every::{all_faults, all_strays};
 pub use kept::Kept;
 pub use script::{explain_other, explain_script, explain_too_long};
 pub use spelling::nearest;

@@ -1,8 +1,6 @@
 //! Explanations of a script's faults.
-ghost use Rattle.std.specs.Prelude.{◌≡◌, IfOk, map, option_map, string_bytes};
-ghost use Rattle.std.specs.List.{slice_split};
+ghost use Rattle.std.specs.Prelude.{◌≡◌, IfOk, option_map, string_bytes};
 ghost use Rattle.serde_json.specs.View.{view};
-ghost use Rattle.jc_script.specs.Script.{is_feed};
 ghost use Rattle.jc_explain.specs.Script.{piece_at, json_at, column_line, TellsColumn, object_line, near_word, value_suggestion, json_value_line, near_other, other_line, json_member_lines, names_line, names_text, ops_line, line_policy, further, bad_lines, lines_at, too_long_line, TellsNotJson, TellsScriptFault};
 ghost use Rattle.jc_explain.specs.Lines.{suggestion};
 ghost use Rattle.jc_explain.specs.Words.{ops, script_words, word_lent, words_lent};
@@ -19,16 +17,9 @@ use crate::spelling::nearest;
 use crate::stranger::is_known;
 use crate::twice::twice_line;
 use crate::words::{ops, policies, script_allowed, script_members};
-use jc_script::{Member, ScriptFault, read_json};
+use jc_script::{Member, ScriptFault, pieces, read_json};
 use serde_json::Value;
 use std::alloc::{AllocError, Global};
-
-/// The bytes, cut at each line feed.
-fn pieces(alloc: Global, bytes: &[u8]) -> Result<Vec<&[u8]>, AllocError>
-    ensures { IfOk result (λ v. map (λ piece. piece.now) v.items ≡ slice_split is_feed bytes.now) }
-{
-    bytes.split(|b| *b == b'\n').collect(alloc)
-}
 
 /// The line with this number, counted from 1.
 pub(crate) fn piece_at(

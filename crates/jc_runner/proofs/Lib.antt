@@ -20,3 +20,4 @@ pub mod Openable
 pub mod Named
 pub mod Traces
 pub mod ProgramTold
+pub mod Joined

@@ -17,12 +17,6 @@ use Rattle.jc_cli.specs.declared.fault.ProgramFault.TheVariants.{ConfigRead, Con
 use Rattle.jc_cli.specs.declared.fault.RunFault.{RunFault}
 use Rattle.jc_cli.specs.declared.fault.RunFault.TheVariants.{Read, TooLong, Script, Entry, Open, Close, Write, Memory}
 
--- a path, and what the system answered for it
-pub record TellsUnread (text : List ℕ) : Type 0 where
-  pub path : List ℕ
-  pub kind : Option ErrorKind
-  pub line : text ≡ unread_line path kind
-
 -- with the names of the caches that the configuration has
 abbrev pub TellsScriptBy : Result Configuration ConfigFault → List ℕ → ScriptFault → List ℕ → Type 0
 TellsScriptBy (Ok c) lines fault text = script.TellsScriptFault lines (names_of_caches c.settings) fault text
@@ -55,15 +49,16 @@ TellsContent bytes lines (Run fault) text = TellsRun bytes lines fault text
 TellsContent bytes lines ConfigRead text = text ≡ []
 TellsContent bytes lines TraceRead text = text ≡ []
 
--- lines below the path in which the fault is, or none
-pub record TellsIn (Tells : List ℕ → Type 0) (text : List ℕ) : Type 0 where
-  pub path : List ℕ
+-- lines below the path of the file in which the fault is, or none
+pub record TellsIn (path : List ℕ) (Tells : List ℕ → Type 0) (text : List ℕ) : Type 0 where
   pub rest : List ℕ
   pub tells : Tells rest
   pub lines : (text ≡ path_line path ++ rest) ⊎ ((text ≡ []) × (rest ≡ []))
 
-abbrev pub TellsFault : List ℕ → List ℕ → ProgramFault → List ℕ → Type 0
-TellsFault bytes lines ConfigRead text = TellsUnread text
-TellsFault bytes lines TraceRead text = TellsUnread text
-TellsFault bytes lines (Run Read) text = TellsUnread text
-TellsFault bytes lines fault text = TellsIn (TellsContent bytes lines fault) text
+-- the file's path, and what the system answered for it
+module _ (path : List ℕ) (kind : Option ErrorKind) where
+  abbrev pub TellsFault : List ℕ → List ℕ → ProgramFault → List ℕ → Type 0
+  TellsFault bytes lines ConfigRead text = text ≡ unread_line path kind
+  TellsFault bytes lines TraceRead text = text ≡ unread_line path kind
+  TellsFault bytes lines (Run Read) text = text ≡ unread_line path kind
+  TellsFault bytes lines fault text = TellsIn path (TellsContent bytes lines fault) text

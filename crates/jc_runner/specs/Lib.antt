@@ -14,5 +14,6 @@ pub mod Disks
 pub mod Naming
 pub mod Opens
 pub mod Program
+pub mod Every
 pub mod Explaining
 pub mod Telling

@@ -23,7 +23,7 @@ use Rattle.jc_cli.specs.declared.run.Format.TheVariants as format
 use Rattle.jc_cli.specs.declared.run.Run.{Run}
 use Rattle.jc_runner.specs.Demonstration.{demonstration_caches}
 use Rattle.jc_runner.specs.Disks.{IsFileFound, FailsToOpen, AsksForPath}
-use Rattle.jc_cli.specs.Endings.{ending_of, memory_ending, HasStatus, SaysSo, Leaves}
+use Rattle.jc_cli.specs.Endings.{ending_of, ending_of_check, path_of, plain_ending, memory_ending, HasStatus, SaysSo, Leaves}
 use Rattle.jc_runner.specs.Forms.{form_of}
 use Rattle.jc_cli.specs.Meters.{most_reads, AddsAtMost}
 use Rattle.jc_runner.specs.Naming.{ProgramHooks, AllHooksNamed, heard_by}
@@ -288,10 +288,10 @@ module _ {F I O : Type 0} (of_file : F → Option (List ℕ)) (of_input : I → 
   -- What words ask for, and how that ends. Where they are mistaken, or memory is wanting, nothing is run.
   module _ (at_terminal : Bool) (words : List Text) (ending : Ending) where
     pub data WordsEnd : Type 0 where
-      plays : words ≡ [] → (ran : Result (Unit {0}) RunFault) → RunEnds of_input contents true false format.Text demonstration input input' writer writer' ran → AddsAtMost most_reads input.reads input'.reads → HasNotFailed run.Read ran input input' → OpensNone → ending ≡ ending_of false (as_program ran) → WordsEnd
-      runs : (run : Run) → AsksFor words (asks.Run run) → (ran : Result (Unit {0}) ProgramFault) → FilesEnd of_file of_input contents holds asked asked' run opened'.config opened'.script input input' writer writer' ran → ending ≡ ending_of (explains at_terminal run.explain) ran → WordsEnd
-      checks : (check : Check) → AsksFor words (asks.Check check) → (ran : Result (Unit {0}) ProgramFault) → CheckEnds of_file of_input holds asked asked' check opened'.config opened'.script input input' ran → writer' ≡ writer → ending ≡ ending_of (explains at_terminal check.explain) ran → WordsEnd
-      replays : (replay : Replay) → AsksFor words (asks.Replay replay) → (ran : Result (Unit {0}) ProgramFault) → ReplayEnds of_file of_input contents holds asked asked' replay opened'.config opened'.script input input' writer writer' ran → ending ≡ ending_of (explains at_terminal replay.explain) ran → WordsEnd
+      plays : words ≡ [] → (ran : Result (Unit {0}) RunFault) → RunEnds of_input contents true false format.Text demonstration input input' writer writer' ran → AddsAtMost most_reads input.reads input'.reads → HasNotFailed run.Read ran input input' → OpensNone → ending ≡ plain_ending (as_program ran) → WordsEnd
+      runs : (run : Run) → AsksFor words (asks.Run run) → (ran : Result (Unit {0}) ProgramFault) → FilesEnd of_file of_input contents holds asked asked' run opened'.config opened'.script input input' writer writer' ran → ending ≡ ending_of (explains at_terminal run.explain) (path_of run.config run.script) ran → WordsEnd
+      checks : (check : Check) → AsksFor words (asks.Check check) → (ran : Result (Unit {0}) ProgramFault) → CheckEnds of_file of_input holds asked asked' check opened'.config opened'.script input input' ran → writer' ≡ writer → ending ≡ ending_of_check (explains at_terminal check.explain) check ran → WordsEnd
+      replays : (replay : Replay) → AsksFor words (asks.Replay replay) → (ran : Result (Unit {0}) ProgramFault) → ReplayEnds of_file of_input contents holds asked asked' replay opened'.config opened'.script input input' writer writer' ran → ending ≡ ending_of (explains at_terminal replay.explain) (λ fault. replay.trace) ran → WordsEnd
       refuses : (e : Error) → words ≢ [] → MayRefuse words e → kind_of e ≢ OutOfMemory → RefusesSo at_terminal words e ending → RunsNone → WordsEnd
       lacks_memory : ending ≡ memory_ending → RunsNone → WordsEnd
 

@@ -1,8 +1,6 @@
 //! The program: it does what its words ask for, over a disk and the standard streams, and says how that ended.
 ghost use Rattle.std.specs.Prelude.{◌≡◌, ◌↔◌, ℕ, List, [], IsTrue, IfOk, IfErr, Ok, Err, map, string_bytes};
 ghost use Rattle.clap.specs.Words.{kind_of};
-ghost use Rattle.jc_cli.specs.Endings.{ending_of};
-ghost use Rattle.jc_cli.specs.Program.{explains};
 ghost use Rattle.jc_runner.specs.Program.{WordsEnd, Obeys, ProgramEnds, RefusesSo};
 
 pub mod demonstration;
@@ -18,8 +16,9 @@ use crate::files::run_files;
 use clap::Error;
 use clap::error::ErrorKind;
 use jc_cli::{
-    Asked, Ended, Ending, Explain, ProgramFault, RunFault, WatchedReader, WatchedWriter,
-    WordsFault, asks_to_explain, ending_of, explains, mistake_text, read_words, say,
+    Asked, Ended, Ending, ProgramFault, RunFault, WatchedReader, WatchedWriter, WordsFault,
+    asks_to_explain, ending_in, ending_of, ending_of_check, explains, mistake_text, read_words,
+    say,
 };
 use jc_model::OutOfMemory;
 use std::alloc::Global;
@@ -57,13 +56,6 @@ fn refusal(alloc: Global, words: &[&str], error: Error, at_terminal: bool) -> En
     }
 }
 
-/// How a run ended whose fault is explained at some times; standard error is a terminal or not.
-fn ended(explain: Explain, at_terminal: bool, ran: Result<(), ProgramFault>) -> Ending
-    ensures { result ≡ ending_of (explains at_terminal explain) ran }
-{
-    ending_of(explains(explain, at_terminal), ran)
-}
-
 /// Does what the words after the program's name ask for.
 fn obey_words<D: Disk, I: Read, O: Write, R: Threads + Wait + Sync>(
     rt: &R,
@@ -86,15 +78,18 @@ fn obey_words<D: Disk, I: Read, O: Write, R: Threads + Wait + Sync>(
     match read_words(alloc, texts.as_slice()) {
         Ok(Some(Asked::Run(run))) => {
             let ran = run_files(rt, alloc, disk, opened, &run, input, output);
-            ended(run.explain, at_terminal, ran)
+            let explain = explains(run.explain, at_terminal);
+            ending_of(explain, run.config, run.script, ran)
         }
         Ok(Some(Asked::Check(check))) => {
             let ran = check_files(alloc, disk, opened, &check, input);
-            ended(check.explain, at_terminal, ran)
+            let explain = explains(check.explain, at_terminal);
+            ending_of_check(explain, check, ran)
         }
         Ok(Some(Asked::Replay(replay))) => {
             let ran = replay_file(alloc, disk, opened, &replay, input, output);
-            ended(replay.explain, at_terminal, ran)
+            let explain = explains(replay.explain, at_terminal);
+            ending_in(explain, replay.trace, ran)
         }
         Ok(None) => match demonstrate(alloc, input, output) {
             Ok(()) => Ending::Done,

@@ -1,7 +1,7 @@
 //! The lines that explain a fault.
 ghost use Rattle.std.specs.Prelude.{◌≡◌, ◌++◌, IfOk, map, string_bytes};
 ghost use Rattle.jc_config.specs.Limits.{names_of_caches};
-ghost use Rattle.jc_runner.specs.Explaining.{TellsScript, TellsUnread, TellsRun, TellsContent, TellsTrace, TellsIn, TellsFault};
+ghost use Rattle.jc_runner.specs.Explaining.{TellsScript, TellsRun, TellsContent, TellsTrace, TellsIn, TellsFault};
 
 use crate::{ProgramFault, RunFault};
 use jc_config::{ConfigFault, Settings, read_config};
@@ -42,12 +42,6 @@ fn script_lines(
         Err(ConfigFault::OutOfMemory) => Err(AllocError),
         Err(_) => Ok(String::new(alloc)),
     }
-}
-
-fn unread_line(alloc: Global, path: &str, kind: Option<ErrorKind>) -> Result<String, AllocError>
-    ensures { IfOk result (λ s. TellsUnread (string_bytes s)) }
-{
-    explain_unread(alloc, path, kind)
 }
 
 fn run_lines(
@@ -96,7 +90,7 @@ fn content_lines(
 }
 
 /// One text behind the other.
-fn joined(alloc: Global, place: &String, lines: &String) -> Result<String, AllocError>
+pub(crate) fn joined(alloc: Global, place: &String, lines: &String) -> Result<String, AllocError>
     ensures { IfOk result (λ s. string_bytes s ≡ string_bytes place.now ++ string_bytes lines.now) }
 {
     format!(in alloc; "{place}{lines}")
@@ -111,7 +105,7 @@ fn lines_in(
     path: &str,
 ) -> Result<String, AllocError>
     ensures { IfOk result (λ s.
-        TellsIn (TellsContent config.now script.now fault.now) (string_bytes s)) }
+        TellsIn path.now (TellsContent config.now script.now fault.now) (string_bytes s)) }
 {
     let lines = content_lines(alloc, fault, config, script)?;
     if lines.is_empty() {
@@ -121,8 +115,8 @@ fn lines_in(
     joined(alloc, &place, &lines)
 }
 
-/// The lines that explain a fault, by the bytes that were read of the two files, and by the path in which it is; of a
-/// file that can't be read by what the system answered.
+/// The lines that explain a fault, by the bytes that were read of the two files, and by the path of the file in which it
+/// is; of a file that can't be read by what the system answered.
 pub fn fault_lines(
     alloc: Global,
     fault: &ProgramFault,
@@ -131,11 +125,12 @@ pub fn fault_lines(
     path: &str,
     kind: Option<ErrorKind>,
 ) -> Result<String, AllocError>
-    ensures { IfOk result (λ s. TellsFault config.now script.now fault.now (string_bytes s)) }
+    ensures { IfOk result (λ s.
+        TellsFault path.now kind config.now script.now fault.now (string_bytes s)) }
 {
     match fault {
         ProgramFault::ConfigRead | ProgramFault::TraceRead | ProgramFault::Run(RunFault::Read) => {
-            unread_line(alloc, path, kind)
+            explain_unread(alloc, path, kind)
         }
         ProgramFault::Config(_)
         | ProgramFault::NoCaches

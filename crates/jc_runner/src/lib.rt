@@ -5,6 +5,7 @@
 mod callbacks;
 mod command;
 mod disk;
+mod every;
 mod explaining;
 mod files;
 mod form;

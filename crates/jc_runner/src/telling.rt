@@ -1,12 +1,14 @@
 //! The program with its explanations.
-ghost use Rattle.std.specs.Prelude.{◌≡◌, IfOk, IfErr, Ok, Err, MatchResult, map, string_bytes};
-ghost use Rattle.jc_runner.specs.Telling.{config_bytes, script_bytes, no_memory_line, EndsTold, TellsEnding};
+ghost use Rattle.std.specs.Prelude.{◌≡◌, IfOk, IfErr, Ok, Err, MatchResult, map, option_map, string_bytes};
+ghost use Rattle.jc_runner.specs.Telling.{answer_for, answer_of, kept_bytes, no_memory_line, shown_path, EndsTold, TellsEnding};
 
 use crate::disk::KeepingDisk;
+use crate::every::listed_lines;
 use crate::explaining::fault_lines;
 use crate::{
-    Disk, Ended, Ending, Opened, ProgramFault, Standard, WatchedReader, WordsFault, dispatch, say,
+    Ended, Ending, Opened, ProgramFault, Standard, WatchedReader, WordsFault, dispatch, say,
 };
+use jc_cli::{is_input, is_of_config};
 use jc_explain::Kept;
 use std::alloc::{AllocError, Global};
 use std::fs::Files;
@@ -14,84 +16,99 @@ use std::io::{ErrorKind, Read, Write};
 use std::sync::Wait;
 use std::thread::Threads;
 
-/// The bytes that were read as the configuration: its file's, or else standard input's.
-fn config_bytes<'a, F: Read, I: Read>(
-    opened: &'a Opened<Kept<F>>,
+/// The bytes that a file kept, or else standard input.
+fn kept_bytes<'a, F: Read, I: Read>(
+    file: &'a Option<WatchedReader<Kept<F>>>,
     input: &'a WatchedReader<Kept<I>>,
-) -> &'a [u8]
-    ensures { result.now ≡ config_bytes opened.now input.now }
+) -> Option<&'a [u8]>
+    ensures { option_map (λ bytes. bytes.now) result ≡ kept_bytes file.now input.now }
 {
-    match &opened.config {
+    match file {
         Some(file) => file.inner().bytes(),
         None => input.inner().bytes(),
     }
 }
 
-/// The same of the script.
-fn script_bytes<'a, F: Read, I: Read>(
-    opened: &'a Opened<Kept<F>>,
-    input: &'a WatchedReader<Kept<I>>,
-) -> &'a [u8]
-    ensures { result.now ≡ script_bytes opened.now input.now }
-{
-    match &opened.script {
-        Some(file) => file.inner().bytes(),
-        None => input.inner().bytes(),
-    }
-}
-
-/// The path of the file in which the fault is.
-fn path_of<'a, R, F: Read>(
+/// What the system answered for the file in which a fault is.
+fn answer_of<F: Read, I: Read>(
     file: &Option<WatchedReader<Kept<F>>>,
-    disk: &'a KeepingDisk<'_, R>,
-) -> &'a str {
-    if file.is_some() || disk.fault().is_some() {
-        disk.path()
-    } else {
-        "standard input"
-    }
-}
-
-/// What the system answered for it.
-fn kind_of<R, F: Read, I: Read>(
-    file: &Option<WatchedReader<Kept<F>>>,
-    disk: &KeepingDisk<'_, R>,
+    disk: Option<ErrorKind>,
     input: &WatchedReader<Kept<I>>,
-) -> Option<ErrorKind> {
+) -> Option<ErrorKind>
+    ensures { result ≡ answer_of file.now disk input.now }
+{
     match file {
         Some(file) => file.inner().fault(),
-        None => match disk.fault() {
+        None => match disk {
             Some(kind) => Some(kind),
             None => input.inner().fault(),
         },
     }
 }
 
+fn answer_for<F: Read, I: Read>(
+    fault: &ProgramFault,
+    disk: Option<ErrorKind>,
+    opened: &Opened<Kept<F>>,
+    input: &WatchedReader<Kept<I>>,
+) -> Option<ErrorKind>
+    ensures { result ≡ answer_for opened.now disk input.now fault.now }
+{
+    if is_of_config(fault) {
+        answer_of(&opened.config, disk, input)
+    } else {
+        answer_of(&opened.script, disk, input)
+    }
+}
+
+/// A path as it is told.
+fn shown_path(path: &str) -> &str
+    ensures { result.now ≡ shown_path path.now }
+{
+    if is_input(path) {
+        "standard input"
+    } else {
+        path
+    }
+}
+
 /// What is told where memory is wanting for an explanation.
 const NO_MEMORY: &str = "  out of memory for the explanation\n";
 
-/// The lines of an ending's explanation; none where there is nothing to explain.
-fn lines_of<R, F: Read, I: Read>(
+/// The lines of an explanation, or of what stands behind a fault; none where there is nothing to tell.
+fn lines_of<F: Read, I: Read>(
     alloc: Global,
     ending: &Ending,
-    disk: &KeepingDisk<'_, R>,
+    disk: Option<ErrorKind>,
     opened: &Opened<Kept<F>>,
     input: &WatchedReader<Kept<I>>,
 ) -> Result<String, AllocError>
-    ensures { IfOk result (λ s. TellsEnding opened.now input.now ending.now (string_bytes s)) }
+    ensures { IfOk result (λ s. TellsEnding opened.now disk input.now ending.now (string_bytes s)) }
 {
-    let Ending::Explained(fault) = ending else {
-        return Ok(String::new(alloc));
+    let Some(config) = kept_bytes(&opened.config, input) else {
+        return Err(AllocError);
     };
-    let file = match fault {
-        ProgramFault::Run(_) | ProgramFault::TraceRead | ProgramFault::Trace(_) => &opened.script,
-        _ => &opened.config,
+    let Some(script) = kept_bytes(&opened.script, input) else {
+        return Err(AllocError);
     };
-    let config = config_bytes(opened, input);
-    let script = script_bytes(opened, input);
-    let path = path_of(file, disk);
-    let kind = kind_of(file, disk, input);
-    fault_lines(alloc, fault, config, script, path, kind)
+    match ending {
+        Ending::Explained(fault, path) => {
+            let path = shown_path(path.as_str());
+            let kind = answer_for(fault, disk, opened, input);
+            fault_lines(alloc, fault, config, script, path, kind)
+        }
+        Ending::Listed {
+            fault,
+            path,
+            explain,
+            strict,
+        } => {
+            let path = shown_path(path.as_str());
+            let kind = answer_for(fault, disk, opened, input);
+            listed_lines(alloc, *explain, *strict, fault, config, script, path, kind)
+        }
+        _ => Ok(String::new(alloc)),
+    }
 }
 
 /// The lines themselves, or what is told for want of memory.
@@ -116,15 +133,17 @@ pub fn run_program<D: Files, I: Read, O: Write, E: Write, R: Threads + Wait + Sy
     standard: &mut Standard<Kept<I>, O, E>,
 ) -> Ended
     ensures ends { IfOk words (λ v. EndsTold D.File.remaining I.remaining O.contents E.contents
-        opened.old opened.new standard.old standard.new (Ok (map string_bytes v.items)) result) }
+        opened.old opened.new disk.new.fault standard.old standard.new
+        (Ok (map string_bytes v.items)) result) }
     ensures wordless { IfErr words (λ fault. EndsTold D.File.remaining I.remaining O.contents
-        E.contents opened.old opened.new standard.old standard.new (Err fault) result) }
+        E.contents opened.old opened.new disk.new.fault standard.old standard.new
+        (Err fault) result) }
 {
     let at_terminal = standard.at_terminal;
     let input = &mut standard.input;
     let output = &mut standard.output;
     let ending = dispatch(rt, alloc, words, disk, opened, input, output, at_terminal);
-    let explanation = lines_of(alloc, &ending, disk, opened, &standard.input);
+    let explanation = lines_of(alloc, &ending, disk.fault, opened, &standard.input);
     let lines = text_of(&explanation);
     say(&ending, lines, &mut standard.output, &mut standard.errors)
 }

@@ -11,6 +11,7 @@ returns-clause-asks c =
       config = sym (first_value-rows found (codes "CONFIG")) ∙ text_read c.get_str.result c.in-Some.config _ _ c.get_str.ensures c.in-Some.is c.in_ok-config.ensures.ok;
       script = sym (first_value-rows found (codes "SCRIPT")) ∙ sym c.get_str-2.ensures ∙ sym c.in_ok-script.ensures;
       strict = sym (one_text-rows found (codes "strict")) ∙ truth_read (one_text found (codes "strict")) c.in-Some-get_one.strict c.in-Some-get_one.ensures.none c.in-Some-get_one.ensures.value;
+      all = sym (one_text-rows found (codes "all")) ∙ truth_read (one_text found (codes "all")) c.in-Some-get_one-2.all c.in-Some-get_one-2.ensures.none c.in-Some-get_one-2.ensures.value;
       explain = c.in-Some-explain_in.ensures;
     }
 
@@ -23,6 +24,11 @@ pub returns-in_default-get_one-clause-none : goal.returns-in_default-get_one-cla
 returns-in_default-get_one-clause-none c e check asks =
     let found = found_of c.args.matches.now in
     no_truth (one_text found (codes "strict")) check.strict c.in_default-get_one.ensures.value (one_text-rows found (codes "strict") ∙ asks.strict)
+
+pub returns-in_default-get_one-2-clause-none : goal.returns-in_default-get_one-2-clause-none
+returns-in_default-get_one-2-clause-none c e check asks =
+    let found = found_of c.args.matches.now in
+    no_truth (one_text found (codes "all")) check.all c.in_default-get_one-2.ensures.value (one_text-rows found (codes "all") ∙ asks.all)
 
 pub returns-in_default-explain_in-clause-none : goal.returns-in_default-explain_in-clause-none
 returns-in_default-explain_in-clause-none c e check asks = c.in_default-explain_in.ensures check.explain asks.explain

@@ -3,7 +3,7 @@ use Rattle.std.proofs.lemmas.Result.{err_from_is_err_and}
 use Rattle.clap.specs.Words.{App, Text, app_of, found_of, rows_of, is_simple, subcommand_of, subcommand_rows_of}
 use Rattle.jc_cli.specs.Program.{program, MayRefuseInFull}
 use Rattle.clap.specs.declared.error.Error.{Error}
-use Rattle.jc_cli.proofs.Readings.{named, name_read, no_asked, none_met, clashing, some_clash, some_asks, refused, is_simple_program}
+use Rattle.jc_cli.proofs.Readings.{named, name_read, no_asked, none_met, standing, none_standing, clashing, some_clash, some_asks, refused, is_simple_program}
 use Rattle.jc_cli.proofs.reading.read_whole.Goals.{in-Some+in_default-clash_of+in_ok-asked+in_default-2, in_default}
 use Rattle.jc_cli.proofs.reading.read_whole.Goals as goal
 
@@ -33,6 +33,10 @@ returns-clause-refused c =
     (c.in_ok-matches.ensures.ok.2 (ap is_simple is ∙ is_simple_program)).1 ∙ ap (λ (app : App). subcommand_of app words) is in
     inr (inr (
       search rules,
+      λ p met. elim c.match-subcommand.branch [
+        | in-Some+in_default-clash_of+in_ok-asked+in_default-2 w ↦ standing (subcommand_of program words) _ (w.in-Some.ensures.rows ∙ ap (λ o. option_map (λ p. p.1) o) read) (sym w.clash_of.ensures ∙ w.in_default-clash_of.is) p met
+        | in_default w ↦ none_standing (subcommand_of program words) (w.in_default.ensures.rows ∙ ap (λ o. option_map (λ p. p.1) o) read) p met
+      ],
       λ a asks within. elim c.match-subcommand.branch [
         | in-Some+in_default-clash_of+in_ok-asked+in_default-2 w ↦ no_asked (subcommand_of program words) _ _ a
             (w.in-Some.ensures.name ∙ name_read _ _ _ ∙ ap (λ o. option_map (λ p. p.0) o) read)

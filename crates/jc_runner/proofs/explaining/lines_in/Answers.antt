@@ -5,11 +5,10 @@ use Rattle.jc_runner.proofs.explaining.lines_in.Goals as goal
 pub returns-then-is_empty : goal.returns-then-is_empty
 returns-then-is_empty c =
     let none : string_bytes c.in_ok-lines.lines ≡ [] = search rules in
-    record { path = []; rest = string_bytes c.in_ok-lines.lines; tells = c.in_ok-lines.ensures; lines = inr (none, none) }
+    record { rest = string_bytes c.in_ok-lines.lines; tells = c.in_ok-lines.ensures; lines = inr (none, none) }
 
 pub returns : goal.returns
 returns c = IfOk-weaker c.joined.result _ _ (λ s h. record {
-  path = c.args.path.now;
   rest = string_bytes c.in_ok-lines.lines;
   tells = c.in_ok-lines.ensures;
   lines = inl (h ∙ ap (λ place. place ++ string_bytes c.in_ok-lines.lines) c.in_ok-place.ensures);
