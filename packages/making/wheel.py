@@ -9,6 +9,7 @@ import zipfile
 from making.commands import output
 from making.debian import LEAVE
 
+FOLDER = "bindings/python/jcache"
 TAG = "py3-none-linux_x86_64"
 METADATA = """\
 Metadata-Version: 2.1
@@ -28,18 +29,15 @@ Tag: {TAG}
 
 
 def modules():
-    """The binding's files by their names in the wheel: those of a package, or the module as a package."""
-    folder = "bindings/python/jcache"
-    if not os.path.isdir(folder):
-        return {"jcache/__init__.py": "bindings/python/jcache.py"}
-    names = sorted(name for name in os.listdir(folder) if name.endswith((".py", ".pyi", ".typed")))
-    return {f"jcache/{name}": f"{folder}/{name}" for name in names}
+    """The binding's files by their names in the wheel."""
+    names = sorted(name for name in os.listdir(FOLDER) if name.endswith((".py", ".pyi", ".typed")))
+    return {f"jcache/{name}": f"{FOLDER}/{name}" for name in names}
 
 
 def extensions(archives, work):
-    """The binding's extension for the Python that runs this, where both are there. Any other Python takes the library."""
-    source, headers = "bindings/python/jcache/_native.c", sysconfig.get_path("include")
-    if not os.path.isfile(source) or not os.path.isfile(f"{headers}/Python.h"):
+    """The extension for the Python that runs this, where its headers are there. Any other Python takes the library."""
+    source, headers = f"{FOLDER}/_native.c", sysconfig.get_path("include")
+    if not os.path.isfile(f"{headers}/Python.h"):
         return {}
     name = f"_native{sysconfig.get_config_var('EXT_SUFFIX')}"
     words = ["gcc", "-O2", "-fPIC", "-shared", "-Iinclude", f"-I{headers}", source, *archives, "-Wl,--exclude-libs,ALL"]

@@ -106,6 +106,15 @@ static void arguments(jcache::Manager &manager) {
     WANT(cache.statistics() == jcache::Statistics{});
 }
 
+static void bounds(jcache::Manager &manager) {
+    auto load = [](std::string_view key) { return Value(key); };
+    Cache cache = manager.create_cache("bounds", {.capacity = 3, .loader = load, .max_value = 4});
+    cache.put("a", "1234");
+    WANT(refused([&] { cache.put("a", "12345"); }) == JC_BAD_VALUE && cache.get("a") == "1234");
+    WANT(refused([&] { cache.get("longer"); }) == JC_BAD_VALUE && cache.byte_count() == 5u);
+    WANT(cache.get("bu") == "bu" && cache.byte_count() == 9u);
+}
+
 static void results(jcache::Manager &manager) {
     auto quiet = manager.without_exceptions();
     WANT(quiet.create_cache("", {}).error().status() == JC_BAD_KEY);
@@ -122,7 +131,7 @@ static void results(jcache::Manager &manager) {
 
 static void clocks() {
     jcache::FixedClock clock(5);
-    jcache::Manager manager(7, clock);
+    jcache::Manager manager({}, clock);
     Cache cache = manager.create_cache("moments", {.capacity = 3, .expiry = jcache::Expiry::created(10ms)});
     cache.put("k", "v");
     clock.advance(9ms);
@@ -251,7 +260,7 @@ static void threads(jcache::Manager &manager) {
 
 int main() {
     jcache::Manager first(7), manager(std::move(first));
-    for (auto test : {plain, caches, arguments, results, hooks, failures, within, walks, threads})
+    for (auto test : {plain, caches, arguments, bounds, results, hooks, failures, within, walks, threads})
         test(manager);
     clocks();
     Cache kept = manager.create_cache("kept", {});

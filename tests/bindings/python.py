@@ -51,7 +51,7 @@ def caches(manager: Manager) -> None:
     expiry = Expiry.touched(timedelta(seconds=1, microseconds=1))
     cache = manager.create_cache("first", 3, expiry, loader=str.encode)
     assert cache.name == "first" and manager.get_cache("first") is cache and manager.get_cache("none") is None
-    assert cache.configuration == jcache.Configuration(3, Expiry(4, 1000), str.encode, None, ())
+    assert cache.configuration == jcache.Configuration(3, Expiry(4, 1000), str.encode, None, (), 65_535)
     manager.create_cache("second", 3, writer=lambda key, value: None, listeners=(print,))
     assert manager.cache_names()[-2:] == ["first", "second"]
     assert refused(lambda: manager.create_cache("first", 3)) is Status.DUPLICATE_NAME
@@ -77,6 +77,15 @@ def arguments(manager: Manager) -> None:
     raised(TypeError, lambda: cache.put("k", "v"))  # type: ignore[arg-type]
     raised(UnicodeEncodeError, lambda: cache.get("\ud800"))
     assert cache.stats() == (0, 0, 0, 0, 0)
+
+
+def bounds(manager: Manager) -> None:
+    cache = manager.create_cache("bounds", 3, loader=str.encode, max_value=4)
+    cache.put("a", b"1234")
+    assert refused(lambda: cache.put("a", b"12345")) is Status.BAD_VALUE and cache.get("a") == b"1234"
+    assert refused(lambda: cache.get("longer")) is Status.BAD_VALUE and cache.byte_count() == 5
+    assert cache.configuration.max_value == 4 and cache.get("bu") == b"bu" and cache.byte_count() == 9
+    raised(OverflowError, lambda: manager.create_cache("none", 3, max_value=2**32))
 
 
 def moments() -> None:
@@ -247,7 +256,7 @@ def threads(manager: Manager) -> None:
 def main() -> None:
     assert jcache.library_version() // 10_000 == 0
     with Manager(7) as manager:
-        for test in (calls, caches, arguments, callbacks, failures, listeners, within, mapping, memoized, threads):
+        for test in (calls, caches, arguments, bounds, callbacks, failures, listeners, within, mapping, memoized, threads):
             test(manager)
         kept = manager.create_cache("kept", 1)
         assert not manager.is_closed

@@ -5,6 +5,7 @@
 #include "values.hpp"
 
 #include <mutex>
+#include <random>
 
 namespace jcache::detail {
 
@@ -15,8 +16,8 @@ inline const std::uint8_t *bytes(std::string_view text) {
 // A handle behind its lock, which is held for each call.
 class Library {
   public:
-    Library(std::uint64_t seed, Clock clock) : clock(std::move(clock)) {
-        if (jc_status status = jc_open(&handle, seed))
+    Library(Seed seed, Clock clock) : clock(std::move(clock)) {
+        if (jc_status status = seed ? jc_open(&handle, *seed) : open_secret())
             throw Error(status);
     }
     ~Library() { jc_close(&handle); }
@@ -30,6 +31,14 @@ class Library {
     std::uint64_t moment(Moment now) const { return now ? *now : clock(); }
 
   private:
+    jc_status open_secret() {
+        std::random_device system;
+        std::uint8_t secret[16];
+        for (std::uint8_t &byte : secret)
+            byte = static_cast<std::uint8_t>(system());
+        return jc_open_secret(&handle, secret);
+    }
+
     jc_manager handle{};
     std::mutex lock;
     Clock clock;

@@ -172,6 +172,12 @@ template <bool throws> class BasicCache {
         jc_status status = ask([&](jc_manager *m) { return jc_rows(m, asking->id, &rows); });
         return out(status == JC_DONE ? Result(rows) : Result<std::size_t>(Error(status)));
     }
+    // How many bytes the keys and the values of these entries have.
+    Outcome<std::uint64_t> byte_count() const {
+        std::uint64_t found = 0;
+        jc_status status = ask([&](jc_manager *m) { return jc_bytes(m, asking->id, &found); });
+        return out(status == JC_DONE ? Result(found) : Result<std::uint64_t>(Error(status)));
+    }
     Outcome<std::optional<Row>> peek(std::string_view key, Moment now = {}) const {
         return out(detail::peek(*asking, key, asking->library->moment(now)));
     }

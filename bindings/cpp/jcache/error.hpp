@@ -38,7 +38,7 @@ inline std::string words(Kind kind, jc_status status) {
     case JC_TOTAL_CAPACITY: return "more than 262,144 entries in all caches";
     case JC_CLOSED: return "the manager is closed";
     case JC_BAD_KEY: return "a key or a name has not from 1 to 63 bytes of UTF-8";
-    case JC_BAD_VALUE: return "a value has more than 65,535 bytes";
+    case JC_BAD_VALUE: return "a value has more bytes than the cache takes";
     case JC_TOO_MANY_KEYS: return "more than 64 keys";
     case JC_DUPLICATE_KEY: return "a key stands twice";
     default: return "status " + std::to_string(status);

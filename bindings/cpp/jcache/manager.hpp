@@ -31,8 +31,8 @@ template <bool throws> class BasicManager {
     using Cache = BasicCache<throws>;
 
   public:
-    // The seed decides where keys stand in the table; any serves. Throws Error.
-    explicit BasicManager(std::uint64_t seed = 0, Clock clock = WallClock())
+    // Throws Error.
+    explicit BasicManager(Seed seed = {}, Clock clock = WallClock())
         : shared(std::make_shared<detail::Directory>(std::make_shared<detail::Library>(seed, std::move(clock)))) {}
 
     // The same manager, whose calls return a Result.
@@ -40,9 +40,7 @@ template <bool throws> class BasicManager {
 
     Outcome<Cache> create_cache(std::string_view name, Configuration configuration) {
         std::lock_guard<std::mutex> held(shared->lock);
-        jc_settings settings{configuration.expiry.duration, configuration.capacity, configuration.expiry.policy,
-                             configuration.loader != nullptr, configuration.writer != nullptr,
-                             static_cast<std::uint8_t>(std::min<std::size_t>(configuration.listeners.size(), 255))};
+        jc_settings settings = settings_of(configuration);
         // Each cache has two processors in the library, which run the function that is invoked. The second wants the value.
         const std::uint8_t wants[2] = {0, 1};
         std::uint32_t id = 0;
@@ -103,6 +101,18 @@ template <bool throws> class BasicManager {
   private:
     template <bool> friend class BasicManager;
     explicit BasicManager(std::shared_ptr<detail::Directory> shared) : shared(std::move(shared)) {}
+
+    static jc_settings settings_of(const Configuration &given) {
+        jc_settings settings{};
+        settings.duration = given.expiry.duration;
+        settings.capacity = given.capacity;
+        settings.policy = given.expiry.policy;
+        settings.loader = given.loader != nullptr;
+        settings.writer = given.writer != nullptr;
+        settings.listeners = static_cast<std::uint8_t>(std::min<std::size_t>(given.listeners.size(), 255));
+        settings.max_value = given.max_value;
+        return settings;
+    }
 
     template <class T> static Outcome<T> out(Result<T> result) {
         if constexpr (throws)

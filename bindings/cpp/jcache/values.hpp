@@ -18,6 +18,10 @@ using Pairs = std::vector<std::pair<std::string, std::string>>;
 // When a call is made, in milliseconds; nothing: at the clock's time.
 using Moment = std::optional<std::uint64_t>;
 
+// What decides where keys stand; nothing: a secret that the system draws, so that nobody can choose keys that share their
+// places.
+using Seed = std::optional<std::uint64_t>;
+
 // A list of items that its caller keeps: a span, or a list in braces.
 template <class T> struct Items : std::span<const T> {
     using std::span<const T>::span;
@@ -80,6 +84,8 @@ struct Configuration {
     // No value: the key is removed.
     std::function<void(std::string_view key, const Value &value)> writer{};
     std::vector<std::function<void(const Event &)>> listeners{};
+    // The most bytes of a value, from 1 to 65,535.
+    std::uint32_t max_value = 65'535;
 };
 
 // An entry that was looked at, and when it expires; nothing: never.

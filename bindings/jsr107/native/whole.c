@@ -8,9 +8,9 @@ enum { MOST_KEYS = 64, ROOM_OF_WALK = 65609 };
 
 #define NOW (uint64_t)now
 
-static jlong open_seat(struct seat *seat, uint64_t seed, jc_status *status) {
+static jlong open_seat(struct seat *seat, const uint8_t secret[16], jc_status *status) {
     account = &seat->bytes;
-    *status = jc_open(&seat->manager, seed);
+    *status = jc_open_secret(&seat->manager, secret);
     if (*status == JC_DONE)
         *status = jc_create(&seat->manager, JC_TEXT("cache"), &seat->settings, wants, sizeof wants, &seat->id);
     if (*status == JC_DONE)
@@ -21,15 +21,18 @@ static jlong open_seat(struct seat *seat, uint64_t seed, jc_status *status) {
     return 0;
 }
 
-NATIVE(jlong, open)(JNIEnv *env, jclass of, jlong seed, jint capacity, jint policy, jlong duration, jboolean loads,
+NATIVE(jlong, open)(JNIEnv *env, jclass of, jbyteArray of_secret, jint capacity, jint policy, jlong duration, jboolean loads,
                     jboolean listens) {
     struct seat *seat = calloc(1, sizeof *seat);
     jc_status status = JC_OUT_OF_MEMORY;
+    jbyte secret[16];
     jlong at = 0;
     (void)of;
     if (seat) {
-        seat->settings = (struct jc_settings){(uint64_t)duration, (uint32_t)capacity, (uint32_t)policy, loads, 0, listens};
-        at = open_seat(seat, (uint64_t)seed, &status);
+        (*env)->GetByteArrayRegion(env, of_secret, 0, sizeof secret, secret);
+        seat->settings = (struct jc_settings){.duration = (uint64_t)duration, .capacity = (uint32_t)capacity,
+                                              .policy = (uint32_t)policy, .loader = loads, .listeners = listens};
+        at = open_seat(seat, (const uint8_t *)secret, &status);
     }
     throw_refusal(env, status);
     return at;

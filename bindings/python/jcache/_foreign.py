@@ -17,7 +17,7 @@ class _Manager(ctypes.Structure):
 
 class _Settings(ctypes.Structure):
     _fields_ = [("duration", _U64), ("capacity", _U32), ("policy", _U32), ("loader", _U8), ("writer", _U8),
-                ("listeners", _U8)]
+                ("listeners", _U8), ("max_value", _U32), ("reserved", _U64)]
 
 
 _BYTES: List[Any] = [ctypes.c_char_p, _SIZE]
@@ -25,7 +25,8 @@ _MANY: List[Any] = [ctypes.c_char_p, _SIZE] + _BYTES
 _OUT: List[Any] = [ctypes.c_char_p, _SIZE, ctypes.POINTER(_SIZE)]
 _AT: List[Any] = [_U32, _U64]
 _SHAPES: Dict[str, List[Any]] = {
-    "open": [_U64], "close": [], "destroy": [_U32], "find": [*_BYTES, ctypes.POINTER(_U32)],
+    "open": [_U64], "open_secret": [ctypes.c_char_p], "close": [], "destroy": [_U32],
+    "find": [*_BYTES, ctypes.POINTER(_U32)],
     "create": [*_BYTES, ctypes.POINTER(_Settings), *_BYTES, ctypes.POINTER(_U32)],
     "get_into": [*_AT, *_BYTES, *_OUT], "contains": [*_AT, *_BYTES], "remove": [*_AT, *_BYTES],
     "get_and_remove": [*_AT, *_BYTES], "put": [*_AT, *_BYTES, *_BYTES], "get_and_put": [*_AT, *_BYTES, *_BYTES],
@@ -39,6 +40,7 @@ _SHAPES: Dict[str, List[Any]] = {
     "told": [_U32], "give_up": [_U32], "items": [_U32, ctypes.POINTER(_SIZE)], "key": [_U32, _SIZE, *_OUT],
     "value": [_U32, _SIZE, *_OUT], "before": [_U32, _SIZE, *_OUT], "number": [_U32, _SIZE, ctypes.POINTER(_U64)],
     "peek": [*_AT, *_BYTES, ctypes.POINTER(_U64), *_OUT], "rows": [_U32, ctypes.POINTER(_SIZE)],
+    "bytes": [_U32, ctypes.POINTER(_U64)],
     "walk": [_U32, _U32, *_OUT, ctypes.POINTER(_U32)],
 }
 _LIMITS = {_U8: 1 << 8, _U32: 1 << 32, _U64: 1 << 64}
@@ -98,14 +100,19 @@ class Handle:
     def open(self, seed: int) -> int:
         return self._ask("open", seed)
 
+    def open_secret(self, secret: bytes) -> int:
+        if len(secret) != 16:
+            raise ValueError("a secret has 16 bytes")
+        return self._ask("open_secret", secret)
+
     def close(self) -> int:
         return self._ask("close")
 
     def create(self, name: str, capacity: int, policy: int, duration: int, loader: bool, writer: bool, listeners: int,
-               wants: bytes) -> Tuple[int, int]:
-        if not (0 <= capacity < 1 << 32 and 0 <= duration < 1 << 64):
-            raise OverflowError("the capacity or the duration is out of range")
-        settings, made = _Settings(duration, capacity, policy, loader, writer, listeners), _U32()
+               max_value: int, wants: bytes) -> Tuple[int, int]:
+        if not (0 <= capacity < 1 << 32 and 0 <= duration < 1 << 64 and 0 <= max_value < 1 << 32):
+            raise OverflowError("a number is out of range")
+        settings, made = _Settings(duration, capacity, policy, loader, writer, listeners, max_value), _U32()
         return self._ask("create", *_text(name), settings, *_bytes(wants), made), made.value
 
     def destroy(self, cache: int) -> int:
@@ -240,6 +247,10 @@ class Handle:
     def rows(self, cache: int) -> Tuple[int, int]:
         rows = _SIZE()
         return self._ask("rows", cache, rows), rows.value
+
+    def byte_count(self, cache: int) -> Tuple[int, int]:
+        found = _U64()
+        return self._ask("bytes", cache, found), found.value
 
     def walk(self, cache: int, first: int) -> Union[Tuple[bytes, int], int]:
         length, following = _SIZE(), _U32()

@@ -20,7 +20,7 @@ struct text {
 
 /* The arguments of a call: a cache's id, a moment, other numbers, texts. */
 struct taken {
-    uint64_t number[6];
+    uint64_t number[7];
     struct text text[3];
 };
 
@@ -156,13 +156,28 @@ static PyObject *bytes_of(const Handle *self, size_t len) {
 /* Reads into the handle's room, where the lock is held. */
 #define OUT self->room, (size_t)ROOM, &len
 
+static PyObject *do_open_secret(Handle *self, PyObject *const *arguments, Py_ssize_t count) {
+    struct taken it;
+    if (!take(&it, "v", arguments, count))
+        return NULL;
+    if (it.text[0].len != 16) {
+        PyErr_SetString(PyExc_ValueError, "a secret has 16 bytes");
+        return NULL;
+    }
+    hold(self);
+    jc_status status = jc_open_secret(M, it.text[0].at);
+    let_go(self);
+    return number_of(status);
+}
+
 static PyObject *do_create(Handle *self, PyObject *const *arguments, Py_ssize_t count) {
     struct taken it;
-    if (!take(&it, "siinbbbv", arguments, count))
+    if (!take(&it, "siinbbbiv", arguments, count))
         return NULL;
     struct jc_settings settings = {.duration = it.number[2], .capacity = (uint32_t)it.number[0],
                                    .policy = (uint32_t)it.number[1], .loader = (uint8_t)it.number[3],
-                                   .writer = (uint8_t)it.number[4], .listeners = (uint8_t)it.number[5]};
+                                   .writer = (uint8_t)it.number[4], .listeners = (uint8_t)it.number[5],
+                                   .max_value = (uint32_t)it.number[6]};
     uint32_t id = 0;
     jc_status status;
     hold(self);
@@ -276,6 +291,18 @@ static PyObject *do_rows(Handle *self, PyObject *const *arguments, Py_ssize_t co
     return Py_BuildValue("(In)", status, (Py_ssize_t)rows);
 }
 
+static PyObject *do_byte_count(Handle *self, PyObject *const *arguments, Py_ssize_t count) {
+    struct taken it;
+    uint64_t bytes = 0;
+    jc_status status;
+    if (!take(&it, "i", arguments, count))
+        return NULL;
+    hold(self);
+    Py_BEGIN_ALLOW_THREADS status = jc_bytes(M, ID, &bytes);
+    let_go(self);
+    Py_END_ALLOW_THREADS return Py_BuildValue("(IK)", status, bytes);
+}
+
 static PyObject *do_walk(Handle *self, PyObject *const *arguments, Py_ssize_t count) {
     struct taken it;
     uint32_t next = 0;
@@ -312,13 +339,13 @@ static void handle_dealloc(Handle *self) {
 
 #define METHOD(name) {#name, (PyCFunction)(void (*)(void))do_##name, METH_FASTCALL, NULL}
 static PyMethodDef methods[] = {
-    METHOD(open), METHOD(close), METHOD(create), METHOD(destroy), METHOD(find), METHOD(get), METHOD(contains),
-    METHOD(remove), METHOD(get_and_remove), METHOD(put), METHOD(get_and_put), METHOD(put_if_absent), METHOD(replace),
-    METHOD(get_and_replace), METHOD(remove_if), METHOD(replace_if), METHOD(invoke), METHOD(get_all), METHOD(put_all),
-    METHOD(remove_keys), METHOD(load_all), METHOD(invoke_all), METHOD(remove_all), METHOD(clear), METHOD(entries),
-    METHOD(stats), METHOD(clear_stats), METHOD(loaded), METHOD(loaded_nothing), METHOD(load_failed), METHOD(written),
-    METHOD(write_failed), METHOD(processed), METHOD(process_failed), METHOD(told), METHOD(give_up), METHOD(shown),
-    METHOD(numbers), METHOD(peek), METHOD(rows), METHOD(walk), {0},
+    METHOD(open), METHOD(open_secret), METHOD(close), METHOD(create), METHOD(destroy), METHOD(find), METHOD(get),
+    METHOD(contains), METHOD(remove), METHOD(get_and_remove), METHOD(put), METHOD(get_and_put), METHOD(put_if_absent),
+    METHOD(replace), METHOD(get_and_replace), METHOD(remove_if), METHOD(replace_if), METHOD(invoke), METHOD(get_all),
+    METHOD(put_all), METHOD(remove_keys), METHOD(load_all), METHOD(invoke_all), METHOD(remove_all), METHOD(clear),
+    METHOD(entries), METHOD(stats), METHOD(clear_stats), METHOD(loaded), METHOD(loaded_nothing), METHOD(load_failed),
+    METHOD(written), METHOD(write_failed), METHOD(processed), METHOD(process_failed), METHOD(told), METHOD(give_up),
+    METHOD(shown), METHOD(numbers), METHOD(peek), METHOD(rows), METHOD(byte_count), METHOD(walk), {0},
 };
 
 static PyTypeObject handle_type = {

@@ -179,6 +179,12 @@ class Cache(Asking):
             text, following = found
             yield from rows_of(text, self._moment(now))
 
+    def byte_count(self) -> int:
+        """How many bytes the keys and the values of all entries have, also of those that `len` counts though they expired."""
+        status, found = self._calls.byte_count(self._id)
+        self._refuse(status)
+        return found
+
     def memoize(self, key: Callable[..., str]) -> Callable[[F], F]:
         """Keeps what a function returns. `key` gives the key from its arguments. Threads that miss together each call it,
         and the last value stays."""

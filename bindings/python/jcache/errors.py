@@ -42,7 +42,7 @@ _WORDS: Dict[Status, str] = {
     Status.IDS_SPENT: "no id is left",
     Status.CLOSED: "the manager is closed",
     Status.BAD_KEY: "a key or a name has not from 1 to 63 bytes of UTF-8",
-    Status.BAD_VALUE: "a value has more than 65,535 bytes",
+    Status.BAD_VALUE: "a value has more bytes than the cache takes",
     Status.TOO_MANY_KEYS: "more than 64 keys",
     Status.DUPLICATE_KEY: "a key stands twice",
 }

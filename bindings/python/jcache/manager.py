@@ -1,5 +1,6 @@
 """A manager of caches, with the methods of JSR 107's `CacheManager` in snake case."""
 
+import os
 import threading
 from typing import Dict, List, Optional, Sequence
 
@@ -17,29 +18,30 @@ _WANTS = b"\0\1"
 class Manager:
     """A manager of named caches, closed at the end of its `with` or by `close`. Threads may share it.
 
-    `clock` gives the moment of a call that is given none. `seed` decides where keys stand in the table; any serves.
+    `clock` gives the moment of a call that is given none. Keys are placed by a secret that the system draws, so that nobody
+    can choose keys that share their places; or by a `seed`, which anybody may know.
     """
 
-    def __init__(self, seed: int = 0, clock: Optional[Clock] = None) -> None:
+    def __init__(self, seed: Optional[int] = None, clock: Optional[Clock] = None) -> None:
         self._calls = calls.new_calls()
         self._clock: Clock = clock or WallClock().__call__
         self._caches: Dict[str, Cache] = {}
         self._lock = threading.Lock()
-        self._refuse(self._calls.open(seed))
+        self._refuse(self._calls.open_secret(os.urandom(16)) if seed is None else self._calls.open(seed))
 
     def create_cache(self, name: str, capacity: int, expiry: Expiry = Expiry.eternal(), *,
                      loader: Optional[Loader] = None, writer: Optional[Writer] = None,
-                     listeners: Sequence[Listener] = ()) -> Cache:
-        """Makes a cache of at most `capacity` entries (`createCache`).
+                     listeners: Sequence[Listener] = (), max_value: int = 65_535) -> Cache:
+        """Makes a cache of at most `capacity` entries, whose values have at most `max_value` bytes (`createCache`).
 
         A loader gives a missing key's value or None. A writer is given a key with its value, or with None where it is
         removed. Each listener is told each event. Raises `NotCreated`, `BadArgument`, `OutOfMemory`, `Closed`.
         """
         with self._lock:
             status, number = self._calls.create(name, capacity, expiry.policy, expiry.duration, loader is not None,
-                                                writer is not None, min(len(listeners), 255), _WANTS)
+                                                writer is not None, min(len(listeners), 255), max_value, _WANTS)
             self._refuse(status)
-            configuration = Configuration(capacity, expiry, loader, writer, tuple(listeners))
+            configuration = Configuration(capacity, expiry, loader, writer, tuple(listeners), max_value)
             cache = Cache(self._calls, number, name, self._clock, configuration)
             self._caches[name] = cache
             return cache

@@ -84,6 +84,8 @@ class Configuration(NamedTuple):
     loader: Optional[Loader]
     writer: Optional[Writer]
     listeners: Sequence[Listener]
+    max_value: int
+    """the most bytes of a value"""
 
 
 class Row(NamedTuple):

@@ -4,7 +4,7 @@ use std::time::Duration;
 
 fn main() -> Result<(), Error> {
     let clock = FixedClock::new(0);
-    let manager = Manager::with(7, clock.reader())?;
+    let manager = Manager::with_clock(clock.reader())?;
     let minute = Expiry::Created(Duration::from_secs(60));
     let load = |name: &str| {
         println!("loads {name}");

@@ -3,7 +3,7 @@ use crate::library::{accepted, Library};
 use crate::sys::{self, NEED_LOAD};
 use crate::values::{Entry, Event, EventKind};
 use crate::{BoxError, Configuration, Error};
-use std::sync::{Arc, Condvar, Mutex, PoisonError};
+use std::sync::{Arc, Condvar, Mutex, MutexGuard, PoisonError};
 use std::thread::{self, ThreadId};
 
 /// What runs the function that was invoked: it gives what that failed with, or nothing where the caller keeps it.
@@ -12,8 +12,15 @@ pub(crate) type Process<'a> = &'a mut dyn FnMut(&mut Entry) -> Result<(), Option
 /// Whose turn it is to call a cache: one thread's, for a whole call.
 #[derive(Default)]
 pub(crate) struct Turn {
-    owner: Mutex<Option<ThreadId>>,
+    state: Mutex<TurnState>,
     free: Condvar,
+}
+
+/// Who has the turn, and how many threads wait for it.
+#[derive(Default)]
+struct TurnState {
+    owner: Option<ThreadId>,
+    waiting: usize,
 }
 
 /// A turn that was taken.
@@ -23,22 +30,31 @@ impl Turn {
     /// Waits for the turn. A thread that has it is refused.
     pub(crate) fn take(&self) -> Result<Taken<'_>, Error> {
         let me = Some(thread::current().id());
-        let mut owner = self.owner.lock().unwrap_or_else(PoisonError::into_inner);
-        if *owner == me {
+        let mut state = self.lock();
+        if state.owner == me {
             return Err(Error::Busy);
         }
-        while owner.is_some() {
-            owner = self.free.wait(owner).unwrap_or_else(PoisonError::into_inner);
+        while state.owner.is_some() {
+            state.waiting += 1;
+            state = self.free.wait(state).unwrap_or_else(PoisonError::into_inner);
+            state.waiting -= 1;
         }
-        *owner = me;
+        state.owner = me;
         Ok(Taken(self))
+    }
+
+    fn lock(&self) -> MutexGuard<'_, TurnState> {
+        self.state.lock().unwrap_or_else(PoisonError::into_inner)
     }
 }
 
 impl Drop for Taken<'_> {
     fn drop(&mut self) {
-        *self.0.owner.lock().unwrap_or_else(PoisonError::into_inner) = None;
-        self.0.free.notify_one();
+        let mut state = self.0.lock();
+        state.owner = None;
+        if state.waiting > 0 {
+            self.0.free.notify_one();
+        }
     }
 }
 

@@ -228,6 +228,11 @@ impl Cache {
         self.asking.library.rows(self.asking.id)
     }
 
+    /// How many bytes the keys and the values of these entries have.
+    pub fn byte_count(&self) -> Result<u64, Error> {
+        self.asking.library.byte_count(self.asking.id)
+    }
+
     /// The entry as it stands. Nothing is loaded, counted or renewed, and no open call is waited for.
     pub fn peek(&self, key: &str) -> Result<Option<Row>, Error> {
         let found = self.asking.library.peek(self.asking.id, self.now(), key)?;

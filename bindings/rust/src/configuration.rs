@@ -44,6 +44,8 @@ pub struct Configuration {
     pub capacity: u32,
     /// When they expire.
     pub expiry: Expiry,
+    /// The most bytes of a value; 0 is as 65,535.
+    pub max_value: u32,
     pub(crate) loader: Option<Box<Loader>>,
     pub(crate) writer: Option<Box<Writer>>,
     pub(crate) listeners: Vec<Box<Listener>>,
@@ -52,12 +54,17 @@ pub struct Configuration {
 impl Configuration {
     /// A cache of at most so many entries, which never expire, without hooks.
     pub fn new(capacity: u32) -> Configuration {
-        Configuration { capacity, ..Configuration::default() }
+        Configuration { capacity, max_value: 65_535, ..Configuration::default() }
     }
 
     /// When entries expire.
     pub fn expiry(self, expiry: Expiry) -> Configuration {
         Configuration { expiry, ..self }
+    }
+
+    /// The most bytes of a value.
+    pub fn max_value(self, max_value: u32) -> Configuration {
+        Configuration { max_value, ..self }
     }
 
     /// What gives a missing key's value, or nothing (JSR 107, `CacheLoader`).
@@ -88,6 +95,7 @@ impl fmt::Debug for Configuration {
         to.debug_struct("Configuration")
             .field("capacity", &self.capacity)
             .field("expiry", &self.expiry)
+            .field("max_value", &self.max_value)
             .field("loader", &self.loader.is_some())
             .field("writer", &self.writer.is_some())
             .field("listeners", &self.listeners.len())

@@ -30,7 +30,7 @@ pub enum Error {
     Closed,
     /// A key or a name has not from 1 to 63 bytes.
     BadKey,
-    /// A value has more than 65,535 bytes.
+    /// A value has more bytes than the cache takes, or than 65,535.
     BadValue,
     /// A call has more than 64 keys.
     TooManyKeys,
@@ -96,7 +96,7 @@ impl fmt::Display for Error {
             Error::IdsSpent => "no id is left",
             Error::Closed => "the manager is closed",
             Error::BadKey => "a key or a name has not from 1 to 63 bytes",
-            Error::BadValue => "a value has more than 65,535 bytes",
+            Error::BadValue => "a value has more bytes than the cache takes",
             Error::TooManyKeys => "more than 64 keys",
             Error::DuplicateKey => "a key stands twice",
             Error::Unforeseen(status) => return write!(to, "status {status}"),

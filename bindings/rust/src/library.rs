@@ -2,6 +2,7 @@
 use crate::sys::{self, Handle, Many, One, PairLengths, Part, Two, Whole};
 use crate::sys::{FOUND, LISTED, NEED_TELL, NO_SUCH_CACHE, SHORT_BUFFER};
 use crate::Error;
+use std::hash::{BuildHasher, Hasher, RandomState};
 use std::sync::{Mutex, PoisonError};
 
 /// So many bytes of a value are read at once; longer ones are asked for twice.
@@ -28,9 +29,13 @@ pub(crate) fn accepted(status: u32) -> Result<u32, Error> {
 }
 
 impl Library {
-    pub(crate) fn open(seed: u64) -> Result<Library, Error> {
+    /// Keys are placed by the seed, or under a secret where there is none.
+    pub(crate) fn open(seed: Option<u64>) -> Result<Library, Error> {
         let mut handle = Handle { at: std::ptr::null_mut() };
-        accepted(unsafe { sys::jc_open(&mut handle, seed) })?;
+        accepted(match seed {
+            Some(seed) => unsafe { sys::jc_open(&mut handle, seed) },
+            None => unsafe { sys::jc_open_secret(&mut handle, secret().as_ptr()) },
+        })?;
         Ok(Library(Mutex::new(handle)))
     }
 
@@ -199,6 +204,11 @@ impl Library {
         accepted(self.ask(|h| unsafe { sys::jc_rows(h, id, &mut rows) })).map(|_| rows)
     }
 
+    pub(crate) fn byte_count(&self, id: u32) -> Result<u64, Error> {
+        let mut bytes = 0;
+        accepted(self.ask(|h| unsafe { sys::jc_bytes(h, id, &mut bytes) })).map(|_| bytes)
+    }
+
     /// Whether the handle is closed.
     pub(crate) fn is_closed(&self) -> bool {
         matches!(self.find("?"), Err(Error::Closed))
@@ -211,6 +221,15 @@ impl Library {
         let status = self.ask(|h| unsafe { sys::jc_walk(h, id, from, out, most, &mut len, &mut next) });
         (status == LISTED).then_some((len, next))
     }
+}
+
+/// Bytes that nobody else knows: hashes under keys that std draws from the system.
+fn secret() -> [u8; 16] {
+    let mut secret = [0; 16];
+    for half in secret.chunks_exact_mut(8) {
+        half.copy_from_slice(&RandomState::new().build_hasher().finish().to_ne_bytes());
+    }
+    secret
 }
 
 /// A length that no key and no value has is refused whatever it is.

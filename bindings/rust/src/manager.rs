@@ -22,15 +22,24 @@ pub fn version() -> u32 {
 }
 
 impl Manager {
-    /// A manager without caches, by the wall clock.
+    /// A manager without caches, by the wall clock. Keys are placed under a secret that the system draws, so that nobody
+    /// can choose keys that share their places.
     pub fn new() -> Result<Manager, Error> {
         let clock = WallClock::new();
-        Manager::with(0, move || clock.now())
+        Manager::with_clock(move || clock.now())
     }
 
-    /// A manager without caches. The clock gives the moment, in milliseconds, of a call that is given none. The seed
-    /// decides where keys stand in the table; any serves.
-    pub fn with(seed: u64, clock: impl Fn() -> u64 + Send + Sync + 'static) -> Result<Manager, Error> {
+    /// As [`Manager::new`], and the clock gives the moment, in milliseconds, of a call that is given none.
+    pub fn with_clock(clock: impl Fn() -> u64 + Send + Sync + 'static) -> Result<Manager, Error> {
+        Manager::open(None, clock)
+    }
+
+    /// As [`Manager::with_clock`], but keys are placed by a seed, which anybody may know.
+    pub fn with_seed(seed: u64, clock: impl Fn() -> u64 + Send + Sync + 'static) -> Result<Manager, Error> {
+        Manager::open(Some(seed), clock)
+    }
+
+    fn open(seed: Option<u64>, clock: impl Fn() -> u64 + Send + Sync + 'static) -> Result<Manager, Error> {
         let library = Arc::new(Library::open(seed)?);
         Ok(Manager { library, clock: Arc::new(clock), caches: Mutex::default() })
     }
@@ -45,6 +54,8 @@ impl Manager {
             loader: configuration.loader.is_some().into(),
             writer: configuration.writer.is_some().into(),
             listeners: u8::try_from(configuration.listeners.len()).unwrap_or(u8::MAX),
+            max_value: configuration.max_value,
+            reserved: 0,
         };
         let mut caches = self.caches.lock().unwrap_or_else(PoisonError::into_inner);
         let id = self.library.create(name, &settings, &WANTS)?;

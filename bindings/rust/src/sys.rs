@@ -31,6 +31,8 @@ pub struct Settings {
     pub loader: u8,
     pub writer: u8,
     pub listeners: u8,
+    pub max_value: u32,
+    pub reserved: u64,
 }
 
 #[repr(C)]
@@ -49,6 +51,7 @@ pub type Part = unsafe extern "C" fn(*mut Handle, u32, usize, *mut u8, usize, *m
 extern "C" {
     pub fn jc_version() -> u32;
     pub fn jc_open(m: *mut Handle, seed: u64) -> u32;
+    pub fn jc_open_secret(m: *mut Handle, secret: *const u8) -> u32;
     pub fn jc_close(m: *mut Handle) -> u32;
     pub fn jc_create(m: *mut Handle, name: *const u8, name_len: usize, settings: *const Settings, wants: *const u8, wants_len: usize, id: *mut u32) -> u32;
     pub fn jc_destroy(m: *mut Handle, id: u32) -> u32;
@@ -91,5 +94,6 @@ extern "C" {
     pub fn jc_number(m: *mut Handle, id: u32, place: usize, number: *mut u64) -> u32;
     pub fn jc_peek(m: *mut Handle, id: u32, now: u64, key: *const u8, key_len: usize, expires: *mut u64, out: *mut u8, room: usize, len: *mut usize) -> u32;
     pub fn jc_rows(m: *mut Handle, id: u32, rows: *mut usize) -> u32;
+    pub fn jc_bytes(m: *mut Handle, id: u32, bytes: *mut u64) -> u32;
     pub fn jc_walk(m: *mut Handle, id: u32, from: u32, out: *mut u8, room: usize, len: *mut usize, next: *mut u32) -> u32;
 }

@@ -49,6 +49,19 @@ fn plain_calls() -> Outcome {
 }
 
 #[test]
+fn bounds_in_bytes() -> Outcome {
+    let manager = Manager::with_seed(7, || 0)?;
+    let loads = |key: &str| Ok(Some(key.as_bytes().to_vec()));
+    let cache = manager.create_cache("bounds", Configuration::new(3).max_value(4).loader(loads))?;
+    cache.put("a", "1234")?;
+    assert!(matches!(cache.put("a", "12345"), Err(Error::BadValue)));
+    assert!(matches!(cache.get("longer"), Err(Error::BadValue)));
+    assert_eq!((cache.get("a")?, cache.byte_count()?, cache.configuration().max_value), (bytes("1234"), 5, 4));
+    assert_eq!((cache.get("bu")?, cache.byte_count()?), (bytes("bu"), 9));
+    Ok(())
+}
+
+#[test]
 fn caches_of_a_manager() -> Outcome {
     let manager = Manager::new()?;
     let expiry = Expiry::Touched(Duration::from_millis(5));
@@ -92,7 +105,7 @@ fn refused_arguments() -> Outcome {
 #[test]
 fn clocks() -> Outcome {
     let clock = FixedClock::new(5);
-    let manager = Manager::with(7, clock.reader())?;
+    let manager = Manager::with_clock(clock.reader())?;
     let expiry = Expiry::Created(Duration::from_millis(10));
     let cache = manager.create_cache("moments", Configuration::new(2).expiry(expiry))?;
     cache.put("k", "v")?;

@@ -209,6 +209,7 @@ static jc_status create(json_t *line, const char *name, uint32_t *made) {
     static const char *const policies[] = {"", "created", "accessed", "modified", "touched"};
     struct jc_settings settings = {.capacity = (uint32_t)json_integer_value(json_object_get(line, "capacity"))};
     settings.duration = (uint64_t)json_integer_value(json_object_get(line, "duration"));
+    settings.max_value = (uint32_t)json_integer_value(json_object_get(line, "max_value"));
     for (uint32_t policy = JC_CREATED; policy <= JC_TOUCHED; policy++)
         settings.policy += is(text(line, "expiry"), policies[policy]) ? policy : 0;
     size_t place;
@@ -255,6 +256,7 @@ static json_t *call(json_t *line) {
     json_t *at = json_object_get(line, "at");
     uint64_t now = at ? (uint64_t)json_integer_value(at) : set_moment;
     uint32_t other;
+    uint64_t bytes;
     size_t rows;
     if (is(op, "clock"))
         return set_moment = now, json_string("done");
@@ -264,6 +266,8 @@ static json_t *call(json_t *line) {
         return outcome(jc_find(&m, TEXT(line, "name"), &other) == JC_DONE ? jc_destroy(&m, other) : JC_NO_SUCH_CACHE);
     if (is(op, "rows"))
         return jc_rows(&m, id, &rows) == JC_DONE ? json_pack("{s:i}", "rows", (int)rows) : json_null();
+    if (is(op, "bytes"))
+        return jc_bytes(&m, id, &bytes) == JC_DONE ? json_pack("{s:I}", "bytes", (json_int_t)bytes) : json_null();
     if (is(op, "peek"))
         return peek(line, now);
     if (is(op, "walk"))
@@ -271,6 +275,8 @@ static json_t *call(json_t *line) {
     jc_status status = json_object_get(line, "k") ? of_one(line, op, now) : of_many(line, op, now);
     while (status >= JC_NEED_LOAD && status <= JC_NEED_TELL)
         status = answer(status, line);
+    if (status >= JC_NO_SUCH_CACHE)
+        jc_give_up(&m, id);
     return outcome(status);
 }
 

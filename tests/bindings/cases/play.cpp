@@ -90,6 +90,8 @@ class Player {
     jcache::Configuration configuration(json_t *line) {
         jcache::Configuration made{.capacity = std::uint32_t(json_integer_value(json_object_get(line, "capacity")))};
         made.expiry = expiry(line);
+        if (has(line, "max_value"))
+            made.max_value = std::uint32_t(json_integer_value(json_object_get(line, "max_value")));
         size_t place;
         json_t *hook;
         json_array_foreach(json_object_get(line, "hooks"), place, hook) {
@@ -207,6 +209,8 @@ class Player {
     Json look(json_t *line, std::string_view op) {
         if (op == "rows")
             return json_pack("{s:i}", "rows", int(cache.size()));
+        if (op == "bytes")
+            return json_pack("{s:I}", "bytes", json_int_t(cache.byte_count()));
         if (op == "walk") {
             jcache::Pairs found;
             for (const jcache::Row &row : cache.walk(moment(line)))

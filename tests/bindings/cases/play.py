@@ -24,7 +24,8 @@ class Player:
         expiry = getattr(Expiry, case["expiry"])(case["duration"]) if "expiry" in case else Expiry.eternal()
         self.cache: Cache = self.manager.create_cache(
             "case", case["capacity"], expiry, loader=self.load if "loader" in hooks else None,
-            writer=self.write if "writer" in hooks else None, listeners=(self.hear,) if "listener" in hooks else ())
+            writer=self.write if "writer" in hooks else None, listeners=(self.hear,) if "listener" in hooks else (),
+            max_value=case.get("max_value", 65_535))
 
     def load(self, key: str) -> Optional[bytes]:
         self.asked.append(["load", key])
@@ -120,6 +121,9 @@ class Player:
 
     def do_rows(self, line: Dict[str, Json]) -> Json:
         return {"rows": len(self.cache)}
+
+    def do_bytes(self, line: Dict[str, Json]) -> Json:
+        return {"bytes": self.cache.byte_count()}
 
     def do_stats(self, line: Dict[str, Json]) -> Json:
         return {"counters": list(self.cache.stats(now=line["at"]))}

@@ -322,10 +322,9 @@ final class ProviderChecks {
             cache.removeAll();
             same(0L, rows(cache, "Rows"));
         }, "jcache.capacity", "10", "jcache.parts", "4"));
-        for (String[] wrong : new String[][] {{"jcache.capacity", "0"}, {"jcache.capacity", "65537"}, {"jcache.capacity",
-                "many"},
-                {"jcache.parts", "65"}, {"jcache.oversize", "grow"}, {"jcache.clock", "java.lang.String"},
-                {"jcache.serializer", "none.Such"}}) {
+        for (String[] wrong : new String[][] {{"jcache.capacity", "0"}, {"jcache.capacity", "65537"},
+                {"jcache.capacity", "many"}, {"jcache.parts", "65"}, {"jcache.oversize", "grow"},
+                {"jcache.max_value", "65536"}, {"jcache.clock", "java.lang.String"}, {"jcache.serializer", "none.Such"}}) {
             Check.that("ours, " + wrong[0], wrong[1] + " is a CacheException that names it", () -> {
                 Properties properties = new Properties();
                 properties.setProperty(wrong[0], wrong[1]);

@@ -122,7 +122,7 @@ final class ValueChecks {
                 () -> Caches.with(Caches.texts().setStatisticsEnabled(true), cache -> {
             cache.put("k", "v");
             CacheException thrown = thrown(CacheException.class, () -> cache.put("k", "v".repeat(65_535)));
-            holds(thrown.getMessage().contains("65536") && thrown.getMessage().contains("65,535"));
+            holds(thrown.getMessage().contains("65536") && thrown.getMessage().contains("65535"));
             thrown(CacheException.class, () -> cache.replace("k", "v", "v".repeat(65_535)));
             thrown(CacheException.class, () -> cache.invoke("k", (entry, words) -> {
                 entry.setValue("v".repeat(65_535));
@@ -131,6 +131,12 @@ final class ValueChecks {
             same("v", cache.get("k"));
             same("1 0 1 0 0", Caches.counters(cache));
         }));
+        Check.that("ours, jcache.max_value", "a value of as many bytes is stored, a longer one is refused",
+                () -> Caches.with(Caches.texts(), cache -> {
+            cache.put("k", "123456789");
+            thrown(CacheException.class, () -> cache.put("k", "1234567890"));
+            same("123456789", cache.get("k"));
+        }, "jcache.max_value", "10"));
         Check.that("ours, jcache.oversize", "skip: not stored but counted, and what stood there goes",
                 () -> Caches.with(Caches.texts().setStatisticsEnabled(true), cache -> {
             cache.put("k", "v");

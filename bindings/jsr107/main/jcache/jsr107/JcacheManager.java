@@ -65,8 +65,8 @@ final class JcacheManager implements CacheManager {
         if (!configuration.isStoreByValue()) {
             throw new UnsupportedOperationException("values are stored by value alone");
         }
-        JcacheCache<K, V> cache = new JcacheCache<>(this, name, complete(configuration), new Settings(properties, classes,
-                name));
+        Settings settings = new Settings(properties, classes, name);
+        JcacheCache<K, V> cache = new JcacheCache<>(this, name, complete(configuration), settings);
         caches.put(name, cache);
         cache.begin();
         return cache;

@@ -51,7 +51,8 @@ final class Native {
 
     private Native() {}
 
-    static native long open(long seed, int capacity, int policy, long duration, boolean loads, boolean listens);
+    /** A seat whose keys are placed under a secret of 16 bytes. */
+    static native long open(byte[] secret, int capacity, int policy, long duration, boolean loads, boolean listens);
 
     static native void close(long seat);
 

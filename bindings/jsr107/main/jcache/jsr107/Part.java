@@ -30,12 +30,12 @@ final class Part {
     /** Of keys that share a text how many places may have rows, where these are more than one. */
     private final Map<Keys.Shared, Integer> reaches = new HashMap<>();
 
-    Part(long seed, int capacity, Expiry expiry, boolean loads, boolean listens, Telling<?, ?> telling) {
+    Part(byte[] secret, int capacity, Expiry expiry, boolean loads, boolean listens, Telling<?, ?> telling) {
         this.telling = telling;
         this.capacity = capacity;
         this.listens = listens;
         NativeLibrary.load();
-        seat = Native.open(seed, capacity, expiry.policy(), expiry.duration(), loads, listens);
+        seat = Native.open(secret, capacity, expiry.policy(), expiry.duration(), loads, listens);
     }
 
     int capacity() {

@@ -12,6 +12,7 @@ import javax.cache.CacheException;
 final class Settings {
     private static final int DEFAULT_CAPACITY = 10_000;
     private static final int MOST_PARTS = 64;
+    private static final int MOST_BYTES = 65_535;
 
     private final Properties properties;
     private final ClassLoader classes;
@@ -67,6 +68,11 @@ final class Settings {
                     + " for " + parts);
         }
         return capacity / parts + (part < capacity % parts ? 1 : 0);
+    }
+
+    /** The most bytes of a value as it is stored. */
+    int maxValue() {
+        return number("jcache.max_value", MOST_BYTES, MOST_BYTES);
     }
 
     boolean skipsOversize() {

@@ -13,8 +13,6 @@ import javax.cache.CacheException;
 
 /** Where a cache's rows stand: its parts, how keys are found in them, and what each of its calls needs. */
 final class Store<K, V> {
-    private static final int MOST_BYTES = 65_535;
-
     /** The place of a key, whose name is held where it shares its text, and the row that stands there, or null. */
     record Place(Part part, Object name, byte[] key, byte[] beside, byte[] row) {}
 
@@ -23,6 +21,7 @@ final class Store<K, V> {
     private final Expiry expiry;
     private final Through<K, V> through;
     private final LongSupplier clock;
+    private final int maxValue;
     private final boolean skipsOversize;
     private final AtomicLong skipped = new AtomicLong();
 
@@ -31,14 +30,17 @@ final class Store<K, V> {
         this.expiry = expiry;
         this.through = through;
         clock = settings.clock();
+        maxValue = settings.maxValue();
         skipsOversize = settings.skipsOversize();
         boolean loads = through.hasLoader() || through.writes() || expiry.isOwn();
         boolean listens = telling.hasListeners() || expiry.isOwn();
-        SecureRandom seeds = new SecureRandom();
+        SecureRandom secrets = new SecureRandom();
         List<Part> made = new ArrayList<>();
         try {
             for (int i = 0; i < settings.parts(); i++) {
-                made.add(new Part(seeds.nextLong(), settings.capacity(i), expiry, loads, listens, telling));
+                byte[] secret = new byte[16];
+                secrets.nextBytes(secret);
+                made.add(new Part(secret, settings.capacity(i), expiry, loads, listens, telling));
             }
         } catch (RuntimeException e) {
             made.forEach(Part::close);
@@ -181,10 +183,10 @@ final class Store<K, V> {
     }
 
     private boolean fits(int bytes) {
-        if (bytes > MOST_BYTES && !skipsOversize) {
-            throw new CacheException("an entry's value has " + bytes + " bytes as it is stored, at most 65,535 are");
+        if (bytes > maxValue && !skipsOversize) {
+            throw new CacheException("an entry's value has " + bytes + " bytes as it is stored, more than " + maxValue);
         }
-        return bytes <= MOST_BYTES;
+        return bytes <= maxValue;
     }
 
     void countSkipped() {

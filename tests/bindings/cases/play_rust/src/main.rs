@@ -100,7 +100,10 @@ impl Line {
             _ => Expiry::Eternal,
         };
         let capacity = self.0["capacity"].as_u64().unwrap_or_default();
-        let made = Configuration::new(u32::try_from(capacity).unwrap_or(u32::MAX)).expiry(expiry);
+        let max_value = self.0["max_value"].as_u64().unwrap_or(65_535);
+        let made = Configuration::new(u32::try_from(capacity).unwrap_or(u32::MAX))
+            .expiry(expiry)
+            .max_value(u32::try_from(max_value).unwrap_or(u32::MAX));
         let hooks = self.0["hooks"].as_array().into_iter().flatten().filter_map(Value::as_str);
         hooks.fold(made, |made, hook| {
             let asked = asked.clone();
@@ -124,7 +127,7 @@ struct Player {
 impl Player {
     fn new(line: &Line) -> Result<Player, Error> {
         let (clock, asked) = (FixedClock::new(0), Asked::default());
-        let manager = Manager::with(7, clock.reader())?;
+        let manager = Manager::with_seed(7, clock.reader())?;
         let cache = manager.create_cache("case", line.configuration(&asked))?;
         Ok(Player { clock, manager, cache, asked })
     }
@@ -148,6 +151,7 @@ impl Player {
             Err(Error::BadCapacity) => json!({ "refused": 49 }),
             Err(Error::DuplicateName) => json!({ "refused": 52 }),
             Err(Error::BadKey) => json!({ "refused": 66 }),
+            Err(Error::BadValue) => json!({ "refused": 67 }),
             Err(Error::DuplicateKey) => json!({ "refused": 70 }),
             Err(other) => json!(other.to_string()),
         }
@@ -211,6 +215,7 @@ impl Player {
                 json!({ "results": given.into_iter().map(result).collect::<Vec<_>>() })
             }
             "rows" => json!({ "rows": cache.entry_count()? }),
+            "bytes" => json!({ "bytes": cache.byte_count()? }),
             "walk" => {
                 let mut found: Vec<_> = cache.iter().map(|row| (row.key, row.value)).collect();
                 found.sort();
