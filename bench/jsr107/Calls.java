@@ -57,7 +57,7 @@ final class Calls {
         com.github.benmanes.caffeine.cache.Cache<String, byte[]> caffeine = Caffeine.newBuilder().maximumSize(10_000)
                 .build();
         byte[] row = codec.payload(values[0]);
-        Part part = new Part(7, 1, Expiry.of(new javax.cache.expiry.EternalExpiryPolicy()), false, false, null);
+        Part part = new Part(new byte[16], 1, Expiry.of(new javax.cache.expiry.EternalExpiryPolicy()), false, false, null);
         byte[] missing = Keys.own("missing");
         return List.of(
                 new Measured("the provider", i -> ours.get(keys[i]), i -> ours.put(keys[i], values[i])),

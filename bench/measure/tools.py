@@ -4,7 +4,7 @@ import os
 import shutil
 import subprocess
 import sys
-from dataclasses import dataclass
+from functools import cached_property
 
 BENCH = os.path.dirname(os.path.dirname(os.path.abspath(__file__)))
 CRATES = os.path.join(os.path.dirname(BENCH), "crates")
@@ -18,16 +18,6 @@ JARS = {
 CRATE_PACKAGES = ("librust-serde-json-dev", "librust-serde-derive-dev", "librust-dashmap-dev")
 SERIAL = "--serial"
 PACKAGES = (*JARS, *CRATE_PACKAGES, "libcuckoo-dev")
-
-
-@dataclass(frozen=True)
-class Tools:
-    """Our two programs, and the words that start the peers, before what they are asked."""
-
-    jcache: str
-    jc_bench: str
-    runners: dict
-    maps: dict
 
 
 def version_of(package):
@@ -94,27 +84,51 @@ def ours(name):
     return built
 
 
-def build(folder):
-    """Builds all that is measured, the peers into a folder."""
-    demand()
-    path, rust, cuckoo = build_java(folder), build_rust(folder), build_cuckoo(folder)
-    java = ["java", "-cp", path]
-    quick = ["java", "-XX:+UseSerialGC", "-XX:TieredStopAtLevel=1", "-cp", path]
-    runner, maps = os.path.join(rust, "runner"), os.path.join(rust, "maps")
-    return Tools(
-        jcache=ours("jcache"),
-        jc_bench=ours("jc_bench"),
-        runners={
+class Tools:
+    """Our two programs, and the words that start the peers, before what they are asked. Each is built, the peers into a
+    folder, when a part first asks for it."""
+
+    def __init__(self, folder):
+        demand()
+        self.folder = folder
+
+    @cached_property
+    def jcache(self):
+        return ours("jcache")
+
+    @cached_property
+    def jc_bench(self):
+        return ours("jc_bench")
+
+    @cached_property
+    def java(self):
+        return build_java(self.folder)
+
+    @cached_property
+    def rust(self):
+        return build_rust(self.folder)
+
+    @cached_property
+    def runners(self):
+        """What makes the calls of a script."""
+        java = ["java", "-cp", self.java]
+        quick = ["java", "-XX:+UseSerialGC", "-XX:TieredStopAtLevel=1", "-cp", self.java]
+        runner = os.path.join(self.rust, "runner")
+        return {
             "plain Rust": [runner],
             "typed Rust": [runner, "--typed"],
             "Caffeine": [*java, "CaffeineRunner"],
             "quick Caffeine": [*quick, "CaffeineRunner"],
             "Ehcache": [*java, "EhcacheRunner"],
-        },
-        maps={
+        }
+
+    @cached_property
+    def maps(self):
+        """Maps that threads share."""
+        maps = os.path.join(self.rust, "maps")
+        return {
             "dashmap": [maps, "dashmap"],
-            "libcuckoo": [cuckoo],
+            "libcuckoo": [build_cuckoo(self.folder)],
             "mutex": [maps, "mutex"],
-            "Caffeine": [*java, "CaffeineMap"],
-        },
-    )
+            "Caffeine": ["java", "-cp", self.java, "CaffeineMap"],
+        }

@@ -1,17 +1,25 @@
 //! What one thread does, and what comes of it.
 use crate::caches::put;
+use crate::delays::Delays;
+use crate::fault::Fault;
+use crate::timing::wall;
 use crate::words::Kind;
 use jc_index::lookup::Lookup;
 use jc_model::call::Call;
 use jc_model::key::Key;
+use jc_model::keys::Keys;
 use jc_shards::Caches;
 use std::alloc::Global;
 use std::hint::spin_loop;
 use std::sync::Wait;
 use std::sync::atomic::{AtomicU32, Ordering};
+use std::time::Clock;
 
 /// The most rounds of a writer.
 const ROUNDS: u64 = 200_000;
+
+/// How many keys a call on many keys has.
+const MANY: usize = 64;
 
 /// How many keys a writer has. Half of them have a row at any time.
 pub const WRITTEN: u32 = 64;
@@ -89,9 +97,30 @@ fn ask<C: Caches, R: Wait>(
     match kind {
         Kind::Lookup | Kind::Miss => outcome_of_lookup(seat.contains_key(cache, key, 0)),
         Kind::Contains => outcome_of_look(seat.contains(rt, cache, key, 0)),
-        Kind::Get => outcome_of_call(seat.call(rt, cache, 0, Call::Get(*key))),
+        Kind::Get | Kind::Mix | Kind::Many => {
+            outcome_of_call(seat.call(rt, cache, 0, Call::Get(*key)))
+        }
         Kind::Put | Kind::Write => outcome_of_call(put(rt, alloc, seat, cache, key)),
     }
+}
+
+/// Gets many keys at once: the first ones, as far as there are so many.
+fn get_many<C: Caches, R: Wait>(
+    rt: &R,
+    alloc: Global,
+    seat: &mut C,
+    cache: C::Id,
+    keys: &[Key],
+) -> Result<(), Fault> {
+    let mut asked = Vec::with_capacity(alloc, MANY)?;
+    for key in keys {
+        if asked.len() == MANY {
+            break;
+        }
+        asked.push(*key)?;
+    }
+    drop(seat.call(rt, cache, 0, Call::GetAll(Keys::new(asked)?))?);
+    Ok(())
 }
 
 /// The next number of a sequence without a pattern (Knuth's constants for 64 bits).
@@ -118,25 +147,61 @@ pub struct Task {
     pub calls: u32,
     /// How many steps of the processor's pause go by after each.
     pub between: u32,
+    /// Whether it is told how long each took.
+    pub timed: bool,
     /// The number that its picks follow.
     pub first: u64,
 }
 
-/// Does its task, each time for one of the keys of one of the caches, which upper bits of a number pick.
-pub fn ask_often<C: Caches, R: Wait>(
+/// What came of a thread's tries, and how long each took where that is asked.
+#[derive(Clone, Copy)]
+pub struct Came {
+    pub counts: Counts,
+    pub delays: Delays,
+}
+
+/// What is done at a number: gets and puts by turns, or always the same.
+fn kind_at(kind: Kind, number: u64) -> Kind {
+    match kind {
+        Kind::Mix if (number >> 40) % 2 == 0 => Kind::Put,
+        other => other,
+    }
+}
+
+/// Does its task once, for one of the keys of one of the caches, which upper bits of the number pick.
+fn ask_once<C: Caches, R: Wait>(
+    rt: &R,
+    alloc: Global,
+    seat: &mut C,
+    (kind, number): (Kind, u64),
+    (caches, keys): (&[C::Id], &[Key]),
+) -> Option<Outcome> {
+    let cache = pick(caches, number >> 48)?;
+    if kind == Kind::Many {
+        return Some(outcome_of_call(get_many(rt, alloc, seat, *cache, keys)));
+    }
+    let key = pick(keys, number >> 33)?;
+    Some(ask(rt, alloc, seat, kind_at(kind, number), *cache, key))
+}
+
+/// Does its task so often.
+pub fn ask_often<C: Caches, R: Wait + Clock>(
     rt: &R,
     alloc: Global,
     seat: &mut C,
     task: Task,
-    (caches, keys): (&[C::Id], &[Key]),
-    counts: &mut Counts,
+    asked: (&[C::Id], &[Key]),
+    came: &mut Came,
 ) {
     let mut number = task.first;
     for _ in 0..task.calls {
         number = following(number);
-        let cache = pick(caches, number >> 48);
-        if let (Some(cache), Some(key)) = (cache, pick(keys, number >> 33)) {
-            counts.add(ask(rt, alloc, seat, task.kind, *cache, key));
+        let began = if task.timed { wall(rt) } else { 0 };
+        if let Some(outcome) = ask_once(rt, alloc, seat, (task.kind, number), asked) {
+            came.counts.add(outcome);
+        }
+        if task.timed {
+            came.delays.add(wall(rt).wrapping_sub(began));
         }
         for _ in 0..task.between {
             spin_loop();

@@ -1,6 +1,7 @@
 //! Why a run has no figures.
 use jc_model::OutOfMemory;
 use jc_model::key::KeyFault;
+use jc_model::keys::ListFault;
 use jc_model::value::ValueFault;
 use jc_shards::{HalfRefusal, QuarterRefusal};
 use jc_shared::{CallFault, SessionRefusal, SharedRefusal};
@@ -49,6 +50,12 @@ impl From<OutOfMemory> for Fault {
 
 impl<T: Drop> From<AllocFailed<T>> for Fault {
     fn from(_: AllocFailed<T>) -> Fault {
+        Fault::Refused
+    }
+}
+
+impl From<ListFault> for Fault {
+    fn from(_: ListFault) -> Fault {
         Fault::Refused
     }
 }

@@ -1,6 +1,7 @@
 //! The threads of a run, each with a session of its own.
-use crate::asking::{Counts, Task, WRITTEN, ask_often, write_meanwhile};
+use crate::asking::{Came, Counts, Task, WRITTEN, ask_often, write_meanwhile};
 use crate::caches::{Span, create_all, fill, ids_of, numbered_keys};
+use crate::delays::Delays;
 use crate::fault::Fault;
 use crate::timing::Moment;
 use crate::words::{Kind, Managers, Size};
@@ -40,17 +41,17 @@ struct Job<'a, S: Seats> {
 #[derive(Clone, Copy)]
 pub struct Done {
     pub kind: Kind,
-    pub counts: Counts,
+    pub came: Came,
     pub took: Moment,
 }
 
 /// Does this task in a session of its own. Where none is given any more, it says so.
-fn ask_in_session<S: Seats, R: Wait>(
+fn ask_in_session<S: Seats, R: Wait + Clock>(
     rt: &R,
     alloc: Global,
     job: &Job<'_, S>,
     task: Task,
-    counts: &mut Counts,
+    came: &mut Came,
 ) -> bool {
     let Ok(mut seat) = job.seats.seat(rt) else {
         return false;
@@ -59,21 +60,27 @@ fn ask_in_session<S: Seats, R: Wait>(
         return false;
     };
     let asked = (caches.as_slice(), job.keys);
-    ask_often(rt, alloc, &mut seat, task, asked, counts);
+    ask_often(rt, alloc, &mut seat, task, asked, came);
     true
 }
 
 /// Asks in its sessions, one after the other.
-fn ask_in_turn<S: Seats, R: Wait>(rt: &R, alloc: Global, job: &Job<'_, S>, counts: &mut Counts) {
+fn ask_in_turn<S: Seats, R: Wait + Clock>(
+    rt: &R,
+    alloc: Global,
+    job: &Job<'_, S>,
+    came: &mut Came,
+) {
     let calls = job.size.calls / job.size.sessions.max(1);
     for turn in 0..job.size.sessions {
         let task = Task {
             kind: job.kind,
             calls,
             between: job.size.between,
+            timed: job.size.timed,
             first: job.first.wrapping_add(turn as u64),
         };
-        if !ask_in_session(rt, alloc, job, task, counts) {
+        if !ask_in_session(rt, alloc, job, task, came) {
             return;
         }
     }
@@ -98,11 +105,14 @@ fn write_in_session<S: Seats, R: Wait>(
 }
 
 fn work<S: Seats, R: Wait + Clock + CpuClock>(rt: &R, alloc: Global, job: Job<'_, S>) -> Done {
-    let mut counts = Counts::none();
+    let mut came = Came {
+        counts: Counts::none(),
+        delays: Delays::none(),
+    };
     let began = Moment::now(rt);
     match job.kind {
-        Kind::Write => write_in_session(rt, alloc, &job, &mut counts),
-        _ => ask_in_turn(rt, alloc, &job, &mut counts),
+        Kind::Write => write_in_session(rt, alloc, &job, &mut came.counts),
+        _ => ask_in_turn(rt, alloc, &job, &mut came),
     }
     let took = Moment::now(rt).since(began);
     if job.kind != Kind::Write {
@@ -110,7 +120,7 @@ fn work<S: Seats, R: Wait + Clock + CpuClock>(rt: &R, alloc: Global, job: Job<'_
     }
     Done {
         kind: job.kind,
-        counts,
+        came,
         took,
     }
 }

@@ -12,7 +12,7 @@ use std::time::{Clock, CpuClock};
 use std::{env, io};
 
 fn print_counts<R: Print>(rt: &R, done: &Done) -> io::Result<()> {
-    let counts = done.counts;
+    let counts = done.came.counts;
     print!(rt;
         "{} yes={} no={} unsure={} refused={}",
         done.kind.word(),
@@ -30,6 +30,17 @@ fn print_times<R: Print>(rt: &R, done: &Done) -> io::Result<()> {
     )
 }
 
+/// The lengths that calls had, each with how many had it, as four times a power of two and the quarters beyond it.
+fn print_delays<R: Print>(rt: &R, done: &Done) -> io::Result<()> {
+    print!(rt; " delays=")?;
+    for (place, count) in done.came.delays.counts.iter().enumerate() {
+        if *count > 0 {
+            print!(rt; "{place}:{count},")?;
+        }
+    }
+    Ok(())
+}
+
 /// Does what the words ask for, and prints a line for each thread.
 pub fn run<R: Threads + Wait + Clock + CpuClock + Sync + Env + Print + AllocGlobal>(
     rt: &R,
@@ -42,6 +53,9 @@ pub fn run<R: Threads + Wait + Clock + CpuClock + Sync + Env + Print + AllocGlob
             print_counts(rt, done)?;
             if !asked.counts {
                 print_times(rt, done)?;
+            }
+            if asked.size.timed {
+                print_delays(rt, done)?;
             }
             println!(rt)?;
         }

@@ -17,11 +17,16 @@ fn nanoseconds(read: io::Result<Duration>) -> u64 {
     }
 }
 
+/// Nanoseconds by the clock, since some start.
+pub fn wall<R: Clock>(rt: &R) -> u64 {
+    nanoseconds(rt.monotonic())
+}
+
 impl Moment {
     /// Reads both clocks.
     pub fn now<R: Clock + CpuClock>(rt: &R) -> Moment {
         Moment {
-            wall: nanoseconds(rt.monotonic()),
+            wall: wall(rt),
             processor: nanoseconds(rt.thread_cpu_time()),
         }
     }

@@ -15,6 +15,10 @@ pub enum Kind {
     Get,
     /// A call `Put` of a key that has a row.
     Put,
+    /// These two by turns.
+    Mix,
+    /// A call `GetAll` of 64 keys that have rows.
+    Many,
     /// Puts and removals of keys of its own, until all other threads are done.
     Write,
 }
@@ -27,6 +31,8 @@ fn kind_named(word: &str) -> Result<Kind, Fault> {
         "contains" => Ok(Kind::Contains),
         "get" => Ok(Kind::Get),
         "put" => Ok(Kind::Put),
+        "mix" => Ok(Kind::Mix),
+        "many" => Ok(Kind::Many),
         _ => Err(Fault::Words),
     }
 }
@@ -40,6 +46,8 @@ impl Kind {
             Kind::Contains => "contains",
             Kind::Get => "get",
             Kind::Put => "put",
+            Kind::Mix => "mix",
+            Kind::Many => "many",
             Kind::Write => "write",
         }
     }
@@ -70,6 +78,8 @@ pub struct Size {
     pub created: bool,
     /// Whether the caches would load what is missing.
     pub read_through: bool,
+    /// Whether the length of each call is told.
+    pub timed: bool,
 }
 
 /// Over which managers a run goes.
@@ -107,7 +117,7 @@ pub struct Asked {
 }
 
 /// All options: those that take a number, and those that are there or not.
-static OPTIONS: [&str; 14] = [
+static OPTIONS: [&str; 15] = [
     "--caches",
     "--rows",
     "--threads",
@@ -122,6 +132,7 @@ static OPTIONS: [&str; 14] = [
     "--created",
     "--read-through",
     "--counts",
+    "--delays",
 ];
 
 fn is_option(word: &str) -> bool {
@@ -178,6 +189,7 @@ fn size_of(words: &[String]) -> Result<Size, Fault> {
         stashed: is_named(words, "--stashed"),
         created: is_named(words, "--created"),
         read_through: is_named(words, "--read-through"),
+        timed: is_named(words, "--delays"),
     })
 }
 
