@@ -9,23 +9,23 @@
 #![tactic(auto)]
 
 mod batch;
-pub mod board;
+mod board;
 mod change;
 mod fill;
-pub mod keeper;
+mod keeper;
 mod layout;
-pub mod lineage;
+mod lineage;
 mod look;
 pub mod lookup;
-pub mod member;
+mod member;
 pub mod naming;
 pub mod pass;
-pub mod placed;
-pub mod reader;
-pub mod roll;
+mod placed;
+mod reader;
+mod roll;
 mod slot;
 mod sought;
-pub mod stroke;
+mod stroke;
 mod versions;
 pub mod words;
-pub mod writer;
+mod writer;
