@@ -1,5 +1,5 @@
 -- What stays while one row changes in both of its places.
-use Rattle.std.proofs.Common.{◌≡◌, ℕ, eqb, not, length, ◌<◌, [], ◌∷◌, ◌++◌, Option, Some, None, option_map, refl, List, false, arith, length-append, inl, inr}
+use Rattle.std.proofs.Common.{◌≡◌, ℕ, Bool, eqb, not, length, ◌<◌, [], ◌∷◌, ◌++◌, Option, Some, None, option_map, refl, List, false, arith, length-append, inl, inr}
 use Rattle.std.proofs.lemmas.Grind.{common_steps}
 use Rattle.std.proofs.lemmas.List.{length-map}
 use Rattle.std.proofs.lemmas.List.Sums.{length-filter, count_by-le-length}
@@ -27,9 +27,9 @@ module _ (m : RowMap) (k : Kept) (kept : IsKeptIn m k) (row : ℕ) where
     within = omega (arith, kept.within, length-filter (λ (c : Cell). not (eqb c.row row)) k.cells, count_by-le-length (λ (c : Cell). not (eqb c.row row)) k.cells);
   }
 
-  pub kept-pushed : (it : Record) → has_row row k.cells ≡ false → table.get m (k.id, it.key) ≡ None → length k.cells < k.config.capacity → IsKeptIn (table.insert m (k.id, it.key) (row, it.expiry)) (record k { cells = k.cells ++ record { row = row; held = it; bit = false } ∷ [] })
-  kept-pushed it fresh absent less = record {
-    tied = Tied-pushed m k.id k.cells kept.tied row it fresh absent;
+  pub kept-pushed : (it : Record) (bit : Bool) → has_row row k.cells ≡ false → table.get m (k.id, it.key) ≡ None → length k.cells < k.config.capacity → IsKeptIn (table.insert m (k.id, it.key) (row, it.expiry)) (record k { cells = k.cells ++ record { row = row; held = it; bit = bit } ∷ [] })
+  kept-pushed it bit fresh absent less = record {
+    tied = Tied-pushed m k.id k.cells kept.tied row it bit fresh absent;
     within = omega (arith, less, length-append {A = Cell});
   }
 

@@ -1,6 +1,8 @@
 pub mod StateNames
 mod Vacancies
 mod Shelves
+mod Growing
+mod Moves
 mod Cells
 pub mod Ties
 pub mod Found
@@ -10,6 +12,7 @@ pub mod VisitLaws
 pub mod Changes
 pub mod TiedKeys
 pub mod Walk
+pub mod Saving
 pub mod Numbers
 mod Names
 mod Lined

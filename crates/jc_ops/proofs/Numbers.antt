@@ -12,7 +12,7 @@ pub seek-slot : (slots : List (Option Record)) (ring : List (ℕ × Bool)) (r : 
 seek-slot slots ring r filled = grind (arith, common_steps, filled, has_row-cells r slots ring, has_row-seek r (cells_of slots ring), seek-cells r slots ring)
 
 pub seek-past : (slots : List (Option Record)) (ring : List (ℕ × Bool)) (limit capacity : ℕ) → IsShelf slots ring limit capacity → (n : ℕ) → capacity ≤ n → seek n (cells_of slots ring) ≡ None
-seek-past slots ring limit capacity is n past = grind (arith, common_steps, is.places, seek-slot slots ring n (is.filled n), get_or_past slots n None)
+seek-past slots ring limit capacity is n past = grind (arith, common_steps, is.within, seek-slot slots ring n (is.filled n), get_or_past slots n None)
 
 pub ruleset number_laws = (common_steps, seek-slot, seek-past)
 

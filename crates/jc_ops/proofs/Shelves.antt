@@ -2,9 +2,9 @@
 use Rattle.std.proofs.Common.{◌≡◌, ◌<◌, ◌+◌, ℕ, Bool, true, false, eqb, cond, List, [], ◌∷◌, ◌++◌, length, Option, Some, None, is_some, set, refl, arith, length-append}
 use Rattle.std.proofs.lemmas.Grind.{common_steps}
 use Rattle.std.proofs.lemmas.List.{get_or-set_same, get_or-set_other, length-map}
-use Rattle.jc_ring.specs.Ring.{row_behind, ring_without, bit_set}
+use Rattle.jc_ring.specs.Ring.{row_behind, bit_of, ring_without, bit_set}
 use Rattle.jc_ring.proofs.Laws.{on_ring-append, on_ring-turned, on_ring-without, on_ring-touched, length-turned, length-touched}
-use Rattle.jc_ops.proofs.StateNames.{row_after, on_ring, ring_touched, Record, new_cell, slot, cells_of, held_of, has_row, seek, without_row, IsShelf, stored}
+use Rattle.jc_ops.proofs.StateNames.{bit_in, row_after, on_ring, ring_touched, Record, new_cell, slot, cells_of, held_of, has_row, seek, without_row, IsShelf, stored}
 use Rattle.jc_ops.proofs.Vacancies.{within_filled}
 
 pub has_row-cells : (r : ℕ) (slots : List (Option Record)) (ring : List (ℕ × Bool)) → has_row r (cells_of slots ring) ≡ on_ring r ring
@@ -19,6 +19,10 @@ pub row_after-cells : (slots : List (Option Record)) (r : ℕ) (ps : List (ℕ �
 row_after-cells slots r [] = refl
 row_after-cells slots r (p ∷ []) = refl
 row_after-cells slots r (p ∷ q ∷ ps) = rw (row_after-cells slots r (q ∷ ps))
+
+pub bit-cells : (slots : List (Option Record)) (r : ℕ) (ps : List (ℕ × Bool)) → bit_of r ps ≡ bit_in r (cells_of slots ps)
+bit-cells slots r [] = refl
+bit-cells slots r (p ∷ ps) = rw (bit-cells slots r ps)
 
 -- What the cells come to where a slot changes, and the ring with it.
 
@@ -50,4 +54,4 @@ module _ (slots : List (Option Record)) (ring : List (ℕ × Bool)) (limit capac
   pub store-shelf : (it : Record) → is_some (slot slots r) ≡ true → IsShelf (set slots r (Some it)) (ring_touched r ring) limit capacity
   store-shelf it there = shelf-set _ (Some it) (within_filled slots r there) (λ s. grind (arith, common_steps, is.filled s, there, on_ring-touched s r ring)) (rw (there, length-map ring (bit_set r)))
 
-pub ruleset shelf_laws = (common_steps, on_ring-turned, on_ring-append, on_ring-without, on_ring-touched, length-turned, length-touched, has_row-cells, seek-cells, row_after-cells, push-cells, take-cells, store-cells, within_filled)
+pub ruleset shelf_laws = (common_steps, on_ring-turned, on_ring-append, on_ring-without, on_ring-touched, length-turned, length-touched, has_row-cells, seek-cells, row_after-cells, bit-cells, push-cells, take-cells, store-cells, within_filled)

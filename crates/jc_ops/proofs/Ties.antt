@@ -1,5 +1,5 @@
 -- The tie between the rows of a cache and the table, and what becomes of it with each change.
-use Rattle.std.proofs.Common.{◌≡◌, ℕ, true, false, eqb, cond, List, [], ◌∷◌, ◌++◌, Some, None, option_map, sym, ◌∙◌, arith}
+use Rattle.std.proofs.Common.{◌≡◌, ℕ, Bool, true, false, eqb, cond, List, [], ◌∷◌, ◌++◌, Some, None, option_map, sym, ◌∙◌, arith}
 use Rattle.std.proofs.lemmas.Grind.{common_steps}
 use Rattle.std.proofs.lemmas.Slice.Eq.{bytes_eq-Decides}
 use Rattle.std.specs.Str.{bytes_eq}
@@ -58,9 +58,9 @@ module _ (m : RowMap) (id : ℕ) (cs : List Cell) (t : Tied m id cs) where
       (λ q s x h. grind (arith, common_steps, seek-without s r cs, get-removed m id k q, t.found q s x, same_as k r e g s))
 
   -- A row is added.
-  pub Tied-pushed : (r : ℕ) (it : Record) → has_row r cs ≡ false → table.get m (id, it.key) ≡ None → Tied (table.insert m (id, it.key) (r, it.expiry)) id (cs ++ record { row = r; held = it; bit = false } ∷ [])
-  Tied-pushed r it off g =
-      let c : Cell = record { row = r; held = it; bit = false } in
+  pub Tied-pushed : (r : ℕ) (it : Record) (bit : Bool) → has_row r cs ≡ false → table.get m (id, it.key) ≡ None → Tied (table.insert m (id, it.key) (r, it.expiry)) id (cs ++ record { row = r; held = it; bit = bit } ∷ [])
+  Tied-pushed r it bit off g =
+      let c : Cell = record { row = r; held = it; bit = bit } in
       tied_by _ id _ (Distinct-push cs c t.distinct off)
       (λ s h e. grind (arith, common_steps, bytes_eq-Decides h.key it.key, seek-append s cs (c ∷ []), get-put m id it.key h.key (r, it.expiry), at_place s h))
       (λ q s x h. grind (arith, common_steps, bytes_eq-Decides q it.key, seek-append s cs (c ∷ []), has_row-seek s cs, get-put m id it.key q (r, it.expiry), t.found q s x))

@@ -1,5 +1,5 @@
 -- The list of vacant rows.
-use Rattle.std.proofs.Common.{◌≡◌, ◌+◌, ◌<◌, ℕ, cond, true, eqb, List, [], ◌∷◌, ◌++◌, length, Option, Some, None, is_some, set, count_by, arith, length-append}
+use Rattle.std.proofs.Common.{◌≡◌, ◌+◌, ◌<◌, ℕ, cond, true, eqb, List, [], ◌∷◌, ◌++◌, length, Option, Some, None, is_some, set, count_by, arith, length-append, append_assoc}
 use Rattle.std.proofs.lemmas.Grind.{common_steps}
 use Rattle.std.proofs.lemmas.List.{get_or_past, replicate_more}
 use Rattle.std.proofs.lemmas.List.Sums.{sum_by_push}
@@ -39,6 +39,6 @@ module _ (slots : List (Option Record)) (vacant : List ℕ) (room : ℕ) (is : I
     pub slots-refilled : (it : Record) → IsSlots (set slots r (Some it)) vacant room
     slots-refilled it = slots-set vacant r (Some it) (within_filled slots r e) (λ q. grind (arith, common_steps, is.vacancies q)) (grind (arith, common_steps))
 
-pub ruleset growth_laws = (replicate_more, vacant-more, length-append)
+pub ruleset growth_laws = (replicate_more, vacant-more, length-append, append_assoc)
 
 pub ruleset slot_laws = (popped, slots-filled, slots-vacated, slots-refilled)

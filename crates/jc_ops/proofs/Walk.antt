@@ -18,13 +18,13 @@ pub record WalkedTo (cells : List Cell) (keys : List (List ℕ)) (next : Option 
   pub all : keys ++ keys_of (rows_from next cells) ≡ keys_of cells
   pub on : (r : ℕ) → next ≡ Some r → has_row r cells ≡ true
 
-after_on : (r : ℕ) (cells : List Cell) (q : ℕ) → row_after r cells ≡ Some q → has_row q cells ≡ true
+pub after_on : (r : ℕ) (cells : List Cell) (q : ℕ) → row_after r cells ≡ Some q → has_row q cells ≡ true
 after_on r [] q e = cc
 after_on r (c ∷ []) q e = grind (arith, common_steps)
 after_on r (c ∷ d ∷ cs) q e = grind (arith, common_steps, after_on r (d ∷ cs) q)
 
 -- a row of another number before them makes no difference
-from_behind : (c : Cell) (cells : List Cell) (next : Option ℕ) → Distinct (c ∷ cells) → ((q : ℕ) → next ≡ Some q → has_row q cells ≡ true) → rows_from next (c ∷ cells) ≡ rows_from next cells
+pub from_behind : (c : Cell) (cells : List Cell) (next : Option ℕ) → Distinct (c ∷ cells) → ((q : ℕ) → next ≡ Some q → has_row q cells ≡ true) → rows_from next (c ∷ cells) ≡ rows_from next cells
 from_behind c cells None d on = refl
 from_behind c cells (Some q) d on = grind (arith, common_steps, d.0, on q refl)
 

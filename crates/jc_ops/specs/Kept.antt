@@ -1,5 +1,5 @@
 -- What a cache keeps, and what it means.
-use Rattle.std.specs.Prelude.{◌≡◌, ◌≤◌, ℕ, Bool, eqb, cond, if◌then◌else◌, List, [], ◌∷◌, length, map, count_by, Option, Some, None, option_map, true}
+use Rattle.std.specs.Prelude.{◌≡◌, ◌<◌, ◌≤◌, ◌+◌, ◌-◌, ℕ, Bool, eqb, ltb, min, cond, if◌then◌else◌, List, [], ◌∷◌, length, map, count_by, Option, Some, None, option_map, true}
 use Rattle.jc_model.specs.declared.call.Counts.{Counts}
 use Rattle.jc_model.specs.declared.call.Notice.{Notice}
 use Rattle.jc_model.specs.declared.config.CacheConfig.{CacheConfig}
@@ -18,6 +18,30 @@ pub record Kept : Type 0 where
   pub id : ℕ
   pub cells : List Cell
   pub counts : Counts
+
+-- what a cache keeps, and how many rows it has memory for
+pub record Housed : Type 0 where
+  pub kept : Kept
+  pub places : ℕ
+
+-- For how many further rows there is room, where the table has room for so many. A cache with places for all rows that it
+-- may have needs none: a row goes before another comes.
+abbrev pub room_for : ℕ → ℕ → ℕ → ℕ → ℕ
+room_for spare places capacity many = if ltb places capacity then min spare (places - many) else spare
+
+abbrev pub room_in : ℕ → Housed → ℕ
+room_in spare h = room_for spare h.places h.kept.config.capacity (length h.kept.cells)
+
+-- the same places with other rows
+abbrev pub with_cells : List Cell → Housed → Housed
+with_cells cells h = record h { kept = record h.kept { cells = cells } }
+
+-- it has memory for so many rows more, or for all that it may have
+abbrev pub HasPlacesForRows : ℕ → Housed → Type 0
+HasPlacesForRows more h = min (length h.kept.cells + more) h.kept.config.capacity ≤ h.places
+
+abbrev pub LacksPlacesForRows : ℕ → Housed → Type 0
+LacksPlacesForRows more h = h.places < min (length h.kept.cells + more) h.kept.config.capacity
 
 abbrev pub item_of : Cell → Item
 item_of c = record { key = c.held.key; value = c.held.value; expiry = c.held.expiry; used = c.bit }
@@ -59,6 +83,10 @@ IsTied m k = Tied m k.id k.cells
 -- what the row of an item holds
 abbrev pub record_of : Item → Record
 record_of x = record { key = x.key; value = x.value; expiry = x.expiry }
+
+-- the item of such a record, with this bit
+abbrev pub item_with : Record → Bool → Item
+item_with held used = record { key = held.key; value = held.value; expiry = held.expiry; used = used }
 
 -- The hand has turned until it stopped, at the row of this number, which is now the first.
 pub record IsVictim (now : ℕ) (old new : Kept) (row : ℕ) : Type 0 where

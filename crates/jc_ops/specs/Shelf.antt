@@ -16,10 +16,19 @@ pub record Cell : Type 0 where
 abbrev pub new_cell : ℕ → Record → Cell
 new_cell row held = record { row = row; held = held; bit = false }
 
+-- a row as it was saved
+abbrev pub saved_cell : ℕ → Record → Bool → Cell
+saved_cell row held used = record { row = row; held = held; bit = used }
+
 -- what the row of this number holds
 abbrev pub seek : ℕ → List Cell → Option Record
 seek r [] = None
 seek r (c ∷ cs) = cond (eqb c.row r) (Some c.held) (seek r cs)
+
+-- its bit
+abbrev pub bit_in : ℕ → List Cell → Bool
+bit_in r [] = false
+bit_in r (c ∷ cs) = cond (eqb c.row r) c.bit (bit_in r cs)
 
 abbrev pub has_row : ℕ → List Cell → Bool
 has_row r [] = false
@@ -77,10 +86,10 @@ cell_at slots p = record { row = p.0; held = held_of (slot slots p.0); bit = p.1
 abbrev pub cells_of : List (Option Record) → List (ℕ × Bool) → List Cell
 cells_of slots ring = map (cell_at slots) ring
 
--- the filled slots are those on the ring, and both have places for all rows that the cache may have
+-- the filled slots are those on the ring, and both have the same places, no more than the cache may have rows
 pub record IsShelf (slots : List (Option Record)) (ring : List (ℕ × Bool)) (limit capacity : ℕ) : Type 0 where
   pub filled : (r : ℕ) → on_ring r ring ≡ is_some (slot slots r)
   pub count : count_by is_some slots ≡ length ring
-  pub places : length slots ≡ capacity
-  pub numbers : limit ≡ capacity
+  pub within : length slots ≤ capacity
+  pub numbers : limit ≡ length slots
   pub some : 1 ≤ capacity

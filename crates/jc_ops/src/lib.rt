@@ -4,6 +4,7 @@
 pub mod clock;
 pub mod hit;
 pub mod notices;
+mod places;
 pub mod slots;
 pub mod state;
 pub mod step;

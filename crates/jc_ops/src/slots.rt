@@ -1,7 +1,8 @@
-//! Records by row number, in places that are made once.
-ghost use Rattle.jc_ops.specs.Shelf.{held_of, with_expiry_of};
-ghost use Rattle.std.specs.Prelude.{◌≡◌, ℕ, ◌+◌, ◌<◌, ◌≤◌, List, length, replicate};
-ghost use Rattle.std.specs.Prelude.{Option, Some, None, IsSome, is_some, option_map, IfOk};
+//! Records by row number, in places that are made before they are needed.
+ghost use Rattle.jc_ops.specs.Shelf.{held_of, with_expiry_of, ListsVacant};
+ghost use Rattle.std.specs.Prelude.{◌≡◌, ℕ, ◌+◌, ◌^◌, ◌<◌, ◌≤◌, [], ◌++◌, length, replicate};
+ghost use Rattle.std.specs.Prelude.{Option, Some, None, IsSome, is_some, option_map, OnOk, OnErr};
+ghost use Rattle.std.specs.Vec.{vec_capacity};
 ghost use Rattle.std.specs.Prelude.{count_by, slice_index_or, slice_set};
 
 use jc_model::OutOfMemory;
@@ -40,20 +41,54 @@ impl Model for Slots {
     ghost invariant = { λ s. IsSlots s.records.items s.vacant.items (vec_capacity s.vacant) };
 }
 
+/// Adds so many vacant rows, for which there is room.
+#[tactic(auto, using(crate::proofs::Vacancies::growth_laws))]
+fn add_vacant(records: &mut Vec<Option<Record>>, vacant: &mut Vec<u32>, more: u32)
+    requires few { length records.old.items + more < 2 ^ 32 }
+    requires room { length records.old.items + more ≤ vec_capacity records.old }
+    requires numbers { length vacant.old.items + more ≤ vec_capacity vacant.old }
+    ensures grown { records.new.items ≡ records.old.items ++ replicate more None }
+    ensures many { length vacant.new.items ≡ length vacant.old.items + more }
+    ensures listed { ListsVacant records.old.items vacant.old.items →
+        ListsVacant records.new.items vacant.new.items }
+    ensures room { vec_capacity vacant.new ≡ vec_capacity vacant.old }
+{
+    for added in 0..more {
+        vacant.push_reserved(records.len() as u32);
+        records.push_reserved(None);
+    }
+}
+
 #[tactic(auto, using(crate::proofs::Vacancies::slot_laws))]
 impl Slots {
-    /// So many vacant rows.
-    #[tactic(auto, using(crate::proofs::Vacancies::growth_laws))]
-    pub fn with_capacity(alloc: Global, capacity: u32) -> Result<Slots, OutOfMemory>
-        ensures { IfOk result (λ slots. slots ≡ replicate capacity None) }
+    /// No rows. This takes no memory.
+    pub fn none(alloc: Global) -> Slots
+        ensures { result ≡ [] }
     {
-        let mut records = Vec::with_capacity(alloc, capacity as usize)?;
-        let mut vacant = Vec::with_capacity(alloc, capacity as usize)?;
-        for row in 0..capacity {
-            records.push_reserved(None);
-            vacant.push_reserved(row);
+        Slots {
+            records: Vec::new(alloc),
+            vacant: Vec::new(alloc),
         }
-        Ok(Slots { records, vacant })
+    }
+
+    /// So many rows more, all vacant. Where memory is refused, they stay as they were.
+    pub fn grow(&mut self, more: u32) -> Result<(), OutOfMemory>
+        requires few { length self.old + more < 2 ^ 32 }
+        ensures grown { OnOk result (self.new ≡ self.old ++ replicate more None) }
+        ensures refused { OnErr result (self.new ≡ self.old) }
+    {
+        let rows = self.records.len() + more as usize;
+        self.vacant.reserve_exact(rows - self.vacant.len())?;
+        self.records.reserve_exact(more as usize)?;
+        add_vacant(&mut self.records, &mut self.vacant, more);
+        Ok(())
+    }
+
+    /// How many rows there are, vacant ones among them.
+    pub(crate) fn len(&self) -> u32
+        ensures { result ≡ length self.now }
+    {
+        self.records.len() as u32
     }
 
     /// How many rows are filled.

@@ -6,6 +6,7 @@
 mod creation;
 mod removal;
 mod renewal;
+mod saving;
 mod supplies;
 mod walk;
 mod watched;
@@ -16,7 +17,7 @@ ghost use Rattle.jc_model.specs.Sound.{HasDistinctKeys};
 ghost use Rattle.jc_ops.specs.declared.slots.Record.{Record};
 ghost use Rattle.jc_ops.specs.Shelf.{seek, has_row};
 ghost use Rattle.jc_ops.specs.Kept.{items_of, FoundRow, with_hit, with_miss, with_put, with_removal};
-ghost use Rattle.jc_ops.specs.Kept.{with_eviction};
+ghost use Rattle.jc_ops.specs.Kept.{with_eviction, room_in};
 ghost use Rattle.jc_ops.specs.Visited.{IsKeptIn, has_live_in};
 
 use crate::notices::Notices;
@@ -47,6 +48,7 @@ pub struct Visit<R: Rows, G: Ring> {
 
 impl<R: Rows, G: Ring> Model for Visit<R, G> {
     ghost use Rattle.std.specs.Coded.{codes};
+    ghost use Rattle.jc_ops.specs.Kept.{room_in};
     ghost use Rattle.jc_ops.specs.Visited.{Visited, IsKeptIn, table_code};
 
     ghost Value = { Visited };
@@ -54,23 +56,23 @@ impl<R: Rows, G: Ring> Model for Visit<R, G> {
     ghost coded = { Prim.hlevel (codes, table_code) };
 
     ghost view = { λ v. record {
-      cache = v.cache.value;
+      cache = v.cache.value.kept;
       table = R.contents v.rows;
-      spare = R.spare v.rows;
+      spare = room_in (R.spare v.rows) v.cache.value;
       noted = v.notices;
       moment = v.moment;
     } };
 
-    ghost invariant = { λ v. IsKeptIn (R.contents v.rows) v.cache.value };
+    ghost invariant = { λ v. IsKeptIn (R.contents v.rows) v.cache.value.kept };
 }
 
 impl<R: Rows, G: Ring> Visit<R, G> {
     /// A visit to this cache, with no notices yet.
     pub fn new(alloc: Global, cache: Box<CacheState<G>>, rows: R) -> Visit<R, G>
-        requires kept { IsKeptIn (R.contents rows) cache.value }
-        ensures cache { result.cache ≡ cache.value }
+        requires kept { IsKeptIn (R.contents rows) cache.value.kept }
+        ensures cache { result.cache ≡ cache.value.kept }
         ensures table { result.table ≡ R.contents rows }
-        ensures spare { result.spare ≡ R.spare rows }
+        ensures spare { result.spare ≡ room_in (R.spare rows) cache.value }
         ensures untold { result.noted.told ≡ [] }
         ensures moment { result.moment ≡ 0 }
     {
@@ -88,7 +90,7 @@ impl<R: Rows, G: Ring> Visit<R, G> {
         requires kept { IsKeptIn (S.contents rows) self.cache }
         ensures cache { result.cache ≡ self.cache }
         ensures table { result.table ≡ S.contents rows }
-        ensures spare { result.spare ≡ S.spare rows }
+        ensures spare { result.spare ≤ S.spare rows }
         ensures notices { result.noted ≡ self.noted }
         ensures moment { result.moment ≡ self.moment }
     {
@@ -115,9 +117,10 @@ impl<R: Rows, G: Ring> Visit<R, G> {
 
     /// Takes this cache in, and leaves the one that it had in its place.
     pub fn exchange(&mut self, cache: &mut Box<CacheState<G>>)
-        requires kept { IsKeptIn self.old.table cache.old.value }
-        ensures exchanged { self.new ≡ record self.old { cache = cache.old.value } }
-        ensures left { cache.new.value ≡ self.old.cache }
+        requires kept { IsKeptIn self.old.table cache.old.value.kept }
+        ensures exchanged { self.new
+            ≡ record self.old { cache = cache.old.value.kept; spare = self.new.spare } }
+        ensures left { cache.new.value.kept ≡ self.old.cache }
         ensures was_kept { IsKeptIn self.old.table self.old.cache }
     {
         mem::swap(&mut self.cache, cache);
@@ -149,7 +152,7 @@ impl<R: Rows, G: Ring> Visit<R, G> {
     /// The table.
     pub fn rows(&self) -> &R
         ensures table { R.contents result.now ≡ self.now.table }
-        ensures spare { R.spare result.now ≡ self.now.spare }
+        ensures spare { self.now.spare ≤ R.spare result.now }
         ensures kept { IsKeptIn self.now.table self.now.cache }
     {
         &self.rows

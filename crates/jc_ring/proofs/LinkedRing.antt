@@ -3,10 +3,10 @@ use Rattle.std.proofs.Common.{◌≡◌, ◌<◌, ◌≤◌, ◌+◌, ℕ, Bool,
 use Rattle.std.proofs.Math.ListN.{set}
 use Rattle.std.proofs.lemmas.List.{get_or-set_same, length-set, length_push, get_or_read}
 use Rattle.std.proofs.lemmas.Bool.{eq-eqb, ne_eqb, or_cases, eqb-true}
-use Rattle.jc_ring.specs.Ring.{on_ring, row_behind, ring_without, ring_turned, ring_touched}
+use Rattle.jc_ring.specs.Ring.{on_ring, bit_of, row_behind, ring_without, ring_turned, ring_touched}
 use Rattle.jc_ring.specs.Links.{linked_list, IsLinked, AreLinks}
 use Rattle.jc_ring.proofs.Laws.{apart-push, apart-touched, apart-without, length-touched, length-without}
-use Rattle.jc_ring.proofs.Links.{on_below, previous_on, last_on, next_on, limit_off, frame, frame_used, snoc, redirect, unlinked, touched_bit, walk-is, after-is, turned-is}
+use Rattle.jc_ring.proofs.Links.{on_below, previous_on, last_on, next_on, limit_off, frame, frame_used, snoc, redirect, unlinked, touched_bit, used-is, walk-is, after-is, turned-is}
 
 module _ {next previous : List ℕ} {used : List Bool} {limit : ℕ} {ps : List (ℕ × Bool)} (links : IsLinked next previous used limit ps) where
   pub list-is : linked_list next used limit ≡ ps
@@ -108,6 +108,10 @@ module _ {next previous : List ℕ} {used : List Bool} {limit : ℕ} {ps : List 
   after-row r c on read more =
       let is : c ≡ get_or next r 0 = next_read r c (row_within r on) read in
       ap (λ (at : ℕ). Some at) is ∙ sym (after-is next previous used limit ps limit r on links.leads ∙ ap (λ b. cond b None (Some (get_or next r 0))) (ne_eqb (get_or next r 0) limit (λ e. more (is ∙ e))))
+
+  pub bit_read : (r : ℕ) (b : Bool) → on_ring r ps ≡ true → b ≡ get_or used r b → b ≡ bit_of r ps
+  bit_read r b on read =
+      get_or_read used r b (omega (arith, links.used_size, row_below r on)) read false ∙ used-is next previous used limit ps limit limit r links.leads on
 
   pub turns : (r : ℕ) → 0 < length ps → r ≡ get_or next limit r → ring_without r ps ++ (r, false) ∷ [] ≡ ring_turned ps
   turns r more read = turned-is next previous used limit ps limit limit r links.apart links.leads more (next_read limit r (omega arith) read)

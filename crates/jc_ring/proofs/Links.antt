@@ -4,7 +4,7 @@ use Rattle.std.proofs.Math.ListN.{set}
 use Rattle.std.proofs.lemmas.List.{get_or-set_same, get_or-set_other}
 use Rattle.std.proofs.lemmas.Grind.{common_steps}
 use Rattle.std.proofs.lemmas.Bool.{eq-eqb, ne_eqb, eqb-true, eqb-false, and_parts, or_parts, or_left, or_right, or_cases, not-true, false_from_ne_true, both_ways, cases_Bool}
-use Rattle.jc_ring.specs.Ring.{on_ring, first, row_behind, ring_without, ring_turned, ring_touched, rows_apart}
+use Rattle.jc_ring.specs.Ring.{on_ring, bit_of, first, row_behind, ring_without, ring_turned, ring_touched, rows_apart}
 use Rattle.jc_ring.specs.Links.{walk, Meets, Leads}
 use Rattle.jc_ring.proofs.Laws.{without-off}
 
@@ -148,6 +148,14 @@ module _ (next previous : List ℕ) (used : List Bool) (limit : ℕ) where
         | inl here ↦ rw (here, eqb-true p.0 r here) (get_or-set_same used r true false (subst (λ s. s < length used) (eqb-true p.0 r here) (omega arith)))
         | inr other ↦ rw other (get_or-set_other used r p.0 true false (eqb-false p.0 r other) ∙ is)
       ]
+
+  -- the bit of a row
+  pub used-is : (ps : List (ℕ × Bool)) (from to r : ℕ) → Leads next previous used limit from to ps → on_ring r ps ≡ true → get_or used r false ≡ bit_of r ps
+  used-is [] from to r leads on = cc
+  used-is (p ∷ ps) from to r leads on = elim (cases_Bool (eqb p.0 r)) [
+    | inl here ↦ rw here (ap (λ s. get_or used s false) (sym (eqb-true p.0 r here)) ∙ leads.1)
+    | inr other ↦ rw other (used-is ps p.0 to r leads.3 (rw other at on))
+  ]
 
   -- What is read off the links.
 

@@ -71,6 +71,10 @@ impl Ring for LinkRing {
         }
     }
 
+    fn is_used(&self, row: u32) -> bool {
+        self.used[row as usize]
+    }
+
     fn after(&self, row: u32) -> Option<u32> {
         let behind = self.next[row as usize];
         if behind == self.limit {

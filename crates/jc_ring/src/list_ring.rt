@@ -70,6 +70,11 @@ impl Ring for ListRing {
         }
     }
 
+    fn is_used(&self, row: u32) -> bool {
+        let place = place_of(&self.items, row);
+        self.items[place].1
+    }
+
     fn after(&self, row: u32) -> Option<u32> {
         let place = place_of(&self.items, row);
         match self.items.get(place + 1) {

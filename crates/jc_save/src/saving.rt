@@ -4,6 +4,7 @@ ghost use Rattle.std.specs.Int.{w64, to_le_bytes};
 ghost use Rattle.jc_model.specs.Limits.{most_processors, most_rows};
 ghost use Rattle.jc_save.specs.Limits.{saved_bytes};
 ghost use Rattle.jc_save.specs.Restoring.{state_of};
+ghost use Rattle.jc_save.specs.Savable.{IsKeyText, HasDuration, AreCounters, IsRow};
 ghost use Rattle.jc_save.specs.Placing.{put_at, piece_bytes, row_bytes, row_with};
 ghost use Rattle.jc_save.specs.Spelling.{flag, policy, settings, counters, mark, row_front, row, head, saved};
 
@@ -21,6 +22,7 @@ use std::alloc::Global;
 fn push_policy(piece: &mut Piece, kept: Policy)
     requires { length piece.old + 9 ≤ piece_bytes }
     ensures bytes { piece.new ≡ piece.old ++ policy kept }
+    ensures duration { HasDuration kept }
     ensures length { length piece.new ≤ length piece.old + 9 }
 {
     match kept {
@@ -57,6 +59,7 @@ fn push_settings(piece: &mut Piece, config: &CacheConfig)
     requires processors { length config.now.processors ≤ most_processors }
     requires room { length piece.old ≤ 4 }
     ensures bytes { piece.new ≡ piece.old ++ settings config.now }
+    ensures duration { HasDuration config.now.policy }
     ensures length { length piece.new ≤ length piece.old + 33 }
 {
     piece.push(&config.capacity.to_le_bytes());
@@ -69,9 +72,10 @@ fn push_settings(piece: &mut Piece, config: &CacheConfig)
 }
 
 #[tactic(auto, unfolding(crate::specs::Spelling::counters))]
-fn push_counters(piece: &mut Piece, counts: &Counts)
+fn push_counters(piece: &mut Piece, counts: Counts)
     requires { length piece.old + 40 ≤ piece_bytes }
-    ensures bytes { piece.new ≡ piece.old ++ counters counts.now }
+    ensures bytes { piece.new ≡ piece.old ++ counters counts }
+    ensures words { AreCounters counts }
     ensures length { length piece.new ≡ length piece.old + 40 }
 {
     piece.push(&counts.hits.to_le_bytes());
@@ -85,13 +89,15 @@ fn push_counters(piece: &mut Piece, counts: &Counts)
 #[tactic(auto, unfolding(crate::specs::Spelling::head))]
 fn head_of(config: &CacheConfig, counts: &Counts, rows: u32) -> Piece
     requires { length config.now.processors ≤ most_processors }
-    ensures { result ≡ head config.now counts.now rows }
+    ensures head { result ≡ head config.now counts.now rows }
+    ensures duration { HasDuration config.now.policy }
+    ensures words { AreCounters counts.now }
 {
     let mut piece = Piece::new();
     piece.push(&MAGIC);
     piece.push(&[VERSION]);
     push_settings(&mut piece, config);
-    push_counters(&mut piece, counts);
+    push_counters(&mut piece, *counts);
     piece.push(&rows.to_le_bytes());
     piece
 }
@@ -114,7 +120,8 @@ fn push_mark(piece: &mut Piece, marked: Mark)
 /// All of a row but its value's bytes, of which there are so many.
 #[tactic(auto, unfolding(crate::specs::Spelling::row_front))]
 fn row_front_of(key: &Key, marked: Mark, count: u16) -> Piece
-    ensures { result ≡ row_front marked.expiry marked.used key.now count }
+    ensures front { result ≡ row_front marked.expiry marked.used key.now count }
+    ensures key { IsKeyText key.now }
 {
     let mut piece = Piece::new();
     push_mark(&mut piece, marked);
@@ -126,23 +133,26 @@ fn row_front_of(key: &Key, marked: Mark, count: u16) -> Piece
 }
 
 /// Writes all that stands before the rows, of which there are so many, as much as there is room for. Tells how many
-/// bytes it is.
+/// bytes it is. What it writes keeps the limits of numbers.
 pub fn put_head(out: &mut [u8], config: &CacheConfig, counts: &Counts, rows: u32) -> usize
     requires { length config.now.processors ≤ most_processors }
     ensures place { result ≡ length (head config.now counts.now rows) }
     ensures few { result ≤ piece_bytes }
     ensures out { out.new ≡ put_at 0 (head config.now counts.now rows) out.old }
+    ensures duration { HasDuration config.now.policy }
+    ensures counters { AreCounters counts.now }
 {
     let head = head_of(config, counts, rows);
     put(out, 0, head.bytes())
 }
 
-/// Writes a row from a place on, as much as there is room for. Tells the place behind it.
+/// Writes a row from a place on, as much as there is room for. Tells the place behind it. The row keeps all limits.
 pub fn put_row(out: &mut [u8], at: usize, key: &Key, value: &Value, marked: Mark) -> usize
     requires { at < 2 ^ 48 }
     ensures place { result ≡ at + length (row (row_with key.now value.now marked)) }
     ensures few { result ≤ at + row_bytes }
     ensures out { out.new ≡ put_at at (row (row_with key.now value.now marked)) out.old }
+    ensures limits { IsRow (row_with key.now value.now marked) }
 {
     let bytes = value.bytes();
     let front = row_front_of(key, marked, bytes.len() as u16);

@@ -21,7 +21,8 @@ impl<R: Rows, G: Ring> Visit<R, G> {
         self.notices.reserve_for(self.cache.config(), more)
     }
 
-    /// Makes room in the table for so many rows more. Nothing is done where none are wanted, or where the table has it.
+    /// Makes room for so many rows more, in the table and in the cache, which needs none past its capacity. Nothing is
+    /// done where none are wanted, or where there is room.
     pub fn reserve_rows(&mut self, more: usize) -> Result<(), OutOfMemory>
         ensures same { self.new ≡ record self.old { spare = self.new.spare } }
         ensures room { OnOk result (more ≤ self.new.spare) }
@@ -37,8 +38,23 @@ impl<R: Rows, G: Ring> Visit<R, G> {
             return Ok(());
         }
         match self.rows.len().checked_add(more) {
-            Some(all) => self.rows.make_room(all),
+            Some(all) => self.make_room(all, more),
             None => Err(AllocError),
         }
+    }
+
+    /// Makes room for so many rows of the table in all, and for so many more of the cache.
+    fn make_room(&mut self, all: usize, more: usize) -> Result<(), OutOfMemory>
+        requires all { all ≡ map.len self.old.table + more }
+        requires some { 0 < more }
+        ensures same { self.new ≡ record self.old { spare = self.new.spare } }
+        ensures room { OnOk result (more ≤ self.new.spare) }
+        ensures refused { OnErr result (self.new.spare < more) }
+        ensures kept { self.old.spare ≤ self.new.spare }
+        ensures there { more ≤ self.old.spare → self.new.spare ≡ self.old.spare }
+        ensures stands { more ≤ self.old.spare → IsOk result }
+    {
+        self.rows.make_room(all)?;
+        self.cache.reserve(self.alloc, more)
     }
 }

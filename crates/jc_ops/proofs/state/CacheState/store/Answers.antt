@@ -6,7 +6,7 @@ pub invariant_of-self : goal.invariant_of-self
 invariant_of-self g c = record {
   filled = λ r. grind (arith, shelf_laws);
   count = grind (arith, shelf_laws);
-  places = grind (arith, shelf_laws);
+  within = grind (arith, shelf_laws);
   numbers = grind (arith, shelf_laws);
   some = c.self.invariant.some;
 }

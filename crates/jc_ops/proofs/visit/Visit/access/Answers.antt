@@ -17,7 +17,7 @@ invariant_of-self g c =
 
 pub returns-clause-progress : goal.returns-clause-progress
 returns-clause-progress g c = λ key x at.
-    let s = c.self.inside.cache.value in
+    let s = c.self.inside.cache.value.kept in
     let is : IsRow key s c.args.row x = rw (← c.self.view_is) at at in
     let new : Record = with_expiry_of (after_access s.config.policy x.expiry c.self.inside.moment) (record_of x) in
     grind (arith, common_steps, is.there, items-stored _ s c.args.row (record_of x) new c.self.invariant.tied is.there refl)

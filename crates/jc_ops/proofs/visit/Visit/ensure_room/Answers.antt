@@ -5,14 +5,14 @@ use Rattle.jc_ops.proofs.visit.Visit.ensure_room.Goals as goal
 
 pub invariant_of-self : goal.invariant_of-self
 invariant_of-self g c =
-    let turn = rw c.deref_mut.ensures.value at c.turn_hand-row.ensures in record {
+    let turn = rw c.deref_mut.ensures.value at c.turn_hand-row.ensures.hand in record {
       tied = turn.tied _ c.self.invariant.tied;
       within = rw (turn.many, turn.kept) c.self.invariant.within;
     }
 
 pub returns-then-is_live-clause-progress : goal.returns-then-is_live-clause-progress
 returns-then-is_live-clause-progress g c =
-    let turn = rw c.deref_mut.ensures.value at c.turn_hand-row.ensures in
+    let turn = rw c.deref_mut.ensures.value at c.turn_hand-row.ensures.hand in
     let was = c.take_row-gone.ensures.was in
     subst (λ (v : Visited). progress_in c.eviction.new.self ≡ with_room v.cache.config v.moment (progress_in v)) c.self.view_is
     (rw (c.eviction.ensures, c.take_row-gone.ensures.gone.kept, c.take_row-gone.ensures.noted)
@@ -21,8 +21,8 @@ returns-then-is_live-clause-progress g c =
 
 pub returns-else-is_live-clause-progress : goal.returns-else-is_live-clause-progress
 returns-else-is_live-clause-progress g c =
-    let turn = rw c.deref_mut.ensures.value at c.turn_hand-row.ensures in
-    let h = held_first c.turn_hand-row.result c.turn_hand-row.new.self.cells turn.at in
+    let turn = rw c.deref_mut.ensures.value at c.turn_hand-row.ensures.hand in
+    let h = held_first c.turn_hand-row.result c.turn_hand-row.new.self.kept.cells turn.at in
     subst (λ (v : Visited). progress_in c.remove_row.new.self ≡ with_room v.cache.config v.moment (progress_in v)) c.self.view_is
     (rw (c.remove_row.ensures.gone.kept, c.remove_row.ensures.told)
     (made-expired _ _ _ c.turn_hand-row.result _ (rw c.deref.ensures at (c.is_full.ensures.full c.if-is_full.true)) turn (turn.tied _ c.self.invariant.tied).distinct

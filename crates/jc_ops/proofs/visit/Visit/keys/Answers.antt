@@ -6,7 +6,7 @@ use Rattle.jc_ops.proofs.visit.Visit.keys.Goals as goal
 
 pub push_reserved-requires : goal.push_reserved-requires
 push_reserved-requires g c =
-    let shorter : length c.rows.keys.items < length c.deref-cache.result.now.cells = walk_is_shorter _ _ _ _ (rw c.deref-cache.ensures c.self.invariant.tied.distinct) (rw c.in-Some.is at c.rows.invariant.walked) c.record.ensures in
+    let shorter : length c.rows.keys.items < length c.deref-cache.result.now.kept.cells = walk_is_shorter _ _ _ _ (rw c.deref-cache.ensures c.self.invariant.tied.distinct) (rw c.in-Some.is at c.rows.invariant.walked) c.record.ensures in
     grind (arith, common_steps, shorter, c.rows.invariant.room)
 
 pub rows-preserved : goal.rows-preserved
