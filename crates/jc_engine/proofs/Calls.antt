@@ -29,11 +29,11 @@ put_back {cache} {cache'} {v} {v'} {w} {w'} entered table same back waits =
     }
 
 -- and so it has heard that a call begins
-pub has_begun : {T : Type 0} {cache cache' : Slot} {v w w' : Visited} {call : Call} {advance : EngineStep} → IsReady cache v → is_step (reply_to (cache_in cache) (begins v.moment call)) ≡ true
-    → IsSameVisit (record v { cache = cache.state }) w → GivesBack v.cache w cache' w' → Settled cache.state.config (call_run (record v { cache = cache.state }) call) cache' advance → HasHeard {T = T} cache v (begins v.moment call) (Ok advance) cache' w'
-has_begun {T} {cache} {cache'} {v} {w} {w'} {call} {advance} is allowed same back settled =
+pub has_begun : {T : Type 0} {cache cache' : Slot} {v w w' : Visited} {spare : ℕ} {call : Call} {advance : EngineStep} → IsReady cache v → is_step (reply_to (cache_in cache) (begins v.moment call)) ≡ true
+    → IsSameVisit (record v { cache = cache.state; spare = spare }) w → GivesBack v.cache w cache' w' → Settled cache.state.config (call_run (record v { cache = cache.state; spare = spare }) call) cache' advance → HasHeard {T = T} cache v (begins v.moment call) (Ok advance) cache' w'
+has_begun {T} {cache} {cache'} {v} {w} {w'} {spare} {call} {advance} is allowed same back settled =
     let after : IsPutBack cache v cache' w' = put_back refl refl same back settled.waits in
-    record { back = after; ok = began (record v { cache = cache.state }) cache.turn call cache' advance allowed is.untold after.config settled; same = tt; table = tt }
+    record { back = after; ok = began (record v { cache = cache.state; spare = spare }) cache.turn call cache' advance allowed is.untold after.config settled; same = tt; table = tt }
 
 -- a call that is allowed to begin finds none open
 pub idle_before : (k : Kept) (turn : Turn) (now : ℕ) (call : Call) → is_step (reply_to (cache_in (record { state = k; turn = turn })) (begins now call)) ≡ true → turn ≡ Idle

@@ -15,3 +15,6 @@ pub mod Numbering
 pub mod Entries
 pub mod Opens
 pub mod Recordings
+pub mod Saved
+pub mod Moved
+pub mod Restored

@@ -1,8 +1,12 @@
 -- The live caches by name, and what creating one asks of them.
-use Rattle.std.proofs.Common.{◌≡◌, ◌<◌, ◌≤◌, ◌+◌, ℕ, zero, suc, false, List, [], ◌∷◌, map, length, get_or, option_map, Option, Some, None, inl, inr, refl, sym, ap, subst, ◌∙◌, arith}
+use Rattle.std.proofs.Common.{◌≡◌, ◌<◌, ◌≤◌, ◌+◌, ltb, ℕ, zero, suc, false, List, [], ◌∷◌, map, length, get_or, option_map, Option, Some, None, inl, inr, refl, sym, ap, subst, ◌∙◌, arith}
 use Rattle.jc_engine.proofs.Names.{CacheConfig, most_ids, all_there, Status, create_refusal, Member, member_of, members_of, id_named, refusal_beside, Cache, status_of, lives_of, names_of, id_of, MayCome, named_map}
 use Rattle.jc_engine.proofs.Names.{cases_lt, allowed, at_place, is_open_in, Slot, caches_in}
+use Rattle.jc_model.specs.declared.event.CreateRefusal.TheVariants.{TooManyCaches}
+use Rattle.jc_model.specs.Limits.{most_caches}
 use Rattle.jc_model.specs.Members.{numbers_from}
+use Rattle.jc_model.specs.Refusals.{broken_limit, refusal_for, refused_if}
+use Rattle.jc_model.proofs.Refusals.{both_none, none_mapped}
 use Rattle.jc_model.proofs.Listing.{NumberThere, number_there}
 use Rattle.jc_ops.specs.Visited.{Visited}
 use Rattle.jc_engine.specs.Sound.{IsManager}
@@ -16,6 +20,10 @@ named_there (Some k ∷ ks) = ap (λ l. k.config.name ∷ l) (named_there ks)
 id_there : (name : List ℕ) (caches : List (Option Cache)) → id_named name (members_of (lives_of caches)) ≡ id_of name caches
 id_there name caches = named_map (λ (k : Status). member_of k.config) (λ (m : Member). m.name) name 0 (lives_of caches) ∙ named_map status_of (λ (k : Status). k.config.name) name 0 caches
 
+limits_kept : (ms : List (Option Member)) (c : CacheConfig) → refusal_beside ms c ≡ None → broken_limit c ≡ None
+limits_kept ms c h =
+    none_mapped refusal_for (broken_limit c) (both_none (option_map refusal_for (broken_limit c)) _ (both_none (refused_if (ltb most_caches (length (all_there ms) + 1)) TooManyCaches) _ h).1).0
+
 -- where creating is not refused
 pub may_come : (caches : List (Option Cache)) (c : CacheConfig) → None ≡ create_refusal (lives_of caches) c → MayCome caches c
 may_come caches c none =
@@ -23,6 +31,7 @@ may_come caches c none =
     record {
       ids = subst (λ (n : ℕ). n < most_ids) (length_map (option_map (λ (k : Status). member_of k.config)) (lives_of caches) ∙ length_map (option_map status_of) caches) may.ids;
       rows = may.limits.some_rows;
+      limits = limits_kept (members_of (lives_of caches)) c (sym none);
       name = sym (id_there c.name caches) ∙ may.new;
       total = may.together;
     }

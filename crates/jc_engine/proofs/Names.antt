@@ -40,7 +40,7 @@ pub use Rattle.jc_rows.proofs.Laws.{get-empty, get-removed_absent, get-removed_o
 pub use Rattle.jc_rows.specs.Rows.{RowMap}
 pub use Rattle.jc_model.proofs.Members.{allowed, at_place_map, named_map}
 pub use Rattle.jc_model.specs.Members.{id_named}
-pub use Rattle.jc_ops.specs.Kept.{IsTied, Kept, item_of, items_of, progress_of}
+pub use Rattle.jc_ops.specs.Kept.{Housed, IsTied, Kept, item_of, items_of, progress_of}
 pub use Rattle.jc_ops.specs.Noted.{Noted}
 pub use Rattle.jc_ops.specs.Tied.{SameElsewhere, Tied}
 pub use Rattle.jc_bulk.specs.Calls.{IsSuspended, WaitsOn, wait_run}

@@ -11,12 +11,13 @@ use Rattle.std.specs.List.{list_any}
 use Rattle.std.proofs.lemmas.List.Folds.{list_any-append}
 
 -- behind the names and the caches before it, one more has rows and a name of its own
-next_allowed : (names : List (List ℕ)) (place : ℕ) (before after : List CacheConfig) (c : CacheConfig) → refusal_from names place (before ++ c ∷ after) ≡ None → (1 ≤ c.capacity) × (is_taken c.name (names ++ names_in before) ≡ false)
+next_allowed : (names : List (List ℕ)) (place : ℕ) (before after : List CacheConfig) (c : CacheConfig) → refusal_from names place (before ++ c ∷ after) ≡ None → (1 ≤ c.capacity) × (is_taken c.name (names ++ names_in before) ≡ false) × (broken_limit c ≡ None)
 next_allowed names place [] after c h =
     let here = both_none (option_map (open_refusal_for place) (broken_limit c)) _ (both_none (refusal_at names place c) (refusal_from (names ++ c.name ∷ []) (place + 1) after) h).0 in
-    ((keeps_limits c (none_mapped (open_refusal_for place) (broken_limit c) here.0)).some_rows, rw append-nil (not_refused (is_taken c.name names) _ here.1))
+    let kept = none_mapped (open_refusal_for place) (broken_limit c) here.0 in
+    ((keeps_limits c kept).some_rows, rw append-nil (not_refused (is_taken c.name names) _ here.1), kept)
 next_allowed names place (d ∷ before) after c h =
-    subst (λ (ns : List (List ℕ)). (1 ≤ c.capacity) × (is_taken c.name ns ≡ false)) (append_assoc names (d.name ∷ []) (names_in before))
+    subst (λ (ns : List (List ℕ)). (1 ≤ c.capacity) × (is_taken c.name ns ≡ false) × (broken_limit c ≡ None)) (append_assoc names (d.name ∷ []) (names_in before))
     (next_allowed (names ++ d.name ∷ []) (place + 1) before after c (both_none (refusal_at names place d) (refusal_from (names ++ d.name ∷ []) (place + 1) (before ++ c ∷ after)) h).1)
 
 -- One cache more behind these.
@@ -72,6 +73,7 @@ may_come first configs before after c h all =
     record {
       ids = omega (arith, at_most, length-append before (c ∷ after), fresh_length first before, ap length all);
       rows = next.0;
+      limits = next.2;
       name = unnamed first 0 c.name before next.1;
       total = let within = within_total before after c (let most : sum (capacities configs) ≤ most_rows_together = grind (arith, nat_tests) in rw (← all) at most) in omega (arith, rows_fresh first before, within);
     }

@@ -3,7 +3,7 @@ use Rattle.std.proofs.Common.{zero, suc, [], ◌∷◌, ◌≡◌, ◌≢◌, �
 use Rattle.jc_engine.proofs.Names.{cases_eq, length-map, map-set, set-get_or, get_or_from_slice_get, CacheConfig, at_place, Status, RowMap, Member, member_of, members_of, SameElsewhere, Slot, cache_in}
 use Rattle.jc_ops.specs.Visited.{Visited}
 use Rattle.jc_engine.specs.Managed.{IsReady, RestsAgain, IsPutBack}
-use Rattle.jc_engine.specs.Sound.{IsManager}
+use Rattle.jc_engine.specs.Sound.{IsManager, HasLimits}
 use Rattle.jc_engine.proofs.Names.{Cache, status_of, lives_of, IsAt, NoneFrom, places_of, caches_in, at_place_map}
 use Rattle.jc_engine.proofs.Numbered.{Puts, length-places, at-places, below-places, put_here, put_other, places_put, none_put}
 use Rattle.jc_engine.proofs.Tables.{at_elsewhere}
@@ -81,6 +81,12 @@ each_put n f g id o puts is rest other = elim (cases_eq other id) [
   | inr differ ↦ subst (IsAt n other) (sym (put_other f g id o puts other differ)) (rest other differ)
 ]
 
+pub limits_put : (f g : ℕ → Option Slot) (id : ℕ) (o : Option Slot) → Puts f id o g → HasLimits o → ((other : ℕ) → HasLimits (f other)) → (other : ℕ) → HasLimits (g other)
+limits_put f g id o puts is rest other = elim (cases_eq other id) [
+  | inl same ↦ subst (λ (i : ℕ). HasLimits (g i)) (sym same) (subst HasLimits (sym (put_here f g id o puts)) is)
+  | inr differ ↦ subst HasLimits (sym (put_other f g id o puts other differ)) (rest other)
+]
+
 -- in the place of a cache something was put, or none
 pub record Changes (w : Within) (id : ℕ) (cache : Slot) (o : Option Slot) (g : ℕ → Option Slot) : Type 0 where
   pub at : w.caches id ≡ Some cache
@@ -100,8 +106,8 @@ module _ {w : Within} {id : ℕ} {cache : Slot} {o : Option Slot} {g : ℕ → O
   seen_after = ap (caches_in g) (length-set w.members id (member_in (option_map cache_in o))) ∙ seen_put
 
   -- and the visit is as before, but for the rows of that cache
-  pub manager_after : (n : Visited) → IsAt n.table cache.state.id o → SameElsewhere cache.state.id w.visit.table n.table → RestsAgain w.visit n → IsManager n g (slice_set w.members id (member_in (option_map cache_in o)))
-  manager_after n is elsewhere rests =
+  pub manager_after : (n : Visited) → HasLimits o → IsAt n.table cache.state.id o → SameElsewhere cache.state.id w.visit.table n.table → RestsAgain w.visit n → IsManager n g (slice_set w.members id (member_in (option_map cache_in o)))
+  manager_after n kept is elsewhere rests =
       let id_is : cache.state.id ≡ id = (stands w id c.at).id_is in
       let as_long = length-set w.members id (member_in (option_map cache_in o)) in
       record {
@@ -112,6 +118,7 @@ module _ {w : Within} {id : ℕ} {cache : Slot} {o : Option Slot} {g : ℕ → O
             ap (λ (ms : List (Option Member)). slice_set ms id (member_in (option_map cache_in o))) (listed_seen w)
             ∙ sym (members_set w.seen id (option_map cache_in o))
             ∙ ap (λ (ks : List (Option Cache)). members_of (lives_of ks)) (sym seen_after);
+        limits = limits_put w.caches g id o c.puts kept w.is.limits;
         few = rw as_long w.is.few;
         spare = rw rests.cache w.is.spare;
         untold = rests.untold;
@@ -122,4 +129,4 @@ pub manager_moved : {w : Within} {id : ℕ} {cache cache' : Slot} {g : ℕ → O
 manager_moved {w} {id} {cache} {cache'} {g} {n} c moment is =
     let stays : slice_set w.members id (Some (member_of cache'.state.config)) ≡ w.members =
     ap (λ (d : CacheConfig). slice_set w.members id (Some (member_of d))) is.config ∙ same_set w.members id _ (place_of w.members id _ (member_at w id c.at)) in
-    subst (IsManager n g) stays (manager_after c n is.managed is.elsewhere (record { cache = is.rests.cache; untold = is.rests.untold }))
+    subst (IsManager n g) stays (manager_after c n (rw is.config (subst HasLimits c.at (w.is.limits id))) is.managed is.elsewhere (record { cache = is.rests.cache; untold = is.rests.untold }))

@@ -7,6 +7,8 @@ pub mod Advances
 pub mod Sound
 pub mod Free
 pub mod Heard
+pub mod Saving
+pub mod Moved
 pub mod Watching
 pub mod RecordedSteps
 pub mod Recording

@@ -64,6 +64,7 @@ RefusesNoOther due result = IfErr result (λ refusal. (due ≡ Some refusal) ⊎
 pub record MayCome (caches : List (Option Cache)) (c : CacheConfig) : Type 0 where
   pub ids : length caches < most_ids
   pub rows : 1 ≤ c.capacity
+  pub limits : broken_limit c ≡ None
   pub name : id_of c.name caches ≡ None
   pub total : rows_of (members_of (lives_of caches)) + c.capacity ≤ most_rows_together
 

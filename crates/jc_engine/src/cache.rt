@@ -46,7 +46,7 @@ impl<G: Ring> Model for Managed<G> {
 
     ghost Value = { Slot };
 
-    ghost view = { λ m. record { state = m.state.value; turn = m.turn } };
+    ghost view = { λ m. record { state = m.state.value.kept; turn = m.turn } };
 }
 
 impl<G: Ring> Managed<G> {

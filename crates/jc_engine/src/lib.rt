@@ -5,10 +5,13 @@
 mod cache;
 pub mod engine;
 pub mod journal;
+pub mod laws;
 mod lives;
 mod looks;
 mod moves;
 pub mod open;
 pub mod recorded;
+pub mod restoring;
 mod run;
+mod saving;
 pub mod turn;

@@ -123,7 +123,7 @@ impl<R: Rows, G: Ring> Engine<R, G> {
 
 /// The cache without rows that the manager's visit has between two calls. It has an id that is given to none.
 fn spare_cache<G: Ring>(alloc: Global) -> Result<Box<CacheState<G>>, OutOfMemory>
-    ensures { IfOk result (λ cache. IsSpare cache.value) }
+    ensures { IfOk result (λ cache. IsSpare cache.value.kept) }
 {
     let Ok(name) = Key::from_text("spare") else {
         unreachable!()

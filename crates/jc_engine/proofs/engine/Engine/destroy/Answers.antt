@@ -32,7 +32,7 @@ module _ (g : given.Over) (c : goal.After-remove-2 g) where
   gone = rw removed (seen_after changes)
 
 pub invariant_of-self : goal.invariant_of-self
-invariant_of-self g c = rw (removed g c) (manager_after (changes g c) c.leave.new.visit c.leave.ensures.gone c.leave.ensures.elsewhere c.leave.ensures.rests)
+invariant_of-self g c = rw (removed g c) (manager_after (changes g c) c.leave.new.visit tt c.leave.ensures.gone c.leave.ensures.elsewhere c.leave.ensures.rests)
 
 pub returns-clause-outcome : goal.returns-clause-outcome
 returns-clause-outcome g c =

@@ -1,4 +1,4 @@
-use Rattle.std.proofs.Common.{subst, arith}
+use Rattle.std.proofs.Common.{arith}
 use Rattle.jc_engine.proofs.Places.{within}
 use Rattle.jc_engine.proofs.Listed.{first_open, none_open}
 use Rattle.jc_engine.proofs.engine.Engine.open_call.Goals as goal

@@ -12,7 +12,7 @@ admit-requires g c =
     (may_come c.args.first c.args.configs.items c.loop-config.yielded c.next.new.self.rest.items c.in-Some-config.config none here)
 
 pub new-requires : goal.new-requires
-new-requires g c = record { kept = spare_empty (g.R.Rows.contents c.args.rows) c.in_ok-spare_cache.field-0.value c.requires c.in_ok-spare_cache.ensures }
+new-requires g c = record { kept = spare_empty (g.R.Rows.contents c.args.rows) c.in_ok-spare_cache.field-0.value.kept c.requires c.in_ok-spare_cache.ensures }
 
 pub invariant_of-engine : goal.invariant_of-engine
 invariant_of-engine g c =
