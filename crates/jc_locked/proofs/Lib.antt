@@ -8,3 +8,4 @@ pub mod Walking
 pub mod Opened
 pub mod Entered
 pub mod Missing
+pub mod Unasked

@@ -1,5 +1,5 @@
 -- What a session knows of its calls.
-use Rattle.std.specs.Prelude.{◌≡◌, ◌⊎◌, ℕ, false, List, [], ◌∷◌, ◌++◌, slice_get, Option, Some, IsSome, Result, Ok, Err, ⊤}
+use Rattle.std.specs.Prelude.{◌≡◌, ◌⊎◌, ◌+◌, ℕ, false, List, [], ◌∷◌, ◌++◌, slice_get, Option, Some, None, IsSome, Result, Ok, Err, ⊤}
 use Rattle.jc_model.specs.declared.call.Answer.{Answer}
 use Rattle.jc_model.specs.declared.call.Call.{Call}
 use Rattle.jc_model.specs.declared.call.Notice.{Notice}
@@ -10,6 +10,7 @@ use Rattle.jc_model.specs.declared.event.Cause.TheVariants as causes
 use Rattle.jc_model.specs.declared.event.End.{End}
 use Rattle.jc_model.specs.declared.event.End.TheVariants as end
 use Rattle.jc_model.specs.declared.event.Entry.{Entry}
+use Rattle.jc_model.specs.declared.event.Event.{Event}
 use Rattle.jc_model.specs.declared.event.Event.TheVariants as event
 use Rattle.jc_model.specs.declared.event.Step.{Step}
 use Rattle.jc_model.specs.declared.event.Step.TheVariants.{Done, Need}
@@ -18,6 +19,7 @@ use Rattle.jc_model.specs.Legal.{History, IsLegal, entries_of}
 use Rattle.jc_locked.specs.declared.fault.CallFault.{CallFault}
 use Rattle.jc_locked.specs.declared.fault.CallFault.TheVariants.{NoSuchCache, NoSuchProcessor, Busy, Overtaken, OutOfMemory}
 use Rattle.jc_model.specs.Asking.{AsksOf, processor_invoked}
+use Rattle.jc_locked.specs.Counting.{event_count}
 use Rattle.jc_locked.specs.Finding.{entry_ended_by}
 use Rattle.jc_locked.specs.Sessions.{Sitting, Sight, BeginsWith, Sees}
 use Rattle.jc_locked.specs.Living.{Refuses, IsMissing}
@@ -105,19 +107,25 @@ CallGoesOn configs old (Done reply) new pass = (new ≡ record old { end = end.R
 abbrev pub CallGoesOnTo : List CacheConfig → Entry → Step → Option Reply → Sight → Type 0
 CallGoesOnTo configs old step copy pass = CallGoesOn configs old step (entry_ended_by copy old) pass
 
--- the session's list has grown by this call
+-- the session's list has grown by this call, of which each event was accepted
 pub record Adds (configs : List CacheConfig) (stated : List Stated) (old new : Sitting) (id at : ℕ) (call : Call) (n : End) : Type 0 where
   pub answers : List Answer
   pub told : List Notice
   pub added : new.calls ≡ old.calls ++ call_entry old.number id at call answers told n ∷ []
   pub stands : EntryIsLast configs (call_entry old.number id at call answers told n) new.pass
   pub answered : AreStated (slice_get stated id) call answers
+  pub accepted : new.accepted ≡ old.accepted + event_count answers n
 
 -- or by an entry that waits, with which no manager closes
 pub record AddsWaiting (old new : Sitting) (id at : ℕ) (call : Call) : Type 0 where
   pub answers : List Answer
   pub told : List Notice
   pub added : new.calls ≡ old.calls ++ call_entry old.number id at call answers told end.Waiting ∷ []
+  pub accepted : new.accepted ≡ old.accepted + event_count answers end.Waiting
+
+-- of a cache that a session has created the engine says so itself
+abbrev pub IsLacking : List CacheConfig → ℕ → Event → Type 0
+IsLacking configs id event = slice_get configs id ≡ None → Refuses configs event causes.NoSuchProcessor
 
 -- why a call has no reply, and what it adds; one that did not begin leaves the session as it was
 abbrev pub CallFails : List CacheConfig → List Stated → Sitting → Sitting → ℕ → ℕ → Call → CallFault → Type 0
@@ -125,4 +133,4 @@ CallFails configs stated old new id at call OutOfMemory = (new ≡ old) ⊎ Adds
 CallFails configs stated old new id at call Overtaken = AddsWaiting old new id at call
 CallFails configs stated old new id at call Busy = (new ≡ old) × Refuses configs (event.Begin id at call) causes.Busy
 CallFails configs stated old new id at call NoSuchCache = (new ≡ old) × IsMissing configs id (event.Begin id at call)
-CallFails configs stated old new id at call NoSuchProcessor = (new ≡ old) × MayLackProcessor configs id call
+CallFails configs stated old new id at call NoSuchProcessor = (new ≡ old) × MayLackProcessor configs id call × IsLacking configs id (event.Begin id at call)

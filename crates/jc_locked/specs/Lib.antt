@@ -1,4 +1,5 @@
 pub mod Stated
+pub mod Counting
 pub mod Sessions
 pub mod Calls
 pub mod Pending
@@ -10,3 +11,4 @@ pub mod Finding
 pub mod Admitting
 pub mod Serving
 pub mod Lookups
+pub mod Unasked

@@ -15,13 +15,15 @@ use Rattle.jc_engine.specs.Opening.{open_refusal}
 use Rattle.jc_locked.specs.declared.fault.SharedRefusal.{SharedRefusal}
 use Rattle.jc_locked.specs.declared.fault.SharedRefusal.TheVariants.{Caches, HooksDiffer, OutOfMemory}
 use Rattle.jc_locked.specs.declared.hooks.SharedHooks.{SharedHooks}
-use Rattle.jc_locked.specs.Stated.{processor_counts, wanted_counts}
+use Rattle.jc_locked.specs.Stated.{processor_counts, wanted_counts, lock_flags, wanted_locks}
 
--- no call has been made of the recorded engine, which has these configurations, and there are callbacks for each
-pub record IsOpened {L P : Type 0} (configs : List CacheConfig) (recorded : Recording) (shared : List (SharedHooks L P)) : Type 0 where
+-- no call has been made of the recorded engine, which has these configurations, and there are callbacks for each, and a
+-- hooks lock for each that has any
+pub record IsOpened {L P X : Type 0} (configs : List CacheConfig) (recorded : Recording) (shared : List (SharedHooks L P)) (locks : List (Option X)) : Type 0 where
   pub unused : lives_of recorded.caches ≡ opened_from 0 configs
   pub uncalled : recorded.transcript ≡ at_first 0 configs
   pub counted : processor_counts shared ≡ wanted_counts configs
+  pub locked : lock_flags locks ≡ wanted_locks configs
 
 -- a table without rows: the name of the index that shows it, and the seed that picks the places of its rows
 pub record Blank : Type 0 where

@@ -1,5 +1,5 @@
 -- Calls that their callers carry on.
-use Rattle.std.specs.Prelude.{◌≡◌, ◌++◌, ◌∷◌, [], ℕ, List, Option, Some, None, ⊤}
+use Rattle.std.specs.Prelude.{◌≡◌, ◌+◌, ◌++◌, ◌∷◌, [], ℕ, List, Option, Some, None, ⊤}
 use Rattle.jc_model.specs.declared.call.Answer.{Answer}
 use Rattle.jc_model.specs.declared.call.Call.{Call}
 use Rattle.jc_model.specs.declared.call.Notice.{Notice}
@@ -40,10 +40,11 @@ answered_entry p a = record p.draft { answers = p.draft.answers ++ a ∷ []; tol
 abbrev pub given_up_entry : Pending → List Notice → Entry
 given_up_entry p left = record p.draft { told = told_behind p.request p.draft.told ++ left; end = ends.GivenUp }
 
--- a session's list has grown by this entry, of which its pass has seen all
+-- by one event that was accepted a session's list has grown by this entry, of which its pass has seen all
 pub record AddsEntry (configs : List CacheConfig) (old new : Sitting) (e : Entry) : Type 0 where
   pub added : new.calls ≡ old.calls ++ e ∷ []
   pub stands : EntryIsLast configs e new.pass
+  pub accepted : new.accepted ≡ old.accepted + 1
 
 -- why a call does not begin; memory may be refused to its entry alone
 abbrev pub IsRefusedBegin : List CacheConfig → ℕ → ℕ → Call → CallFault → Type 0

@@ -19,10 +19,11 @@ pub record Own : Type 0 where
   pub number : ℕ
   pub calls : List Entry
 
--- a session, with its pass
+-- a session: how many events of it the manager has accepted, and its pass
 pub record Sitting : Type 0 where
   pub number : ℕ
   pub calls : List Entry
+  pub accepted : ℕ
   pub pass : Sight
 
 abbrev pub log_of : Sitting → Own

@@ -1,5 +1,5 @@
 -- What the callbacks that all sessions share state, and answers that they stated.
-use Rattle.std.specs.Prelude.{◌≡◌, ◌==◌, ◌||◌, not, ℕ, Bool, List, length, map, option_map, is_some, slice_get, Option, Some, None, Result, Err, ⊤}
+use Rattle.std.specs.Prelude.{◌≡◌, ◌==◌, ◌||◌, not, false, ℕ, Bool, List, length, map, option_map, is_some, slice_get, Option, Some, None, Result, Err, ⊤}
 use Rattle.std.specs.List.{All}
 use Rattle.jc_model.specs.declared.call.Answer.{Answer}
 use Rattle.jc_model.specs.declared.call.Answer.TheVariants.{Loaded as LoadedValue, LoadFailed, Processed}
@@ -7,6 +7,7 @@ use Rattle.jc_model.specs.declared.call.Call.{Call}
 use Rattle.jc_model.specs.declared.call.ProcessorFault.{ProcessorFault}
 use Rattle.jc_model.specs.declared.call.Verdict.{Verdict}
 use Rattle.jc_model.specs.declared.config.CacheConfig.{CacheConfig}
+use Rattle.jc_engine.specs.Caches.{asks_no_one}
 use Rattle.jc_hooks.specs.Answers.{load_answer_of}
 use Rattle.jc_hooks.specs.declared.cache_hooks.CacheHooks.{CacheHooks}
 use Rattle.jc_hooks.specs.declared.loader.Loaded.{Loaded}
@@ -53,6 +54,21 @@ locked_of h = record { writer = h.writer; listeners = h.listeners }
 -- whether a cache has any callbacks
 abbrev pub wants_lock : {L W P K : Type 0} → CacheHooks L W P K → Bool
 wants_lock h = is_some h.loader || (is_some h.writer || (not (length h.processors.items == 0) || not (length h.listeners.items == 0)))
+
+-- whether a cache of the opening has a hooks lock: whether its configuration names any callbacks
+abbrev pub has_lock : CacheConfig → Bool
+has_lock c = not (asks_no_one c)
+
+abbrev pub has_lock_at : Option CacheConfig → Bool
+has_lock_at None = false
+has_lock_at (Some c) = has_lock c
+
+-- the locks that there are
+abbrev pub lock_flags : {X : Type 0} → List (Option X) → List Bool
+lock_flags locks = map is_some locks
+
+abbrev pub wanted_locks : List CacheConfig → List Bool
+wanted_locks configs = map has_lock configs
 
 -- where there is a loader, it answers so for a key of the call
 abbrev pub LoadsBy : Option (List ℕ → Loaded) → Call → Answer → Type 0

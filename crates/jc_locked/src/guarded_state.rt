@@ -1,6 +1,6 @@
 //! What lies under the manager's lock: the recorded engine, and which sessions there are. Each tenure begins a call,
 //! brings it on or gives it up, or creates or destroys a cache, and no callback runs in it.
-ghost use Rattle.std.specs.Prelude.{◌≡◌, ◌⊎◌, ℕ, Bool, true, false, Ok, None, List, [], ◌∷◌, ◌++◌, IsTrue, IfOk, IfErr, IfSome, OnOk, OnErr, Err, Some, is_some};
+ghost use Rattle.std.specs.Prelude.{◌≡◌, ◌⊎◌, ◌+◌, ℕ, Bool, true, false, Ok, None, List, [], ◌∷◌, ◌++◌, IsTrue, IfOk, IfErr, IfSome, OnOk, OnErr, Err, Some, is_some};
 ghost use mathlib.Core.List.{IsPrefix};
 ghost use Rattle.jc_model.specs.declared.call.Answer.{Answer as Given};
 ghost use Rattle.jc_model.specs.declared.call.Call.{Call as Called};
@@ -20,16 +20,19 @@ ghost use Rattle.jc_locked.specs.Pending.{IsRefusedAnswer};
 ghost use Rattle.jc_locked.specs.Sessions.{BeginsWith, SeesEngine, SeesSome};
 ghost use Rattle.jc_locked.specs.Finding.{fault_of, answer_fault_of, IsOpenIn, IsOvertakenIn, IsReplied};
 ghost use Rattle.jc_locked.specs.Tenures.{IsTenure, IsRefusedCall, StopsDraft, GivesUpDraft};
+ghost use Rattle.jc_locked.specs.Unasked.{HasNoCallbacks};
 
 mod at_once;
 mod closing;
 mod draft;
 mod living;
 
+use crate::event_count::EventCount;
 use crate::fault::{AnswerFault, CallFault, SessionRefusal};
 use crate::guarded_state::draft::{end_by, end_with, is_of_call, keep_left};
 use crate::journal_policy::JournalPolicy;
 use crate::name::Name;
+use crate::seat::Seat;
 use crate::tables::{ShownTable, TablePass};
 use jc_engine::recorded::Recorded;
 use jc_model::OutOfMemory;
@@ -42,11 +45,11 @@ use std::marker::PhantomData;
 /// A recorded engine, whose first caches are those that the name tells.
 #[derive(Drop)]
 pub struct GuardedState<N: Name, J: JournalPolicy> {
-    pub recorded: Recorded<ShownTable<N>, LinkRing, J>,
+    pub(crate) recorded: Recorded<ShownTable<N>, LinkRing, J>,
     /// How many numbers were given out to sessions.
-    pub given: u32,
+    pub(crate) given: u32,
     /// Whether its transcript has been handed out at the close.
-    pub closed: bool,
+    pub(crate) closed: bool,
     of: PhantomData<N>,
     ghost begins: { BeginsWith N.configs recorded.transcript },
     ghost closes: { closed ≡ true → J.closes ≡ true },
@@ -137,32 +140,35 @@ impl<N: Name, J: JournalPolicy> GuardedState<N, J> {
         }
     }
 
-    /// Begins a session's call. At the reply, of which the second part is a copy, the pass sees what it has changed.
+    /// Begins a session's call. At the reply, of which the second part is a copy, its pass sees what it has changed.
     pub fn begin_call(
         &mut self,
-        session: u32,
+        seat: &mut Seat<N>,
         id: CacheId,
         now: u64,
         call: Call,
-        pass: &mut TablePass<N>,
     ) -> Result<(Step, Option<Reply>), CallFault>
         ensures ok { IfOk result (λ it. CallGoesOnTo N.configs
-            (blank session id now call) it.0 it.1 pass.new) }
+            (blank seat.old.number id now call) it.0 it.1 seat.new.pass) }
         ensures copy { IfOk result (λ it. it.1 ≡ reply_in it.0) }
-        ensures unseen { IfOk result (λ it. IsReplied it.0 ⊎ (pass.new ≡ pass.old)) }
+        ensures unseen { IfOk result (λ it. IsReplied it.0 ⊎ (seat.new.pass ≡ seat.old.pass)) }
+        ensures unasked { HasNoCallbacks N.configs id → IfOk result (λ it. IsReplied it.0) }
         ensures tenure { IfOk result (λ it. IsTenure self.old.recorded self.new.recorded
-            session (Begin id now call) (Stepped it.0)) }
-        ensures front { IsPrefix pass.old.images pass.new.images }
+            seat.old.number (Begin id now call) (Stepped it.0)) }
+        ensures front { IsPrefix seat.old.pass.images seat.new.pass.images }
         ensures err { IfErr result (IsBeginFault N.configs id now call) }
         ensures refused { IfErr result (IsRefusedCall
             (lives_of self.old.recorded.caches) (Begin id now call)) }
         ensures same { OnErr result
-            ((self.new.recorded ≡ self.old.recorded) × (pass.new ≡ pass.old)) }
+            ((self.new.recorded ≡ self.old.recorded) × (seat.new ≡ seat.old)) }
+        ensures number { seat.new.number ≡ seat.old.number }
+        ensures accepted { OnOk result (seat.new.accepted ≡ seat.old.accepted + 1) }
         ensures kept { (self.new.given ≡ self.old.given) × (self.new.closed ≡ self.old.closed) }
     {
-        match self.recorded.begin(session, id, now, call) {
+        match self.recorded.begin(seat.number, id, now, call) {
             Ok(pair) => {
-                self.show_reply(&pair.0, pass);
+                seat.accept();
+                self.show_reply(&pair.0, &mut seat.pass);
                 Ok(pair)
             }
             Err((cause, call)) => {
@@ -175,25 +181,27 @@ impl<N: Name, J: JournalPolicy> GuardedState<N, J> {
     /// Begins the draft's call. At the reply the draft ends with it.
     pub fn begin(
         &mut self,
+        seat: &mut Seat<N>,
         draft: &mut Entry,
         call: Call,
-        pass: &mut TablePass<N>,
     ) -> Result<Step, CallFault>
-        requires { draft.old ≡ blank draft.old.session draft.old.id draft.old.at call }
-        ensures ok { IfOk result (λ step. CallGoesOn N.configs draft.old step draft.new pass.new) }
-        ensures unseen { IfOk result (λ step. IsReplied step ⊎ (pass.new ≡ pass.old)) }
+        requires { draft.old ≡ blank seat.old.number draft.old.id draft.old.at call }
+        ensures ok { IfOk result (λ step. CallGoesOn N.configs draft.old step draft.new seat.new.pass) }
+        ensures unseen { IfOk result (λ step. IsReplied step ⊎ (seat.new.pass ≡ seat.old.pass)) }
         ensures tenure { IfOk result (λ step. IsTenure self.old.recorded self.new.recorded
             draft.old.session (Begin draft.old.id draft.old.at call) (Stepped step)) }
-        ensures front { IsPrefix pass.old.images pass.new.images }
+        ensures front { IsPrefix seat.old.pass.images seat.new.pass.images }
         ensures err { IfErr result (IsBeginFault N.configs draft.old.id draft.old.at call) }
         ensures refused { IfErr result (IsRefusedCall
             (lives_of self.old.recorded.caches) (Begin draft.old.id draft.old.at call)) }
         ensures same { OnErr result ((self.new.recorded ≡ self.old.recorded)
-            × (draft.new ≡ draft.old) × (pass.new ≡ pass.old)) }
+            × (draft.new ≡ draft.old) × (seat.new ≡ seat.old)) }
+        ensures number { seat.new.number ≡ seat.old.number }
+        ensures accepted { OnOk result (seat.new.accepted ≡ seat.old.accepted + 1) }
         ensures kept { (self.new.given ≡ self.old.given) × (self.new.closed ≡ self.old.closed) }
     {
-        let (session, id, now) = (draft.session, draft.id, draft.at);
-        match self.begin_call(session, id, now, call, pass) {
+        let (id, now) = (draft.id, draft.at);
+        match self.begin_call(seat, id, now, call) {
             Ok((step, copy)) => {
                 end_by(draft, copy);
                 Ok(step)
@@ -206,23 +214,25 @@ impl<N: Name, J: JournalPolicy> GuardedState<N, J> {
     /// it, and the pass sees what the call has changed.
     pub fn resume(
         &mut self,
+        seat: &mut Seat<N>,
         draft: &mut Entry,
         answer: Answer,
-        pass: &mut TablePass<N>,
     ) -> Result<Step, AnswerFault>
         requires waits { draft.old.end ≡ Waiting }
         requires answered { (before : List Given) × (draft.old.answers ≡ before ++ answer ∷ []) }
-        ensures ok { IfOk result (λ step. CallGoesOn N.configs draft.old step draft.new pass.new) }
-        ensures unseen { IfOk result (λ step. IsReplied step ⊎ (pass.new ≡ pass.old)) }
+        ensures ok { IfOk result (λ step. CallGoesOn N.configs draft.old step draft.new seat.new.pass) }
+        ensures unseen { IfOk result (λ step. IsReplied step ⊎ (seat.new.pass ≡ seat.old.pass)) }
         ensures tenure { IfOk result (λ step. IsTenure self.old.recorded self.new.recorded
             draft.old.session (Answered draft.old.id answer) (Stepped step)) }
-        ensures front { IsPrefix pass.old.images pass.new.images }
+        ensures front { IsPrefix seat.old.pass.images seat.new.pass.images }
         ensures err { IfErr result (λ fault. (before : List Given) →
             draft.old.answers ≡ before ++ answer ∷ [] →
             StopsDraft self.old.recorded draft.old before answer fault) }
         ensures same { OnErr result ((self.new.recorded ≡ self.old.recorded)
-            × (draft.new ≡ draft.old) × (pass.new ≡ pass.old)) }
+            × (draft.new ≡ draft.old) × (seat.new ≡ seat.old)) }
         ensures refused { IfErr result (IsRefusedAnswer N.configs draft.old.id answer) }
+        ensures number { seat.new.number ≡ seat.old.number }
+        ensures accepted { OnOk result (seat.new.accepted ≡ seat.old.accepted + 1) }
         ensures kept { (self.new.given ≡ self.old.given) × (self.new.closed ≡ self.old.closed) }
     {
         let Some((_, before)) = draft.answers.items().split_last() else {
@@ -234,8 +244,9 @@ impl<N: Name, J: JournalPolicy> GuardedState<N, J> {
         match self.recorded.resume(draft.id, answer) {
             Ok(pair) => {
                 let (step, copy) = pair;
+                seat.accept();
                 end_by(draft, copy);
-                self.show_reply(&step, pass);
+                self.show_reply(&step, &mut seat.pass);
                 Ok(step)
             }
             Err((cause, answer)) => {
@@ -247,20 +258,22 @@ impl<N: Name, J: JournalPolicy> GuardedState<N, J> {
 
     /// Ends the draft's call without a reply. The draft then has the notices that no one was told, and the pass sees
     /// what the call has changed.
-    pub fn give_up(&mut self, draft: &mut Entry, pass: &mut TablePass<N>) -> Result<(), CallFault>
+    pub fn give_up(&mut self, seat: &mut Seat<N>, draft: &mut Entry) -> Result<(), CallFault>
         requires { draft.old.end ≡ Waiting }
         ensures ok { OnOk result
             ((draft.new ≡ record draft.old { told = draft.new.told; end = GivenUp })
-            × EntryIsLast N.configs draft.new pass.new) }
+            × EntryIsLast N.configs draft.new seat.new.pass) }
         ensures given_up { OnOk result
             (GivesUpDraft self.old.recorded self.new.recorded draft.old draft.new.told) }
-        ensures front { IsPrefix pass.old.images pass.new.images }
+        ensures front { IsPrefix seat.old.pass.images seat.new.pass.images }
         ensures err { IfErr result (λ fault. fault ≡ CallFault.Overtaken) }
         ensures overtaken { OnErr result
             (IsOvertakenIn self.old.recorded draft.old draft.old.answers) }
         ensures same { OnErr result ((self.new.recorded ≡ self.old.recorded)
-            × (draft.new ≡ draft.old) × (pass.new ≡ pass.old)) }
+            × (draft.new ≡ draft.old) × (seat.new ≡ seat.old)) }
         ensures told { (draft.old.told ≡ []) ⊎ (draft.new.told ≡ draft.old.told) }
+        ensures number { seat.new.number ≡ seat.old.number }
+        ensures accepted { OnOk result (seat.new.accepted ≡ seat.old.accepted + 1) }
         ensures kept { (self.new.given ≡ self.old.given) × (self.new.closed ≡ self.old.closed) }
     {
         if !self.is_open(draft, draft.answers.items()) {
@@ -269,9 +282,10 @@ impl<N: Name, J: JournalPolicy> GuardedState<N, J> {
         let Ok(left) = self.recorded.give_up(draft.id) else {
             return Err(CallFault::Overtaken);
         };
+        seat.accept();
         keep_left(draft, left);
         end_with(draft, End::GivenUp);
-        self.show(pass);
+        self.show(&mut seat.pass);
         Ok(())
     }
 
@@ -333,12 +347,13 @@ impl<N: Name, J: JournalPolicy> GuardedState<N, J> {
         Ok(number)
     }
 
-    /// Gives a session its number and a pass, where there is room for its list.
-    pub fn enter(&mut self, room: bool) -> Result<(u32, TablePass<N>), SessionRefusal>
-        ensures sees { IfOk result (λ s. SeesSome N.configs s.1 × (s.1.met ≡ true)) }
-        ensures shows { IfOk result (λ s. SeesEngine self.old.recorded s.1) }
+    /// Gives a session its number and a pass, where there is room for its list. Nothing of it has been accepted.
+    pub fn enter(&mut self, room: bool) -> Result<Seat<N>, SessionRefusal>
+        ensures sees { IfOk result (λ s. SeesSome N.configs s.pass × (s.pass.met ≡ true)) }
+        ensures shows { IfOk result (λ s. SeesEngine self.old.recorded s.pass) }
+        ensures fresh { IfOk result (λ s. s.accepted ≡ 0) }
         ensures admits { IfOk result (λ s.
-            Admits J.after self.old.closed self.old.given room (Ok s.0) self.new.given) }
+            Admits J.after self.old.closed self.old.given room (Ok s.number) self.new.given) }
         ensures refused { IfErr result (λ fault. (roomy : Bool)
             × Admits J.after self.old.closed self.old.given roomy (Err fault) self.new.given) }
         ensures kept { (self.new.recorded ≡ self.old.recorded)
@@ -347,7 +362,11 @@ impl<N: Name, J: JournalPolicy> GuardedState<N, J> {
         let pass = self.recorded.watch();
         let number = self.admit(room && pass.is_ok())?;
         match pass {
-            Ok(pass) => Ok((number, pass)),
+            Ok(pass) => Ok(Seat {
+                number,
+                accepted: EventCount::new(),
+                pass,
+            }),
             Err(_) => Err(SessionRefusal::OutOfMemory),
         }
     }

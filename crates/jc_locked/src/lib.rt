@@ -3,9 +3,12 @@
 #![tactic(auto)]
 
 pub mod auditing;
+pub mod event_count;
 pub mod fault;
+mod ghost_number;
 pub mod guarded_state;
 pub mod hooks;
 pub mod journal_policy;
 pub mod name;
+pub mod seat;
 pub mod tables;

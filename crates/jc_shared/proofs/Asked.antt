@@ -1,5 +1,5 @@
 -- The loader and the processors that a cache's requests go to.
-use Rattle.std.proofs.Common.{◌≡◌, ℕ, zero, suc, List, [], ◌∷◌, map, length, Option, Some, None, Result, sym, ◌∙◌, ap}
+use Rattle.std.proofs.Common.{◌≡◌, ℕ, zero, suc, List, [], ◌∷◌, map, length, Option, Some, None, IsSome, Result, refl, sym, ◌∙◌, ap}
 use Rattle.std.specs.Prelude.{slice_get}
 use Rattle.jc_hooks.specs.declared.loader.Loaded.{Loaded}
 use Rattle.jc_model.specs.declared.call.ProcessorFault.{ProcessorFault}
@@ -43,6 +43,14 @@ module _ {L P : Type 0} where
   count_at (x ∷ shared) (d ∷ configs) counted (suc i) s c at is =
       let rest : processor_counts shared ≡ wanted_counts configs = cc in
       count_at shared configs rest i s c at is
+
+  pub some_at : (shared : List (SharedHooks L P)) (configs : List CacheConfig) → processor_counts shared ≡ wanted_counts configs → (i : ℕ) (s : SharedHooks L P) → slice_get shared i ≡ Some s → IsSome (slice_get configs i)
+  some_at [] configs counted i s at = absurd cc
+  some_at (x ∷ shared) [] counted i s at = absurd cc
+  some_at (x ∷ shared) (d ∷ configs) counted zero s at = refl
+  some_at (x ∷ shared) (d ∷ configs) counted (suc i) s at =
+      let rest : processor_counts shared ≡ wanted_counts configs = cc in
+      some_at shared configs rest i s at
 
   pub none_at : (shared : List (SharedHooks L P)) (configs : List CacheConfig) → processor_counts shared ≡ wanted_counts configs → (i : ℕ) (c : CacheConfig) → slice_get shared i ≡ None → slice_get configs i ≡ Some c → ⊥
   none_at [] [] counted i c none is = absurd cc

@@ -1,5 +1,5 @@
 -- A call from its begin to its entry in the session's list.
-use Rattle.std.proofs.Common.{◌≡◌, ◌⊎◌, ℕ, Bool, List, [], ◌∷◌, ◌++◌, true, false, Option, Some, Result, Ok, Err, inl, inr, refl, sym, ◌∙◌, ap, subst}
+use Rattle.std.proofs.Common.{◌≡◌, ◌⊎◌, ◌+◌, ℕ, arith, length, length-append, Bool, List, [], ◌∷◌, ◌++◌, true, false, Option, Some, None, IsSome, Result, Ok, Err, inl, inr, refl, sym, ◌∙◌, ap, subst}
 use Rattle.std.specs.Prelude.{slice_get, is_err, OnErr, MatchResult, IfOk, IfErr}
 use Rattle.std.proofs.lemmas.List.Elements.{All-nil, All-push}
 use Rattle.jc_model.specs.declared.call.Answer.{Answer}
@@ -28,11 +28,12 @@ use Rattle.jc_hooks.proofs.Behind.{tells_more}
 use Rattle.jc_locked.specs.declared.hooks.LockedHooks.{LockedHooks}
 use Rattle.jc_locked.specs.Serving.{told_behind, TellsOnce, TellsListeners, TellsListenersOn, ServesRequest}
 use Rattle.jc_locked.specs.Stated.{Stated, AreStated, IsStatedBy}
+use Rattle.jc_locked.specs.Counting.{event_count, CountsOn}
 use Rattle.jc_locked.specs.Finding.{ok_or_no_processor, entry_ended_by}
 use Rattle.jc_locked.specs.Sessions.{Sitting, Sight}
 use Rattle.jc_locked.specs.Living.{Refuses}
 use Rattle.jc_locked.specs.Pending.{AddsEntry}
-use Rattle.jc_locked.specs.Calls.{EntryIsLast, call_entry, IsSameCall, HasEnded, CallStands, CallEndsFaulty, CallGoesOn, Adds, AddsWaiting, CallFails, MayLackProcessor}
+use Rattle.jc_locked.specs.Calls.{IsBeginFault, EntryIsLast, call_entry, IsSameCall, HasEnded, CallStands, CallEndsFaulty, CallGoesOn, Adds, AddsWaiting, CallFails, MayLackProcessor}
 use Rattle.jc_shared.specs.Progress.{AddsBegun}
 
 -- no answers are stated ones
@@ -50,6 +51,10 @@ on_err (Err e) p err = p
 pub second_on_err : {A E : Type 0} (P Q R : Type 0) (r : Result A E) (e : E) → r ≡ Err e → OnErr r (P × Q × R) → Q
 second_on_err P Q R (Ok x) e is h = absurd cc
 second_on_err P Q R (Err d) e is h = h.1
+
+pub third_on_err : {A E : Type 0} (P Q R : Type 0) (r : Result A E) (e : E) → r ≡ Err e → OnErr r (P × Q × R) → R
+third_on_err P Q R (Ok x) e is h = absurd cc
+third_on_err P Q R (Err d) e is h = h.2
 
 -- What the listeners were told, from one moment to the next.
 module _ {W K : Type 0} (state_after : K → List Notice → List ℕ) where
@@ -81,6 +86,10 @@ pub goes_unanswered : (configs : List CacheConfig) (d e : Entry) (pass : Sight) 
 goes_unanswered configs d e pass (Need q) goes = ap (λ (x : Entry). x.answers) goes.0
 goes_unanswered configs d e pass (Done r) goes = ap (λ (x : Entry). x.answers) goes.0
 
+-- while it waits its entry stays
+pub goes_needed : (configs : List CacheConfig) (d e : Entry) (pass : Sight) (step : Step) (q : Request) → step ≡ Need q → CallGoesOn configs d step e pass → e ≡ d
+goes_needed configs d e pass step q is goes = (subst (λ (s : Step). CallGoesOn configs d s e pass) is goes).0
+
 -- the answer that the draft was given
 pub noted_waits : (stated : List Stated) (d told d' : Entry) (notices : List Notice) (a : Answer) → told ≡ record d { told = notices } → d' ≡ record told { answers = told.answers ++ a ∷ [] } → d.end ≡ ends.Waiting → AreStated (slice_get stated d.id) d.call d.answers
     → IsStatedBy (slice_get stated d.id) d.call a → (d'.end ≡ ends.Waiting) × AreStated (slice_get stated d'.id) d'.call d'.answers
@@ -111,7 +120,10 @@ begun_same configs draft draft' pass (Done r) goes = subst (IsSameCall draft) (s
 pub same_call : (d e f : Entry) → IsSameCall d e → IsSameCall e f → IsSameCall d f
 same_call d e f first second = second ∙ ap (λ (x : Entry). call_entry x.session x.id x.at x.call f.answers f.told f.end) first
 
-module _ (configs : List CacheConfig) (stated : List Stated) (old new : Sitting) (id at : ℕ) (call : Call) (draft e : Entry) (is : draft ≡ blank old.number id at call) (same : IsSameCall draft e) (added : new.calls ≡ old.calls ++ e ∷ []) where
+module _ (configs : List CacheConfig) (stated : List Stated) (old new : Sitting) (id at : ℕ) (call : Call) (draft e : Entry) (is : draft ≡ blank old.number id at call) (same : IsSameCall draft e) (added : new.calls ≡ old.calls ++ e ∷ []) (counted : new.accepted ≡ old.accepted + event_count e.answers e.end) where
+  counted_as : (n : End) → e.end ≡ n → new.accepted ≡ old.accepted + event_count e.answers n
+  counted_as n ended = counted ∙ ap (λ (m : End). old.accepted + event_count e.answers m) ended
+
   entry_is : e ≡ call_entry old.number id at call e.answers e.told e.end
   entry_is = same ∙ ap (λ (x : Entry). call_entry x.session x.id x.at x.call e.answers e.told e.end) is
 
@@ -127,10 +139,11 @@ module _ (configs : List CacheConfig) (stated : List Stated) (old new : Sitting)
         added = added ∙ ap (λ (x : Entry). old.calls ++ x ∷ []) whole;
         stands = subst (λ (d : Entry). EntryIsLast configs d new.pass) whole h.stands;
         answered = subst (λ (x : Entry). AreStated (slice_get stated x.id) x.call e.answers) entry_is h.answered;
+        accepted = counted_as n h.ended;
       }
 
   adds_waiting : e.end ≡ ends.Waiting → AddsWaiting old new id at call
-  adds_waiting ended = record { answers = e.answers; told = e.told; added = added ∙ ap (λ (x : Entry). old.calls ++ x ∷ []) (ended_as ends.Waiting ended) }
+  adds_waiting ended = record { answers = e.answers; told = e.told; added = added ∙ ap (λ (x : Entry). old.calls ++ x ∷ []) (ended_as ends.Waiting ended); accepted = counted_as ends.Waiting ended }
 
   pub fails : (fault : CallFault) → CallEndsFaulty configs stated fault e new.pass → CallFails configs stated old new id at call fault
   fails faults.NoSuchCache h = absurd h
@@ -151,14 +164,21 @@ module _ (configs : List CacheConfig) (stated : List Stated) (old new : Sitting)
 -- A call that is entered when it has begun.
 
 -- its entry alone is added, which was given no answers
-pub entry_adds : (configs : List CacheConfig) (stated : List Stated) (old new : Sitting) (id at : ℕ) (call : Call) (n : End) → AddsEntry configs old new (record (blank old.number id at call) { end = n }) → Adds configs stated old new id at call n
-entry_adds configs stated old new id at call n h = record { answers = []; told = []; added = h.added; stands = h.stands; answered = no_answers (slice_get stated id) call [] refl }
+pub entry_adds : (configs : List CacheConfig) (stated : List Stated) (old new : Sitting) (id at : ℕ) (call : Call) (n : End) → event_count [] n ≡ 1 → AddsEntry configs old new (record (blank old.number id at call) { end = n }) → Adds configs stated old new id at call n
+entry_adds configs stated old new id at call n one h = record {
+  answers = [];
+  told = [];
+  added = h.added;
+  stands = h.stands;
+  answered = no_answers (slice_get stated id) call [] refl;
+  accepted = h.accepted ∙ ap (λ (k : ℕ). old.accepted + k) (sym one);
+}
 
 -- it had its reply at once
 pub replied_entry : (configs : List CacheConfig) (old new : Sitting) (id at : ℕ) (call : Call) (begun : CallHeader) (step : Step) (second : Option Reply) (reply copy : Reply) → step ≡ Done reply → second ≡ Some copy → second ≡ reply_in step
-    → CallGoesOn configs (blank old.number id at call) step (entry_ended_by second (blank old.number id at call)) new.pass → begun_entry begun ≡ blank old.number id at call → new.calls ≡ old.calls ++ replied_at_once begun copy ∷ []
+    → CallGoesOn configs (blank old.number id at call) step (entry_ended_by second (blank old.number id at call)) new.pass → begun_entry begun ≡ blank old.number id at call → new.calls ≡ old.calls ++ replied_at_once begun copy ∷ [] → new.accepted ≡ old.accepted + 1
     → AddsEntry configs old new (record (blank old.number id at call) { end = ends.Replied reply })
-replied_entry configs old new id at call begun step second reply copy turns is copied goes begins added =
+replied_entry configs old new id at call begun step second reply copy turns is copied goes begins added accepted =
     let draft : Entry = blank old.number id at call in
     let e : Entry = record draft { end = ends.Replied copy } in
     let ends_so : CallGoesOn configs draft step e new.pass = subst (λ (r : Option Reply). CallGoesOn configs draft step (entry_ended_by r draft) new.pass) is goes in
@@ -166,30 +186,44 @@ replied_entry configs old new id at call begun step second reply copy turns is c
     record {
       added = added ∙ ap (λ (x : Entry). old.calls ++ record x { end = ends.Replied copy } ∷ []) begins ∙ ap (λ (x : Entry). old.calls ++ x ∷ []) here.0;
       stands = subst (λ (x : Entry). EntryIsLast configs x new.pass) here.0 here.1;
+      accepted = accepted;
     }
 
 -- it waits
-pub waiting_adds : (old new : Sitting) (id at : ℕ) (call : Call) (begun : CallHeader) → begun_entry begun ≡ blank old.number id at call → new.calls ≡ old.calls ++ begun_entry begun ∷ [] → AddsWaiting old new id at call
-waiting_adds old new id at call begun begins added = record { answers = []; told = []; added = added ∙ ap (λ (x : Entry). old.calls ++ x ∷ []) begins }
+pub waiting_adds : (old new : Sitting) (id at : ℕ) (call : Call) (begun : CallHeader) → begun_entry begun ≡ blank old.number id at call → new.calls ≡ old.calls ++ begun_entry begun ∷ [] → new.accepted ≡ old.accepted + 1 → AddsWaiting old new id at call
+waiting_adds old new id at call begun begins added accepted = record { answers = []; told = []; added = added ∙ ap (λ (x : Entry). old.calls ++ x ∷ []) begins; accepted = accepted }
 
 -- what it has come to by its first step, at a reply and else
 module _ (configs : List CacheConfig) (stated : List Stated) (old new : Sitting) (id at : ℕ) (call : Call) (begun : CallHeader) (step : Step) (second : Option Reply) (copied : second ≡ reply_in step) (goes : CallGoesOn configs (blank old.number id at call) step (entry_ended_by second (blank old.number id at call)) new.pass)
-    (begins : begun_entry begun ≡ blank old.number id at call) where
+    (begins : begun_entry begun ≡ blank old.number id at call) (accepted : new.accepted ≡ old.accepted + 1) where
   pub begun_ok : (r : Result Reply CallFault) → AddsBegun begun step old.calls new.calls r → IfOk r (λ reply. Adds configs stated old new id at call (ends.Replied reply))
-  begun_ok (Ok reply) h = entry_adds configs stated old new id at call (ends.Replied reply) (replied_entry configs old new id at call begun step second reply reply h.0 (copied ∙ ap reply_in h.0) copied goes begins h.1)
+  begun_ok (Ok reply) h = entry_adds configs stated old new id at call (ends.Replied reply) refl (replied_entry configs old new id at call begun step second reply reply h.0 (copied ∙ ap reply_in h.0) copied goes begins h.1 accepted)
   begun_ok (Err fault) h = tt
 
   pub begun_err : (r : Result Reply CallFault) → AddsBegun begun step old.calls new.calls r → IfErr r (λ fault. CallFails configs stated old new id at call fault)
   begun_err (Ok reply) h = tt
-  begun_err (Err fault) h = subst (λ (f : CallFault). CallFails configs stated old new id at call f) (sym h.0) (waiting_adds old new id at call begun begins h.1)
+  begun_err (Err fault) h = subst (λ (f : CallFault). CallFails configs stated old new id at call f) (sym h.0) (waiting_adds old new id at call begun begins h.1 accepted)
 
 -- it was not accepted
 pub not_accepted : (b : Bool) (fault : CallFault) → Err fault ≡ ok_or_no_processor b → b ≡ false
 not_accepted true fault is = absurd cc
 not_accepted false fault is = refl
 
-pub unaccepted_fails : (configs : List CacheConfig) (stated : List Stated) (old new : Sitting) (id at : ℕ) (call : Call) (fault : CallFault) → fault ≡ faults.NoSuchProcessor → new ≡ old → MayLackProcessor configs id call → CallFails configs stated old new id at call fault
-unaccepted_fails configs stated old new id at call fault is same lacks = subst (λ (f : CallFault). CallFails configs stated old new id at call f) (sym is) (same, lacks)
+pub unaccepted_fails : (configs : List CacheConfig) (stated : List Stated) (old new : Sitting) (id at : ℕ) (call : Call) (fault : CallFault) → fault ≡ faults.NoSuchProcessor → new ≡ old → MayLackProcessor configs id call → IsSome (slice_get configs id) → CallFails configs stated old new id at call fault
+unaccepted_fails configs stated old new id at call fault is same lacks there =
+    subst (λ (f : CallFault). CallFails configs stated old new id at call f) (sym is) (same, lacks, λ none. absurd (not_both (slice_get configs id) there none))
+  where
+    not_both : (o : Option CacheConfig) → IsSome o → o ≡ None → ⊥
+    not_both None some none = absurd cc
+    not_both (Some c) some none = absurd cc
+
+-- the engine did not begin it
+pub begin_fails : (configs : List CacheConfig) (stated : List Stated) (old new : Sitting) (id at : ℕ) (call : Call) (fault : CallFault) → new ≡ old → IsBeginFault configs id at call fault → CallFails configs stated old new id at call fault
+begin_fails configs stated old new id at call faults.NoSuchCache same h = (same, λ c there. h)
+begin_fails configs stated old new id at call faults.NoSuchProcessor same h = (same, h.1, λ none. h.0)
+begin_fails configs stated old new id at call faults.Busy same h = (same, h)
+begin_fails configs stated old new id at call faults.Overtaken same h = absurd h
+begin_fails configs stated old new id at call faults.OutOfMemory same h = inl same
 
 -- and so of one whose cache is not there
 pub told_or_gone : (configs : List CacheConfig) (stated : List Stated) (old new : Sitting) (id at : ℕ) (call : Call) (fault told : CallFault) → new ≡ old
@@ -198,3 +232,50 @@ told_or_gone configs stated old new id at call fault told same which fails = eli
   | inl is ↦ subst (λ (f : CallFault). CallFails configs stated old new id at call f) (sym is) fails
   | inr is ↦ subst (λ (f : CallFault). CallFails configs stated old new id at call f) (sym is.0) (same, λ c there. is.1 at call)
 ]
+
+-- Counting the events of a call.
+
+-- from one moment over a second to a third
+pub counts_on : (a b c : ℕ) (d e f : Entry) → CountsOn a b d e → CountsOn b c e f → CountsOn a c d f
+counts_on a b c d e f first second = omega (arith, first, second)
+
+-- no event was accepted
+pub counts_none : (a b : ℕ) (d e : Entry) (told : List Notice) → b ≡ a → e ≡ record d { told = told } → CountsOn a b d e
+counts_none a b d e told same is = ap (λ (k : ℕ). k + event_count d.answers d.end) same ∙ ap (λ (x : Entry). a + event_count x.answers x.end) (sym is)
+
+-- an entry that has as many events
+pub counts_from : (a b : ℕ) (d n e : Entry) → n.answers ≡ d.answers → n.end ≡ d.end → CountsOn a b n e → CountsOn a b d e
+counts_from a b d n e answers ends_so counted =
+    let same : event_count n.answers n.end ≡ event_count d.answers d.end = (λ i. event_count (answers i) (ends_so i)) in
+    omega (arith, same, counted)
+
+pub counts_since : (a m b : ℕ) (d n e : Entry) → m ≡ a → n.answers ≡ d.answers → n.end ≡ d.end → CountsOn m b n e → CountsOn a b d e
+counts_since a m b d n e same answers ends_so counted = counts_from a b d n e answers ends_so (subst (λ (k : ℕ). CountsOn k b n e) same counted)
+
+-- a tenure accepts one event: the answer that the draft was given, or its give-up
+pub counts_step : (configs : List CacheConfig) (a : ℕ) (d e : Entry) (pass : Sight) (x : Answer) (answers : List Answer) (step : Step) → CallGoesOn configs d step e pass → d.answers ≡ answers ++ x ∷ [] → d.end ≡ ends.Waiting → (n : Entry) → n.answers ≡ answers → n.end ≡ ends.Waiting → CountsOn a (a + 1) n e
+counts_step configs a d e pass x answers step goes given waits n same n_waits =
+    let many : length e.answers ≡ length answers + 1 = ap length (goes_unanswered configs d e pass step goes ∙ given) ∙ length-append answers (x ∷ []) in
+    let now : event_count e.answers e.end ≡ length answers + 2 = by step goes many in
+    let before : event_count n.answers n.end ≡ length answers + 1 = ap (λ (m : End). event_count n.answers m) n_waits ∙ ap (λ (given : List Answer). length given + 1) same in
+    omega (arith, now, before)
+  where
+    by : (step : Step) → CallGoesOn configs d step e pass → length e.answers ≡ length answers + 1 → event_count e.answers e.end ≡ length answers + 2
+    by (Need q) goes many = ap (λ (m : End). event_count e.answers m) (ap (λ (y : Entry). y.end) goes.0 ∙ waits) ∙ (ap (λ (k : ℕ). k + 1) many ∙ omega arith)
+    by (Done r) goes many = ap (λ (m : End). event_count e.answers m) (ap (λ (y : Entry). y.end) goes.0) ∙ (ap (λ (k : ℕ). k + 1) many ∙ omega arith)
+
+pub counts_resumed : (configs : List CacheConfig) (a b : ℕ) (d n e : Entry) (pass : Sight) (x : Answer) (step : Step) → CallGoesOn configs n step e pass → n.answers ≡ d.answers ++ x ∷ [] → n.end ≡ ends.Waiting → d.end ≡ ends.Waiting → b ≡ a + 1 → CountsOn a b d e
+counts_resumed configs a b d n e pass x step goes given waits first one =
+    subst (λ (k : ℕ). CountsOn a k d e) (sym one) (counts_step configs a n e pass x d.answers step goes given waits d refl first)
+
+pub counts_given_up : (a : ℕ) (d e : Entry) → e.answers ≡ d.answers → d.end ≡ ends.Waiting → e.end ≡ ends.GivenUp → CountsOn a (a + 1) d e
+counts_given_up a d e same waits given_up =
+    let now : event_count e.answers e.end ≡ length d.answers + 2 = ap (λ (m : End). event_count e.answers m) given_up ∙ ap (λ (given : List Answer). length given + 2) same in
+    let before : event_count d.answers d.end ≡ length d.answers + 1 = ap (λ (m : End). event_count d.answers m) waits in
+    omega (arith, now, before)
+
+-- all of its events, from its begin on
+pub counts_all : (a b c : ℕ) (blank d e : Entry) → blank.answers ≡ [] → blank.end ≡ ends.Waiting → d ≡ blank → b ≡ a + 1 → CountsOn b c d e → c ≡ a + event_count e.answers e.end
+counts_all a b c blank d e none waits same begun counted =
+    let one : event_count d.answers d.end ≡ 1 = ap (λ (y : Entry). event_count y.answers y.end) same ∙ ap (λ (m : End). event_count blank.answers m) waits ∙ ap (λ (given : List Answer). length given + 1) none in
+    omega (arith, one, begun, counted)

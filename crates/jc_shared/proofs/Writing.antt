@@ -1,9 +1,10 @@
 -- What the writer has answered, from one moment to the next.
-use Rattle.std.proofs.Common.{◌≡◌, ℕ, false, IsTrue, List, [], ◌∷◌, ◌++◌, Option, Some, None, refl, sym, ap, ◌∙◌, subst, append-nil}
+use Rattle.std.proofs.Common.{◌≡◌, ℕ, false, IsTrue, List, [], ◌∷◌, ◌++◌, Option, Some, None, Result, Ok, Err, inl, refl, sym, ap, ◌∙◌, subst, append-nil}
 use Rattle.std.specs.List.{filter}
+use Rattle.std.specs.Prelude.{MatchResult}
 use Rattle.std.proofs.lemmas.Bool.{false≢true}
 use Rattle.std.proofs.lemmas.List.{map_push}
-use Rattle.std.proofs.lemmas.List.Elements.{All-push, filter-append}
+use Rattle.std.proofs.lemmas.List.Elements.{All-nil, All-push, filter-append}
 use Rattle.jc_hooks.specs.Asking.{MayGiveBy, GivesAnswers}
 use Rattle.jc_hooks.proofs.Behind.{gives_more}
 use Rattle.jc_model.specs.declared.call.Answer.{Answer}
@@ -12,8 +13,12 @@ use Rattle.jc_model.specs.declared.call.Notice.{Notice}
 use Rattle.jc_model.specs.declared.call.Request.{Request}
 use Rattle.jc_model.specs.declared.call.Request.TheVariants.{Load, Write, Delete, Process, Tell}
 use Rattle.jc_model.specs.Run.{is_answer_to, for_load, for_write, for_process, for_tell, fits}
+use Rattle.jc_model.specs.declared.call.Reply.{Reply}
+use Rattle.jc_model.specs.declared.event.Entry.{Entry}
+use Rattle.jc_locked.specs.declared.fault.CallFault.{CallFault}
 use Rattle.jc_locked.specs.declared.hooks.LockedHooks.{LockedHooks}
-use Rattle.jc_locked.specs.Serving.{is_write, is_of_writer, AreWritten, ServesRequest, TakesIn, HasStated, HasWritten, WritesOn}
+use Rattle.jc_shared.specs.Served.{ServesCall}
+use Rattle.jc_locked.specs.Serving.{is_write, is_of_writer, AreWritten, ServesRequest, TakesIn, TellsListeners, TellsListenersOn, HasStated, HasWritten, WritesOn, StatesOn}
 
 one_more : (answers : List Answer) (a : Answer) → filter is_of_writer (answers ++ a ∷ []) ≡ filter is_of_writer answers ++ filter is_of_writer (a ∷ [])
 one_more answers a = filter-append is_of_writer answers (a ∷ [])
@@ -110,3 +115,36 @@ module _ {W K : Type 0} (may : W → List (Request × Answer) → Type 0) where
 
     pub takes_in : (q : Request) (answers' : List Answer) → TakesIn may state_after old new q answers answers' → WritesOn may old new answers answers'
     takes_in q answers' t = subst (WritesOn may old new answers) (sym t.added) (by_request q t.answer t.fits t.serves)
+
+-- nothing is written behind no answers
+pub written_none : {W K : Type 0} (may : W → List (Request × Answer) → Type 0) (hooks : LockedHooks W K) → HasWritten may hooks hooks []
+written_none may hooks = record { given = []; are = record { writes = All-nil (λ x. IsTrue (is_write x.0)); answered = refl }; stated = λ rest gives. gives }
+
+-- a call that its callbacks have carried on, from its begin to its end
+pub serves_carried : {W K : Type 0} (may : W → List (Request × Answer) → Type 0) (state_after : K → List Notice → List ℕ) (hooks hooks' : LockedHooks W K) (d e : Entry) (old new : List Entry) (r : Result Reply CallFault) → d.answers ≡ [] → d.told ≡ [] → new ≡ old ++ e ∷ []
+    → TellsListenersOn state_after hooks hooks' d.told e.told → MatchResult r (λ _. WritesOn may hooks hooks' d.answers e.answers) (λ _. StatesOn may hooks d.answers e.answers) → ServesCall may state_after hooks hooks' old new r
+serves_carried may state_after hooks hooks' d e old new r unanswered untold added told wrote =
+    inl (record {
+      entry = e;
+      added = added;
+      told = told hooks (subst (TellsListeners state_after hooks hooks) (sym untold) (λ rest. refl));
+      wrote = by r wrote;
+    })
+  where
+    first : HasWritten may hooks hooks d.answers
+    first = subst (HasWritten may hooks hooks) (sym unanswered) (written_none may hooks)
+
+    by : (r : Result Reply CallFault) → MatchResult r (λ _. WritesOn may hooks hooks' d.answers e.answers) (λ _. StatesOn may hooks d.answers e.answers) → MatchResult r (λ _. HasWritten may hooks hooks' e.answers) (λ _. HasStated may hooks e.answers)
+    by (Ok reply) h = h hooks first
+    by (Err fault) h = h hooks first
+
+-- one that had its reply at once
+pub serves_at_once : {W K : Type 0} (may : W → List (Request × Answer) → Type 0) (state_after : K → List Notice → List ℕ) (hooks : LockedHooks W K) (e : Entry) (old new : List Entry) (reply : Reply) → e.answers ≡ [] → e.told ≡ [] → new ≡ old ++ e ∷ []
+    → ServesCall may state_after hooks hooks old new (Ok reply)
+serves_at_once may state_after hooks e old new reply unanswered untold added =
+    inl (record {
+      entry = e;
+      added = added;
+      told = subst (TellsListeners state_after hooks hooks) (sym untold) (λ rest. refl);
+      wrote = subst (HasWritten may hooks hooks) (sym unanswered) (written_none may hooks);
+    })

@@ -1,2 +1,3 @@
 pub mod Progress
+pub mod Served
 pub mod Unfound

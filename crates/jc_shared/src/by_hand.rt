@@ -146,7 +146,7 @@ impl<'a, N: Name, L: Loader, W: Writer, P: Processor, K: FilteredListener> Sessi
         ensures refused { OnErr result (self.new ≡ self.old) }
         ensures front { IsPrefix self.old.pass.images self.new.pass.images }
     {
-        let begun = locked.begin(&mut draft, call, &mut self.pass);
+        let begun = locked.begin(&mut self.seat, &mut draft, call);
         drop(locked);
         match begun {
             Ok(step) => Ok(self.come_to(draft, step)),
@@ -193,7 +193,7 @@ impl<'a, N: Name, L: Loader, W: Writer, P: Processor, K: FilteredListener> Sessi
         let resumed = manager
             .locked
             .lock(rt)
-            .resume(&mut draft, answer, &mut self.pass);
+            .resume(&mut self.seat, &mut draft, answer);
         match resumed {
             Ok(step) => {
                 drop(held);
@@ -233,7 +233,7 @@ impl<'a, N: Name, L: Loader, W: Writer, P: Processor, K: FilteredListener> Sessi
         let manager = self.manager;
         drop(hold_told(&mut draft, request));
         let untold = draft.told.items().is_empty();
-        let given_up = manager.locked.lock(rt).give_up(&mut draft, &mut self.pass);
+        let given_up = manager.locked.lock(rt).give_up(&mut self.seat, &mut draft);
         if let Err(fault) = given_up {
             drop(draft);
             return Err(fault);

@@ -7,7 +7,10 @@ ghost use Rattle.jc_model.specs.declared.event.Step.TheVariants.{Done, Need};
 ghost use Rattle.jc_model.specs.Run.{is_answer_to};
 ghost use Rattle.jc_model.specs.Legal.{with_answer};
 ghost use Rattle.jc_model.specs.Asking.{AsksOf};
+ghost use Rattle.jc_hooks.specs.Answering.{IsStatedAnswer};
+ghost use Rattle.jc_shared.specs.Served.{TakesStated};
 ghost use Rattle.jc_locked.specs.Calls.{IsSameCall, CallStands, CallEndsFaulty};
+ghost use Rattle.jc_locked.specs.Counting.{CountsOn};
 ghost use Rattle.jc_locked.specs.Serving.{ServesRequest, TellsListenersOn, TellsOnce, told_behind, TakesIn, WritesOn, StatesOn};
 ghost use Rattle.jc_locked.specs.Stated.{AreOf, IsStatedBy, AreStated};
 
@@ -17,7 +20,7 @@ use jc_locked::fault::{AnswerFault, CallFault};
 use jc_locked::hooks::{LockedHooks, SharedHooks};
 use jc_locked::journal_policy::JournalPolicy;
 use jc_locked::name::Name;
-use jc_locked::tables::TablePass;
+use jc_locked::seat::Seat;
 use jc_model::OutOfMemory;
 use jc_model::call::{Answer, Reply, Request};
 use jc_model::event::{Entry, Step};
@@ -82,6 +85,8 @@ impl<N: Name, L: Loader, W: Writer, P: Processor, K: FilteredListener, J: Journa
         requires asked { AreOf L.load_of P.verdict_of N.stated draft.now.id asked.now }
         requires asks { AsksOf draft.now.call request.now }
         ensures fits { IfOk result (λ a. IsTrue (is_answer_to request.now a)) }
+        ensures exact { IfOk result (IsStatedAnswer L.load_of P.verdict_of
+            asked.now.loader asked.now.processors.items request.now) }
         ensures stated { IfOk result (IsStatedBy (slice_get N.stated draft.now.id) draft.now.call) }
         ensures served { IfOk result (ServesRequest W.may K.state_after hooks.old hooks.new request.now) }
         ensures untold { OnErr result (hooks.new.listeners ≡ hooks.old.listeners) }
@@ -105,18 +110,22 @@ impl<N: Name, L: Loader, W: Writer, P: Processor, K: FilteredListener, J: Journa
         hooks: &mut LockedHooks<W, K>,
         draft: &mut Entry,
         request: Request,
-        pass: &mut TablePass<N>,
+        seat: &mut Seat<N>,
     ) -> Result<Step, CallFault>
         requires shared { AreOf L.load_of P.verdict_of N.stated draft.old.id asked.now }
-        requires asked { CallStands N.configs N.stated (Need request) draft.old pass.old }
+        requires asked { CallStands N.configs N.stated (Need request) draft.old seat.old.pass }
         ensures same { IsSameCall draft.old draft.new }
         ensures served { OnOk result (TakesIn W.may K.state_after hooks.old hooks.new
             request draft.old.answers draft.new.answers) }
+        ensures stated { OnOk result (TakesStated L.load_of P.verdict_of asked.now
+            request draft.old.answers draft.new.answers) }
         ensures kept { OnErr result (draft.new.answers ≡ draft.old.answers) }
         ensures brought { MatchResult result
-            (λ step. CallStands N.configs N.stated step draft.new pass.new)
-            (λ fault. CallEndsFaulty N.configs N.stated fault draft.new pass.new) }
-        ensures front { IsPrefix pass.old.images pass.new.images }
+            (λ step. CallStands N.configs N.stated step draft.new seat.new.pass)
+            (λ fault. CallEndsFaulty N.configs N.stated fault draft.new seat.new.pass) }
+        ensures number { seat.new.number ≡ seat.old.number }
+        ensures counted { CountsOn seat.old.accepted seat.new.accepted draft.old draft.new }
+        ensures front { IsPrefix seat.old.pass.images seat.new.pass.images }
         ensures told { TellsListenersOn K.state_after hooks.old hooks.new draft.old.told draft.new.told }
     {
         if tells_again(draft, &request) {
@@ -125,19 +134,19 @@ impl<N: Name, L: Loader, W: Writer, P: Processor, K: FilteredListener, J: Journa
         }
         let Ok(answer) = self.answer(asked, hooks, draft, &request) else {
             drop(request);
-            return Err(self.give_up(rt, hooks, draft, pass));
+            return Err(self.give_up(rt, hooks, draft, seat));
         };
         keep_told(draft, request);
         if note_answer(draft, &answer).is_err() {
             drop(answer);
-            return Err(self.give_up(rt, hooks, draft, pass));
+            return Err(self.give_up(rt, hooks, draft, seat));
         }
-        let resumed = self.locked.lock(rt).resume(draft, answer, pass);
+        let resumed = self.locked.lock(rt).resume(seat, draft, answer);
         match resumed {
             Ok(step) => Ok(step),
             Err(AnswerFault::OutOfMemory) => {
                 drop(take_back(draft));
-                Err(self.give_up(rt, hooks, draft, pass))
+                Err(self.give_up(rt, hooks, draft, seat))
             }
             Err(_) => {
                 drop(take_back(draft));
@@ -154,15 +163,17 @@ impl<N: Name, L: Loader, W: Writer, P: Processor, K: FilteredListener, J: Journa
         hooks: &mut LockedHooks<W, K>,
         draft: &mut Entry,
         request: Request,
-        pass: &mut TablePass<N>,
+        seat: &mut Seat<N>,
     ) -> Result<Reply, CallFault>
         requires shared { AreOf L.load_of P.verdict_of N.stated draft.old.id asked.now }
-        requires asked { CallStands N.configs N.stated (Need request) draft.old pass.old }
+        requires asked { CallStands N.configs N.stated (Need request) draft.old seat.old.pass }
         ensures same { IsSameCall draft.old draft.new }
         ensures ends { MatchResult result
-            (λ reply. CallStands N.configs N.stated (Done reply) draft.new pass.new)
-            (λ fault. CallEndsFaulty N.configs N.stated fault draft.new pass.new) }
-        ensures front { IsPrefix pass.old.images pass.new.images }
+            (λ reply. CallStands N.configs N.stated (Done reply) draft.new seat.new.pass)
+            (λ fault. CallEndsFaulty N.configs N.stated fault draft.new seat.new.pass) }
+        ensures number { seat.new.number ≡ seat.old.number }
+        ensures counted { CountsOn seat.old.accepted seat.new.accepted draft.old draft.new }
+        ensures front { IsPrefix seat.old.pass.images seat.new.pass.images }
         ensures told { TellsListenersOn K.state_after hooks.old hooks.new draft.old.told draft.new.told }
         ensures wrote { MatchResult result
             (λ _. WritesOn W.may hooks.old hooks.new draft.old.answers draft.new.answers)
@@ -172,7 +183,7 @@ impl<N: Name, L: Loader, W: Writer, P: Processor, K: FilteredListener, J: Journa
         for _ in rt.forever() {
             match step {
                 Step::Done(reply) => return Ok(reply),
-                Step::Need(request) => step = self.advance(rt, asked, hooks, draft, request, pass)?,
+                Step::Need(request) => step = self.advance(rt, asked, hooks, draft, request, seat)?,
             }
         }
         unreachable!()
@@ -184,19 +195,21 @@ impl<N: Name, L: Loader, W: Writer, P: Processor, K: FilteredListener, J: Journa
         rt: &R,
         hooks: &mut LockedHooks<W, K>,
         draft: &mut Entry,
-        pass: &mut TablePass<N>,
+        seat: &mut Seat<N>,
     ) -> CallFault
         requires waits { draft.old.end ≡ Waiting }
         requires answered { AreStated (slice_get N.stated draft.old.id)
             draft.old.call draft.old.answers }
         ensures same { IsSameCall draft.old draft.new }
         ensures kept { draft.new.answers ≡ draft.old.answers }
-        ensures ends { CallEndsFaulty N.configs N.stated result draft.new pass.new }
-        ensures front { IsPrefix pass.old.images pass.new.images }
+        ensures ends { CallEndsFaulty N.configs N.stated result draft.new seat.new.pass }
+        ensures number { seat.new.number ≡ seat.old.number }
+        ensures counted { CountsOn seat.old.accepted seat.new.accepted draft.old draft.new }
+        ensures front { IsPrefix seat.old.pass.images seat.new.pass.images }
         ensures told { TellsListenersOn K.state_after hooks.old hooks.new draft.old.told draft.new.told }
     {
         let untold = draft.told.items().is_empty();
-        let given_up = self.locked.lock(rt).give_up(draft, pass);
+        let given_up = self.locked.lock(rt).give_up(seat, draft);
         if given_up.is_err() {
             return CallFault::Overtaken;
         }

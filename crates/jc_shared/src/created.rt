@@ -2,15 +2,13 @@
 ghost use Rattle.std.specs.Prelude.{◌≡◌, None, IfOk, IfErr, slice_get};
 ghost use mathlib.Core.List.{IsPrefix};
 ghost use Rattle.jc_model.specs.declared.event.End.TheVariants.{Replied};
-ghost use Rattle.jc_locked.specs.Calls.{Adds, CallFails, LacksProcessor, TellsLack};
+ghost use Rattle.jc_locked.specs.Calls.{Adds, CallFails};
 
-use crate::at_once::add_begun;
 use crate::session::Session;
-use jc_engine::journal::change::CallHeader;
 use jc_hooks::{FilteredListener, Loader, Processor, Writer};
 use jc_locked::fault::CallFault;
 use jc_locked::hooks::OwnHooks;
-use jc_locked::journal_policy::{JournalPolicy, SessionJournal};
+use jc_locked::journal_policy::JournalPolicy;
 use jc_locked::name::Name;
 use jc_model::call::{Call, Reply};
 use jc_model::event::CacheId;
@@ -39,32 +37,16 @@ impl<
         ensures number { self.new.number ≡ self.old.number }
         ensures ok { IfOk result (λ reply.
             Adds N.configs N.stated self.old self.new id now call (Replied reply)) }
-        ensures refused { LacksProcessor N.configs id call → TellsLack result × (self.new ≡ self.old) }
         ensures err { IfErr result (CallFails N.configs N.stated self.old self.new id now call) }
         ensures front { IsPrefix self.old.pass.images self.new.pass.images }
     {
         let manager = self.manager;
-        let mut locked = manager.locked.lock(rt);
+        let locked = manager.locked.lock(rt);
         if !locked.asks_no_one(id) {
             drop(locked);
             return self.call_by_own(rt, id, now, call);
         }
-        let kept = self.own.keep(&call);
-        let Ok(kept) = kept else {
-            drop(locked);
-            drop(call);
-            return Err(CallFault::OutOfMemory);
-        };
-        let begun = CallHeader::of(self.origin(id, now), &call);
-        let came = locked.begin_call(self.number, id, now, call, &mut self.pass);
-        drop(locked);
-        match came {
-            Ok(pair) => add_begun(&mut self.own, manager.alloc, (begun, kept), pair),
-            Err(fault) => {
-                drop((begun, kept));
-                Err(fault)
-            }
-        }
+        self.make_in(locked, id, now, call)
     }
 
     /// The same by callbacks of its own.
@@ -79,7 +61,6 @@ impl<
         ensures number { self.new.number ≡ self.old.number }
         ensures ok { IfOk result (λ reply.
             Adds N.configs N.stated self.old self.new id now call (Replied reply)) }
-        ensures refused { LacksProcessor N.configs id call → TellsLack result × (self.new ≡ self.old) }
         ensures err { IfErr result (CallFails N.configs N.stated self.old self.new id now call) }
         ensures front { IsPrefix self.old.pass.images self.new.pass.images }
     {

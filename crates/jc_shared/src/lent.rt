@@ -3,7 +3,7 @@ ghost use Rattle.std.specs.Prelude.{◌≡◌, None, IfOk, IfErr, slice_get};
 ghost use mathlib.Core.List.{IsPrefix};
 ghost use Rattle.jc_model.specs.declared.event.End.TheVariants.{Replied};
 ghost use Rattle.jc_engine.specs.Recording.{blank};
-ghost use Rattle.jc_shared.specs.Progress.{AddsCall, EndsBy, FailsBy};
+ghost use Rattle.jc_shared.specs.Progress.{AddsCall, AddsWaited, EndsBy, FailsBy};
 
 use crate::pending::{PendingCall, Progress};
 use crate::session::Session;
@@ -151,7 +151,7 @@ impl<'a, N: Name, L: Loader, W: Writer, P: Processor, K: FilteredListener> Sessi
     ) -> Result<Reply, CallFault>
         ensures number { self.new.number ≡ self.old.number }
         ensures ok { IfOk result (λ reply.
-            AddsCall N.configs self.old self.new pending.draft (Replied reply)) }
+            AddsWaited N.configs self.old self.new pending.draft (Replied reply)) }
         ensures err { IfErr result (EndsBy N.configs self.old self.new pending.draft) }
         ensures front { IsPrefix self.old.pass.images self.new.pass.images }
     {

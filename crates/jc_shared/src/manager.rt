@@ -1,5 +1,5 @@
 //! The manager that threads share.
-ghost use Rattle.std.specs.Prelude.{◌≡◌, ◌≢◌, ◌⊎◌, ℕ, true, [], Ok, Err, Some, None, IfSome, IfOk, IfErr, OnOk, map, option_map, slice_get};
+ghost use Rattle.std.specs.Prelude.{◌≡◌, ◌≢◌, ◌⊎◌, ℕ, true, [], Ok, Err, Some, None, IsSome, IfSome, IfOk, IfErr, OnOk, is_some, map, option_map, slice_get};
 ghost use Rattle.jc_model.specs.declared.call.Call.{Call as Called};
 ghost use Rattle.jc_model.specs.declared.event.Cause.TheVariants.{NoSuchCache};
 ghost use Rattle.jc_model.specs.declared.event.Event.TheVariants.{Begin};
@@ -8,7 +8,7 @@ ghost use Rattle.jc_locked.specs.Accounts.{Accounts, IsCloseRefusal, own_log};
 ghost use Rattle.jc_locked.specs.Admitting.{IsAdmission};
 ghost use Rattle.jc_locked.specs.Living.{HasOpenCall, HasNoOpenCall, IsIdOfName, Refuses};
 ghost use Rattle.jc_locked.specs.Sessions.{BeginsWith, SeesSome, log_of};
-ghost use Rattle.jc_locked.specs.Stated.{stated_by, AreOf, AreCounted, processor_counts, wanted_counts};
+ghost use Rattle.jc_locked.specs.Stated.{stated_by, AreOf, AreCounted, processor_counts, wanted_counts, has_lock_at, lock_flags, wanted_locks};
 
 use crate::brief_lock::BriefLock;
 use crate::directory::{Directory, HooksLock};
@@ -53,6 +53,7 @@ pub struct Manager<
     pub(crate) locked: BriefLock<GuardedState<N, J>>,
     ghost stated_are: { map (stated_by L.load_of P.verdict_of) shared.items ≡ N.stated },
     ghost counted: { processor_counts shared.items ≡ wanted_counts N.configs },
+    ghost locked_are: { lock_flags locks.items ≡ wanted_locks N.configs },
 }
 
 impl<N: Name, L: Loader, W: Writer, P: Processor, K: FilteredListener, J: JournalPolicy> Manager<
@@ -77,14 +78,15 @@ impl<N: Name, L: Loader, W: Writer, P: Processor, K: FilteredListener, J: Journa
     /// all calls alone.
     pub fn session<R: Wait>(&self, rt: &R) -> Result<Session<'_, N, L, W, P, K, J>, SessionRefusal>
         ensures calls { IfOk result (λ s. s.calls ≡ []) }
+        ensures fresh { IfOk result (λ s. s.accepted ≡ 0) }
         ensures sees { IfOk result (λ s. SeesSome N.configs s.pass × (s.pass.met ≡ true)) }
         ensures admitted { IfOk result (λ s. IsAdmission J.after J.closes (Ok s.number)) }
         ensures refused { IfErr result (λ refusal. IsAdmission J.after J.closes (Err refusal)) }
     {
         let own = J::Own::new(self.alloc);
-        let (number, pass) = self.locked.lock(rt).enter(own.is_ok())?;
+        let seat = self.locked.lock(rt).enter(own.is_ok())?;
         match own {
-            Ok(own) => Ok(Session::new(self, number, own, pass)),
+            Ok(own) => Ok(Session::new(self, seat, own)),
             Err(_) => unreachable!(),
         }
     }
@@ -99,17 +101,20 @@ impl<N: Name, L: Loader, W: Writer, P: Processor, K: FilteredListener, J: Journa
     pub(crate) fn opening_hooks(&self, id: CacheId) -> Option<&SharedHooks<L, P>>
         ensures stated { IfSome result (λ h. AreOf L.load_of P.verdict_of N.stated id h.now) }
         ensures counted { IfSome result (λ h. AreCounted N.configs id h.now) }
+        ensures opened { IfSome result (λ h. IsSome (slice_get N.configs id)) }
         ensures created { result ≡ None → slice_get N.configs id ≡ None }
     {
-        let shared = shared_at(self.shared.as_slice(), id)?;
+        let shared = entry_at(self.shared.as_slice(), id)?;
         Some(shared)
     }
 
-    /// The hooks lock of a cache of the opening, if it has callbacks.
-    pub(crate) fn opened_lock(&self, id: CacheId) -> Option<&Mutex<LockedHooks<W, K>>> {
-        match self.locks.get(id.number() as usize) {
-            Some(Some(lock)) => Some(lock),
-            _ => None,
+    /// The hooks lock of a cache of the opening. It is there exactly where the configuration names callbacks.
+    pub(crate) fn opened_lock(&self, id: CacheId) -> Option<&Mutex<LockedHooks<W, K>>>
+        ensures { is_some result ≡ has_lock_at (slice_get N.configs id) }
+    {
+        match entry_at(self.locks.as_slice(), id) {
+            Some(lock) => held(lock),
+            None => None,
         }
     }
 
@@ -143,7 +148,7 @@ impl<N: Name, L: Loader, W: Writer, P: Processor, K: FilteredListener, J: Journa
         ensures stated { AreOf L.load_of P.verdict_of N.stated id result.now }
         ensures counted { AreCounted N.configs id result.now }
     {
-        match shared_at(self.shared.as_slice(), id) {
+        match entry_at(self.shared.as_slice(), id) {
             Some(shared) => shared,
             None => own,
         }
@@ -249,9 +254,19 @@ impl<N: Name, L: Loader, W: Writer, P: Processor, K: FilteredListener> Manager<
     }
 }
 
-/// The loader and the processors of a cache of the opening.
-fn shared_at<L, P>(shared: &[SharedHooks<L, P>], id: CacheId) -> Option<&SharedHooks<L, P>>
-    ensures { option_map (λ h. h.now) result ≡ slice_get shared.now id }
+/// What a list of the caches of the opening has of one of them.
+fn entry_at<X>(entries: &[X], id: CacheId) -> Option<&X>
+    ensures { option_map (λ x. x.now) result ≡ slice_get entries.now id }
 {
-    shared.get(id.number() as usize)
+    entries.get(id.number() as usize)
+}
+
+/// The lock, where there is one.
+fn held<X>(lock: &Option<X>) -> Option<&X>
+    ensures { is_some result ≡ is_some lock.now }
+{
+    match lock {
+        Some(lock) => Some(lock),
+        None => None,
+    }
 }

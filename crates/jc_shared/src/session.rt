@@ -1,5 +1,5 @@
 //! One caller's way to the caches of a manager.
-ghost use Rattle.std.specs.Prelude.{◌≡◌, ◌<◌, ◌⊎◌, suc, Bool, true, false, Some, None, IfOk, IfErr, OnOk, OnErr, Err, slice_get};
+ghost use Rattle.std.specs.Prelude.{◌≡◌, ◌≢◌, ◌<◌, ◌⊎◌, ◌+◌, suc, Bool, true, false, Some, None, IfOk, IfErr, OnOk, OnErr, Err, slice_get};
 ghost use mathlib.Core.List.{IsPrefix};
 ghost use Rattle.jc_model.specs.declared.event.End.TheVariants.{Replied};
 ghost use Rattle.jc_hooks.specs.Suits.{Suits};
@@ -10,7 +10,9 @@ ghost use Rattle.jc_locked.specs.Calls.{Adds, CallFails, LacksProcessor, TellsLa
 ghost use Rattle.jc_locked.specs.Living.{IsCreated, IsCreateFault, IsSessionDestroyRefusal, HasGone, TellsLiveRow, IsSeen};
 ghost use Rattle.jc_locked.specs.Lookups.{found_by, Agrees, MayBeUnsure, SessionReadsStripes};
 ghost use Rattle.jc_locked.specs.Sessions.{SeesSome, log_of};
-ghost use Rattle.jc_locked.specs.Stated.{AreOf, AreCounted};
+ghost use Rattle.jc_locked.specs.Stated.{AreOf};
+ghost use Rattle.jc_locked.specs.Unasked.{HasNoCallbacks};
+ghost use Rattle.jc_shared.specs.Served.{ServesCall};
 
 use crate::manager::Manager;
 use jc_engine::journal::all_calls::AllCalls;
@@ -23,7 +25,7 @@ use jc_locked::fault::{CallFault, CreateFault, DestroyFault};
 use jc_locked::hooks::{LockedHooks, OwnHooks, SharedHooks};
 use jc_locked::journal_policy::{JournalPolicy, SessionJournal};
 use jc_locked::name::Name;
-use jc_locked::tables::TablePass;
+use jc_locked::seat::Seat;
 use jc_model::OutOfMemory;
 use jc_model::call::{Call, Reply};
 use jc_model::config::CacheConfig;
@@ -47,9 +49,8 @@ pub struct Session<
     J: JournalPolicy = AllCalls,
 > {
     pub(crate) manager: &'a Manager<N, L, W, P, K, J>,
-    pub(crate) number: u32,
+    pub(crate) seat: Seat<N>,
     pub(crate) own: J::Own,
-    pub(crate) pass: TablePass<N>,
 }
 
 impl<'a, N: Name, L: Loader, W: Writer, P: Processor, K: FilteredListener, J: JournalPolicy> Model
@@ -58,7 +59,12 @@ impl<'a, N: Name, L: Loader, W: Writer, P: Processor, K: FilteredListener, J: Jo
 
     ghost Value = { Sitting };
 
-    ghost view = { λ s. record { number = s.number; calls = J.Own.calls s.own; pass = s.pass } };
+    ghost view = { λ s. record {
+      number = s.seat.number;
+      calls = J.Own.calls s.own;
+      accepted = s.seat.accepted;
+      pass = s.seat.pass;
+    } };
 }
 
 impl<'a, N: Name, L: Loader, W: Writer, P: Processor, K: FilteredListener> Logged
@@ -68,7 +74,7 @@ impl<'a, N: Name, L: Loader, W: Writer, P: Processor, K: FilteredListener> Logge
     ghost log = { log_of };
 
     fn log_number(&self) -> u32 {
-        self.number
+        self.seat.number()
     }
 
     fn log_calls(&self) -> &[Entry] {
@@ -88,9 +94,10 @@ impl<'a, N: Name, L: Loader, W: Writer, P: Processor, K: FilteredListener> Sessi
     pub fn into_log(self) -> SessionLog
         ensures { own_log result ≡ log_of self.entry }
     {
-        drop(self.pass);
+        let number = self.seat.number();
+        drop(self.seat);
         SessionLog {
-            number: self.number,
+            number,
             own: self.own.entries,
         }
     }
@@ -117,25 +124,24 @@ impl<
 > Session<'a, N, L, W, P, K, J> {
     pub(crate) fn new(
         manager: &'a Manager<N, L, W, P, K, J>,
-        number: u32,
+        seat: Seat<N>,
         own: J::Own,
-        pass: TablePass<N>,
     ) -> Session<'a, N, L, W, P, K, J>
-        ensures { result ≡ record { number = number; calls = J.Own.calls own; pass = pass } }
+        ensures { result ≡ record {
+          number = seat.number;
+          calls = J.Own.calls own;
+          accepted = seat.accepted;
+          pass = seat.pass;
+        } }
     {
-        Session {
-            manager,
-            number,
-            own,
-            pass,
-        }
+        Session { manager, seat, own }
     }
 
     /// Its number, from 0, which no other session of the manager has.
     pub fn number(&self) -> u32
         ensures { result ≡ self.now.number }
     {
-        self.number
+        self.seat.number()
     }
 
     /// That of its call on a cache at a moment.
@@ -143,7 +149,7 @@ impl<
         ensures { result ≡ record { session = self.now.number; id = id; at = now } }
     {
         Origin {
-            session: self.number,
+            session: self.seat.number(),
             id,
             at: now,
         }
@@ -157,7 +163,8 @@ impl<
     /// where the cache is destroyed meanwhile, and as `OutOfMemory` at once where the callbacks of a created cache can't
     /// be shared. A call that has not begun leaves the session as it was. Where memory is refused in the midst of the call it is given up,
     /// and its listeners are told what it has changed; its entry says so. `Busy` is for a cache on which a call by hand
-    /// is open: by the locks nothing else should come to it, nor to `Overtaken`; no clause says so.
+    /// is open: by the locks nothing else should come to it, nor to `Overtaken`. A clause says so of `Overtaken` on a cache
+    /// of the opening without callbacks, of the others none.
     pub fn call<R: Wait>(
         &mut self,
         rt: &R,
@@ -170,6 +177,8 @@ impl<
             Adds N.configs N.stated self.old self.new id now call (Replied reply)) }
         ensures refused { LacksProcessor N.configs id call → TellsLack result × (self.new ≡ self.old) }
         ensures err { IfErr result (CallFails N.configs N.stated self.old self.new id now call) }
+        ensures unasked { HasNoCallbacks N.configs id →
+            IfErr result (λ fault. fault ≢ CallFault.Overtaken) }
         ensures front { IsPrefix self.old.pass.images self.new.pass.images }
     {
         if let Some(value) = self.get_at_once(rt, id, now, &call) {
@@ -180,13 +189,18 @@ impl<
         let Some(asked) = manager.opening_hooks(id) else {
             return self.call_created(rt, id, now, call);
         };
+        let accepted = asked.accept(&call);
+        if let Err(fault) = accepted {
+            drop(call);
+            return Err(manager.lack_fault(rt, id, fault));
+        }
         // One without callbacks takes no lock but the manager's.
         match manager.opened_lock(id) {
             Some(lock) => {
                 let mut locked = lock.lock(rt);
                 self.make(rt, asked, &mut *locked, id, now, call)
             }
-            None => self.make_at_once(rt, asked, id, now, call),
+            None => self.make_in(manager.locked.lock(rt), id, now, call),
         }
     }
 
@@ -202,20 +216,15 @@ impl<
         call: Call,
     ) -> Result<Reply, CallFault>
         requires stated { AreOf L.load_of P.verdict_of N.stated id asked.now }
-        requires counted { AreCounted N.configs id asked.now }
         ensures number { self.new.number ≡ self.old.number }
         ensures ok { IfOk result (λ reply.
             Adds N.configs N.stated self.old self.new id now call (Replied reply)) }
-        ensures refused { LacksProcessor N.configs id call → TellsLack result × (self.new ≡ self.old) }
+        ensures served { ServesCall W.may K.state_after locked.old locked.new
+            self.old.calls self.new.calls result }
         ensures err { IfErr result (CallFails N.configs N.stated self.old self.new id now call) }
         ensures front { IsPrefix self.old.pass.images self.new.pass.images }
     {
         let manager = self.manager;
-        let accepted = asked.accept(&call);
-        if let Err(fault) = accepted {
-            drop(call);
-            return Err(manager.lack_fault(rt, id, fault));
-        }
         let copied = copy_for(&mut self.own, &call);
         let Ok(copy) = copied else {
             drop(call);
@@ -225,7 +234,7 @@ impl<
         let begun = manager
             .locked
             .lock(rt)
-            .begin(&mut draft, call, &mut self.pass);
+            .begin(&mut self.seat, &mut draft, call);
         let request = match begun {
             Ok(Step::Need(request)) => request,
             Ok(Step::Done(reply)) => {
@@ -237,7 +246,7 @@ impl<
                 return Err(fault);
             }
         };
-        let replied = manager.carry_on(rt, asked, locked, &mut draft, request, &mut self.pass);
+        let replied = manager.carry_on(rt, asked, locked, &mut draft, request, &mut self.seat);
         self.own.push(draft);
         replied
     }
@@ -285,6 +294,7 @@ impl<
         ensures refused { OnErr result (self.new ≡ self.old) }
         ensures front { IsPrefix self.old.pass.images self.new.pass.images }
         ensures same { log_of self.new ≡ log_of self.old }
+        ensures accepted { OnOk result (self.new.accepted ≡ self.old.accepted + 1) }
     {
         let manager = self.manager;
         if manager.opening_hooks(id).is_some() {
@@ -292,7 +302,7 @@ impl<
         }
         let lock = manager.hooks_lock(rt, id)?;
         let hooks = lock.lock(rt);
-        let destroyed = manager.locked.lock(rt).destroy(id, &mut self.pass);
+        let destroyed = manager.locked.lock(rt).destroy(&mut self.seat, id);
         if destroyed.is_ok() {
             manager.directory.lock(rt).remove(id);
         }
@@ -308,13 +318,14 @@ impl<
         ensures refused { OnErr result (self.new ≡ self.old) }
         ensures front { IsPrefix self.old.pass.images self.new.pass.images }
         ensures same { log_of self.new ≡ log_of self.old }
+        ensures accepted { OnOk result (self.new.accepted ≡ self.old.accepted + 1) }
     {
         let manager = self.manager;
         let Some(lock) = manager.opened_lock(id) else {
-            return manager.locked.lock(rt).destroy(id, &mut self.pass);
+            return manager.locked.lock(rt).destroy(&mut self.seat, id);
         };
         let mut hooks = lock.lock(rt);
-        let destroyed = manager.locked.lock(rt).destroy(id, &mut self.pass);
+        let destroyed = manager.locked.lock(rt).destroy(&mut self.seat, id);
         if destroyed.is_ok() {
             drop(mem::replace(&mut *hooks, LockedHooks::none(manager.alloc)));
         }
@@ -330,9 +341,10 @@ impl<
         ensures refused { OnErr result (self.new.pass.met ≡ false) }
         ensures front { IsPrefix self.old.pass.images self.new.pass.images }
         ensures same { log_of self.new ≡ log_of self.old }
+        ensures accepted { self.new.accepted ≡ self.old.accepted }
     {
         let manager = self.manager;
-        manager.locked.lock(rt).refresh(&mut self.pass)
+        manager.locked.lock(rt).refresh(&mut self.seat.pass)
     }
 
     /// Whether a cache has a live row of this key, without waiting: it takes no lock. It is sure only of the last image
@@ -352,8 +364,9 @@ impl<
         ensures front { IsPrefix self.old.pass.images self.new.pass.images }
         ensures met { self.new.pass.met ≡ self.old.pass.met }
         ensures same { log_of self.new ≡ log_of self.old }
+        ensures accepted { self.new.accepted ≡ self.old.accepted }
     {
-        self.pass.lookup(id, key, now)
+        self.seat.pass.lookup(id, key, now)
     }
 
     /// Whether a cache has a live row of this key: by a lookup where that is sure, else under the lock. It is no use of
@@ -366,12 +379,16 @@ impl<
         ensures agrees { Agrees self.new.pass id key.now now result }
         ensures front { IsPrefix self.old.pass.images self.new.pass.images }
         ensures same { log_of self.new ≡ log_of self.old }
+        ensures accepted { self.new.accepted ≡ self.old.accepted }
     {
         match self.contains_key(id, key, now) {
             Lookup::Sure(holds) => holds,
             Lookup::Unsure => {
                 let manager = self.manager;
-                manager.locked.lock(rt).has(id, key, now, &mut self.pass)
+                manager
+                    .locked
+                    .lock(rt)
+                    .has(id, key, now, &mut self.seat.pass)
             }
         }
     }

@@ -54,7 +54,8 @@ impl<L, W, P, K, J: JournalPolicy> Model for Shared<L, W, P, K, J> {
       seed = s.table.seed;
     } };
 
-    ghost invariant = { λ s. IsOpened s.configs.items s.recorded s.hooks.shared.items };
+    ghost invariant = { λ s. IsOpened s.configs.items s.recorded
+        s.hooks.shared.items s.hooks.locks.items };
 }
 
 fn copies(alloc: Global, configs: &[CacheConfig]) -> Result<Vec<CacheConfig>, OutOfMemory>

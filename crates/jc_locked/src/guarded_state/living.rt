@@ -1,5 +1,5 @@
 //! Tenures in which caches are found, created and destroyed.
-ghost use Rattle.std.specs.Prelude.{◌≡◌, ◌≢◌, ℕ, true, IfOk, IfErr, OnOk, OnErr};
+ghost use Rattle.std.specs.Prelude.{◌≡◌, ◌≢◌, ◌+◌, ℕ, true, IfOk, IfErr, OnOk, OnErr};
 ghost use mathlib.Core.List.{IsPrefix};
 ghost use Rattle.jc_model.specs.declared.event.Event.TheVariants.{Create, Destroy};
 ghost use Rattle.jc_model.specs.declared.event.Outcome.TheVariants.{Created, Destroyed};
@@ -12,7 +12,7 @@ use super::GuardedState;
 use crate::fault::{CreateFault, DestroyFault};
 use crate::journal_policy::JournalPolicy;
 use crate::name::Name;
-use crate::tables::TablePass;
+use crate::seat::Seat;
 use jc_model::config::CacheConfig;
 use jc_model::event::{CacheId, Cause};
 use jc_model::key::Key;
@@ -60,21 +60,24 @@ impl<N: Name, J: JournalPolicy> GuardedState<N, J> {
         }
     }
 
-    /// Destroys a cache. The pass sees the table without its rows, where memory allows it.
-    pub fn destroy(&mut self, id: CacheId, pass: &mut TablePass<N>) -> Result<(), DestroyFault>
-        ensures gone { OnOk result (HasGone N.configs id pass.new) }
+    /// Destroys a cache. The session's pass sees the table without its rows, where memory allows it.
+    pub fn destroy(&mut self, seat: &mut Seat<N>, id: CacheId) -> Result<(), DestroyFault>
+        ensures gone { OnOk result (HasGone N.configs id seat.new.pass) }
         ensures tenure { OnOk result ((session : ℕ) →
             IsTenure self.old.recorded self.new.recorded session (Destroy id) Destroyed) }
-        ensures front { IsPrefix pass.old.images pass.new.images }
+        ensures front { IsPrefix seat.old.pass.images seat.new.pass.images }
         ensures refused { IfErr result (λ fault. IsDestroyFault N.configs id fault) }
         ensures exact { IfErr result (IsRefusedDestroy (lives_of self.old.recorded.caches) id) }
         ensures same { OnErr result
-            ((self.new.recorded ≡ self.old.recorded) × (pass.new ≡ pass.old)) }
+            ((self.new.recorded ≡ self.old.recorded) × (seat.new ≡ seat.old)) }
+        ensures number { seat.new.number ≡ seat.old.number }
+        ensures accepted { OnOk result (seat.new.accepted ≡ seat.old.accepted + 1) }
         ensures kept { (self.new.given ≡ self.old.given) × (self.new.closed ≡ self.old.closed) }
     {
         match self.recorded.destroy(id) {
             Ok(()) => {
-                self.show(pass);
+                seat.accept();
+                self.show(&mut seat.pass);
                 Ok(())
             }
             Err(Cause::NoSuchCache) => Err(DestroyFault::NoSuchCache),

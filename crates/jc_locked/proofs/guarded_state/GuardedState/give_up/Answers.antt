@@ -23,7 +23,7 @@ pub keep_left-requires : goal.keep_left-requires
 keep_left-requires g c =
     let old = c.args.self.now.recorded in
     let draft = c.args.draft.now in
-    told_or_left g.N.Name.configs (lives_of old.caches) (lives_of old.caches) old.transcript old.transcript draft draft c.items.result.now c.args.pass.now (c.is_open.ensures.open c.if-not-is_open.false) c.requires c.in-Ok.left c.in-Ok.ensures.outcome c.in-Ok.ensures.left
+    told_or_left g.N.Name.configs (lives_of old.caches) (lives_of old.caches) old.transcript old.transcript draft draft c.items.result.now c.args.seat.now.pass (c.is_open.ensures.open c.if-not-is_open.false) c.requires c.in-Ok.left c.in-Ok.ensures.outcome c.in-Ok.ensures.left
 
 module _ (g : given.Over) (c : goal.After-show g) where
   ends_so : c.end_with.new.draft ≡ record c.args.draft.now { told = c.args.draft.now.told ++ c.in-Ok.left; end = ends.GivenUp }
@@ -58,7 +58,7 @@ pub returns-clause-told : goal.returns-clause-told
 returns-clause-told g c =
     let old = c.args.self.now.recorded in
     let draft = c.args.draft.now in
-    elim (told_or_left g.N.Name.configs (lives_of old.caches) (lives_of old.caches) old.transcript old.transcript draft draft c.items.result.now c.args.pass.now (c.is_open.ensures.open c.if-not-is_open.false) c.requires c.in-Ok.left c.in-Ok.ensures.outcome c.in-Ok.ensures.left) [
+    elim (told_or_left g.N.Name.configs (lives_of old.caches) (lives_of old.caches) old.transcript old.transcript draft draft c.items.result.now c.args.seat.now.pass (c.is_open.ensures.open c.if-not-is_open.false) c.requires c.in-Ok.left c.in-Ok.ensures.outcome c.in-Ok.ensures.left) [
       | inl none ↦ inl none
       | inr none ↦ inr (tells g c ∙ (ap (λ (ns : List Notice). draft.told ++ ns) none ∙ append-nil draft.told))
     ]

@@ -18,5 +18,6 @@ returns-clause-ok g c =
     rw (← c.self.view_is)
     (record {
       added = ap (λ (h : History). h.entries) c.push.ensures ∙ ap (λ (e : Entry). c.self.inside.own.past.history.entries ++ e ∷ []) entry;
-      stands = subst (λ (e : Entry). EntryIsLast g.N.Name.configs e c.give_up-given_up.new.pass) entry c.in_default.ensures.ok.1;
+      stands = subst (λ (e : Entry). EntryIsLast g.N.Name.configs e c.give_up-given_up.new.seat.pass) entry c.in_default.ensures.ok.1;
+      accepted = c.in_default.ensures.accepted;
     })

@@ -1,8 +1,8 @@
-use Rattle.std.proofs.Common.{sym, subst}
+use Rattle.std.proofs.Common.{◌∙◌, sym, subst}
 use Rattle.std.proofs.lemmas.Result.{err_from_is_err_and}
 use Rattle.jc_index.proofs.Lists.{prefix_trans}
 use Rattle.jc_locked.specs.Serving.{HasStated}
-use Rattle.jc_shared.proofs.Carrying.{same_call}
+use Rattle.jc_shared.proofs.Carrying.{same_call, counts_on}
 use Rattle.jc_shared.proofs.Writing.{has_stated, takes_in}
 use Rattle.jc_shared.proofs.manager.Manager.carry_on.Goals as goal
 
@@ -14,9 +14,11 @@ loop-preserved g c =
       tt,
       same_call c.args.draft.now c.loop.draft c.advance.new.draft before.2 step.same,
       step.brought,
-      prefix_trans c.args.pass.now.images c.loop.pass.images c.advance.new.pass.images before.4 step.front,
+      prefix_trans c.args.seat.now.pass.images c.loop.seat.pass.images c.advance.new.seat.pass.images before.4 step.front,
       λ first h. step.told first (before.5 first h),
       λ first h. takes_in g.W.Writer.may g.K.FilteredListener.state_after c.loop.hooks c.advance.new.hooks c.loop.draft.answers _ c.advance.new.draft.answers step.served first (before.6 first h),
+      step.number ∙ before.7,
+      counts_on c.args.seat.now.accepted c.loop.seat.accepted c.advance.new.seat.accepted c.args.draft.now c.loop.draft c.advance.new.draft before.8 step.counted,
     )
 
 pub returns-in_err-step-in-Need-clause-wrote : goal.returns-in_err-step-in-Need-clause-wrote
