@@ -1,5 +1,5 @@
 -- What the getters of matches read, in the words of their rows.
-use Rattle.std.proofs.Common.{◌≡◌, ◌≢◌, ◌<◌, ◌^◌, ℕ, Bool, true, false, List, Option, Some, None, Result, Ok, Err, option_map, refl, sym, ap, ap₂, subst, inl, IfSome, ◌∙◌, codes}
+use Rattle.std.proofs.Common.{◌≡◌, ◌≢◌, ◌<◌, ◌^◌, ℕ, Bool, true, false, List, [], ◌∷◌, Option, Some, None, Result, Ok, Err, option_map, refl, sym, ap, ap₂, subst, inl, inr, IfSome, ◌∙◌, codes}
 use Rattle.std.specs.Bool.{MatchBool}
 use Rattle.std.specs.Prelude.{MatchOption}
 use Rattle.std.specs.Str.Parse.{ParsesUnsigned}
@@ -8,14 +8,15 @@ use Rattle.std.specs.Str.{bytes_eq}
 use Rattle.clap.specs.Facts.{Entry}
 use Rattle.clap.specs.Matches.{matched_of, first_value}
 use Rattle.clap.specs.Walk.{row_of, rows_of, first_of}
-use Rattle.clap.specs.Words.{Text, Row, ReadsOne, is_simple}
-use Rattle.clap.specs.Kinds.{HasKind}
+use Rattle.clap.specs.Words.{Text, Row, ReadsOne, is_simple, kind_of}
+use Rattle.clap.specs.Kinds.{Kinds, HasKind}
 use Rattle.clap.specs.Faults.{fault_of, is_simple_and_free}
 use Rattle.clap.specs.Simple.{App}
 use Rattle.clap.specs.declared.parser.matches.Found.{Found}
 use Rattle.clap.specs.declared.parser.matches.MatchedArg.{MatchedArg}
 use Rattle.clap.specs.declared.parser.matches.ValueSource.{ValueSource}
 use Rattle.clap.specs.declared.error.Error.{Error}
+use Rattle.clap.specs.declared.error.kind.ErrorKind.TheVariants.{ArgumentConflict, InvalidSubcommand}
 use Rattle.jc_cli.specs.Program.{IsNumber, truth, source_of, is_of_words, is_in_words, may_be_input, clash_of, AsksBy, AsksForNone, KeepsLimits, MayRefuseInFull, format_text, explain_text, SaysNoExplain, program}
 use Rattle.clap.proofs.OnLiterals.{clap_on_literals}
 use Rattle.clap.proofs.WalkLemmas.{find_row, first_value-rows}
@@ -158,3 +159,13 @@ worded f id o s comes is = ap is_of_words (sym is ∙ comes ∙ source-rows f id
 -- whether a path stands for standard input
 pub input_read : (f : Found) (id : Text) (o p : Option (Bor (List ℕ))) → option_map (λ s. s.now) o ≡ first_value f id → o ≡ p → may_be_input (option_map (λ s. s.now) p) ≡ may_be_input (first_of id (rows_of f))
 input_read f id o p reads is = ap may_be_input (ap (λ (x : Option (Bor (List ℕ))). option_map (λ s. s.now) x) (sym is) ∙ reads ∙ first_value-rows f id)
+
+-- A refusal of the same kind.
+
+like : (kinds : Kinds) (e e' : Error) → kind_of e' ≡ kind_of e → HasKind kinds e → HasKind kinds e'
+like kinds e e' same has = rw same has
+
+pub same_kind : (words : List Text) (e e' : Error) → kind_of e' ≡ kind_of e → MayRefuseInFull words e → MayRefuseInFull words e'
+same_kind words e e' same (inl has) = inl (like (fault_of program words) e e' same has)
+same_kind words e e' same (inr (inl (has, apart))) = inr (inl (like (ArgumentConflict ∷ []) e e' same has, apart))
+same_kind words e e' same (inr (inr (has, together, none))) = inr (inr (like (InvalidSubcommand ∷ []) e e' same has, together, none))

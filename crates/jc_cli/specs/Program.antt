@@ -62,7 +62,7 @@ abbrev pub capacity_rule : Rule
 capacity_rule = record (new_rule (codes "capacity")) { long = Some (codes "capacity"); required = true; action = Some Set; value_names = 1 }
 
 abbrev pub replay_app : App
-replay_app = with_rule (with_rule (with_rule (new_app (codes "replay")) (path_rule (codes "TRACE") true)) capacity_rule) explain_rule
+replay_app = with_rule (with_rule (with_rule (with_rule (new_app (codes "replay")) (path_rule (codes "TRACE") true)) capacity_rule) format_rule) explain_rule
 
 -- the words begin after the program's name, one of them has to be a subcommand, and there is a version to print, behind a
 -- subcommand too
@@ -218,6 +218,7 @@ ListsNoCapacities list = (ns : List ℕ) → ListsCapacities list ns → ⊥
 pub record AsksReplay (rows : List Row) (replay : Replay) : Type 0 where
   pub trace : first_of (codes "TRACE") rows ≡ Some (string_bytes replay.trace)
   pub capacities : ListsCapacities (first_of (codes "capacity") rows) replay.capacities.items
+  pub format : first_of (codes "format") rows ≡ Some (format_text replay.format)
   pub explain : first_of (codes "explain") rows ≡ Some (explain_text replay.explain)
 
 -- what a subcommand and its matches ask for

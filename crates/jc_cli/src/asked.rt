@@ -1,6 +1,6 @@
 //! What words ask for.
 
-use crate::run::{Explain, Run};
+use crate::run::{Explain, Format, Run};
 
 /// A check of a configuration and, where its path is there, of a script. Whether all faults are told; `strict` and
 /// `explain` are a run's.
@@ -13,11 +13,12 @@ pub struct Check {
     pub explain: Explain,
 }
 
-/// A replay of a trace on a cache of each of these capacities, in their order.
+/// A replay of a trace on a cache of each of these capacities, in their order, and the form of its table.
 #[derive(Drop)]
 pub struct Replay {
     pub trace: String,
     pub capacities: Vec<u32>,
+    pub format: Format,
     pub explain: Explain,
 }
 

@@ -50,14 +50,14 @@ fn seed<'a>(alloc: Global) -> Arg<'a>
         .default_value("0")
 }
 
-fn format<'a>(alloc: Global) -> Arg<'a>
+fn format<'a>(alloc: Global, help: &'a str) -> Arg<'a>
     ensures rule { rule_of result ≡ format_rule }
     ensures global { result.global ≡ false }
 {
     Arg::new(alloc, "format")
         .long("format")
         .value_name("FORM")
-        .help(help::FORMAT)
+        .help(help)
         .action(ArgAction::Set)
         .default_value("text")
 }
@@ -108,7 +108,7 @@ fn run<'a>(alloc: Global) -> Result<Command<'a>, AllocError>
         .arg(workers(alloc))?
         .arg(seed(alloc))?
         .arg(flag(alloc, "serial", help::SERIAL))?
-        .arg(format(alloc))?
+        .arg(format(alloc, help::FORMAT))?
         .arg(flag(alloc, "strict", help::STRICT))?
         .arg(explain(alloc))
 }
@@ -144,6 +144,7 @@ fn replay<'a>(alloc: Global) -> Result<Command<'a>, AllocError>
     command_with_help(alloc, "replay", help::REPLAY, help::AFTER_TRACE)
         .arg(path(alloc, "TRACE", help::TRACE))?
         .arg(capacity(alloc))?
+        .arg(format(alloc, help::TABLE))?
         .arg(explain(alloc))
 }
 

@@ -49,12 +49,15 @@ pub const SERIAL: &str =
 pub const FORMAT: &str =
     "The report's form: text, or json, an object a line for each line of SCRIPT and each cache";
 
+/// The option `--format` of `replay`, in a line.
+pub const TABLE: &str = "The table's form: text, or json, an object a line for each capacity";
+
 /// The option `--strict`, in a line.
 pub const STRICT: &str =
-    "Refuses members of a line that its op does not need, and a configuration without caches";
+    "Refuses a line with a member twice or that its op does not need, and a CONFIG without caches";
 
 /// The option `--all`, in a line.
-pub const ALL: &str = "Tells the faults of all lines of SCRIPT, and not the first alone";
+pub const ALL: &str = "Tells the faults of all tables of CONFIG, or of all lines of SCRIPT";
 
 /// The option `--explain`, in a line.
 pub const EXPLAIN: &str =

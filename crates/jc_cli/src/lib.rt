@@ -12,6 +12,7 @@ mod fault;
 mod format;
 mod given;
 mod help;
+mod hint;
 mod input;
 mod no_text;
 mod note;

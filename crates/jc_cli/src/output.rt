@@ -85,7 +85,8 @@ impl<W: Write> WatchedWriter<W> {
         ensures bytes { WriteAppends (W.contents self.old.inner) (W.contents self.new.inner)
             result buf.now }
         ensures given { self.new.texts ≡ self.old.texts }
-        ensures failures { self.new.failures ≡ next_count_if (takes_nothing result) self.old.failures }
+        ensures failures { self.new.failures
+            ≡ next_count_if (takes_nothing result) self.old.failures }
         ensures unheard { UnheardAfter result self.old.unheard self.new.unheard }
         ensures flushed { self.new.flushed ≡ false }
     {

@@ -11,6 +11,7 @@ use crate::command::program;
 use crate::explain::{explain_in, written_out};
 use crate::format::format_in;
 use crate::help;
+use crate::hint::without_far_hint;
 use crate::run::{Options, Run};
 use clap::error::ErrorKind;
 use clap::{ArgMatches, Error};
@@ -112,10 +113,12 @@ fn check_asked(alloc: Global, matches: &ArgMatches<'_>) -> Result<Option<Check>,
 
 /// What the matches of `replay` ask for.
 fn replay_asked(alloc: Global, matches: &ArgMatches<'_>) -> Result<Option<Replay>, AllocError>
-    ensures asks { IfOk result (λ replay. IfSome replay (AsksReplay (rows_in_matches matches.now))) }
+    ensures asks { IfOk result (λ replay.
+        IfSome replay (AsksReplay (rows_in_matches matches.now))) }
     ensures limits { IfOk result (λ replay.
         IfSome replay (λ r. All IsRowCount r.capacities.items)) }
-    ensures none { IfOk result (λ replay. replay ≡ None → HaveNoReplay (rows_in_matches matches.now)) }
+    ensures none { IfOk result (λ replay.
+        replay ≡ None → HaveNoReplay (rows_in_matches matches.now)) }
 {
     let Some(trace) = matches.get_str("TRACE") else {
         return Ok(None);
@@ -126,6 +129,9 @@ fn replay_asked(alloc: Global, matches: &ArgMatches<'_>) -> Result<Option<Replay
     let Some(capacities) = read_capacities(alloc, list)? else {
         return Ok(None);
     };
+    let Some(format) = format_in(matches) else {
+        return Ok(None);
+    };
     let Some(explain) = explain_in(matches) else {
         return Ok(None);
     };
@@ -133,6 +139,7 @@ fn replay_asked(alloc: Global, matches: &ArgMatches<'_>) -> Result<Option<Replay
     Ok(Some(Replay {
         trace,
         capacities,
+        format,
         explain,
     }))
 }
@@ -177,7 +184,7 @@ fn unasked_text(matches: &ArgMatches<'_>) -> &'static str {
         Some((name, inner)) => {
             if explain_in(inner).is_none() {
                 help::NO_EXPLAIN
-            } else if name == "run" {
+            } else if name != "check" && format_in(inner).is_none() {
                 help::NO_FORMAT
             } else {
                 help::NO_LIST
@@ -216,6 +223,7 @@ fn read_whole<'a>(alloc: Global, words: &'a [&'a str]) -> Result<Asked, Error>
 /// What the clauses do not say: that words which `clap` takes ask for a run or a check, since its contract does not give
 /// the rows of a subcommand for every such words; that want of memory comes only where memory was refused; which of
 /// several mistakes is told, and the texts of mistakes and of help.
+#[tactic(auto, using(crate::proofs::Readings::same_kind))]
 pub fn read_words(alloc: Global, words: &[&str]) -> Result<Option<Asked>, Error>
     ensures none { IfOk result (λ asked. (asked ≡ None) ↔ (words.now ≡ [])) }
     ensures wordless { words.now ≡ [] → result ≡ Ok None }
@@ -227,6 +235,8 @@ pub fn read_words(alloc: Global, words: &[&str]) -> Result<Option<Asked>, Error>
         return Ok(None);
     }
     let written = written_out(alloc, words)?;
-    let asked = read_whole(alloc, written.as_slice())?;
-    Ok(Some(asked))
+    match read_whole(alloc, written.as_slice()) {
+        Ok(asked) => Ok(Some(asked)),
+        Err(error) => Err(without_far_hint(alloc, error)),
+    }
 }

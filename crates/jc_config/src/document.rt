@@ -16,7 +16,7 @@ use std::alloc::{AllocError, Global};
 use toml::{Table, Value};
 
 /// The TOML document that these bytes are; `None` where they are not UTF-8 or no TOML.
-pub fn parse(alloc: Global, bytes: &[u8]) -> Result<Option<Table>, AllocError>
+pub fn read_document(alloc: Global, bytes: &[u8]) -> Result<Option<Table>, AllocError>
     ensures { IfOk result (λ o. option_map table_view o ≡ document_of bytes.now) }
 {
     match std::str::from_utf8(bytes) {

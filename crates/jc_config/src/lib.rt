@@ -12,6 +12,8 @@ mod read;
 mod settings;
 mod totals;
 
+pub use cache::read_cache;
+pub use document::{read_document, tables};
 pub use fault::{ConfigFault, Member};
 pub use kinds::{
     CacheSettings, Configuration, HookKinds, LoaderKind, ProcessorKind, WriterKind, capacity_in,

@@ -5,7 +5,7 @@ ghost use Rattle.jc_config.specs.Faults.{GivesConfig};
 ghost use Rattle.jc_config.specs.Config.{configuration_with, configuration_in};
 ghost use Rattle.jc_config.specs.Limits.{within_limits};
 
-use crate::document::{parse, read_caches, tables};
+use crate::document::{read_caches, read_document, tables};
 use crate::fault::ConfigFault;
 use crate::kinds::{CacheSettings, Configuration, HookKinds};
 use crate::settings::Settings;
@@ -59,7 +59,7 @@ pub fn read_config(alloc: Global, bytes: &[u8]) -> Result<Configuration, ConfigF
     if bytes.len() > TEXT_BYTES {
         return Err(ConfigFault::TooLong);
     }
-    let Some(document) = parse(alloc, bytes)? else {
+    let Some(document) = read_document(alloc, bytes)? else {
         return Err(ConfigFault::NotToml);
     };
     let tables = tables(&document)?;

@@ -1,5 +1,5 @@
 -- What a member is, shown in a line.
-use Rattle.std.specs.Prelude.{ℕ, ℤ, List, Option, Some, None, option_and_then, is_some, if◌then◌else◌, codes, decimal}
+use Rattle.std.specs.Prelude.{ℕ, ℤ, nat_lt, List, length, Option, Some, None, option_and_then, is_some, if◌then◌else◌, codes, decimal}
 use Rattle.std.specs.Fmt.{signed_decimal}
 use Rattle.toml.specs.Data as toml
 use Rattle.serde_json.specs.Data as json
@@ -36,3 +36,8 @@ json_kind d =
 
 abbrev pub json_shown : json.Data → List ℕ
 json_shown d = text_or_number_shown decimal (negative_shown (json_kind d) (option_and_then find.as_i64 (find.as_number d))) (find.as_str d) (option_and_then find.as_u64 (find.as_number d))
+
+-- a number as it is written, where it is short
+abbrev pub written_shown : Option (List ℕ) → json.Data → List ℕ
+written_shown None d = json_shown d
+written_shown (Some text) d = if nat_lt 63 (length text) then json_shown d else text

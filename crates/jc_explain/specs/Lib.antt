@@ -1,4 +1,5 @@
 pub mod Config
+pub mod ConfigFaults
 pub mod Every
 pub mod Found
 pub mod Kept
@@ -10,6 +11,7 @@ pub mod Policy
 pub mod Script
 pub mod Shape
 pub mod Spelling
+pub mod Stray
 pub mod Stranger
 pub mod Together
 pub mod Trace

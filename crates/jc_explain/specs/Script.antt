@@ -5,11 +5,12 @@ use Rattle.serde_json.specs.Data.{Data}
 use Rattle.serde_json.specs.Find.{get, as_str}
 use Rattle.jc_script.specs.Member.{json_of, member_name}
 use Rattle.jc_script.specs.Script.{is_feed}
+use Rattle.jc_script.specs.Twice.{number_written}
 use Rattle.jc_script.specs.declared.fault.Member.{Member}
 use Rattle.jc_script.specs.declared.fault.Member.TheVariants.{Cache, Op, Duration, Keys, Pairs}
 use Rattle.jc_script.specs.declared.fault.ScriptFault.{ScriptFault}
 use Rattle.jc_script.specs.declared.fault.ScriptFault.TheVariants.{TooLong, NotJson, NotObject, Bad, OutOfMemory}
-use Rattle.jc_explain.specs.Found.{json_shown}
+use Rattle.jc_explain.specs.Found.{json_shown, written_shown}
 use Rattle.jc_explain.specs.Lines.{text_shown, suggestion, member_line, missing_line, no_member_line, plain_line}
 use Rattle.jc_explain.specs.Methods.{op_of_method}
 use Rattle.jc_explain.specs.Other.{other_in}
@@ -63,9 +64,9 @@ value_suggestion_by names m (Some text) = suggestion (near_word m text (script_w
 abbrev pub value_suggestion : List (List ℕ) → Member → Data → List ℕ
 value_suggestion names m d = value_suggestion_by names m (as_str d)
 
--- a member as it is, and as it has to be; the names are those of the configuration's caches
-abbrev pub json_value_line : List (List ℕ) → Member → Data → List ℕ
-json_value_line names m d = member_line (member_name m) (json_shown d) (script_allowed m) (value_suggestion names m d)
+-- a member as it is, and as it has to be; the names are those of the configuration's caches, a number is as it is written
+abbrev pub json_value_line : List (List ℕ) → Member → Option (List ℕ) → Data → List ℕ
+json_value_line names m written d = member_line (member_name m) (written_shown written d) (script_allowed m) (value_suggestion names m d)
 
 -- the member nearest to one that no op has
 abbrev pub near_other : List ℕ → Option (List ℕ)
@@ -80,12 +81,12 @@ abbrev pub other_line : Data → List ℕ
 other_line d = other_line_by (other_in d)
 
 -- where the member is missing, the first that the op does not have may be meant for it
-abbrev pub json_member_lines_by : List (List ℕ) → Member → Data → Option Data → List ℕ
-json_member_lines_by names m line None = missing_line (member_name m) (script_allowed m) ++ other_line line
-json_member_lines_by names m line (Some d) = json_value_line names m d
+abbrev pub json_member_lines_by : List (List ℕ) → Member → Option (List ℕ) → Data → Option Data → List ℕ
+json_member_lines_by names m written line None = missing_line (member_name m) (script_allowed m) ++ other_line line
+json_member_lines_by names m written line (Some d) = json_value_line names m written d
 
-abbrev pub json_member_lines : List (List ℕ) → Member → Data → List ℕ
-json_member_lines names m line = json_member_lines_by names m line (get (member_name m) line)
+abbrev pub json_member_lines : List (List ℕ) → Member → Option (List ℕ) → Data → List ℕ
+json_member_lines names m written line = json_member_lines_by names m written line (get (member_name m) line)
 
 -- the names with a blank before each
 abbrev pub names_text : List (List ℕ) → List ℕ
@@ -113,13 +114,21 @@ further names Keys line = twice_line false (get (codes "ks") line)
 further names Pairs line = twice_line true (get (codes "kvs") line)
 further names _ line = []
 
-abbrev pub bad_lines : List (List ℕ) → Member → Data → List ℕ
-bad_lines names m line = json_member_lines names m line ++ further names m line
+abbrev pub bad_lines : List (List ℕ) → Member → Option (List ℕ) → Data → List ℕ
+bad_lines names m written line = json_member_lines names m written line ++ further names m line
 
 -- of a line that is JSON
 abbrev pub lines_at : (Data → List ℕ) → Option Data → List ℕ
 lines_at lines None = []
 lines_at lines (Some d) = lines d
+
+-- by the line's bytes
+abbrev pub bad_in_piece : List (List ℕ) → Member → List ℕ → List ℕ
+bad_in_piece names m piece = lines_at (bad_lines names m (number_written (member_name m) piece)) (json_of piece)
+
+abbrev pub bad_at : List (List ℕ) → Member → Option (List ℕ) → List ℕ
+bad_at names m None = []
+bad_at names m (Some piece) = bad_in_piece names m piece
 
 abbrev pub too_long_line : List ℕ
 too_long_line = plain_line (codes "at most 8388608 bytes are read")
@@ -129,5 +138,5 @@ abbrev pub TellsScriptFault : List ℕ → List (List ℕ) → ScriptFault → L
 TellsScriptFault bytes names TooLong text = text ≡ too_long_line
 TellsScriptFault bytes names (NotJson n) text = TellsNotJson bytes n text
 TellsScriptFault bytes names (NotObject n) text = text ≡ lines_at object_line (json_at n bytes)
-TellsScriptFault bytes names (Bad n m) text = text ≡ lines_at (bad_lines names m) (json_at n bytes)
+TellsScriptFault bytes names (Bad n m) text = text ≡ bad_at names m (piece_at n bytes)
 TellsScriptFault bytes names OutOfMemory text = text ≡ []

@@ -1,5 +1,5 @@
 -- Explanations of a trace's faults.
-use Rattle.std.specs.Prelude.{ℕ, List, [], ◌++◌, Bool, if◌then◌else◌, Option, Some, None, codes}
+use Rattle.std.specs.Prelude.{ℕ, List, [], ◌++◌, if◌then◌else◌, Option, Some, None, codes}
 use Rattle.std.specs.Str.{is_utf8}
 use Rattle.jc_explain.specs.Lines.{text_shown}
 use Rattle.jc_explain.specs.Script.{piece_at}

@@ -16,7 +16,7 @@ use crate::spelling::nearest;
 use crate::stranger::{stranger_in, stranger_of};
 use crate::together::{first_line, sum_lines};
 use crate::words::{config_allowed, config_members, config_words};
-use jc_config::{ConfigFault, Member};
+use jc_config::{ConfigFault, Member, read_document};
 use std::alloc::{AllocError, Global};
 use toml::{Table, Value};
 
@@ -60,25 +60,6 @@ fn not_toml(alloc: Global, bytes: &[u8]) -> Result<String, AllocError>
     let place = not_toml_at(alloc, bytes)?;
     let shape = config_shape(alloc, bytes)?;
     join(alloc, &place, &shape)
-}
-
-/// The TOML document that these bytes are, if they are one.
-pub(crate) fn document_of(alloc: Global, bytes: &[u8]) -> Result<Option<Table>, AllocError>
-    ensures { IfOk result (λ o. option_map table_view o ≡ document_of bytes.now) }
-{
-    match std::str::from_utf8(bytes) {
-        Err(_) => Ok(None),
-        Ok(text) => match toml::table_from_str(alloc, text) {
-            Ok(table) => Ok(Some(table)),
-            Err(e) => {
-                if e.is_memory() {
-                    Err(AllocError)
-                } else {
-                    Ok(None)
-                }
-            }
-        },
-    }
 }
 
 pub(crate) fn cache_entry(document: &Table) -> Option<&Value>
@@ -249,7 +230,7 @@ fn at_table(
 ) -> Result<String, AllocError>
     ensures { IfOk result (λ s. string_bytes s ≡ at_table cache member (document_of bytes.now)) }
 {
-    let Some(document) = document_of(alloc, bytes)? else {
+    let Some(document) = read_document(alloc, bytes)? else {
         return Ok(String::new(alloc));
     };
     match table_at(&document, cache) {
@@ -264,7 +245,7 @@ fn at_table(
 fn unknown_entry(alloc: Global, bytes: &[u8]) -> Result<String, AllocError>
     ensures { IfOk result (λ s. string_bytes s ≡ of_document entry_lines (document_of bytes.now)) }
 {
-    match document_of(alloc, bytes)? {
+    match read_document(alloc, bytes)? {
         Some(document) => entry_lines(alloc, &document),
         None => Ok(String::new(alloc)),
     }
@@ -273,7 +254,7 @@ fn unknown_entry(alloc: Global, bytes: &[u8]) -> Result<String, AllocError>
 fn total_lines(alloc: Global, bytes: &[u8]) -> Result<String, AllocError>
     ensures { IfOk result (λ s. string_bytes s ≡ of_document sum_lines (document_of bytes.now)) }
 {
-    match document_of(alloc, bytes)? {
+    match read_document(alloc, bytes)? {
         Some(document) => sum_lines(alloc, &document),
         None => Ok(String::new(alloc)),
     }

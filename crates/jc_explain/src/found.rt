@@ -2,7 +2,8 @@
 ghost use Rattle.std.specs.Prelude.{◌≡◌, IfOk, string_bytes};
 ghost use Rattle.toml.specs.View.{view as toml_view};
 ghost use Rattle.serde_json.specs.View.{view as json_view};
-ghost use Rattle.jc_explain.specs.Found.{toml_shown, toml_kind, json_shown, json_kind};
+ghost use Rattle.jc_explain.specs.Found.{toml_shown, toml_kind, json_shown, json_kind, written_shown};
+ghost use Rattle.jc_explain.specs.Words.{word_lent};
 
 use crate::lines::show_text;
 use std::alloc::{AllocError, Global};
@@ -51,6 +52,26 @@ pub fn show_json(alloc: Global, value: &serde_json::Value) -> Result<String, All
         return format!(in alloc; "{number}");
     }
     String::from_str(alloc, json_kind(value))
+}
+
+/// A value of a script, or the number that it is as it is written there, where that is short.
+pub fn show_written(
+    alloc: Global,
+    value: &serde_json::Value,
+    written: Option<&str>,
+) -> Result<String, AllocError>
+    ensures { IfOk result (λ s. string_bytes s
+        ≡ written_shown (word_lent written.entry) (json_view value.now)) }
+{
+    match written {
+        None => show_json(alloc, value),
+        Some(text) => {
+            if text.len() > 63 {
+                return show_json(alloc, value);
+            }
+            String::from_str(alloc, text)
+        }
+    }
 }
 
 /// The kind of a value that is neither a text nor a whole number.

@@ -2,6 +2,7 @@
 #![tactic(auto)]
 
 mod config;
+mod config_faults;
 mod every;
 mod found;
 mod kept;
@@ -14,6 +15,7 @@ mod script;
 mod shape;
 mod spelling;
 mod stranger;
+mod stray;
 mod together;
 mod trace;
 mod twice;
@@ -21,9 +23,11 @@ mod unread;
 mod words;
 
 pub use config::{explain_config, explain_no_caches};
+pub use config_faults::all_config_faults;
 pub use every::{all_faults, all_strays};
 pub use kept::Kept;
-pub use script::{explain_other, explain_script, explain_too_long};
+pub use script::{explain_script, explain_too_long};
 pub use spelling::nearest;
+pub use stray::explain_stray;
 pub use trace::explain_key;
 pub use unread::{explain_path, explain_unread};

@@ -1,11 +1,11 @@
 //! Explanations of a script's faults.
 ghost use Rattle.std.specs.Prelude.{◌≡◌, IfOk, option_map, string_bytes};
 ghost use Rattle.serde_json.specs.View.{view};
-ghost use Rattle.jc_explain.specs.Script.{piece_at, json_at, column_line, TellsColumn, object_line, near_word, value_suggestion, json_value_line, near_other, other_line, json_member_lines, names_line, names_text, ops_line, line_policy, further, bad_lines, lines_at, too_long_line, TellsNotJson, TellsScriptFault};
+ghost use Rattle.jc_explain.specs.Script.{piece_at, json_at, column_line, TellsColumn, object_line, near_word, value_suggestion, json_value_line, near_other, other_line, json_member_lines, names_line, names_text, ops_line, line_policy, further, bad_lines, bad_in_piece, bad_at, lines_at, too_long_line, TellsNotJson, TellsScriptFault};
 ghost use Rattle.jc_explain.specs.Lines.{suggestion};
 ghost use Rattle.jc_explain.specs.Words.{ops, script_words, word_lent, words_lent};
 
-use crate::found::show_json;
+use crate::found::{show_json, show_written};
 use crate::lines::{
     join, member_line, missing_line, no_member_line, plain_line, show_text, suggest,
 };
@@ -17,7 +17,7 @@ use crate::spelling::nearest;
 use crate::stranger::is_known;
 use crate::twice::twice_line;
 use crate::words::{ops, policies, script_allowed, script_members};
-use jc_script::{Member, ScriptFault, pieces, read_json};
+use jc_script::{Member, ScriptFault, number_written, pieces, read_json};
 use serde_json::Value;
 use std::alloc::{AllocError, Global};
 
@@ -147,14 +147,15 @@ fn suggest_value(
 fn value_line(
     alloc: Global,
     value: &Value,
+    written: Option<&str>,
     member: Member,
     names: &[&str],
 ) -> Result<String, AllocError>
-    ensures { IfOk result (λ s.
-        string_bytes s ≡ json_value_line (words_lent names.now) member (view value.now)) }
+    ensures { IfOk result (λ s. string_bytes s ≡ json_value_line (words_lent names.now) member
+        (word_lent written.entry) (view value.now)) }
 {
     let suggestion = suggest_value(alloc, value, member, names)?;
-    let shown = show_json(alloc, value)?;
+    let shown = show_written(alloc, value, written)?;
     member_line(
         alloc,
         member.name(),
@@ -175,7 +176,7 @@ fn near_other(alloc: Global, word: &str) -> Result<Option<&'static str>, AllocEr
 }
 
 /// The line of the first member that the line's op does not have, if there is one.
-fn other_line(alloc: Global, line: &Value) -> Result<String, AllocError>
+pub(crate) fn other_line(alloc: Global, line: &Value) -> Result<String, AllocError>
     ensures { IfOk result (λ s. string_bytes s ≡ other_line (view line.now)) }
 {
     let Some(word) = other_in(line) else {
@@ -191,14 +192,15 @@ fn other_line(alloc: Global, line: &Value) -> Result<String, AllocError>
 fn member_lines(
     alloc: Global,
     line: &Value,
+    written: Option<&str>,
     member: Member,
     names: &[&str],
 ) -> Result<String, AllocError>
-    ensures { IfOk result (λ s.
-        string_bytes s ≡ json_member_lines (words_lent names.now) member (view line.now)) }
+    ensures { IfOk result (λ s. string_bytes s ≡ json_member_lines (words_lent names.now) member
+        (word_lent written.entry) (view line.now)) }
 {
     match line.get(member.name()) {
-        Some(value) => value_line(alloc, value, member, names),
+        Some(value) => value_line(alloc, value, written, member, names),
         None => {
             let missing = missing_line(alloc, member.name(), script_allowed(member))?;
             let other = other_line(alloc, line)?;
@@ -272,15 +274,35 @@ fn further(
 fn bad_lines(
     alloc: Global,
     line: &Value,
+    written: Option<&str>,
     member: Member,
     names: &[&str],
 ) -> Result<String, AllocError>
-    ensures { IfOk result (λ s.
-        string_bytes s ≡ bad_lines (words_lent names.now) member (view line.now)) }
+    ensures { IfOk result (λ s. string_bytes s
+        ≡ bad_lines (words_lent names.now) member (word_lent written.entry) (view line.now)) }
 {
-    let lines = member_lines(alloc, line, member, names)?;
+    let lines = member_lines(alloc, line, written, member, names)?;
     let further = further(alloc, line, member, names)?;
     format!(in alloc; "{lines}{further}")
+}
+
+/// The same by the line's bytes.
+fn bad_in_piece(
+    alloc: Global,
+    piece: &[u8],
+    member: Member,
+    names: &[&str],
+) -> Result<String, AllocError>
+    ensures { IfOk result (λ s. string_bytes s
+        ≡ bad_in_piece (words_lent names.now) member piece.now) }
+{
+    let Some(line) = read_json(alloc, piece)? else {
+        return Ok(String::new(alloc));
+    };
+    match number_written(alloc, piece, member.name())? {
+        Some(text) => bad_lines(alloc, &line, Some(text.as_str()), member, names),
+        None => bad_lines(alloc, &line, None, member, names),
+    }
 }
 
 fn bad_member(
@@ -290,11 +312,11 @@ fn bad_member(
     member: Member,
     names: &[&str],
 ) -> Result<String, AllocError>
-    ensures { IfOk result (λ s. string_bytes s ≡
-        lines_at (bad_lines (words_lent names.now) member) (json_at line bytes.now)) }
+    ensures { IfOk result (λ s. string_bytes s
+        ≡ bad_at (words_lent names.now) member (piece_at line bytes.now)) }
 {
-    match json_at(alloc, bytes, line)? {
-        Some(value) => bad_lines(alloc, &value, member, names),
+    match piece_at(alloc, bytes, line)? {
+        Some(piece) => bad_in_piece(alloc, piece, member, names),
         None => Ok(String::new(alloc)),
     }
 }
@@ -304,16 +326,6 @@ fn not_object(alloc: Global, bytes: &[u8], line: usize) -> Result<String, AllocE
 {
     match json_at(alloc, bytes, line)? {
         Some(value) => object_line(alloc, &value),
-        None => Ok(String::new(alloc)),
-    }
-}
-
-/// The line that names a member which the op of this line does not need, by the line's number.
-pub fn explain_other(alloc: Global, bytes: &[u8], line: usize) -> Result<String, AllocError>
-    ensures { IfOk result (λ s. string_bytes s ≡ lines_at other_line (json_at line bytes.now)) }
-{
-    match json_at(alloc, bytes, line)? {
-        Some(value) => other_line(alloc, &value),
         None => Ok(String::new(alloc)),
     }
 }

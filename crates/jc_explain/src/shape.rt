@@ -3,8 +3,8 @@ ghost use Rattle.std.specs.Prelude.{◌≡◌, IfOk, is_some, string_bytes};
 ghost use Rattle.jc_config.specs.Config.{document_of};
 ghost use Rattle.jc_explain.specs.Shape.{first_mark, begins_by, is_blank, config_shape, script_shape};
 
-use crate::config::document_of;
 use crate::lines::plain_line;
+use jc_config::read_document;
 use std::alloc::{AllocError, Global};
 
 fn is_blank(byte: u8) -> bool
@@ -51,7 +51,7 @@ pub fn config_shape(alloc: Global, bytes: &[u8]) -> Result<String, AllocError>
 fn is_document(alloc: Global, bytes: &[u8]) -> Result<bool, AllocError>
     ensures { IfOk result (λ is. is ≡ is_some (document_of bytes.now)) }
 {
-    match document_of(alloc, bytes)? {
+    match read_document(alloc, bytes)? {
         Some(_) => Ok(true),
         None => Ok(false),
     }

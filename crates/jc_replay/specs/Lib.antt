@@ -1,3 +1,4 @@
 pub mod Hits
 pub mod Table
+pub mod TableJson
 pub mod Trace

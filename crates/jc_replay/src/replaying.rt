@@ -7,12 +7,14 @@ ghost use Rattle.jc_cuckoo.specs.Cells.{rows_in};
 ghost use Rattle.jc_engine.specs.Caches.{lives_of};
 ghost use Rattle.jc_replay.specs.Hits.{replay_config, first_lives, hits_from, ratio_of, replay_ratios, IsCapacity};
 ghost use Rattle.jc_replay.specs.Table.{replay_table};
+ghost use Rattle.jc_replay.specs.TableJson.{replay_json};
 ghost use Rattle.jc_replay.specs.Trace.{GivesReplay};
 
 use crate::fault::ReplayFault;
 use crate::lookup::meet;
 use crate::ratio::HitRatio;
 use crate::table::table_text;
+use crate::table_json::json_table;
 use crate::trace::read_trace;
 use jc_cuckoo::cuckoo::{Cuckoo, TableRefusal};
 use jc_cuckoo::mirror::NoMirror;
@@ -170,5 +172,20 @@ pub fn replay_table(
 {
     let ratios = replay(alloc, trace, capacities, seed)?;
     let text = table_text(alloc, ratios.as_slice())?;
+    Ok(text)
+}
+
+/// The same table as JSON.
+pub fn replay_json(
+    alloc: Global,
+    trace: &[u8],
+    capacities: &[u32],
+    seed: u64,
+) -> Result<String, ReplayFault>
+    requires { All IsCapacity capacities.now }
+    ensures { GivesReplay string_bytes result (replay_json trace.now capacities.now) }
+{
+    let ratios = replay(alloc, trace, capacities, seed)?;
+    let text = json_table(alloc, ratios.as_slice())?;
     Ok(text)
 }

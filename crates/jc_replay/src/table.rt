@@ -20,7 +20,7 @@ fn push_spaced(alloc: Global, text: &mut String, number: u32) -> Result<(), Allo
 }
 
 /// Hundredths of a percent, rounded down; of no lookups 0.
-fn hundredths(ratio: &HitRatio) -> u64
+pub(crate) fn hundredths(ratio: &HitRatio) -> u64
     ensures { result ≡ hundredths ratio.now }
 {
     let lookups = u64::from(ratio.lookups);

@@ -4,15 +4,19 @@ use Rattle.std.specs.Bool.{MatchBool}
 use Rattle.std.specs.declared.io.ErrorKind.{ErrorKind}
 use Rattle.jc_cli.specs.Faults.{fault_line, explained_line}
 use Rattle.jc_cli.specs.declared.fault.ProgramFault.{ProgramFault}
-use Rattle.jc_cli.specs.declared.fault.ProgramFault.TheVariants.{Run}
+use Rattle.jc_cli.specs.declared.fault.ProgramFault.TheVariants.{Config, Run}
 use Rattle.jc_cli.specs.declared.fault.RunFault.TheVariants.{Script, Entry}
 use Rattle.jc_config.specs.Config.{configuration_in}
 use Rattle.jc_config.specs.declared.fault.ConfigFault.{ConfigFault}
 use Rattle.jc_config.specs.declared.kinds.Configuration.{Configuration}
+use Rattle.jc_explain.specs.ConfigFaults.{all_config_faults}
 use Rattle.jc_explain.specs.Every.{all_faults, all_strays}
 use Rattle.jc_model.specs.declared.config.CacheConfig.{CacheConfig}
 use Rattle.jc_runner.specs.Explaining.{TellsFault}
 use Rattle.jc_script.specs.declared.fault.ScriptFault.{ScriptFault}
+
+abbrev pub of_config : ConfigFault → ProgramFault
+of_config fault = Config fault
 
 abbrev pub of_script : ScriptFault → ProgramFault
 of_script fault = Run (Script fault)
@@ -28,13 +32,18 @@ others_on strict caches script (Run (Script fault)) =
 others_on strict caches script (Run (Entry line)) = map of_entry (drop 1 (all_strays script))
 others_on strict caches script fault = []
 
-abbrev pub others_by : Bool → List ℕ → ProgramFault → Result Configuration ConfigFault → List ProgramFault
-others_by strict script fault (Err e) = []
-others_by strict script fault (Ok c) = others_on strict c.settings script fault
+abbrev pub script_others : Bool → List ℕ → ProgramFault → Result Configuration ConfigFault → List ProgramFault
+script_others strict script fault (Err e) = []
+script_others strict script fault (Ok c) = others_on strict c.settings script fault
+
+-- the faults of a configuration that stand behind the first
+abbrev pub config_others : List ℕ → List ProgramFault
+config_others config = map of_config (drop 1 (all_config_faults config))
 
 -- by the bytes of the configuration and of the script
 abbrev pub others : Bool → List ℕ → List ℕ → ProgramFault → List ProgramFault
-others strict config script fault = others_by strict script fault (configuration_in config)
+others strict config script (Config fault) = config_others config
+others strict config script fault = script_others strict script fault (configuration_in config)
 
 -- texts of faults, one after the other
 abbrev pub Each : (ProgramFault → List ℕ → Type 0) → List ProgramFault → List ℕ → Type 0

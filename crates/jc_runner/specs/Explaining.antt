@@ -7,6 +7,7 @@ use Rattle.jc_config.specs.declared.fault.ConfigFault.{ConfigFault}
 use Rattle.jc_config.specs.declared.kinds.Configuration.{Configuration}
 use Rattle.jc_explain.specs.Config as config
 use Rattle.jc_explain.specs.Script as script
+use Rattle.jc_explain.specs.Stray.{stray_line}
 use Rattle.jc_explain.specs.Trace.{key_line}
 use Rattle.jc_explain.specs.Unread.{path_line, unread_line}
 use Rattle.jc_replay.specs.declared.fault.ReplayFault.{ReplayFault}
@@ -28,7 +29,7 @@ TellsScript bytes lines fault text = TellsScriptBy (configuration_in bytes) line
 abbrev pub TellsRun : List ℕ → List ℕ → RunFault → List ℕ → Type 0
 TellsRun bytes lines TooLong text = text ≡ script.too_long_line
 TellsRun bytes lines (Script fault) text = TellsScript bytes lines fault text
-TellsRun bytes lines (Entry n) text = text ≡ script.lines_at script.other_line (script.json_at n lines)
+TellsRun bytes lines (Entry n) text = text ≡ stray_line n lines
 TellsRun bytes lines Read text = text ≡ []
 TellsRun bytes lines Open text = text ≡ []
 TellsRun bytes lines Close text = text ≡ []

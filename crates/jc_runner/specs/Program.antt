@@ -10,7 +10,9 @@ use Rattle.jc_config.specs.declared.kinds.HookKinds.{HookKinds}
 use Rattle.jc_hooks.specs.Processors.{program_verdict}
 use Rattle.jc_hooks.specs.Program.{echo_answer, AllChecked}
 use Rattle.jc_model.specs.declared.config.CacheConfig.{CacheConfig}
+use Rattle.jc_replay.specs.declared.fault.ReplayFault.{ReplayFault}
 use Rattle.jc_replay.specs.Table.{replay_table}
+use Rattle.jc_replay.specs.TableJson.{replay_json}
 use Rattle.jc_script.specs.declared.line.Line.{Line}
 use Rattle.jc_script.specs.Script.{lines}
 use Rattle.jc_cli.specs.Note.{TellsMistake}
@@ -212,48 +214,56 @@ module _ {F I : Type 0} (of_file : F → Option (List ℕ)) (of_input : I → Op
     pub reads : ConfigAt of_file of_input holds (string_bytes check.config) asked before input between config read
     pub goes_on : ReadsOnToScript before between (allowed_config check.strict read) result
 
--- the table of a trace's replay, of which this is true
-abbrev pub TablesTrace : List ℕ → (List ℕ → Type 0) → List ℕ → Type 0
-TablesTrace capacities IsSo trace = (text : List ℕ) × (replay_table trace capacities ≡ Ok text) × IsSo text
+-- the table of a trace's replay, in its form
+abbrev pub table_in : Format → List ℕ → List ℕ → Result (List ℕ) ReplayFault
+table_in format.Text trace capacities = replay_table trace capacities
+table_in format.Json trace capacities = replay_json trace capacities
+
+abbrev pub table_of : Replay → List ℕ → Result (List ℕ) ReplayFault
+table_of replay trace = table_in replay.format trace replay.capacities.items
+
+-- the table of which this is true
+abbrev pub TablesTrace : Replay → (List ℕ → Type 0) → List ℕ → Type 0
+TablesTrace replay IsSo trace = (text : List ℕ) × (table_of replay trace ≡ Ok text) × IsSo text
 
 -- A trace that is replayed: how that ends. The table is written, or a front of it.
-module _ {I O : Type 0} (remaining : I → Option (List ℕ)) (contents : O → Option (List ℕ)) (capacities : List ℕ) (reader reader' : WatchedReader I) (writer writer' : WatchedWriter O) where
+module _ {I O : Type 0} (remaining : I → Option (List ℕ)) (contents : O → Option (List ℕ)) (replay : Replay) (reader reader' : WatchedReader I) (writer writer' : WatchedWriter O) where
   abbrev pub TraceEnds : Result (Unit {0}) ProgramFault → Type 0
   TraceEnds (Ok done) =
-      IfSome (remaining reader.inner) (TablesTrace capacities (AddsText contents writer writer'))
+      IfSome (remaining reader.inner) (TablesTrace replay (AddsText contents writer writer'))
       × IsAtEnd (remaining reader'.inner) × (writer'.failures ≡ writer.failures) × (writer'.flushed ≡ true)
   TraceEnds (Err program.TraceRead) = ReadFails reader reader' × AddsNothing contents writer writer'
   TraceEnds (Err (program.Trace fault)) =
-      IfSome (remaining reader.inner) (λ trace. replay_table trace capacities ≡ Err fault) × AddsNothing contents writer writer'
+      IfSome (remaining reader.inner) (λ trace. table_of replay trace ≡ Err fault) × AddsNothing contents writer writer'
   TraceEnds (Err (program.Run run.Write)) =
-      IfSome (remaining reader.inner) (TablesTrace capacities (AddsFront contents writer writer')) × WriteFails writer writer'
+      IfSome (remaining reader.inner) (TablesTrace replay (AddsFront contents writer writer')) × WriteFails writer writer'
   TraceEnds (Err (program.Run run.Memory)) = AddsNothing contents writer writer'
   TraceEnds (Err _) = ⊥
 
 -- a trace in a file that holds this
-module _ {F O : Type 0} (of_file : F → Option (List ℕ)) (contents : O → Option (List ℕ)) (held : Option (Option (List ℕ))) (capacities : List ℕ) (writer writer' : WatchedWriter O) where
+module _ {F O : Type 0} (of_file : F → Option (List ℕ)) (contents : O → Option (List ℕ)) (held : Option (Option (List ℕ))) (replay : Replay) (writer writer' : WatchedWriter O) where
   abbrev pub TraceFileEnds : Option (WatchedReader F) → Result (Unit {0}) ProgramFault → Type 0
   TraceFileEnds None result =
       FailsToOpen (Err program.TraceRead) (Err (program.Run run.Memory)) held result × AddsNothing contents writer writer'
   TraceFileEnds (Some reader) result =
       (file : F) × IsFileFound held (of_file file) × AddsAtMost most_reads 0 reader.reads × HasNotFailed program.TraceRead result (unread_reader file) reader
-      × TraceEnds of_file contents capacities (unread_reader file) reader writer writer' result
+      × TraceEnds of_file contents replay (unread_reader file) reader writer writer' result
 
 -- or on standard input
-module _ {F I O : Type 0} (of_file : F → Option (List ℕ)) (of_input : I → Option (List ℕ)) (contents : O → Option (List ℕ)) (held : Option (Option (List ℕ))) (path : List ℕ) (asked asked' : Option (List (List ℕ))) (capacities : List ℕ)
+module _ {F I O : Type 0} (of_file : F → Option (List ℕ)) (of_input : I → Option (List ℕ)) (contents : O → Option (List ℕ)) (held : Option (Option (List ℕ))) (path : List ℕ) (asked asked' : Option (List (List ℕ))) (replay : Replay)
     (input input' : WatchedReader I) (writer writer' : WatchedWriter O) where
   abbrev pub TraceFrom : Bool → Option (WatchedReader F) → Result (Unit {0}) ProgramFault → Type 0
   TraceFrom true opened result =
       (opened ≡ None) × (asked' ≡ asked) × AddsAtMost most_reads input.reads input'.reads × HasNotFailed program.TraceRead result input input'
-      × TraceEnds of_input contents capacities input input' writer writer' result
-  TraceFrom false opened result = (input' ≡ input) × AsksForPath asked asked' path × TraceFileEnds of_file contents held capacities writer writer' opened result
+      × TraceEnds of_input contents replay input input' writer writer' result
+  TraceFrom false opened result = (input' ≡ input) × AsksForPath asked asked' path × TraceFileEnds of_file contents held replay writer writer' opened result
 
 -- the trace of a replay; no configuration is read
 module _ {F I O : Type 0} (of_file : F → Option (List ℕ)) (of_input : I → Option (List ℕ)) (contents : O → Option (List ℕ)) (holds : List ℕ → Option (Option (List ℕ))) (asked asked' : Option (List (List ℕ))) (replay : Replay)
     (config trace : Option (WatchedReader F)) (input input' : WatchedReader I) (writer writer' : WatchedWriter O) where
   pub record ReplayEnds (result : Result (Unit {0}) ProgramFault) : Type 0 where
     pub unconfigured : config ≡ None
-    pub ends : TraceFrom of_file of_input contents (holds (string_bytes replay.trace)) (string_bytes replay.trace) asked asked' replay.capacities.items input input' writer writer' (is_input (string_bytes replay.trace)) trace result
+    pub ends : TraceFrom of_file of_input contents (holds (string_bytes replay.trace)) (string_bytes replay.trace) asked asked' replay input input' writer writer' (is_input (string_bytes replay.trace)) trace result
 
 -- the demonstration's configuration
 abbrev pub no_kinds : HookKinds

@@ -117,7 +117,8 @@ pub fn dispatch<D: Disk, I: Read, O: Write, R: Threads + Wait + Sync>(
 ) -> Ending
     ensures obeys { IfOk words (λ v. Obeys D.File.remaining I.remaining O.contents
         (D.holds disk.old) (D.asked disk.old) (D.asked disk.new) opened.old opened.new
-        input.old input.new output.old output.new at_terminal (Ok (map string_bytes v.items)) result) }
+        input.old input.new output.old output.new at_terminal
+        (Ok (map string_bytes v.items)) result) }
     ensures wordless { IfErr words (λ fault. Obeys D.File.remaining I.remaining O.contents
         (D.holds disk.old) (D.asked disk.old) (D.asked disk.new) opened.old opened.new
         input.old input.new output.old output.new at_terminal (Err fault) result) }

@@ -1,16 +1,16 @@
 //! All faults of files that were checked, behind the first.
 ghost use Rattle.std.specs.Prelude.{◌≡◌, ◌++◌, [], IfOk, OnOk, codes, drop, map, string_bytes};
 ghost use Rattle.std.specs.Bool.{MatchBool};
-ghost use Rattle.jc_runner.specs.Every.{of_script, of_entry, others_on, others, Each, TellsAlone, TellsExplained, TellsBelow};
+ghost use Rattle.jc_config.specs.Config.{configuration_in};
+ghost use Rattle.jc_runner.specs.Every.{of_config, of_script, of_entry, others_on, script_others, config_others, others, Each, TellsAlone, TellsExplained, TellsBelow};
 ghost use Rattle.jc_runner.specs.Explaining.{TellsFault};
 
-use crate::explaining::{fault_lines, joined};
+use crate::explaining::{Origin, fault_lines, joined};
 use jc_cli::{ProgramFault, RunFault, fault_text};
 use jc_config::{ConfigFault, Settings, read_config};
-use jc_explain::{all_faults, all_strays};
+use jc_explain::{all_config_faults, all_faults, all_strays};
 use jc_script::ScriptFault;
 use std::alloc::{AllocError, Global};
-use std::io::ErrorKind;
 
 /// Adds the faults of lines.
 fn add_faults(lines: &[ScriptFault], faults: &mut Vec<ProgramFault>) -> Result<(), AllocError>
@@ -28,6 +28,19 @@ fn add_strays(lines: &[usize], faults: &mut Vec<ProgramFault>) -> Result<(), All
 {
     for line in lines {
         faults.push(ProgramFault::Run(RunFault::Entry { line: *line }))?;
+    }
+    Ok(())
+}
+
+/// Adds the faults of a configuration.
+fn add_config_faults(
+    tables: &[ConfigFault],
+    faults: &mut Vec<ProgramFault>,
+) -> Result<(), AllocError>
+    ensures { OnOk result (faults.new.items ≡ faults.old.items ++ map of_config tables.now) }
+{
+    for fault in tables {
+        faults.push(ProgramFault::Config(*fault))?;
     }
     Ok(())
 }
@@ -73,19 +86,46 @@ fn others_on(
 }
 
 /// The same by the bytes of both files; there are none where the configuration is faulty.
-fn others(
+fn script_others(
     alloc: Global,
     strict: bool,
     config: &[u8],
     script: &[u8],
     fault: &ProgramFault,
 ) -> Result<Vec<ProgramFault>, AllocError>
-    ensures { IfOk result (λ v. v.items ≡ others strict config.now script.now fault.now) }
+    ensures { IfOk result (λ v. v.items
+        ≡ script_others strict script.now fault.now (configuration_in config.now)) }
 {
     match read_config(alloc, config) {
         Ok(configuration) => others_on(alloc, strict, configuration.settings, script, fault),
         Err(ConfigFault::OutOfMemory) => Err(AllocError),
         Err(_) => Ok(Vec::new(alloc)),
+    }
+}
+
+/// The faults of a configuration that stand behind the first.
+fn config_others(alloc: Global, config: &[u8]) -> Result<Vec<ProgramFault>, AllocError>
+    ensures { IfOk result (λ v. v.items ≡ config_others config.now) }
+{
+    let tables = all_config_faults(alloc, config)?;
+    let mut faults = Vec::new(alloc);
+    add_config_faults(behind_first(tables.as_slice()), &mut faults)?;
+    Ok(faults)
+}
+
+/// The faults of the faulty file that stand behind the first.
+fn others(
+    alloc: Global,
+    strict: bool,
+    fault: &ProgramFault,
+    origin: &Origin<'_>,
+) -> Result<Vec<ProgramFault>, AllocError>
+    ensures { IfOk result (λ v. v.items
+        ≡ others strict origin.now.config.now origin.now.script.now fault.now) }
+{
+    match fault {
+        ProgramFault::Config(_) => config_others(alloc, origin.config),
+        _ => script_others(alloc, strict, origin.config, origin.script, fault),
     }
 }
 
@@ -97,19 +137,12 @@ fn named(alloc: Global, line: &String, lines: &String) -> Result<String, AllocEr
     format!(in alloc; "jcache: {line}{lines}")
 }
 
-fn explained(
-    alloc: Global,
-    fault: &ProgramFault,
-    config: &[u8],
-    script: &[u8],
-    path: &str,
-    kind: Option<ErrorKind>,
-) -> Result<String, AllocError>
-    ensures { IfOk result (λ s.
-        TellsExplained path.now kind config.now script.now fault.now (string_bytes s)) }
+fn explained(alloc: Global, fault: &ProgramFault, origin: &Origin<'_>) -> Result<String, AllocError>
+    ensures { IfOk result (λ s. TellsExplained origin.now.path.now origin.now.kind
+        origin.now.config.now origin.now.script.now fault.now (string_bytes s)) }
 {
     let line = fault_text(alloc, fault)?;
-    let lines = fault_lines(alloc, fault, config, script, path, kind)?;
+    let lines = fault_lines(alloc, fault, origin)?;
     named(alloc, &line, &lines)
 }
 
@@ -118,16 +151,13 @@ fn fault_alone(
     alloc: Global,
     explain: bool,
     fault: &ProgramFault,
-    config: &[u8],
-    script: &[u8],
-    path: &str,
-    kind: Option<ErrorKind>,
+    origin: &Origin<'_>,
 ) -> Result<String, AllocError>
-    ensures { IfOk result (λ s.
-        TellsAlone path.now kind config.now script.now explain fault.now (string_bytes s)) }
+    ensures { IfOk result (λ s. TellsAlone origin.now.path.now origin.now.kind
+        origin.now.config.now origin.now.script.now explain fault.now (string_bytes s)) }
 {
     if explain {
-        return explained(alloc, fault, config, script, path, kind);
+        return explained(alloc, fault, origin);
     }
     fault_text(alloc, fault)
 }
@@ -137,17 +167,14 @@ fn each_fault(
     alloc: Global,
     explain: bool,
     faults: &[ProgramFault],
-    config: &[u8],
-    script: &[u8],
-    path: &str,
-    kind: Option<ErrorKind>,
+    origin: &Origin<'_>,
 ) -> Result<String, AllocError>
-    ensures { IfOk result (λ s. Each (TellsAlone path.now kind config.now script.now explain)
-        faults.now (string_bytes s)) }
+    ensures { IfOk result (λ s. Each (TellsAlone origin.now.path.now origin.now.kind
+        origin.now.config.now origin.now.script.now explain) faults.now (string_bytes s)) }
 {
     let mut text = String::new(alloc);
     for fault in faults {
-        let one = fault_alone(alloc, explain, fault, config, script, path, kind)?;
+        let one = fault_alone(alloc, explain, fault, origin)?;
         text.push_str(one.as_str())?;
     }
     Ok(text)
@@ -158,17 +185,15 @@ fn first_lines(
     alloc: Global,
     explain: bool,
     fault: &ProgramFault,
-    config: &[u8],
-    script: &[u8],
-    path: &str,
-    kind: Option<ErrorKind>,
+    origin: &Origin<'_>,
 ) -> Result<String, AllocError>
     ensures { IfOk result (λ s. MatchBool explain
-        (TellsFault path.now kind config.now script.now fault.now (string_bytes s))
+        (TellsFault origin.now.path.now origin.now.kind
+        origin.now.config.now origin.now.script.now fault.now (string_bytes s))
         (string_bytes s ≡ [])) }
 {
     if explain {
-        return fault_lines(alloc, fault, config, script, path, kind);
+        return fault_lines(alloc, fault, origin);
     }
     Ok(String::new(alloc))
 }
@@ -179,24 +204,13 @@ pub fn listed_lines(
     explain: bool,
     strict: bool,
     fault: &ProgramFault,
-    config: &[u8],
-    script: &[u8],
-    path: &str,
-    kind: Option<ErrorKind>,
+    origin: &Origin<'_>,
 ) -> Result<String, AllocError>
-    ensures { IfOk result (λ s. TellsBelow path.now kind config.now script.now explain strict
-        fault.now (string_bytes s)) }
+    ensures { IfOk result (λ s. TellsBelow origin.now.path.now origin.now.kind
+        origin.now.config.now origin.now.script.now explain strict fault.now (string_bytes s)) }
 {
-    let lines = first_lines(alloc, explain, fault, config, script, path, kind)?;
-    let faults = others(alloc, strict, config, script, fault)?;
-    let rest = each_fault(
-        alloc,
-        explain,
-        faults.as_slice(),
-        config,
-        script,
-        path,
-        kind,
-    )?;
+    let lines = first_lines(alloc, explain, fault, origin)?;
+    let faults = others(alloc, strict, fault, origin)?;
+    let rest = each_fault(alloc, explain, faults.as_slice(), origin)?;
     joined(alloc, &lines, &rest)
 }

@@ -6,13 +6,23 @@ ghost use Rattle.jc_runner.specs.Explaining.{TellsScript, TellsRun, TellsContent
 use crate::{ProgramFault, RunFault};
 use jc_config::{ConfigFault, Settings, read_config};
 use jc_explain::{
-    explain_config, explain_key, explain_no_caches, explain_other, explain_path, explain_script,
+    explain_config, explain_key, explain_no_caches, explain_path, explain_script, explain_stray,
     explain_too_long, explain_unread,
 };
 use jc_replay::ReplayFault;
 use jc_script::ScriptFault;
 use std::alloc::{AllocError, Global};
 use std::io::ErrorKind;
+
+/// What a fault comes from: the bytes that were read of the two files, the path of the file in which it is, and what the
+/// system answered where that can't be read.
+#[derive(Clone, Copy)]
+pub struct Origin<'a> {
+    pub config: &'a [u8],
+    pub script: &'a [u8],
+    pub path: &'a str,
+    pub kind: Option<ErrorKind>,
+}
 
 /// The names of the caches.
 fn names_of(alloc: Global, settings: &Settings) -> Result<Vec<&str>, AllocError>
@@ -55,7 +65,7 @@ fn run_lines(
     match fault {
         RunFault::TooLong => explain_too_long(alloc),
         RunFault::Script(fault) => script_lines(alloc, config, script, *fault),
-        RunFault::Entry { line } => explain_other(alloc, script, *line),
+        RunFault::Entry { line } => explain_stray(alloc, script, *line),
         RunFault::Read | RunFault::Open | RunFault::Close | RunFault::Write | RunFault::Memory =>
             Ok(String::new(alloc)),
     }
@@ -97,40 +107,30 @@ pub(crate) fn joined(alloc: Global, place: &String, lines: &String) -> Result<St
 }
 
 /// What is wrong below the path in which it is; nothing where that is nothing.
-fn lines_in(
-    alloc: Global,
-    fault: &ProgramFault,
-    config: &[u8],
-    script: &[u8],
-    path: &str,
-) -> Result<String, AllocError>
-    ensures { IfOk result (λ s.
-        TellsIn path.now (TellsContent config.now script.now fault.now) (string_bytes s)) }
+fn lines_in(alloc: Global, fault: &ProgramFault, origin: &Origin<'_>) -> Result<String, AllocError>
+    ensures { IfOk result (λ s. TellsIn origin.now.path.now
+        (TellsContent origin.now.config.now origin.now.script.now fault.now) (string_bytes s)) }
 {
-    let lines = content_lines(alloc, fault, config, script)?;
+    let lines = content_lines(alloc, fault, origin.config, origin.script)?;
     if lines.is_empty() {
         return Ok(lines);
     }
-    let place = explain_path(alloc, path)?;
+    let place = explain_path(alloc, origin.path)?;
     joined(alloc, &place, &lines)
 }
 
-/// The lines that explain a fault, by the bytes that were read of the two files, and by the path of the file in which it
-/// is; of a file that can't be read by what the system answered.
+/// The lines that explain a fault, by what it comes from.
 pub fn fault_lines(
     alloc: Global,
     fault: &ProgramFault,
-    config: &[u8],
-    script: &[u8],
-    path: &str,
-    kind: Option<ErrorKind>,
+    origin: &Origin<'_>,
 ) -> Result<String, AllocError>
-    ensures { IfOk result (λ s.
-        TellsFault path.now kind config.now script.now fault.now (string_bytes s)) }
+    ensures { IfOk result (λ s. TellsFault origin.now.path.now origin.now.kind
+        origin.now.config.now origin.now.script.now fault.now (string_bytes s)) }
 {
     match fault {
         ProgramFault::ConfigRead | ProgramFault::TraceRead | ProgramFault::Run(RunFault::Read) => {
-            explain_unread(alloc, path, kind)
+            explain_unread(alloc, origin.path, origin.kind)
         }
         ProgramFault::Config(_)
         | ProgramFault::NoCaches
@@ -143,6 +143,6 @@ pub fn fault_lines(
             | RunFault::Close
             | RunFault::Write
             | RunFault::Memory,
-        ) => lines_in(alloc, fault, config, script, path),
+        ) => lines_in(alloc, fault, origin),
     }
 }

@@ -4,7 +4,7 @@ ghost use Rattle.jc_runner.specs.Telling.{answer_for, answer_of, kept_bytes, no_
 
 use crate::disk::KeepingDisk;
 use crate::every::listed_lines;
-use crate::explaining::fault_lines;
+use crate::explaining::{Origin, fault_lines};
 use crate::{
     Ended, Ending, Opened, ProgramFault, Standard, WatchedReader, WordsFault, dispatch, say,
 };
@@ -93,9 +93,13 @@ fn lines_of<F: Read, I: Read>(
     };
     match ending {
         Ending::Explained(fault, path) => {
-            let path = shown_path(path.as_str());
-            let kind = answer_for(fault, disk, opened, input);
-            fault_lines(alloc, fault, config, script, path, kind)
+            let origin = Origin {
+                config,
+                script,
+                path: shown_path(path.as_str()),
+                kind: answer_for(fault, disk, opened, input),
+            };
+            fault_lines(alloc, fault, &origin)
         }
         Ending::Listed {
             fault,
@@ -103,9 +107,13 @@ fn lines_of<F: Read, I: Read>(
             explain,
             strict,
         } => {
-            let path = shown_path(path.as_str());
-            let kind = answer_for(fault, disk, opened, input);
-            listed_lines(alloc, *explain, *strict, fault, config, script, path, kind)
+            let origin = Origin {
+                config,
+                script,
+                path: shown_path(path.as_str()),
+                kind: answer_for(fault, disk, opened, input),
+            };
+            listed_lines(alloc, *explain, *strict, fault, &origin)
         }
         _ => Ok(String::new(alloc)),
     }

@@ -121,7 +121,8 @@ fn make_lines<
 ) -> Result<Transcription, RunFault>
     requires workers { 0 < crew.now.workers }
     ensures legal { IfOk result (λ t. IsLegal t.transcript) }
-    ensures made { IfOk result (λ t. AreCallsMade (map (stated_by L.load_of P.verdict_of) shared.shared)
+    ensures made { IfOk result (λ t. AreCallsMade
+        (map (stated_by L.load_of P.verdict_of) shared.shared)
         (calls_in_lines lines.items) t.transcript.entries) }
     ensures managed { IfOk result (λ t. AreManaged shared.configs lines.items t.refusals.items) }
     ensures faults { IfErr result IsOfThreads }

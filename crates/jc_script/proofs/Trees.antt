@@ -9,7 +9,7 @@ use Rattle.serde_json.specs.Data.{Num, negative, Data, number, array, object, It
 use Rattle.serde_json.specs.Find.{get_member, get, as_str, as_bool}
 use Rattle.serde_json.specs.Read.{read, number_of, of_json, of_items, of_members}
 use Rattle.serde_json.proofs.Views.{get_member-put, get_member-put_other}
-use Rattle.jc_script.specs.Tree.{num_of, data_of, data_of_items, data_of_members, has_numbers, items_have_numbers, members_have_numbers}
+use Rattle.jc_script.specs.Tree.{num_of, data_of, data_of_items, data_of_members, has_numbers, items_have_numbers, members_have_numbers, if_in_range, tree_of_text}
 
 -- What serde_json makes of a tree.
 
@@ -109,8 +109,19 @@ same_truth (json.object ms) = refl
 
 -- The whole text.
 
-pub all_read : (text : List ℕ) (j : json.Json) → json.value 127 (tokens text) ≡ Some (j, []) → has_numbers j ≡ true → Some (data_of j) ≡ read text
-all_read text j e fit = rw e (sym (converts j ∙ rw fit refl))
+through : (b : Bool) (j : json.Json) → option_map data_of (if b then Some j else None) ≡ (if b then Some (data_of j) else None)
+through true j = refl
+through false j = refl
 
-pub number_refused : (text : List ℕ) (j : json.Json) → json.value 127 (tokens text) ≡ Some (j, []) → has_numbers j ≡ false → None ≡ read text
-number_refused text j e unfit = rw e (sym (converts j ∙ rw unfit refl))
+in_range : (o : Option json.Json) → option_map data_of (option_and_then if_in_range o) ≡ option_and_then of_json o
+in_range None = refl
+in_range (Some j) = through (has_numbers j) j ∙ sym (converts j)
+
+pub data_read : (text : List ℕ) → option_map data_of (tree_of_text text) ≡ read text
+data_read text = in_range (option_and_then (λ p. json.if_last p.0 p.1) (json.value 127 (tokens text)))
+
+pub all_read : (text : List ℕ) (j : json.Json) → json.value 127 (tokens text) ≡ Some (j, []) → has_numbers j ≡ true → Some j ≡ tree_of_text text
+all_read text j e fit = rw (e, fit) refl
+
+pub number_refused : (text : List ℕ) (j : json.Json) → json.value 127 (tokens text) ≡ Some (j, []) → has_numbers j ≡ false → None ≡ tree_of_text text
+number_refused text j e unfit = rw (e, unfit) refl

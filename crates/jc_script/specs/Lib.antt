@@ -11,4 +11,5 @@ pub mod Line
 pub mod Script
 pub mod Named
 pub mod Members
+pub mod Twice
 pub mod Stray

@@ -1,11 +1,12 @@
--- The first line of a script with a member that its op does not need.
-use Rattle.std.specs.Prelude.{◌≡◌, ℕ, ◌+◌, ◌&&◌, Bool, true, List, [], ◌∷◌, Option, Some, None, option_and_then, if◌then◌else◌, codes}
+-- The first line of a script with a member that its op does not need, or that stands twice.
+use Rattle.std.specs.Prelude.{◌≡◌, ℕ, ◌+◌, ◌&&◌, Bool, true, false, List, [], ◌∷◌, Option, Some, None, option_and_then, if◌then◌else◌, codes}
 use Rattle.std.specs.List.{slice_split}
 use Rattle.serde_json.specs.Data.{Data, Members, no_members, member}
 use Rattle.serde_json.specs.Find.{get, as_object, as_str}
 use Rattle.jc_script.specs.Member.{json_of}
 use Rattle.jc_script.specs.Script.{is_feed}
 use Rattle.jc_script.specs.Members.{has_member}
+use Rattle.jc_script.specs.Twice.{member_twice}
 
 abbrev pub line_members_are : (List ℕ → Bool) → Members → Bool
 line_members_are known no_members = true
@@ -27,12 +28,18 @@ AgreeOn op d d' = (name : List ℕ) → has_member op name ≡ true → get name
 abbrev pub knows_line : Data → Bool
 knows_line d = knows_line_by (as_object d) (op_of d)
 
-abbrev pub may_know : Option Data → Bool
-may_know None = true
-may_know (Some d) = knows_line d
+-- no member stands twice
+abbrev pub has_each_once : Option (List ℕ) → Option (List ℕ) → Bool
+has_each_once None twice = true
+has_each_once (Some op) None = true
+has_each_once (Some op) (Some name) = false
+
+abbrev pub may_know : Option (List ℕ) → Option Data → Bool
+may_know twice None = true
+may_know twice (Some d) = knows_line d && has_each_once (op_of d) twice
 
 unfoldable pub is_known_piece : List ℕ → Bool
-is_known_piece piece = may_know (json_of piece)
+is_known_piece piece = may_know (member_twice piece) (json_of piece)
 
 -- of the pieces from line n on
 abbrev pub stray_from : ℕ → List (List ℕ) → Option ℕ

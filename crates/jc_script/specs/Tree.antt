@@ -1,7 +1,9 @@
 -- The data of serde_json that a tree of `json` stands for.
-use Rattle.std.specs.Prelude.{ℕ, negsuc, List, Bool, true, ◌&&◌, unwrap_or, is_some}
+use Rattle.std.specs.Prelude.{ℕ, negsuc, List, Bool, true, ◌&&◌, if◌then◌else◌, Option, Some, None, option_and_then, unwrap_or, is_some}
+use Rattle.std.specs.Str.{is_utf8}
 use Rattle.std.specs.declared.alloc.Global.{Global}
 use Rattle.json.specs.Json as json
+use Rattle.json.specs.Lex.{tokens}
 use Rattle.json.specs.Value.{value_view, items_view}
 use Rattle.json.specs.declared.value.Value.{Value}
 use Rattle.serde_json.specs.Data.{Num, negative, Data, null, boolean, number, string, array, object, Items, no_items, item, Members, no_members, put}
@@ -46,6 +48,17 @@ abbrev mutual
   pub members_have_numbers : json.Members → Bool
   members_have_numbers json.no_members = true
   members_have_numbers (json.member k j ms) = has_numbers j && members_have_numbers ms
+
+-- the tree of a text that is JSON, as far as serde_json takes its numbers
+abbrev pub if_in_range : json.Json → Option json.Json
+if_in_range j = if has_numbers j then Some j else None
+
+abbrev pub tree_of_text : List ℕ → Option json.Json
+tree_of_text text = option_and_then if_in_range (option_and_then (λ p. json.if_last p.0 p.1) (json.value 127 (tokens text)))
+
+-- the same of bytes
+unfoldable pub tree_of : List ℕ → Option json.Json
+tree_of bytes = if is_utf8 bytes then tree_of_text bytes else None
 
 -- as a reader of lines sees a value
 abbrev pub data_in : Value Global → Data

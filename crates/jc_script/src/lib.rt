@@ -1,5 +1,5 @@
 //! A script of calls, one JSON object a line, and what its lines come to that create and destroy caches;
-//! and the members of lines that their ops do not need.
+//! and the members of lines that their ops do not need, or that stand twice.
 #![tactic(auto)]
 
 mod creating;
@@ -19,6 +19,7 @@ mod parse;
 mod script;
 mod stray;
 mod tree;
+mod twice;
 
 pub use fault::{Member, ScriptFault};
 pub use following::{Followed, follow, same_lives};
@@ -30,3 +31,4 @@ pub use operation::name_of;
 pub use parse::read_json;
 pub use script::{is_blank, pieces, read_script};
 pub use stray::stray_line;
+pub use twice::{member_twice, number_written};

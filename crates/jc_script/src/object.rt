@@ -1,9 +1,9 @@
 //! The object that a line is, as a tree over the line's bytes.
 ghost use Rattle.std.specs.Prelude.{◌≡◌, IfOk, option_map};
-ghost use Rattle.serde_json.specs.Read.{read};
+ghost use Rattle.json.specs.Value.{value_view};
 ghost use Rattle.jc_script.specs.Faults.{GivesScript};
 ghost use Rattle.jc_script.specs.Member.{json_of, object_of};
-ghost use Rattle.jc_script.specs.Tree.{data_in};
+ghost use Rattle.jc_script.specs.Tree.{data_in, tree_of, tree_of_text};
 
 use crate::fault::ScriptFault;
 use crate::tree::{has_numbers, is_object};
@@ -20,7 +20,7 @@ fn read_text<'a>(
     text: &'a str,
     scratch: &'a mut Scratch,
 ) -> Result<Option<Value<'a>>, AllocError>
-    ensures { IfOk result (λ o. option_map data_in o ≡ read text.now) }
+    ensures { IfOk result (λ o. option_map (λ v. value_view v) o ≡ tree_of_text text.now) }
 {
     let mut reader = Reader::new(text, scratch)?;
     let value = match Value::read(alloc, &mut reader, MAX_DEPTH) {
@@ -38,12 +38,13 @@ fn read_text<'a>(
 }
 
 /// The same of bytes.
-fn read_tree<'a>(
+pub(crate) fn read_tree<'a>(
     alloc: Global,
     bytes: &'a [u8],
     scratch: &'a mut Scratch,
 ) -> Result<Option<Value<'a>>, AllocError>
-    ensures { IfOk result (λ o. option_map data_in o ≡ json_of bytes.now) }
+    ensures tree { IfOk result (λ o. option_map (λ v. value_view v) o ≡ tree_of bytes.now) }
+    ensures read { IfOk result (λ o. option_map data_in o ≡ json_of bytes.now) }
 {
     match from_utf8(bytes) {
         Ok(text) => read_text(alloc, text, scratch),

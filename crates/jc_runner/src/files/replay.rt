@@ -1,20 +1,22 @@
 //! A replay of a trace: its file is read, and its table written.
-ghost use Rattle.std.specs.Prelude.{◌≡◌, ◌≢◌, ℕ, List, IfOk, IfErr, Err};
+ghost use Rattle.std.specs.Prelude.{◌≡◌, ◌≢◌, ℕ, List, IfOk, IfErr, Err, string_bytes};
 ghost use Rattle.std.specs.List.{All};
 ghost use Rattle.jc_replay.specs.Hits.{IsCapacity};
+ghost use Rattle.jc_replay.specs.Trace.{GivesReplay};
 ghost use Rattle.jc_runner.specs.Disks.{AsksForPath, FailsToOpen};
 ghost use Rattle.jc_cli.specs.Faults.{of_trace, of_replay};
 ghost use Rattle.jc_cli.specs.Meters.{most_reads, AddsAtMost};
-ghost use Rattle.jc_runner.specs.Program.{TraceEnds, TraceFileEnds, ReplayEnds, IsUnreadFile};
+ghost use Rattle.jc_runner.specs.Program.{TraceEnds, TraceFileEnds, ReplayEnds, IsUnreadFile, table_of};
 ghost use Rattle.jc_cli.specs.declared.fault.ProgramFault.TheVariants.{TraceRead};
 
 use crate::command::streams::Opened;
 use crate::files::disk::Disk;
 use crate::files::open_script;
 use jc_cli::{
-    ProgramFault, Replay, RunFault, WatchedReader, WatchedWriter, is_input, read_bytes, write_text,
+    Format, ProgramFault, Replay, RunFault, WatchedReader, WatchedWriter, is_input, read_bytes,
+    write_text,
 };
-use jc_replay::{ReplayFault, replay_table};
+use jc_replay::{ReplayFault, replay_json, replay_table};
 use std::alloc::Global;
 use std::io::{Read, Write};
 
@@ -39,15 +41,27 @@ fn replay_fault(fault: ReplayFault) -> ProgramFault
     }
 }
 
+/// The table of the replay of a trace, in the form that is asked for.
+fn table_of(alloc: Global, replay: &Replay, trace: &[u8]) -> Result<String, ReplayFault>
+    requires { All IsCapacity replay.now.capacities.items }
+    ensures { GivesReplay string_bytes result (table_of replay.now trace.now) }
+{
+    let capacities = replay.capacities.as_slice();
+    match replay.format {
+        Format::Text => replay_table(alloc, trace, capacities, 0),
+        Format::Json => replay_json(alloc, trace, capacities, 0),
+    }
+}
+
 /// Reads a trace to its end, replays it, and writes the table.
 fn replay_all<I: Read, O: Write>(
     alloc: Global,
-    capacities: &[u32],
+    replay: &Replay,
     reader: &mut WatchedReader<I>,
     writer: &mut WatchedWriter<O>,
 ) -> Result<(), ProgramFault>
-    requires { All IsCapacity capacities.now }
-    ensures ends { TraceEnds I.remaining O.contents capacities.now
+    requires { All IsCapacity replay.now.capacities.items }
+    ensures ends { TraceEnds I.remaining O.contents replay.now
         reader.old reader.new writer.old writer.new result }
     ensures unfailed { result ≢ Err TraceRead → reader.new.failures ≡ reader.old.failures }
     ensures reads { AddsAtMost most_reads reader.old.reads reader.new.reads }
@@ -56,7 +70,7 @@ fn replay_all<I: Read, O: Write>(
         Ok(bytes) => bytes,
         Err(fault) => return Err(trace_fault(fault)),
     };
-    let text = match replay_table(alloc, bytes.as_slice(), capacities, 0) {
+    let text = match table_of(alloc, replay, bytes.as_slice()) {
         Ok(text) => text,
         Err(fault) => return Err(replay_fault(fault)),
     };
@@ -84,20 +98,21 @@ fn open_trace<D: Disk>(disk: &mut D, path: &str) -> Result<WatchedReader<D::File
 fn replay_opened<D: Disk, O: Write>(
     alloc: Global,
     disk: &mut D,
-    path: &str,
-    capacities: &[u32],
+    replay: &Replay,
     trace: &mut Option<WatchedReader<D::File>>,
     writer: &mut WatchedWriter<O>,
 ) -> Result<(), ProgramFault>
-    requires { All IsCapacity capacities.now }
-    ensures ends { TraceFileEnds D.File.remaining O.contents (D.holds disk.old path.now)
-        capacities.now writer.old writer.new trace.new result }
-    ensures asked { AsksForPath (D.asked disk.old) (D.asked disk.new) path.now }
+    requires { All IsCapacity replay.now.capacities.items }
+    ensures ends { TraceFileEnds D.File.remaining O.contents
+        (D.holds disk.old (string_bytes replay.now.trace)) replay.now
+        writer.old writer.new trace.new result }
+    ensures asked { AsksForPath (D.asked disk.old) (D.asked disk.new)
+        (string_bytes replay.now.trace) }
     ensures same { (other : List ℕ) → D.holds disk.new other ≡ D.holds disk.old other }
 {
     *trace = None;
-    let mut reader = open_trace(disk, path)?;
-    let replayed = replay_all(alloc, capacities, &mut reader, writer);
+    let mut reader = open_trace(disk, replay.trace.as_str())?;
+    let replayed = replay_all(alloc, replay, &mut reader, writer);
     *trace = Some(reader);
     replayed
 }
@@ -119,11 +134,9 @@ pub fn replay_file<D: Disk, I: Read, O: Write>(
     ensures same { (other : List ℕ) → D.holds disk.new other ≡ D.holds disk.old other }
 {
     opened.config = None;
-    let path = replay.trace.as_str();
-    let capacities = replay.capacities.as_slice();
-    if is_input(path) {
+    if is_input(replay.trace.as_str()) {
         opened.script = None;
-        return replay_all(alloc, capacities, input, writer);
+        return replay_all(alloc, replay, input, writer);
     }
-    replay_opened(alloc, disk, path, capacities, &mut opened.script, writer)
+    replay_opened(alloc, disk, replay, &mut opened.script, writer)
 }

@@ -9,6 +9,7 @@ pub returns-clause-asks : goal.returns-clause-asks
 returns-clause-asks c = record {
   trace = sym (first_value-rows (found_of c.args.matches.now) (codes "TRACE")) ∙ text_read c.get_str.result c.in-Some.trace _ _ c.get_str.ensures c.in-Some.is c.in_ok-trace.ensures.ok;
   capacities = listed _ c.in-Some-get_str.list.now _ _ (text_of_rows (found_of c.args.matches.now) (codes "capacity") _ _ c.get_str-2.ensures c.in-Some-get_str.is) c.in-Some-2.is c.in_ok-capacities.ensures.read;
+  format = c.in-Some-format_in.ensures;
   explain = c.in-Some-explain_in.ensures;
 }
 
@@ -27,3 +28,6 @@ returns-in_default-2-clause-none c e replay asks =
 
 pub returns-in_default-explain_in-clause-none : goal.returns-in_default-explain_in-clause-none
 returns-in_default-explain_in-clause-none c e replay asks = c.in_default-explain_in.ensures replay.explain asks.explain
+
+pub returns-in_default-format_in-clause-none : goal.returns-in_default-format_in-clause-none
+returns-in_default-format_in-clause-none c e replay asks = c.in_default-format_in.ensures replay.format asks.format

@@ -1,4 +1,4 @@
-use Rattle.std.proofs.Common.{◌≡◌, ◌≤◌, ◌+◌, ◌*◌, length, drop}
+use Rattle.std.proofs.Common.{◌≡◌, ◌≤◌, ◌+◌, ◌*◌, drop}
 use Rattle.toml.specs.View.{items_view}
 use Rattle.jc_explain.specs.Together.{sum_of}
 use Rattle.jc_explain.proofs.together.sum_of.Given as goal

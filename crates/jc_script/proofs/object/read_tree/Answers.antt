@@ -1,14 +1,21 @@
 use Rattle.std.proofs.Common.{◌≡◌, Option, option_map, ◌∙◌, ap, subst}
 use Rattle.std.specs.Prelude.{IfOk}
-use Rattle.serde_json.specs.Data.{Data}
-use Rattle.serde_json.specs.Read.{read}
-use Rattle.jc_script.specs.Tree.{data_in}
-use Rattle.jc_script.proofs.Texts.{json_read, json_refused}
+use Rattle.json.specs.Json.{Json}
+use Rattle.json.specs.Value.{value_view}
+use Rattle.jc_script.specs.Tree.{tree_of_text}
+use Rattle.jc_script.proofs.Texts.{tree_read, tree_refused, data_seen, no_data}
 use Rattle.jc_script.proofs.object.read_tree.Goals as goal
 
-pub returns-in-Ok : goal.returns-in-Ok
-returns-in-Ok c =
-    subst (λ (d : Option Data). IfOk c.read_text.result (λ o. option_map data_in o ≡ d)) (ap read c.in-Ok.ensures.0 ∙ json_read c.args.bytes.now c.in-Ok.ensures.1) c.read_text.ensures
+pub returns-in-Ok-clause-tree : goal.returns-in-Ok-clause-tree
+returns-in-Ok-clause-tree c =
+    subst (λ (j : Option Json). IfOk c.read_text.result (λ o. option_map value_view o ≡ j)) (ap tree_of_text c.in-Ok.ensures.0 ∙ tree_read c.args.bytes.now c.in-Ok.ensures.1) c.read_text.ensures
 
-pub returns-in-Err : goal.returns-in-Err
-returns-in-Err c = json_refused c.args.bytes.now (λ utf8. absurd (c.in-Err.ensures utf8))
+pub returns-in-Ok-clause-read : goal.returns-in-Ok-clause-read
+returns-in-Ok-clause-read c =
+    data_seen c.args.bytes.now c.read_text.result (ap tree_of_text c.in-Ok.ensures.0 ∙ tree_read c.args.bytes.now c.in-Ok.ensures.1) c.read_text.ensures
+
+pub returns-in-Err-clause-tree : goal.returns-in-Err-clause-tree
+returns-in-Err-clause-tree c = tree_refused c.args.bytes.now (λ utf8. c.in-Err.ensures utf8)
+
+pub returns-in-Err-clause-read : goal.returns-in-Err-clause-read
+returns-in-Err-clause-read c = no_data c.args.bytes.now (λ utf8. c.in-Err.ensures utf8)

@@ -1,7 +1,7 @@
 use Rattle.std.proofs.Common.{sym, ◌∙◌, ap, rules, None}
 use Rattle.toml.specs.Parse.{parse_document}
 use Rattle.jc_config.proofs.Documents.{document_is, no_document}
-use Rattle.jc_explain.proofs.config.document_of.Goals as goal
+use Rattle.jc_config.proofs.document.read_document.Goals as goal
 
 pub returns-in-Err : goal.returns-in-Err
 returns-in-Err c = no_document c.args.bytes.now c.in-Err.ensures.cases.0
