@@ -129,8 +129,11 @@ enum {
     JC_DUPLICATE_KEY = 70,
     JC_BAD_CHOICE = 71, /* a number that names no policy, no action; a reserved one that is not 0 */
     /* Of reading what is shown. */
-    JC_NO_ITEM = 72,     /* no such item, part or number */
-    JC_SHORT_BUFFER = 73 /* the buffer took the first bytes alone */
+    JC_NO_ITEM = 72,      /* no such item, part or number */
+    JC_SHORT_BUFFER = 73, /* the buffer took the first bytes alone */
+    /* Of restoring. */
+    JC_BAD_SAVE = 74,     /* bytes that jc_save never writes */
+    JC_OTHER_VERSION = 75 /* saved bytes of another version of their format */
 };
 
 /* When a row expires after `duration` milliseconds: never; from its creation; also anew from each access; from each
@@ -296,6 +299,30 @@ jc_status jc_bytes(struct jc_manager *m, uint32_t id, uint64_t *bytes);
  * from its first step to its last is given exactly once, whatever other calls change between them. */
 jc_status jc_walk(struct jc_manager *m, uint32_t id, uint32_t from, uint8_t *out, size_t room, size_t *len,
                   uint32_t *next);
+/* What a cache was created or restored with: *settings is written, and for each processor a byte of `wants`, as jc_create
+ * takes them, flags as 0 or 1 and a `max_value` of 65,535 as 0. *len is how many processors there are. JC_DONE, JC_SHORT_BUFFER (*settings and the first flags are written), JC_NO_SUCH_CACHE, JC_CLOSED. */
+jc_status jc_settings_of(struct jc_manager *m, uint32_t id, struct jc_settings *settings, uint8_t *wants, size_t room,
+                         size_t *len);
+/* The live caches in order of id: of each 4 bytes for its id, little endian, 1 for its name's length, then its name. *len
+ * is how many bytes that is; the first of them, as many as there is room for, are copied. JC_DONE, JC_SHORT_BUFFER,
+ * JC_CLOSED. */
+jc_status jc_names(struct jc_manager *m, uint8_t *out, size_t room, size_t *len);
+
+/* Saved caches: all by which a cache will ever answer, its name aside, as bytes that docs/FORMATS.md describes.
+ *
+ * Those of an idle cache: *len is how many they are, and the first of them, as many as there is room for, are copied (with
+ * room 0 none: so the length is asked for). It changes and shows nothing, and takes no memory. JC_DONE, JC_SHORT_BUFFER,
+ * JC_NO_SUCH_CACHE, JC_BUSY, JC_CLOSED. */
+jc_status jc_save(struct jc_manager *m, uint32_t id, uint8_t *out, size_t room, size_t *len);
+/* Adds a cache of this name that is what the bytes say: from here on it answers as the saved one would have. `max_value` as
+ * in struct jc_settings: it is not among the bytes. JC_DONE, and *id is written; JC_BAD_KEY; JC_BAD_SAVE or
+ * JC_OTHER_VERSION, and *place is how many bytes stand before the first flaw; JC_BAD_VALUE, where a row's value is longer
+ * than `max_value`; or a refusal of a creation, in this order. JC_OUT_OF_MEMORY may come before any of them. A refusal
+ * changes nothing. JC_CLOSED.
+ * Moments are absolute: who restores after a restart hands in wall-clock milliseconds that never fall. More than
+ * 268,435,456 bytes are JC_BAD_SAVE, also where jc_save wrote them. */
+jc_status jc_restore(struct jc_manager *m, const uint8_t *name, size_t name_len, const uint8_t *bytes, size_t len,
+                     uint32_t max_value, uint32_t *id, size_t *place);
 
 #ifdef __cplusplus
 }

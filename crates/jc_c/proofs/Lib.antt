@@ -12,3 +12,7 @@ pub mod Taking
 pub mod AsBox
 pub mod Slots
 pub mod Holding
+pub mod Putting
+pub mod Naming
+pub mod Again
+pub mod Restoring

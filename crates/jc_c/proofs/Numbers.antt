@@ -13,7 +13,7 @@ all =
     status.BadCapacity ∷ status.TooManyListeners ∷ status.TooManyProcessors ∷ status.DuplicateName ∷
     status.TotalCapacity ∷ status.IdsSpent ∷ status.Closed ∷ status.InUse ∷ status.BadKey ∷ status.BadValue ∷
     status.BadLengths ∷ status.TooManyKeys ∷ status.DuplicateKey ∷ status.BadChoice ∷ status.NoItem ∷
-    status.ShortBuffer ∷ []
+    status.ShortBuffer ∷ status.BadSave ∷ status.OtherVersion ∷ []
 
 abbrev first_of : List Status → ℕ → Option Status
 first_of [] n = None
@@ -59,6 +59,8 @@ back status.DuplicateKey = refl
 back status.BadChoice = refl
 back status.NoItem = refl
 back status.ShortBuffer = refl
+back status.BadSave = refl
+back status.OtherVersion = refl
 
 from_some : {A : Type 0} (x y : A) → Some x ≡ Some y → x ≡ y
 from_some x y e = cc

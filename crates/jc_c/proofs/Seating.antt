@@ -11,7 +11,7 @@ use Rattle.jc_model.specs.Places.{at_place, there}
 use Rattle.jc_model.specs.Runs.{Lives, Status, CacheEvent, on_cache, moved, put_moved, answer_of, answer_in, answer_to, answer_to_destroy, answer_to_create, create_refusal, for_memory, is_refused, lives_after, lives_by}
 use Rattle.jc_model.proofs.Lives.{at_same, at_other, same_length}
 use Rattle.jc_engine.proofs.Names.{at_place_map}
-use Rattle.jc_engine.specs.Caches.{Cache, status_of, lives_of, fresh_cache}
+use Rattle.jc_engine.specs.Caches.{Cache, status_of, lives_of}
 use Rattle.jc_engine.specs.Free.{takes_none}
 use Rattle.jc_engine.specs.Sound.{NoneFrom, places_of}
 use Rattle.jc_engine.proofs.Numbered.{Puts, put_here, put_other, places_put, places_more, at-places}
@@ -172,25 +172,26 @@ at_front [] y (suc i) differ = refl
 at_front (x ∷ xs) y zero differ = refl
 at_front (x ∷ xs) y (suc i) differ = at_front xs y i (λ e. differ (ap suc e))
 
-module _ (caches caches' : List (Option Cache)) (f g : ℕ → Option Desk) (id : ℕ) (config : CacheConfig) (slots : HaveDesks caches f) (answer : Created id ≡ answer_to (lives_of caches) (Create config) false)
-    (added : caches' ≡ caches ++ Some (fresh_cache config) ∷ []) (desk : Desk) (puts : Puts f id (Some desk) g) where
-  next_id : (refusal : _) → Created id ≡ answer_to_create refusal (length (lives_of caches)) false → id ≡ length (lives_of caches)
-  next_id None is = cc
-  next_id (Some refusal) is = absurd cc
+next_id : (n id : ℕ) (refusal : _) → Created id ≡ answer_to_create refusal n false → id ≡ n
+next_id n id None is = cc
+next_id n id (Some refusal) is = absurd cc
 
-  id_is : id ≡ length caches
-  id_is = next_id (create_refusal (lives_of caches) config) answer ∙ length-map caches (option_map status_of)
+pub created_id : (caches : List (Option Cache)) (id : ℕ) (config : CacheConfig) → Created id ≡ answer_to (lives_of caches) (Create config) false → id ≡ length caches
+created_id caches id config answer = next_id (length (lives_of caches)) id (create_refusal (lives_of caches) config) answer ∙ length-map caches (option_map status_of)
 
+-- A cache was added.
+module _ (caches caches' : List (Option Cache)) (f g : ℕ → Option Desk) (id : ℕ) (cache : Cache) (slots : HaveDesks caches f) (id_is : id ≡ length caches)
+    (added : caches' ≡ caches ++ Some cache ∷ []) (desk : Desk) (puts : Puts f id (Some desk) g) where
   pub slots_more : HaveDesks caches' g
   slots_more i = elim (cases_eq i id) [
     | inl same ↦ subst (λ (n : ℕ). is_some (g n) ≡ is_some (at_place caches' n)) (sym same)
         (ap is_some (put_here f g id (Some desk) puts)
-        ∙ sym (ap (λ (ks : List (Option Cache)). is_some (at_place ks id)) added ∙ ap (λ (n : ℕ). is_some (at_place (caches ++ Some (fresh_cache config) ∷ []) n)) id_is ∙ ap is_some (at_last caches (Some (fresh_cache config)))))
+        ∙ sym (ap (λ (ks : List (Option Cache)). is_some (at_place ks id)) added ∙ ap (λ (n : ℕ). is_some (at_place (caches ++ Some cache ∷ []) n)) id_is ∙ ap is_some (at_last caches (Some cache))))
     | inr differ ↦ ap is_some (put_other f g id (Some desk) puts i differ) ∙ slots i
-        ∙ sym (ap (λ (ks : List (Option Cache)). is_some (at_place ks i)) added ∙ ap is_some (at_front caches (Some (fresh_cache config)) i (λ e. differ (e ∙ sym id_is))))
+        ∙ sym (ap (λ (ks : List (Option Cache)). is_some (at_place ks i)) added ∙ ap is_some (at_front caches (Some cache) i (λ e. differ (e ∙ sym id_is))))
   ]
 
   pub shown_more : places_of g (length caches') ≡ places_of f (length caches) ++ Some desk ∷ []
   shown_more =
-      ap (λ (ks : List (Option Cache)). places_of g (length ks)) added ∙ ap (places_of g) (length_push caches (Some (fresh_cache config)) ∙ ap (λ n. n + 1) (sym id_is))
+      ap (λ (ks : List (Option Cache)). places_of g (length ks)) added ∙ ap (places_of g) (length_push caches (Some cache) ∙ ap (λ n. n + 1) (sym id_is))
       ∙ places_more f g id (Some desk) puts ∙ ap (λ n. places_of f n ++ Some desk ∷ []) id_is

@@ -1,5 +1,5 @@
 -- What a call from C does to a handle.
-use Rattle.std.specs.Prelude.{◌≡◌, ℕ, List, [], Result}
+use Rattle.std.specs.Prelude.{◌≡◌, ℕ, List, [], option_map, Result}
 use Rattle.std.specs.Prelude.{Option, Some, None}
 use Rattle.jc_model.specs.declared.call.Answer.{Answer}
 use Rattle.jc_model.specs.declared.call.Call.{Call}
@@ -15,8 +15,11 @@ use Rattle.jc_c.specs.declared.status.Status.{Status}
 use Rattle.jc_c.specs.declared.status.Status.TheVariants.{Closed, Done, InUse, OutOfMemory}
 use Rattle.jc_c.specs.Status.{status_number}
 use Rattle.jc_c.specs.Items.{Bytes}
+use Rattle.jc_c.specs.Asked.{asked_at}
 use Rattle.jc_c.specs.Looks.{value_found}
+use Rattle.jc_c.specs.Names.{names_told}
 use Rattle.jc_c.specs.Parts.{number_shown, part_shown, part_status}
+use Rattle.jc_c.specs.Saved.{RestoresTold}
 use Rattle.jc_c.specs.Seated.{Seated, DoesWithStatus, BeginsCall, BeginsCallOr, CreatesOr, ResumesCall, ResumesCallOr, fresh_seat, shown_of}
 use Rattle.jc_c.specs.declared.exports.handle.Handle.{Handle}
 
@@ -57,6 +60,10 @@ SeatAnswers event h number h' = OnSeat h.held (λ old status new. DoesWithStatus
 -- it creates the cache that bytes say, or memory was wanting
 abbrev pub SeatCreatesOr : Result NewCache Fault → ℕ → ℕ → Handle → ℕ → Handle → Type 0
 SeatCreatesOr said id id' h number h' = OnSeat h.held (λ old status new. CreatesOr old said status id id' new) number h'.held
+
+-- it restores the cache that bytes are, under a name that bytes say, or tells why not
+abbrev pub SeatRestores : Result (List ℕ) Fault → List ℕ → ℕ → ℕ → ℕ → ℕ → ℕ → Handle → ℕ → Handle → Type 0
+SeatRestores name bytes most id id' place place' h number h' = OnSeat h.held (λ old status new. RestoresTold old name bytes most status id id' place place' new) number h'.held
 
 -- it tells this status, by what it is
 abbrev pub SeatTells : (Seated → Status) → Handle → ℕ → Handle → Type 0
@@ -113,3 +120,12 @@ cache_held id held = at_place (caches_held held) id
 abbrev pub value_found_in : ℕ → ℕ → Option Seated → Bytes
 value_found_in id number None = None
 value_found_in id number (Some s) = value_found id number s
+
+-- what a live cache was created with
+abbrev pub asked_held : ℕ → Option Seated → Option NewCache
+asked_held id None = None
+asked_held id (Some s) = asked_at id s
+
+-- the live caches by id and name
+abbrev pub names_held : Option Seated → Bytes
+names_held held = option_map (λ s. names_told s.caches) held

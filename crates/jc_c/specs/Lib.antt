@@ -8,7 +8,10 @@ pub mod Desks
 pub mod Placing
 pub mod Seated
 pub mod Looks
+pub mod Asked
+pub mod Names
 pub mod Walk
 pub mod Bytes
+pub mod Saved
 pub mod Slot
 pub mod Held

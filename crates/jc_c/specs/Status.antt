@@ -59,6 +59,8 @@ status_number status.DuplicateKey = 70
 status_number status.BadChoice = 71
 status_number status.NoItem = 72
 status_number status.ShortBuffer = 73
+status_number status.BadSave = 74
+status_number status.OtherVersion = 75
 
 abbrev pub cause_status : Cause → Status
 cause_status cause.NoSuchCache = status.NoSuchCache

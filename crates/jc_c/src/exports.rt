@@ -6,3 +6,4 @@ mod items;
 mod looks;
 mod managers;
 mod many;
+mod saved;

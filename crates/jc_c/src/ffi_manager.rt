@@ -1,16 +1,19 @@
 //! A manager and the desks of its caches.
-ghost use Rattle.std.specs.Prelude.{◌≡◌, ℕ, None, IfSome, MatchResult, option_map};
+ghost use Rattle.std.specs.Prelude.{◌≡◌, ℕ, None, Ok, IfSome, MatchResult, option_map};
 ghost use Rattle.jc_model.specs.declared.event.Event.TheVariants.{Begin, Answer as Answers, GiveUp, Create, Destroy};
 ghost use Rattle.jc_model.specs.declared.event.Outcome.TheVariants.{Created};
 ghost use Rattle.std.specs.FinMap as map;
 ghost use Rattle.jc_cuckoo.specs.Cells.{rows_in};
 ghost use Rattle.jc_engine.specs.Caches.{id_of};
 ghost use Rattle.jc_engine.specs.Managed.{step_of};
+ghost use Rattle.jc_save.specs.Restoring.{restored};
+ghost use Rattle.jc_c.specs.Saved.{LacksLonger, Restores};
 ghost use Rattle.jc_c.specs.Seated.{Creates, DoesWith, DoesWithStatus, desk_of, fresh_seat};
 
 use crate::desks::{Desk, add, show, take_away};
 use crate::ffi_settings::NewCache;
 use crate::placer::FfiPlacer;
+use crate::saved::{RestoreAs, Unrestored};
 use crate::status::Status;
 use jc_cuckoo::cuckoo::Cuckoo;
 use jc_cuckoo::mirror::NoMirror;
@@ -26,7 +29,7 @@ use std::collections::HashMap;
 use std::marker::Model;
 
 /// How many buckets the table begins with.
-const BUCKETS: u32 = 64;
+const BUCKETS: u32 = 16;
 
 /// The table of rows.
 type Table = Cuckoo<FfiPlacer, NoMirror>;
@@ -123,6 +126,25 @@ impl FfiManager {
                 drop(config);
                 Err(Status::of_refusal(refusal))
             }
+        }
+    }
+
+    /// Adds the cache that bytes are. Memory may be wanting before the manager is asked.
+    pub fn restore(&mut self, asked: RestoreAs, bytes: &[u8]) -> Result<CacheId, Unrestored>
+        ensures { LacksLonger asked.max_value (restored asked.name bytes.now)
+            → Restores self.old (Ok asked.name) bytes.now asked.max_value result self.new }
+    {
+        if self.desks.reserve(1).is_err() {
+            return Err(Unrestored::because(Status::OutOfMemory));
+        }
+        let RestoreAs { name, max_value } = asked;
+        match self.engine.restore(name, bytes) {
+            Ok(id) => {
+                let shown = Outcome::Created(id);
+                add(&mut self.desks, id, Desk { shown, max_value });
+                Ok(id)
+            }
+            Err(refusal) => Err(Unrestored::of_refusal(refusal)),
         }
     }
 

@@ -1,5 +1,7 @@
 //! What a cache is created with.
 ghost use Rattle.std.specs.Prelude.{◌≡◌, IfOk, map, IfErr};
+ghost use Rattle.jc_save.specs.Spelling.{flag};
+ghost use Rattle.jc_c.specs.Asked.{bound_told, duration_of, policy_number, settings_by};
 ghost use Rattle.jc_c.specs.Reading.{IsRead, bound_said, cache_said, is_set, policy_said};
 
 use crate::reading::read_key;
@@ -67,7 +69,7 @@ fn flags_of(alloc: Global, bytes: &[u8]) -> Result<Vec<bool>, Fault>
 }
 
 /// The most bytes of a value, of which 0 says that there is no bound of the cache's own.
-fn bound_of(max_value: u32) -> u32
+pub fn bound_of(max_value: u32) -> u32
     ensures { result ≡ bound_said max_value }
 {
     if max_value == 0 {
@@ -103,4 +105,50 @@ pub fn read_cache(
     };
     let max_value = bound_of(settings.max_value);
     Ok(NewCache { config, max_value })
+}
+
+/// A policy's number, and its duration in milliseconds, which is 0 where it has none.
+fn numbers_of(policy: Policy) -> (u32, u64)
+    ensures { result ≡ (policy_number policy, duration_of policy) }
+{
+    match policy {
+        Policy::Eternal => (0, 0),
+        Policy::Created(duration) => (1, duration),
+        Policy::Accessed(duration) => (2, duration),
+        Policy::Modified(duration) => (3, duration),
+        Policy::Touched(duration) => (4, duration),
+    }
+}
+
+/// The most bytes of a value, of which 0 says that there is no bound of the cache's own.
+fn bound_told(most: u32) -> u32
+    ensures { result ≡ bound_told most }
+{
+    if most == VALUE_BYTES as u32 { 0 } else { most }
+}
+
+/// 1 for a flag that is set, else 0.
+pub fn byte_of(is_set: bool) -> u8
+    ensures { result ≡ flag is_set }
+{
+    if is_set { 1 } else { 0 }
+}
+
+impl FfiSettings {
+    /// The numbers of a cache that was created so.
+    pub fn of(config: &CacheConfig, max_value: u32) -> FfiSettings
+        ensures { result ≡ settings_by config.now max_value }
+    {
+        let (policy, duration) = numbers_of(config.policy);
+        FfiSettings {
+            duration,
+            capacity: config.capacity,
+            policy,
+            loader: byte_of(config.loader),
+            writer: byte_of(config.writer),
+            listeners: config.listeners,
+            max_value: bound_told(max_value),
+            reserved: 0,
+        }
+    }
 }

@@ -1,7 +1,8 @@
 //! Looks at caches, which change nothing, in the caller's places; and a get that hands its value over at once.
-ghost use Rattle.std.specs.Prelude.{◌≡◌};
+ghost use Rattle.std.specs.Prelude.{◌≡◌, length};
 ghost use Rattle.jc_model.specs.Places.{at_place};
 ghost use Rattle.jc_engine.specs.Caches.{count_in};
+ghost use Rattle.jc_c.specs.Asked.{asked_at, asked_status, settings_told, wants_told};
 ghost use Rattle.jc_c.specs.Calls.{call_with_key};
 ghost use Rattle.jc_c.specs.Items.{buffer_after, length_told};
 ghost use Rattle.jc_c.specs.Looks.{moment_of, moment_peeked, peek_status, row_peeked, rows_status, value_found, value_peeked};
@@ -12,7 +13,9 @@ ghost use Rattle.jc_c.specs.Status.{status_number};
 
 use crate::calls;
 use crate::ffi_manager::FfiManager;
+use crate::ffi_settings::FfiSettings;
 use crate::items::{Part, copy_first};
+use crate::put::{put_flags, tell_length};
 use crate::reading::read_key;
 use crate::status::Status;
 use jc_model::call::Call;
@@ -112,5 +115,33 @@ impl FfiManager {
             }
             None => Status::NoSuchCache,
         }
+    }
+
+    /// Tells what a live cache was created with, and how many processors it has. Of each of them it writes whether it
+    /// wants the value, as many as there is room for.
+    #[tactic(auto, using(crate::proofs::Putting::put_first))]
+    pub fn settings_of(
+        &self,
+        id: u32,
+        settings: &mut FfiSettings,
+        wants: &mut [u8],
+        len: &mut usize,
+    ) -> Status
+        ensures status { result ≡ asked_status (asked_at id self.now) (length wants.old) }
+        ensures settings { settings.new ≡ settings_told (asked_at id self.now) settings.old }
+        ensures wants { wants.new ≡ buffer_after (wants_told (asked_at id self.now)) wants.old }
+        ensures len { len.new ≡ length_told (wants_told (asked_at id self.now)) len.old }
+    {
+        let id = CacheId::new(id);
+        let Some(config) = self.engine.config(id) else {
+            return Status::NoSuchCache;
+        };
+        let Some(desk) = self.desk(id) else {
+            return Status::NoSuchCache;
+        };
+        *settings = FfiSettings::of(config, desk.max_value);
+        let room = wants.len();
+        let count = put_flags(wants, config.processors.items());
+        tell_length(count, room, len)
     }
 }

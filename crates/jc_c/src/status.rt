@@ -80,6 +80,10 @@ pub enum Status {
     NoItem,
     /// The buffer took the first bytes alone.
     ShortBuffer,
+    /// Bytes that no cache is saved as.
+    BadSave,
+    /// Saved bytes of another version of their format.
+    OtherVersion,
 }
 
 impl Status {
@@ -127,6 +131,8 @@ impl Status {
             Status::BadChoice => 71,
             Status::NoItem => 72,
             Status::ShortBuffer => 73,
+            Status::BadSave => 74,
+            Status::OtherVersion => 75,
         }
     }
 

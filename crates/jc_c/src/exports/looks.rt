@@ -1,17 +1,20 @@
 //! Looks at caches, which change nothing, and a get that copies its value out.
-ghost use Rattle.std.specs.Prelude.{◌≡◌, length};
+ghost use Rattle.std.specs.Prelude.{◌≡◌, Some, length};
 ghost use Rattle.jc_model.specs.Places.{at_place};
 ghost use Rattle.jc_engine.specs.Caches.{count_in};
+ghost use Rattle.jc_c.specs.Asked.{asked_at, asked_status, settings_told, wants_told};
 ghost use Rattle.jc_c.specs.Bytes.{bytes_in};
 ghost use Rattle.jc_c.specs.Calls.{call_with_key};
-ghost use Rattle.jc_c.specs.Items.{buffer_after, length_told};
+ghost use Rattle.jc_c.specs.Items.{buffer_after, copy_status, length_told};
 ghost use Rattle.jc_c.specs.Looks.{moment_peeked, peek_status, row_peeked, rows_status, value_peeked};
+ghost use Rattle.jc_c.specs.Names.{names_told};
 ghost use Rattle.jc_c.specs.Parts.{or_before};
 ghost use Rattle.jc_c.specs.Reading.{key_said};
 ghost use Rattle.jc_c.specs.Walk.{bytes_walked, laid_over, length_walked, number_walked, walk_status, walked};
-ghost use Rattle.jc_c.specs.Held.{SeatBegins, SeatTellsAt, cache_held, value_found_in};
+ghost use Rattle.jc_c.specs.Held.{SeatBegins, SeatTells, SeatTellsAt, asked_held, cache_held, names_held, value_found_in};
 
 use crate::exports::handle::Handle;
+use crate::ffi_settings::FfiSettings;
 use crate::status::Status;
 use jc_model::call::Call;
 use std::alloc::Global;
@@ -128,6 +131,46 @@ pub extern "C" fn jc_walk(
         return Status::Closed.number();
     };
     let status = seat.walk(id, from, out, len, next);
+    h.put_in(seat);
+    status.number()
+}
+
+#[unsafe(no_mangle)]
+pub extern "C" fn jc_settings_of(
+    alloc: Global,
+    h: &mut Handle,
+    id: u32,
+    settings: &mut FfiSettings,
+    wants: &mut [u8],
+    len: &mut usize,
+) -> u32
+    ensures same { h.new.held ≡ h.old.held }
+    ensures status { SeatTells (λ old. asked_status (asked_at id old) (length wants.old))
+        h.old result h.new }
+    ensures settings { settings.new ≡ settings_told (asked_held id h.old.held) settings.old }
+    ensures wants { wants.new ≡ buffer_after (wants_told (asked_held id h.old.held)) wants.old }
+    ensures len { len.new ≡ length_told (wants_told (asked_held id h.old.held)) len.old }
+{
+    let Some(seat) = h.take(alloc) else {
+        return Status::Closed.number();
+    };
+    let status = seat.settings_of(id, settings, wants, len);
+    h.put_in(seat);
+    status.number()
+}
+
+#[unsafe(no_mangle)]
+pub extern "C" fn jc_names(alloc: Global, h: &mut Handle, out: &mut [u8], len: &mut usize) -> u32
+    ensures same { h.new.held ≡ h.old.held }
+    ensures status { SeatTells (λ old. copy_status (Some (names_told old.caches)) (length out.old))
+        h.old result h.new }
+    ensures out { out.new ≡ buffer_after (names_held h.old.held) out.old }
+    ensures len { len.new ≡ length_told (names_held h.old.held) len.old }
+{
+    let Some(seat) = h.take(alloc) else {
+        return Status::Closed.number();
+    };
+    let status = seat.list_names(out, len);
     h.put_in(seat);
     status.number()
 }

@@ -3,8 +3,9 @@ use Rattle.std.specs.HashMap.{get}
 use Rattle.jc_model.specs.declared.event.Event.TheVariants.{Create}
 use Rattle.jc_model.specs.declared.event.Outcome.TheVariants.{Created, CreateRefused}
 use Rattle.jc_engine.proofs.Numbered.{Puts, puts_same}
+use Rattle.jc_engine.specs.Caches.{fresh_cache}
 use Rattle.jc_c.specs.declared.desks.Desk.{Desk}
-use Rattle.jc_c.proofs.Seating.{slots_more, shown_more, same_places, accepted_does, refused_does}
+use Rattle.jc_c.proofs.Seating.{created_id, slots_more, shown_more, same_places, accepted_does, refused_does}
 use Rattle.jc_c.proofs.ffi_manager.FfiManager.create.Goals as goal
 
 pub returns-then-is_err : goal.returns-then-is_err
@@ -20,12 +21,12 @@ module _ (c : goal.After-add) where
 
 pub invariant_of-self-in-Ok : goal.invariant_of-self-in-Ok
 invariant_of-self-in-Ok c =
-    slots_more c.self.inside.engine c.create.new.self (get nat_eq c.self.inside.desks) (get nat_eq c.add.new.desks) c.in-Ok.id c.args.asked.config c.self.invariant c.in-Ok.ensures.outcome c.in-Ok.ensures.added (first c) (puts c)
+    slots_more c.self.inside.engine c.create.new.self (get nat_eq c.self.inside.desks) (get nat_eq c.add.new.desks) c.in-Ok.id (fresh_cache c.args.asked.config) c.self.invariant (created_id c.self.inside.engine c.in-Ok.id c.args.asked.config c.in-Ok.ensures.outcome) c.in-Ok.ensures.added (first c) (puts c)
 
 pub returns-in-Ok : goal.returns-in-Ok
 returns-in-Ok c = rw (← c.self.view_is)
     (accepted_does c.args.asked.max_value c.self.inside.placer c.self.inside.engine c.create.new.self (get nat_eq c.self.inside.desks) (get nat_eq c.add.new.desks) (Create c.args.asked.config) (Created c.in-Ok.id) refl c.in-Ok.ensures.outcome c.in-Ok.ensures.lives (λ never. absurd cc)
-    (shown_more c.self.inside.engine c.create.new.self (get nat_eq c.self.inside.desks) (get nat_eq c.add.new.desks) c.in-Ok.id c.args.asked.config c.self.invariant c.in-Ok.ensures.outcome c.in-Ok.ensures.added (first c) (puts c)))
+    (shown_more c.self.inside.engine c.create.new.self (get nat_eq c.self.inside.desks) (get nat_eq c.add.new.desks) c.in-Ok.id (fresh_cache c.args.asked.config) c.self.invariant (created_id c.self.inside.engine c.in-Ok.id c.args.asked.config c.in-Ok.ensures.outcome) c.in-Ok.ensures.added (first c) (puts c)))
 
 pub returns-in-Err : goal.returns-in-Err
 returns-in-Err c = λ id. rw (← c.self.view_is) (inl (record {
