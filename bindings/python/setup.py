@@ -6,7 +6,8 @@ from setuptools import Extension, setup
 
 archives = [os.environ[name] for name in ("JCACHE_ARCHIVE", "JCACHE_HEAP") if name in os.environ]
 headers = os.environ.get("JCACHE_HEADERS", "../../include")
-extension = Extension("jcache._native", ["jcache/_native.c"], include_dirs=[headers], extra_objects=archives, optional=True)
+extension = Extension("jcache._native", ["jcache/_native.c"], include_dirs=[headers],
+                      extra_objects=archives, depends=["jcache/_handle.h"], optional=True)
 setup(
     name="jcache",
     version="0.1.0",

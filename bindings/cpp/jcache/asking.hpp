@@ -13,6 +13,8 @@ inline const std::uint8_t *bytes(std::string_view text) {
     return reinterpret_cast<const std::uint8_t *>(text.data() ? text.data() : "");
 }
 
+inline std::uint8_t *room(std::string &text) { return reinterpret_cast<std::uint8_t *>(text.data()); }
+
 // A handle behind its lock, which is held for each call.
 class Library {
   public:
@@ -78,7 +80,7 @@ class Asking {
         for (;;) {
             std::size_t len = 0;
             jc_status status = library->ask([&](jc_manager *m) {
-                return read(m, id, item, reinterpret_cast<std::uint8_t *>(text.data()), text.size(), &len);
+                return read(m, id, item, room(text), text.size(), &len);
             });
             text.resize(len);
             if (status != JC_SHORT_BUFFER)

@@ -42,7 +42,7 @@ template <bool throws> class BasicCache {
     BasicCache<false> without_exceptions() const { return BasicCache<false>(asking); }
 
     const std::string &name() const { return asking->name; }
-    // JSR 107, getConfiguration.
+    // What the cache was made or restored with (JSR 107, getConfiguration).
     const Configuration &configuration() const { return asking->hooks; }
 
     // The value; a missing key is loaded.
@@ -164,6 +164,22 @@ template <bool throws> class BasicCache {
         }));
     }
     Outcome<void> clear_statistics(Moment now = {}) { return done(whole(jc_clear_stats, now)); }
+
+    // The cache as bytes, from which Manager::restore makes it anew: all by which it will ever answer, but for its name and its
+    // hooks. Nothing is changed or counted. It waits for an open call.
+    Outcome<std::string> save() const {
+        std::lock_guard<std::recursive_mutex> turn(asking->turn);
+        std::string saved;
+        jc_status status = ask([&](jc_manager *m) {
+            std::size_t len = 0;
+            jc_status status = jc_save(m, asking->id, detail::room(saved), 0, &len);
+            if (status != JC_SHORT_BUFFER)
+                return status;
+            saved.resize(len);
+            return jc_save(m, asking->id, detail::room(saved), len, &len);
+        });
+        return out(status == JC_DONE ? Result(std::move(saved)) : Result<std::string>(Error(status)));
+    }
 
     // Looks. They load, count and renew nothing, and do not wait for an open call. How many entries lie in the cache, also
     // those that expired and were met by no call since:

@@ -13,9 +13,10 @@
 
 namespace jcache {
 
-// Why a call has not done what it should. Refused calls have changed nothing; otherwise a hook threw. After a listener
-// threw the call's changes stand, and the listeners behind were not told.
-enum class Kind { refused, loader_failed, writer_failed, processor_failed, listener_failed };
+// Why a call has not done what it should. Refused calls have changed nothing, nor has restoring with hooks that differ from
+// those of the saved cache; otherwise a hook threw. After a listener threw the call's changes stand, and the listeners behind
+// were not told.
+enum class Kind { refused, loader_failed, writer_failed, processor_failed, listener_failed, hooks_differ };
 
 namespace detail {
 
@@ -25,6 +26,7 @@ inline std::string words(Kind kind, jc_status status) {
     case Kind::writer_failed: return "the writer failed";
     case Kind::processor_failed: return "the function failed";
     case Kind::listener_failed: return "a listener failed";
+    case Kind::hooks_differ: return "the saved cache had other hooks";
     case Kind::refused: break;
     }
     switch (status) {
@@ -41,6 +43,8 @@ inline std::string words(Kind kind, jc_status status) {
     case JC_BAD_VALUE: return "a value has more bytes than the cache takes";
     case JC_TOO_MANY_KEYS: return "more than 64 keys";
     case JC_DUPLICATE_KEY: return "a key stands twice";
+    case JC_BAD_SAVE: return "the bytes are no saved cache";
+    case JC_OTHER_VERSION: return "the bytes are of another version";
     default: return "status " + std::to_string(status);
     }
 }
@@ -52,6 +56,8 @@ class Error : public std::runtime_error {
   public:
     // The call was refused; the status is a number of jcache.h.
     explicit Error(jc_status status) : Error(Kind::refused, status, {}, nullptr) {}
+    // Saved bytes were refused, which have their first flaw at this place.
+    Error(jc_status status, std::size_t place) : Error(status) { flaw = place; }
     Error(Kind kind, jc_status status, std::optional<std::uint64_t> done, std::exception_ptr cause)
         : std::runtime_error("jcache: " + detail::words(kind, status)), what_kind(kind), number(status), before(done),
           thrown(std::move(cause)) {}
@@ -59,6 +65,8 @@ class Error : public std::runtime_error {
     Kind kind() const noexcept { return what_kind; }
     // A number of jcache.h.
     jc_status status() const noexcept { return number; }
+    // Of bytes that are no saved cache, or one of another version: how many stand before the first flaw.
+    std::optional<std::size_t> place() const noexcept { return flaw; }
     // Of a call on many keys, how many were done before a hook failed.
     std::optional<std::uint64_t> done() const noexcept { return before; }
     // What a hook threw, or null.
@@ -69,6 +77,7 @@ class Error : public std::runtime_error {
     jc_status number;
     std::optional<std::uint64_t> before;
     std::exception_ptr thrown;
+    std::optional<std::size_t> flaw{};
 };
 
 // What a call gives, or why it gives nothing.

@@ -41,17 +41,38 @@ template <bool throws> class BasicManager {
     Outcome<Cache> create_cache(std::string_view name, Configuration configuration) {
         std::lock_guard<std::mutex> held(shared->lock);
         jc_settings settings = settings_of(configuration);
-        // Each cache has two processors in the library, which run the function that is invoked. The second wants the value.
-        const std::uint8_t wants[2] = {0, 1};
         std::uint32_t id = 0;
         jc_status status = shared->library->ask([&](jc_manager *m) {
             return jc_create(m, detail::bytes(name), name.size(), &settings, wants, sizeof wants, &id);
         });
+        return out(status == JC_DONE ? made(id, name, std::move(configuration)) : Result<Cache>(Error(status)));
+    }
+    // Makes a cache of this name from what Cache::save gave, in this process or another. From here on it answers as the saved
+    // one would have. Of the configuration the hooks and `max_value` count: hooks are to be of the kinds of those that the
+    // saved cache had. More than 268,435,456 bytes are refused as JC_BAD_SAVE. Moments are absolute: after a restart the clock
+    // has to go on from where it was, as WallClock does.
+    Outcome<Cache> restore(std::string_view name, std::string_view saved, Configuration configuration = {}) {
+        std::lock_guard<std::mutex> held(shared->lock);
+        jc_settings settings{};
+        std::uint8_t wanted[16] = {};
+        std::uint32_t id = 0;
+        std::size_t place = 0, count = 0;
+        jc_status status = shared->library->ask([&](jc_manager *m) {
+            jc_status status = jc_restore(m, detail::bytes(name), name.size(), detail::bytes(saved), saved.size(),
+                                          configuration.max_value, &id, &place);
+            return status == JC_DONE ? jc_settings_of(m, id, &settings, wanted, sizeof wanted, &count) : status;
+        });
+        if (status == JC_BAD_SAVE || status == JC_OTHER_VERSION)
+            return out(Result<Cache>(Error(status, place)));
         if (status != JC_DONE)
             return out(Result<Cache>(Error(status)));
-        auto made = std::make_shared<detail::Asking>(shared->library, id, std::string(name), std::move(configuration));
-        shared->caches.emplace(id, made);
-        return out(Result(Cache(std::move(made))));
+        if (!std::equal(wanted, wanted + count, std::begin(wants), std::end(wants)) || !has_hooks(settings, configuration)) {
+            shared->library->ask([&](jc_manager *m) { return jc_destroy(m, id); });
+            return out(Result<Cache>(Error(Kind::hooks_differ, JC_DONE, {}, nullptr)));
+        }
+        configuration.capacity = settings.capacity;
+        configuration.expiry = {settings.policy, settings.duration};
+        return out(made(id, name, std::move(configuration)));
     }
     // The live cache of this name, if there is one.
     Outcome<std::optional<Cache>> get_cache(std::string_view name) {
@@ -83,12 +104,14 @@ template <bool throws> class BasicManager {
     }
     // The names of the live caches, as they were made.
     Outcome<std::vector<std::string>> cache_names() const {
-        std::lock_guard<std::mutex> held(shared->lock);
-        if (is_closed())
-            return out(Result<std::vector<std::string>>(Error(JC_CLOSED)));
+        std::string listed(longest_names, '\0');
+        std::size_t len = 0;
+        auto call = [&](jc_manager *m) { return jc_names(m, detail::room(listed), listed.size(), &len); };
+        if (jc_status status = shared->library->ask(call))
+            return out(Result<std::vector<std::string>>(Error(status)));
         std::vector<std::string> names;
-        for (const auto &[id, cache] : shared->caches)
-            names.push_back(cache->name);
+        for (std::size_t at = 0; at < len; at += 5 + names.back().size())
+            names.push_back(listed.substr(at + 5, static_cast<std::uint8_t>(listed[at + 4])));
         return out(Result(std::move(names)));
     }
     // Ends all caches and frees their memory. Again, it does nothing.
@@ -101,6 +124,22 @@ template <bool throws> class BasicManager {
   private:
     template <bool> friend class BasicManager;
     explicit BasicManager(std::shared_ptr<detail::Directory> shared) : shared(std::move(shared)) {}
+
+    // Each cache has two processors in the library, which run the function that is invoked. The second wants the value.
+    static constexpr std::uint8_t wants[] = {0, 1};
+    // Of 1,024 caches, each with 4 bytes for its id and 1 for its name's length.
+    static constexpr std::size_t longest_names = 1'024 * (4 + 1 + 63);
+
+    Result<Cache> made(std::uint32_t id, std::string_view name, Configuration configuration) {
+        auto made = std::make_shared<detail::Asking>(shared->library, id, std::string(name), std::move(configuration));
+        shared->caches.emplace(id, made);
+        return Cache(std::move(made));
+    }
+
+    static bool has_hooks(const jc_settings &saved, const Configuration &given) {
+        jc_settings named = settings_of(given);
+        return saved.loader == named.loader && saved.writer == named.writer && saved.listeners == named.listeners;
+    }
 
     static jc_settings settings_of(const Configuration &given) {
         jc_settings settings{};

@@ -17,9 +17,8 @@ inline Result<std::optional<Row>> peek(Asking &asking, std::string_view key, std
     std::uint64_t expires = 0;
     jc_status status = asking.library->ask([&](jc_manager *m) {
         for (;;) {
-            auto *room = reinterpret_cast<std::uint8_t *>(text.data());
             std::size_t len = 0, most = text.size();
-            jc_status status = jc_peek(m, asking.id, now, bytes(key), key.size(), &expires, room, most, &len);
+            jc_status status = jc_peek(m, asking.id, now, bytes(key), key.size(), &expires, room(text), most, &len);
             text.resize(len);
             if (len <= most)
                 return status;

@@ -6,13 +6,14 @@ Keys are texts of 1 to 63 bytes of UTF-8, values bytes of at most 65,535, moment
 from ._calls import library_version
 from .cache import Cache
 from .clocks import FixedClock, WallClock
-from .errors import (BadArgument, Busy, CacheError, Closed, Failed, ListenerFailed, LoaderFailed, NotCreated, OutOfMemory,
-                     ProcessorFailed, Refused, Status, WriterFailed)
+from .errors import (BadArgument, BadSave, Busy, CacheError, Closed, Failed, HooksDiffer, ListenerFailed, LoaderFailed,
+                     NotCreated, NotRestored, OtherVersion, OutOfMemory, ProcessorFailed, Refused, Status, WriterFailed)
 from .manager import Manager
 from .values import Configuration, Entry, Event, Expiry, Result, Row, Statistics
 
 __all__ = [
-    "BadArgument", "Busy", "Cache", "CacheError", "Closed", "Configuration", "Entry", "Event", "Expiry", "Failed",
-    "FixedClock", "ListenerFailed", "LoaderFailed", "Manager", "NotCreated", "OutOfMemory", "ProcessorFailed", "Refused",
-    "Result", "Row", "Statistics", "Status", "WallClock", "WriterFailed", "library_version",
+    "BadArgument", "BadSave", "Busy", "Cache", "CacheError", "Closed", "Configuration", "Entry", "Event", "Expiry", "Failed",
+    "FixedClock", "HooksDiffer", "ListenerFailed", "LoaderFailed", "Manager", "NotCreated", "NotRestored", "OtherVersion",
+    "OutOfMemory", "ProcessorFailed", "Refused", "Result", "Row", "Statistics", "Status", "WallClock", "WriterFailed",
+    "library_version",
 ]

@@ -156,3 +156,12 @@ def rows_of(text: bytes, now: int) -> Iterator[Row]:
             yield Row(text[at + _ROW.size:middle].decode(), text[middle:middle + value],
                       None if expires == calls.NEVER else expires)
         at = middle + value
+
+
+def names_of(text: bytes) -> Iterator[str]:
+    """The names that the library lists: each behind 4 bytes of an id and 1 for its length."""
+    at = 0
+    while at < len(text):
+        end = at + 5 + text[at + 4]
+        yield text[at + 5:end].decode()
+        at = end

@@ -41,7 +41,9 @@ _SHAPES: Dict[str, List[Any]] = {
     "value": [_U32, _SIZE, *_OUT], "before": [_U32, _SIZE, *_OUT], "number": [_U32, _SIZE, ctypes.POINTER(_U64)],
     "peek": [*_AT, *_BYTES, ctypes.POINTER(_U64), *_OUT], "rows": [_U32, ctypes.POINTER(_SIZE)],
     "bytes": [_U32, ctypes.POINTER(_U64)],
-    "walk": [_U32, _U32, *_OUT, ctypes.POINTER(_U32)],
+    "walk": [_U32, _U32, *_OUT, ctypes.POINTER(_U32)], "save": [_U32, *_OUT], "names": _OUT,
+    "restore": [*_BYTES, *_BYTES, _U32, ctypes.POINTER(_U32), ctypes.POINTER(_SIZE)],
+    "settings_of": [_U32, ctypes.POINTER(_Settings), *_OUT],
 }
 _LIMITS = {_U8: 1 << 8, _U32: 1 << 32, _U64: 1 << 64}
 
@@ -121,6 +123,34 @@ class Handle:
     def find(self, name: str) -> Tuple[int, int]:
         found = _U32()
         return self._ask("find", *_text(name), found), found.value
+
+    def names(self) -> Union[bytes, int]:
+        length = _SIZE()
+        with self._lock:
+            status = self._ask("names", self._out, _ROOM, length)
+            return self._taken(length) if status == _DONE else status
+
+    def settings(self, cache: int) -> Tuple[int, int, int, int, Tuple[int, int, int], bytes]:
+        found, length = _Settings(), _SIZE()
+        with self._lock:
+            status = self._ask("settings_of", cache, found, self._out, _ROOM, length)
+            hooks = (found.loader, found.writer, found.listeners)
+            return status, found.capacity, found.policy, found.duration, hooks, self._taken(length)
+
+    def save(self, cache: int) -> Union[bytes, int]:
+        length = _SIZE()
+        with self._lock:
+            status = self._ask("save", cache, self._out, _ROOM, length)
+            if status != _SHORT_BUFFER:
+                return self._taken(length) if status == _DONE else status
+            saved = ctypes.create_string_buffer(length.value)
+            self._ask("save", cache, saved, length.value, length)
+            return saved.raw
+
+    def restore(self, name: str, saved: bytes, max_value: int) -> Tuple[int, int, int]:
+        made, place = _U32(), _SIZE()
+        status = self._ask("restore", *_text(name), *_bytes(saved), max_value, made, place)
+        return status, made.value, place.value
 
     def get(self, cache: int, now: int, key: str) -> Union[bytes, int]:
         length = _SIZE()

@@ -1,86 +1,6 @@
 /* The functions of jcache.h for _calls.py, which says what each takes and gives. A handle's lock is held for each call. The
  * interpreter's lock is let go where a call may take long: all but those that look one key up or answer a request. */
-#define PY_SSIZE_T_CLEAN
-#include <Python.h>
-#include "jcache.h"
-
-/* The longest row of a walk has 65,609 bytes. */
-enum { ROOM = 1 << 17 };
-
-typedef struct {
-    PyObject_HEAD struct jc_manager manager;
-    PyThread_type_lock lock;
-    uint8_t *room; /* what is read lies here while the lock is held */
-} Handle;
-
-struct text {
-    const uint8_t *at;
-    size_t len;
-};
-
-/* The arguments of a call: a cache's id, a moment, other numbers, texts. */
-struct taken {
-    uint64_t number[7];
-    struct text text[3];
-};
-
-/* Holds the lock, under which no object is made that the collector knows of: it may run a finalizer that calls. */
-static void hold(Handle *self) {
-    if (PyThread_acquire_lock(self->lock, NOWAIT_LOCK))
-        return;
-    Py_BEGIN_ALLOW_THREADS PyThread_acquire_lock(self->lock, WAIT_LOCK);
-    Py_END_ALLOW_THREADS
-}
-
-static void let_go(Handle *self) { PyThread_release_lock(self->lock); }
-
-static int take_number(PyObject *from, uint64_t most, uint64_t *to) {
-    *to = PyLong_AsUnsignedLongLong(from);
-    if (*to == UINT64_MAX && PyErr_Occurred())
-        return 0;
-    if (*to > most)
-        PyErr_SetString(PyExc_OverflowError, "a number is out of range");
-    return *to <= most;
-}
-
-static int take_text(PyObject *from, struct text *to) {
-    Py_ssize_t len;
-    to->at = (const uint8_t *)PyUnicode_AsUTF8AndSize(from, &len);
-    to->len = (size_t)len;
-    return to->at != NULL;
-}
-
-static int take_bytes(PyObject *from, struct text *to) {
-    if (!PyBytes_Check(from)) {
-        PyErr_Format(PyExc_TypeError, "a value is bytes, not %s", Py_TYPE(from)->tp_name);
-        return 0;
-    }
-    to->at = (const uint8_t *)PyBytes_AS_STRING(from);
-    to->len = (size_t)PyBytes_GET_SIZE(from);
-    return 1;
-}
-
-/* Takes arguments by a letter each: i a number of 32 bits, n of 64, b of 8, s a str, v bytes. Whether they are such. */
-static int take(struct taken *to, const char *shape, PyObject *const *from, Py_ssize_t count) {
-    size_t numbers = 0, texts = 0;
-    if (count != (Py_ssize_t)strlen(shape)) {
-        PyErr_Format(PyExc_TypeError, "%zu arguments are wanted", strlen(shape));
-        return 0;
-    }
-    for (Py_ssize_t k = 0; k < count; k++) {
-        int is_taken;
-        if (shape[k] == 's')
-            is_taken = take_text(from[k], &to->text[texts++]);
-        else if (shape[k] == 'v')
-            is_taken = take_bytes(from[k], &to->text[texts++]);
-        else
-            is_taken = take_number(from[k], shape[k] == 'n' ? UINT64_MAX : shape[k] == 'i' ? UINT32_MAX : UINT8_MAX,
-                                   &to->number[numbers++]);
-        if (!is_taken)
-            return 0;
-    }
-    return 1;
-}
+#include "_handle.h"
 
 /* A method that gives a call's status. The call sees its arguments as ID, NOW, N(k), and texts as K(0), K(1), .. */
 #define ID (uint32_t)it.number[0]
@@ -195,6 +115,62 @@ static PyObject *do_find(Handle *self, PyObject *const *arguments, Py_ssize_t co
     jc_status status = jc_find(M, K(0), &id);
     let_go(self);
     return Py_BuildValue("(II)", status, id);
+}
+
+static PyObject *do_names(Handle *self, PyObject *const *Py_UNUSED(arguments), Py_ssize_t Py_UNUSED(count)) {
+    size_t len = 0;
+    hold(self);
+    jc_status status = jc_names(M, OUT);
+    PyObject *names = status == JC_DONE ? bytes_of(self, len) : number_of(status);
+    let_go(self);
+    return names;
+}
+
+static PyObject *do_settings(Handle *self, PyObject *const *arguments, Py_ssize_t count) {
+    struct taken it;
+    struct jc_settings is = {0};
+    size_t len = 0;
+    if (!take(&it, "i", arguments, count))
+        return NULL;
+    hold(self);
+    jc_status status = jc_settings_of(M, ID, &is, OUT);
+    PyObject *wants = bytes_of(self, len);
+    let_go(self);
+    return Py_BuildValue("(IIIK(bbb)N)", status, is.capacity, is.policy, is.duration, is.loader, is.writer, is.listeners, wants);
+}
+
+/* Saves into the room, or what is longer into bytes of its length. */
+static PyObject *do_save(Handle *self, PyObject *const *arguments, Py_ssize_t count) {
+    struct taken it;
+    size_t len = 0;
+    jc_status status;
+    if (!take(&it, "i", arguments, count))
+        return NULL;
+    hold(self);
+    Py_BEGIN_ALLOW_THREADS status = jc_save(M, ID, OUT);
+    Py_END_ALLOW_THREADS PyObject *saved = status == JC_DONE           ? bytes_of(self, len)
+                                           : status == JC_SHORT_BUFFER ? PyBytes_FromStringAndSize(NULL, (Py_ssize_t)len)
+                                                                       : number_of(status);
+    if (status == JC_SHORT_BUFFER && saved) {
+        uint8_t *to = (uint8_t *)PyBytes_AS_STRING(saved);
+        Py_BEGIN_ALLOW_THREADS jc_save(M, ID, to, len, &len);
+        Py_END_ALLOW_THREADS
+    }
+    let_go(self);
+    return saved;
+}
+
+static PyObject *do_restore(Handle *self, PyObject *const *arguments, Py_ssize_t count) {
+    struct taken it;
+    uint32_t id = 0;
+    size_t place = 0;
+    jc_status status;
+    if (!take(&it, "svi", arguments, count))
+        return NULL;
+    hold(self);
+    Py_BEGIN_ALLOW_THREADS status = jc_restore(M, K(0), K(1), (uint32_t)it.number[0], &id, &place);
+    let_go(self);
+    Py_END_ALLOW_THREADS return Py_BuildValue("(IIn)", status, id, (Py_ssize_t)place);
 }
 
 static PyObject *do_get(Handle *self, PyObject *const *arguments, Py_ssize_t count) {
@@ -345,7 +321,8 @@ static PyMethodDef methods[] = {
     METHOD(put_all), METHOD(remove_keys), METHOD(load_all), METHOD(invoke_all), METHOD(remove_all), METHOD(clear),
     METHOD(entries), METHOD(stats), METHOD(clear_stats), METHOD(loaded), METHOD(loaded_nothing), METHOD(load_failed),
     METHOD(written), METHOD(write_failed), METHOD(processed), METHOD(process_failed), METHOD(told), METHOD(give_up),
-    METHOD(shown), METHOD(numbers), METHOD(peek), METHOD(rows), METHOD(byte_count), METHOD(walk), {0},
+    METHOD(shown), METHOD(numbers), METHOD(peek), METHOD(rows), METHOD(byte_count), METHOD(walk),
+    METHOD(names), METHOD(settings), METHOD(save), METHOD(restore), {0},
 };
 
 static PyTypeObject handle_type = {

@@ -6,6 +6,7 @@ from typing import cast, overload
 
 from . import _calls as calls
 from ._asking import Asking, Clock, joined, kept_in, many, rows_of
+from .errors import refusal
 from .values import Configuration, Result, Row, Statistics
 
 R = TypeVar("R")
@@ -30,7 +31,7 @@ class Cache(Asking):
 
     @property
     def configuration(self) -> Configuration:
-        """What the cache was created with (JSR 107, `getConfiguration`)."""
+        """What the cache was created or restored with (JSR 107, `getConfiguration`)."""
         return self._hooks
 
     @overload
@@ -158,6 +159,15 @@ class Cache(Asking):
         """Sets the counters to zero."""
         with self._lock:
             self._finish(self._calls.clear_stats(self._id, self._moment(now)))
+
+    def save(self) -> bytes:
+        """The cache as bytes, from which `Manager.restore` makes it anew: all by which it will ever answer, but for its name
+        and its hooks. Nothing is changed or counted. It waits for an open call."""
+        with self._lock:
+            saved = self._calls.save(self._id)
+        if isinstance(saved, int):
+            raise refusal(saved)
+        return saved
 
     def peek(self, key: str, *, now: Optional[int] = None) -> Optional[Row]:
         """The entry as it stands. Nothing is loaded, counted or renewed, and no open call is waited for."""

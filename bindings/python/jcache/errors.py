@@ -28,6 +28,8 @@ class Status(IntEnum):
     TOO_MANY_KEYS = 69
     DUPLICATE_KEY = 70
     BAD_CHOICE = 71
+    BAD_SAVE = 74
+    OTHER_VERSION = 75
 
 
 _WORDS: Dict[Status, str] = {
@@ -45,6 +47,8 @@ _WORDS: Dict[Status, str] = {
     Status.BAD_VALUE: "a value has more bytes than the cache takes",
     Status.TOO_MANY_KEYS: "more than 64 keys",
     Status.DUPLICATE_KEY: "a key stands twice",
+    Status.BAD_SAVE: "the bytes are no saved cache",
+    Status.OTHER_VERSION: "the bytes are of another version",
 }
 
 
@@ -78,6 +82,30 @@ class Busy(Refused):
 
 class OutOfMemory(Refused, MemoryError):
     """Memory was wanting, and the call has changed nothing."""
+
+
+class NotRestored(Refused, ValueError):
+    """The bytes are none that this version saves. `place` is how many of them stand before the first flaw."""
+
+    def __init__(self, status: Status, place: int) -> None:
+        super().__init__(status)
+        self.place = place
+
+
+class BadSave(NotRestored):
+    """The bytes were damaged, no cache was saved as these, or they are more than 268,435,456."""
+
+
+class OtherVersion(NotRestored):
+    """The bytes say that another version of their format has written them."""
+
+
+class HooksDiffer(CacheError, ValueError):
+    """The saved cache had other hooks: a loader, a writer, not as many listeners, or processors that are no binding's. Nothing
+    was restored."""
+
+    def __init__(self) -> None:
+        super().__init__("the saved cache had other hooks")
 
 
 class Failed(CacheError):
@@ -126,6 +154,8 @@ def _kind(status: Status) -> Type[Refused]:
     return BadArgument if Status.BAD_KEY <= status <= Status.BAD_CHOICE else Refused
 
 
-def refusal(status: int) -> Refused:
-    """The error that a refusing status is raised as."""
+def refusal(status: int, place: int = 0) -> Refused:
+    """The error that a refusing status is raised as; the place is that of a flaw in saved bytes."""
+    if status >= Status.BAD_SAVE:
+        return (BadSave if status == Status.BAD_SAVE else OtherVersion)(Status(status), place)
     return _kind(Status(status))(Status(status))

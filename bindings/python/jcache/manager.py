@@ -5,10 +5,10 @@ import threading
 from typing import Dict, List, Optional, Sequence
 
 from . import _calls as calls
-from ._asking import Clock
+from ._asking import Clock, names_of
 from .cache import Cache
 from .clocks import WallClock
-from .errors import refusal
+from .errors import HooksDiffer, refusal
 from .values import Configuration, Expiry, Listener, Loader, Writer
 
 # Each cache has two processors in the library: they run the function that was invoked. The second one wants the value.
@@ -41,10 +41,30 @@ class Manager:
             status, number = self._calls.create(name, capacity, expiry.policy, expiry.duration, loader is not None,
                                                 writer is not None, min(len(listeners), 255), max_value, _WANTS)
             self._refuse(status)
-            configuration = Configuration(capacity, expiry, loader, writer, tuple(listeners), max_value)
-            cache = Cache(self._calls, number, name, self._clock, configuration)
-            self._caches[name] = cache
-            return cache
+            return self._made(number, name, Configuration(capacity, expiry, loader, writer, tuple(listeners), max_value))
+
+    def restore(self, name: str, saved: bytes, *, loader: Optional[Loader] = None, writer: Optional[Writer] = None,
+                listeners: Sequence[Listener] = (), max_value: int = 65_535) -> Cache:
+        """Makes a cache of this name from what `Cache.save` gave, in this process or another. From here on it answers as the
+        saved one would have, by hooks of the same kinds.
+
+        Moments are absolute: after a restart the clock has to go on from where it was, as `WallClock` does. Raises `BadSave`,
+        `OtherVersion`, `HooksDiffer`, and what `create_cache` raises.
+        """
+        with self._lock:
+            status, number, place = self._calls.restore(name, saved, max_value)
+            self._refuse(status, place)
+            _, capacity, policy, duration, hooks, wants = self._calls.settings(number)
+            if (hooks, wants) != ((loader is not None, writer is not None, len(listeners)), _WANTS):
+                self._calls.destroy(number)
+                raise HooksDiffer()
+            expiry = Expiry(policy, duration)
+            return self._made(number, name, Configuration(capacity, expiry, loader, writer, tuple(listeners), max_value))
+
+    def _made(self, number: int, name: str, configuration: Configuration) -> Cache:
+        cache = Cache(self._calls, number, name, self._clock, configuration)
+        self._caches[name] = cache
+        return cache
 
     def get_cache(self, name: str) -> Optional[Cache]:
         """The live cache of this name, or None (`getCache`)."""
@@ -67,10 +87,10 @@ class Manager:
 
     def cache_names(self) -> List[str]:
         """The names of the live caches, as they were made (`getCacheNames`)."""
-        with self._lock:
-            if self.is_closed:
-                raise refusal(calls.CLOSED)
-            return list(self._caches)
+        names = self._calls.names()
+        if isinstance(names, int):
+            raise refusal(names)
+        return list(names_of(names))
 
     def close(self) -> None:
         """Ends all caches and frees their memory (`close`). Again, it does nothing."""
@@ -88,6 +108,6 @@ class Manager:
         self.close()
 
     @staticmethod
-    def _refuse(status: int) -> None:
+    def _refuse(status: int, place: int = 0) -> None:
         if status:
-            raise refusal(status)
+            raise refusal(status, place)

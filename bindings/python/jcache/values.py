@@ -77,7 +77,7 @@ Listener = Callable[[Event], object]
 
 
 class Configuration(NamedTuple):
-    """What a cache was created with (JSR 107, `CompleteConfiguration`)."""
+    """What a cache was created or restored with (JSR 107, `CompleteConfiguration`)."""
 
     capacity: int
     expiry: Expiry

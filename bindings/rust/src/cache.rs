@@ -40,7 +40,7 @@ impl Cache {
         &self.name
     }
 
-    /// What the cache was made with (`getConfiguration`).
+    /// What the cache was made or restored with (`getConfiguration`).
     pub fn configuration(&self) -> &Configuration {
         &self.asking.hooks
     }
@@ -231,6 +231,13 @@ impl Cache {
     /// How many bytes the keys and the values of these entries have.
     pub fn byte_count(&self) -> Result<u64, Error> {
         self.asking.library.byte_count(self.asking.id)
+    }
+
+    /// The cache as bytes, from which [`Manager::restore`](crate::Manager::restore) makes it anew: all by which it will ever
+    /// answer, but for its name and its hooks. Nothing is changed or counted. It waits for an open call.
+    pub fn save(&self) -> Result<Vec<u8>, Error> {
+        let _turn = self.asking.turn.take()?;
+        self.asking.library.save(self.asking.id)
     }
 
     /// The entry as it stands. Nothing is loaded, counted or renewed, and no open call is waited for.

@@ -1,6 +1,6 @@
 //! What caches are made with.
 use crate::clock::milliseconds;
-use crate::{BoxError, Event};
+use crate::{sys, BoxError, Event};
 use std::fmt;
 use std::time::Duration;
 
@@ -21,6 +21,18 @@ pub enum Expiry {
 }
 
 impl Expiry {
+    /// The expiry of these numbers.
+    pub(crate) fn of((policy, duration): (u32, u64)) -> Expiry {
+        let after = Duration::from_millis(duration);
+        match policy {
+            1 => Expiry::Created(after),
+            2 => Expiry::Accessed(after),
+            3 => Expiry::Modified(after),
+            4 => Expiry::Touched(after),
+            _ => Expiry::Eternal,
+        }
+    }
+
     /// The policy's number in the header, and its duration.
     pub(crate) fn numbers(self) -> (u32, u64) {
         match self {
@@ -87,6 +99,23 @@ impl Configuration {
     pub fn listener(mut self, tell: impl Fn(&Event) + Send + Sync + 'static) -> Configuration {
         self.listeners.push(Box::new(tell));
         self
+    }
+}
+
+impl Configuration {
+    /// What the library is told of it.
+    pub(crate) fn settings(&self) -> sys::Settings {
+        let (policy, duration) = self.expiry.numbers();
+        sys::Settings {
+            duration,
+            capacity: self.capacity,
+            policy,
+            loader: self.loader.is_some().into(),
+            writer: self.writer.is_some().into(),
+            listeners: u8::try_from(self.listeners.len()).unwrap_or(u8::MAX),
+            max_value: self.max_value,
+            reserved: 0,
+        }
     }
 }
 

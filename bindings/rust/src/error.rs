@@ -36,6 +36,18 @@ pub enum Error {
     TooManyKeys,
     /// A key stands twice.
     DuplicateKey,
+    /// The bytes are no saved cache, or more than 268,435,456.
+    BadSave {
+        /// How many of them stand before the first flaw.
+        place: usize,
+    },
+    /// The bytes say that another version of their format has written them.
+    OtherVersion {
+        /// How many of them stand before the version.
+        place: usize,
+    },
+    /// The saved cache had other hooks: a loader, a writer, not as many listeners, or processors that are no binding's.
+    HooksDiffer,
     /// The library gave a status that it should not give here: its number in `jcache.h`.
     Unforeseen(u32),
     /// The loader failed (JSR 107, `CacheLoaderException`).
@@ -99,6 +111,9 @@ impl fmt::Display for Error {
             Error::BadValue => "a value has more bytes than the cache takes",
             Error::TooManyKeys => "more than 64 keys",
             Error::DuplicateKey => "a key stands twice",
+            Error::BadSave { place } => return write!(to, "the bytes are no saved cache, from byte {place} on"),
+            Error::OtherVersion { .. } => "the bytes are of another version",
+            Error::HooksDiffer => "the saved cache had other hooks",
             Error::Unforeseen(status) => return write!(to, "status {status}"),
             Error::LoaderFailed { .. } => "the loader failed",
             Error::WriterFailed { .. } => "the writer failed",

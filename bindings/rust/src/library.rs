@@ -1,6 +1,6 @@
 //! The functions of the header behind a lock, which is held for each call.
-use crate::sys::{self, Handle, Many, One, PairLengths, Part, Two, Whole};
-use crate::sys::{FOUND, LISTED, NEED_TELL, NO_SUCH_CACHE, SHORT_BUFFER};
+use crate::sys::{self, Handle, Many, One, PairLengths, Part, Settings, Two, Whole};
+use crate::sys::{BAD_SAVE, FOUND, LISTED, NEED_TELL, NO_SUCH_CACHE, OTHER_VERSION, SHORT_BUFFER};
 use crate::Error;
 use std::hash::{BuildHasher, Hasher, RandomState};
 use std::sync::{Mutex, PoisonError};
@@ -9,6 +9,9 @@ use std::sync::{Mutex, PoisonError};
 const ROOM: usize = 256;
 /// Room for a step of a walk, whose longest row has 65,609 bytes.
 pub(crate) const WALK_ROOM: usize = 1 << 17;
+
+/// A cache has at most so many processors.
+const PROCESSORS: usize = 16;
 
 /// A handle, which is closed where it is dropped.
 pub(crate) struct Library(Mutex<Handle>);
@@ -47,7 +50,7 @@ impl Library {
         call(&mut self.0.lock().unwrap_or_else(PoisonError::into_inner))
     }
 
-    pub(crate) fn create(&self, name: &str, settings: &sys::Settings, wants: &[u8]) -> Result<u32, Error> {
+    pub(crate) fn create(&self, name: &str, settings: &Settings, wants: &[u8]) -> Result<u32, Error> {
         let (n, w, mut id) = (name.as_ptr(), wants.as_ptr(), 0);
         let status = self.ask(|h| unsafe { sys::jc_create(h, n, name.len(), settings, w, wants.len(), &mut id) });
         accepted(status).map(|_| id)
@@ -63,6 +66,48 @@ impl Library {
         match self.ask(|h| unsafe { sys::jc_find(h, name.as_ptr(), name.len(), &mut id) }) {
             NO_SUCH_CACHE => Ok(None),
             status => accepted(status).map(|_| Some(id)),
+        }
+    }
+
+    /// The names of the live caches in order of id, each behind 4 bytes of its id and 1 for its length.
+    pub(crate) fn names(&self) -> Result<Vec<u8>, Error> {
+        let (status, names) = self.read(|h, out, room, len| unsafe { sys::jc_names(h, out, room, len) });
+        accepted(status).map(|_| names)
+    }
+
+    /// All by which a cache will ever answer.
+    pub(crate) fn save(&self, id: u32) -> Result<Vec<u8>, Error> {
+        let (status, saved) = self.read(|h, out, room, len| unsafe { sys::jc_save(h, id, out, room, len) });
+        accepted(status).map(|_| saved)
+    }
+
+    /// Reads bytes of any length under one lock.
+    fn read(&self, read: impl Fn(&mut Handle, *mut u8, usize, &mut usize) -> u32) -> (u32, Vec<u8>) {
+        let (mut room, mut len) = (vec![0; ROOM], 0);
+        let status = self.ask(|h| loop {
+            match read(h, room.as_mut_ptr(), room.len(), &mut len) {
+                SHORT_BUFFER => room.resize(len, 0),
+                status => break status,
+            }
+        });
+        room.truncate(len);
+        (status, room)
+    }
+
+    /// Makes a cache of what was saved: its id, its settings, and of each processor whether it wants the value.
+    pub(crate) fn restore(&self, name: &str, saved: &[u8], max_value: u32) -> Result<(u32, Settings, Vec<u8>), Error> {
+        let (n, s, mut id, mut place) = (name.as_ptr(), saved.as_ptr(), 0, 0);
+        let (mut settings, mut wants, mut len) = (Settings::default(), [0; PROCESSORS], 0);
+        let status = self.ask(|h| unsafe {
+            match sys::jc_restore(h, n, name.len(), s, saved.len(), max_value, &mut id, &mut place) {
+                0 => sys::jc_settings_of(h, id, &mut settings, wants.as_mut_ptr(), PROCESSORS, &mut len),
+                refusal => refusal,
+            }
+        });
+        match status {
+            BAD_SAVE => Err(Error::BadSave { place }),
+            OTHER_VERSION => Err(Error::OtherVersion { place }),
+            status => accepted(status).map(|_| (id, settings, wants[..len.min(PROCESSORS)].to_vec())),
         }
     }
 
@@ -170,17 +215,9 @@ impl Library {
         self.part(sys::jc_before, id, item)
     }
 
-    fn part(&self, read: Part, id: u32, item: usize) -> Option<Vec<u8>> {
-        let (mut room, mut len) = (vec![0; ROOM], 0);
-        loop {
-            match self.ask(|h| unsafe { read(h, id, item, room.as_mut_ptr(), room.len(), &mut len) }) {
-                SHORT_BUFFER => room.resize(len, 0),
-                status => {
-                    room.truncate(len);
-                    return (status == 0).then_some(room);
-                }
-            }
-        }
+    fn part(&self, part: Part, id: u32, item: usize) -> Option<Vec<u8>> {
+        let (status, bytes) = self.read(|h, out, room, len| unsafe { part(h, id, item, out, room, len) });
+        (status == 0).then_some(bytes)
     }
 
     /// A live row's value, and the moment at which it expires.

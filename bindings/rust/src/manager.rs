@@ -1,7 +1,7 @@
 //! A manager of caches.
 use crate::asking::{Asking, Turn};
 use crate::library::{accepted, Library};
-use crate::{sys, Cache, Configuration, Error, WallClock};
+use crate::{sys, Cache, Configuration, Error, Expiry, WallClock};
 use std::fmt;
 use std::sync::{Arc, Mutex, PoisonError};
 
@@ -46,23 +46,33 @@ impl Manager {
 
     /// Makes a cache (`createCache`).
     pub fn create_cache(&self, name: &str, configuration: Configuration) -> Result<Cache, Error> {
-        let (policy, duration) = configuration.expiry.numbers();
-        let settings = sys::Settings {
-            duration,
-            capacity: configuration.capacity,
-            policy,
-            loader: configuration.loader.is_some().into(),
-            writer: configuration.writer.is_some().into(),
-            listeners: u8::try_from(configuration.listeners.len()).unwrap_or(u8::MAX),
-            max_value: configuration.max_value,
-            reserved: 0,
-        };
         let mut caches = self.caches.lock().unwrap_or_else(PoisonError::into_inner);
-        let id = self.library.create(name, &settings, &WANTS)?;
-        let asking = Asking { library: self.library.clone(), id, hooks: configuration, turn: Turn::default() };
+        let id = self.library.create(name, &configuration.settings(), &WANTS)?;
+        Ok(self.made(&mut caches, id, name, configuration))
+    }
+
+    /// Makes a cache of this name from what [`Cache::save`] gave, in this process or another. From here on it answers as the
+    /// saved one would have. Of the configuration the hooks and `max_value` count: hooks are to be of the kinds of those that
+    /// the saved cache had. Moments are absolute: after a restart the clock has to go on from where it was, as [`WallClock`]
+    /// does.
+    pub fn restore(&self, name: &str, saved: impl AsRef<[u8]>, configuration: Configuration) -> Result<Cache, Error> {
+        let mut caches = self.caches.lock().unwrap_or_else(PoisonError::into_inner);
+        let (id, settings, wants) = self.library.restore(name, saved.as_ref(), configuration.max_value)?;
+        let given = configuration.settings();
+        let hooks = |of: &sys::Settings| (of.loader, of.writer, of.listeners);
+        if hooks(&settings) != hooks(&given) || wants != WANTS {
+            self.library.destroy(id);
+            return Err(Error::HooksDiffer);
+        }
+        let expiry = Expiry::of((settings.policy, settings.duration));
+        Ok(self.made(&mut caches, id, name, Configuration { capacity: settings.capacity, expiry, ..configuration }))
+    }
+
+    fn made(&self, caches: &mut Vec<Cache>, id: u32, name: &str, hooks: Configuration) -> Cache {
+        let asking = Asking { library: self.library.clone(), id, hooks, turn: Turn::default() };
         let cache = Cache::new(asking, name, self.clock.clone());
         caches.push(cache.clone());
-        Ok(cache)
+        cache
     }
 
     /// The live cache of this name, if there is one (`getCache`).
@@ -89,11 +99,14 @@ impl Manager {
 
     /// The names of the live caches, as they were made (`getCacheNames`).
     pub fn cache_names(&self) -> Result<Vec<String>, Error> {
-        let caches = self.caches.lock().unwrap_or_else(PoisonError::into_inner);
-        if self.is_closed() {
-            return Err(Error::Closed);
+        let (listed, mut names) = (self.library.names()?, Vec::new());
+        let mut left = listed.as_slice();
+        while let [_, _, _, _, len, rest @ ..] = left {
+            let (name, behind) = rest.split_at(usize::from(*len).min(rest.len()));
+            names.push(String::from_utf8_lossy(name).into_owned());
+            left = behind;
         }
-        Ok(caches.iter().map(|cache| cache.name().to_owned()).collect())
+        Ok(names)
     }
 
     /// Ends all caches and frees their memory (`close`). Again, it does nothing.

@@ -13,6 +13,8 @@ pub const NEED_PROCESS: u32 = 19;
 pub const NEED_TELL: u32 = 20;
 pub const NO_SUCH_CACHE: u32 = 32;
 pub const SHORT_BUFFER: u32 = 73;
+pub const BAD_SAVE: u32 = 74;
+pub const OTHER_VERSION: u32 = 75;
 
 /// A manager, or none where it is null.
 #[repr(C)]
@@ -24,6 +26,7 @@ pub struct Handle {
 unsafe impl Send for Handle {}
 
 #[repr(C)]
+#[derive(Default)]
 pub struct Settings {
     pub duration: u64,
     pub capacity: u32,
@@ -95,5 +98,9 @@ extern "C" {
     pub fn jc_peek(m: *mut Handle, id: u32, now: u64, key: *const u8, key_len: usize, expires: *mut u64, out: *mut u8, room: usize, len: *mut usize) -> u32;
     pub fn jc_rows(m: *mut Handle, id: u32, rows: *mut usize) -> u32;
     pub fn jc_bytes(m: *mut Handle, id: u32, bytes: *mut u64) -> u32;
+    pub fn jc_save(m: *mut Handle, id: u32, out: *mut u8, room: usize, len: *mut usize) -> u32;
+    pub fn jc_restore(m: *mut Handle, name: *const u8, name_len: usize, bytes: *const u8, len: usize, max_value: u32, id: *mut u32, place: *mut usize) -> u32;
+    pub fn jc_settings_of(m: *mut Handle, id: u32, settings: *mut Settings, wants: *mut u8, room: usize, len: *mut usize) -> u32;
+    pub fn jc_names(m: *mut Handle, out: *mut u8, room: usize, len: *mut usize) -> u32;
     pub fn jc_walk(m: *mut Handle, id: u32, from: u32, out: *mut u8, room: usize, len: *mut usize, next: *mut u32) -> u32;
 }

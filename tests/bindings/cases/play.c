@@ -11,6 +11,8 @@ static struct jc_manager m;
 static uint32_t id;
 static uint64_t set_moment; /* of the clock */
 static json_t *asked;
+static uint8_t saved[4096];
+static size_t saved_len;
 
 /* A text as two arguments. */
 #define TEXT(line, name) (const uint8_t *)text(line, name), strlen(text(line, name))
@@ -104,6 +106,8 @@ static jc_status processed(json_t *line) {
     json_decref(value), json_decref(argument);
     if (is(name, "fail"))
         return jc_process_failed(&m, id);
+    if (is(name, "save"))
+        json_array_append_new(asked, json_pack("[s,i]", "save", (int)jc_save(&m, id, saved, sizeof saved, &saved_len)));
     uint32_t action = is(name, "append") ? JC_SET : is(name, "drop") ? JC_REMOVE : JC_KEEP;
     return jc_processed(&m, id, action, JC_TEXT(joined), (uint32_t)answers, JC_TEXT(joined));
 }
@@ -222,6 +226,50 @@ static jc_status create(json_t *line, const char *name, uint32_t *made) {
     return jc_create(&m, JC_TEXT(name), &settings, (const uint8_t *)"\0\1", 2, made);
 }
 
+static json_t *save(void) {
+    char hex[2 * sizeof saved + 1] = "";
+    jc_status status = jc_save(&m, id, saved, sizeof saved, &saved_len);
+    for (size_t k = 0; k < saved_len; k++)
+        snprintf(hex + 2 * k, 3, "%02x", saved[k]);
+    return status == JC_DONE ? json_pack("{s:s}", "saved", hex) : outcome(status);
+}
+
+/* Restores the bytes of the line, or else those that were saved. The cache that was made is called from then on. */
+static json_t *restore(json_t *line) {
+    uint8_t bytes[4096];
+    size_t len = strlen(text(line, "bytes")) / 2, place = SIZE_MAX;
+    for (size_t k = 0; k < len; k++)
+        sscanf(text(line, "bytes") + 2 * k, "%2hhx", &bytes[k]);
+    int has_bytes = json_object_get(line, "bytes") != NULL;
+    uint32_t max_value = (uint32_t)json_integer_value(json_object_get(line, "max_value"));
+    jc_status status = jc_restore(&m, TEXT(line, "name"), has_bytes ? bytes : saved, has_bytes ? len : saved_len,
+                                  max_value, &id, &place);
+    json_t *told = outcome(status);
+    if (status >= JC_BAD_SAVE)
+        json_object_set_new(told, "place", json_integer((json_int_t)place));
+    return told;
+}
+
+static json_t *settings(void) {
+    struct jc_settings is = {0};
+    uint8_t wants[16];
+    size_t len;
+    jc_status status = jc_settings_of(&m, id, &is, wants, sizeof wants, &len);
+    if (status != JC_DONE || len != 2 || wants[0] || !wants[1])
+        return outcome(status);
+    return json_pack("{s:[i,i,I]}", "settings", (int)is.capacity, (int)is.policy, (json_int_t)is.duration);
+}
+
+static json_t *names(void) {
+    uint8_t out[4096];
+    size_t len = 0;
+    json_t *found = json_array();
+    if (jc_names(&m, out, sizeof out, &len) == JC_DONE)
+        for (size_t at = 0; at < len; at += 5u + out[at + 4])
+            json_array_append_new(found, json_stringn((const char *)out + at + 5, out[at + 4]));
+    return json_pack("{s:o}", "names", found);
+}
+
 static json_t *peek(json_t *line, uint64_t now) {
     uint8_t out[256];
     uint64_t expires;
@@ -264,6 +312,14 @@ static json_t *call(json_t *line) {
         return outcome(create(line, text(line, "name"), &other));
     if (is(op, "destroy"))
         return outcome(jc_find(&m, TEXT(line, "name"), &other) == JC_DONE ? jc_destroy(&m, other) : JC_NO_SUCH_CACHE);
+    if (is(op, "save"))
+        return save();
+    if (is(op, "restore"))
+        return restore(line);
+    if (is(op, "settings"))
+        return settings();
+    if (is(op, "names"))
+        return names();
     if (is(op, "rows"))
         return jc_rows(&m, id, &rows) == JC_DONE ? json_pack("{s:i}", "rows", (int)rows) : json_null();
     if (is(op, "bytes"))

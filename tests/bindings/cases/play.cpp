@@ -53,9 +53,11 @@ class Player {
                     return outcome;
             throw std::runtime_error(std::string("no such op: ") + text(line, "op"));
         } catch (const jcache::Error &error) {
+            if (error.place())
+                return json_pack("{s:i,s:i}", "refused", int(error.status()), "place", int(*error.place()));
             if (error.kind() == jcache::Kind::refused)
                 return json_pack("{s:i}", "refused", int(error.status()));
-            static const char *const who[] = {"", "loader", "writer", "function", "listener"};
+            static const char *const who[] = {"", "loader", "writer", "function", "listener", "hooks"};
             Json told = json_pack("{s:s}", "failed", who[int(error.kind())]);
             if (error.done())
                 json_object_set_new(told.at, "done", json_integer(json_int_t(*error.done())));
@@ -69,6 +71,7 @@ class Player {
     jcache::FixedClock clock;
     jcache::Manager manager{7, clock};
     jcache::Cache cache;
+    std::string saved;
 
     void ask(const char *what, std::string_view key) {
         json_array_append_new(asked.at, json_pack("[s,o]", what, said(std::string(key)).give()));
@@ -129,6 +132,10 @@ class Player {
             throw std::runtime_error("a function");
         if (name == "drop")
             entry.remove();
+        if (name == "save") {
+            auto outcome = cache.without_exceptions().save();
+            json_array_append_new(asked.at, json_pack("[s,i]", "save", int(outcome.error().status())));
+        }
         if (name != "append")
             return value;
         entry.set(value.value_or("") + std::string(argument));
@@ -142,7 +149,34 @@ class Player {
             manager.create_cache(text(line, "name"), configuration(line));
             return done();
         }
-        return op == "destroy" ? (manager.destroy_cache(text(line, "name")), done()) : Json(nullptr);
+        if (op == "destroy")
+            return manager.destroy_cache(text(line, "name")), done();
+        if (op == "restore")
+            return restore(line);
+        if (op != "names")
+            return nullptr;
+        json_t *names = json_array();
+        for (const std::string &name : manager.cache_names())
+            json_array_append_new(names, said(name).give());
+        return json_pack("{s:o}", "names", names);
+    }
+
+    // Restores the bytes of the line, or else those that were saved. The cache that was made is called from then on.
+    Json restore(json_t *line) {
+        std::string_view hex = has(line, "bytes") ? text(line, "bytes") : "";
+        std::string bytes;
+        for (std::size_t k = 0; k < hex.size(); k += 2)
+            bytes += char(std::stoi(std::string(hex.substr(k, 2)), nullptr, 16));
+        cache = manager.restore(text(line, "name"), has(line, "bytes") ? bytes : saved, configuration(line));
+        return done();
+    }
+
+    Json save() {
+        saved = cache.save();
+        std::string hex;
+        for (unsigned char byte : saved)
+            hex += {"0123456789abcdef"[byte / 16], "0123456789abcdef"[byte % 16]};
+        return json_pack("{s:o}", "saved", said(hex).give());
     }
 
     static jcache::Moment moment(json_t *line) {
@@ -207,6 +241,12 @@ class Player {
     }
 
     Json look(json_t *line, std::string_view op) {
+        if (op == "save")
+            return save();
+        if (op == "settings") {
+            auto [capacity, expiry, loader, writer, listeners, max_value] = cache.configuration();
+            return json_pack("{s:[i,i,I]}", "settings", int(capacity), int(expiry.policy), json_int_t(expiry.duration));
+        }
         if (op == "rows")
             return json_pack("{s:i}", "rows", int(cache.size()));
         if (op == "bytes")

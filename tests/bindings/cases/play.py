@@ -19,13 +19,16 @@ class Player:
     def __init__(self, case: Dict[str, Json]) -> None:
         self.clock = FixedClock()
         self.manager = Manager(clock=self.clock)
-        self.asked: List[List[Optional[str]]] = []
-        hooks = case.get("hooks", [])
+        self.asked: List[List[Json]] = []
+        self.saved = b""
         expiry = getattr(Expiry, case["expiry"])(case["duration"]) if "expiry" in case else Expiry.eternal()
-        self.cache: Cache = self.manager.create_cache(
-            "case", case["capacity"], expiry, loader=self.load if "loader" in hooks else None,
-            writer=self.write if "writer" in hooks else None, listeners=(self.hear,) if "listener" in hooks else (),
-            max_value=case.get("max_value", 65_535))
+        self.cache: Cache = self.manager.create_cache("case", case["capacity"], expiry, **self.named(case))
+
+    def named(self, line: Dict[str, Json]) -> Dict[str, Json]:
+        """The hooks and the bound that a line names."""
+        hooks = line.get("hooks", [])
+        return {"loader": self.load if "loader" in hooks else None, "writer": self.write if "writer" in hooks else None,
+                "listeners": (self.hear,) if "listener" in hooks else (), "max_value": line.get("max_value", 65_535)}
 
     def load(self, key: str) -> Optional[bytes]:
         self.asked.append(["load", key])
@@ -48,6 +51,8 @@ class Player:
             raise ValueError(name)
         if name == "drop":
             entry.remove()
+        if name == "save":
+            self.asked.append(["save", self.call({"op": "save"})["refused"]])
         if name == "append":
             entry.set((value or b"") + argument.encode())
             return entry.value
@@ -57,6 +62,8 @@ class Player:
         """What a call comes to, as a case says it."""
         try:
             return getattr(self, "do_" + line["op"], self.simple)(line)
+        except jcache.NotRestored as refused:
+            return {"refused": int(refused.status), "place": refused.place}
         except jcache.Refused as refused:
             return {"refused": int(refused.status)}
         except jcache.Failed as failed:
@@ -85,6 +92,22 @@ class Player:
     def do_destroy(self, line: Dict[str, Json]) -> Json:
         self.manager.destroy_cache(line["name"])
         return "done"
+
+    def do_save(self, line: Dict[str, Json]) -> Json:
+        self.saved = self.cache.save()
+        return {"saved": self.saved.hex()}
+
+    def do_restore(self, line: Dict[str, Json]) -> Json:
+        saved = bytes.fromhex(line["bytes"]) if "bytes" in line else self.saved
+        self.cache = self.manager.restore(line["name"], saved, **self.named(line))
+        return "done"
+
+    def do_settings(self, line: Dict[str, Json]) -> Json:
+        capacity, expiry = self.cache.configuration[:2]
+        return {"settings": [capacity, expiry.policy, expiry.duration]}
+
+    def do_names(self, line: Dict[str, Json]) -> Json:
+        return {"names": self.manager.cache_names()}
 
     def do_get_all(self, line: Dict[str, Json]) -> Json:
         return pairs(list(self.cache.get_all(line["ks"], now=line["at"]).items()))

@@ -71,6 +71,11 @@ IN_TURN(jc_create,
          size_t wants_len, uint32_t *id),
         (m, name, name_len, settings, wants, wants_len, id))
 NEVER(jc_destroy, (ON), (m, id))
+NEVER(jc_save, (ON, uint8_t *out, size_t room, size_t *len), (m, id, out, room, len))
+IN_TURN(jc_restore,
+        (M, const uint8_t *name, size_t name_len, const uint8_t *bytes, size_t len, uint32_t max_value, uint32_t *id,
+         size_t *place),
+        (m, name, name_len, bytes, len, max_value, id, place))
 IN_TURN(jc_get, (KEY), (m, id, now, key, key_len))
 NEVER(jc_contains, (KEY), (m, id, now, key, key_len))
 IN_TURN(jc_put, (PAIR), (m, id, now, key, key_len, value, value_len))

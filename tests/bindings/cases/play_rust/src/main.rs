@@ -45,14 +45,15 @@ impl Asked {
         self.note(json!([kind, event.key, text(event.value.as_deref()), text(event.before.as_deref())]));
     }
 
-    fn process(&self, entry: &mut Entry, name: &str, argument: &str) -> Result<Option<Vec<u8>>, BoxError> {
+    fn process(&self, cache: &Cache, entry: &mut Entry, line: &Line) -> Result<Option<Vec<u8>>, BoxError> {
         let value = entry.value().map(<[u8]>::to_vec);
         self.note(json!(["process", entry.key(), text(value.as_deref())]));
-        match name {
+        match line.text("f") {
             "fail" => return Err("a function".into()),
+            "save" => self.note(json!(["save", cache.save().map_or_else(|error| refused(&error), |_| json!(0))])),
             "drop" => entry.remove(),
             "append" => {
-                entry.set([&value.unwrap_or_default(), argument.as_bytes()].concat());
+                entry.set([&value.unwrap_or_default(), line.text("arg").as_bytes()].concat());
                 return Ok(entry.value().map(<[u8]>::to_vec));
             }
             _ => (),
@@ -74,6 +75,25 @@ fn pairs(found: &[(String, Vec<u8>)]) -> Value {
     json!({ "pairs": pairs })
 }
 
+/// The number of a refusal in the header.
+fn refused(error: &Error) -> Value {
+    match error {
+        Error::Busy => json!(33),
+        Error::BadCapacity => json!(49),
+        Error::DuplicateName => json!(52),
+        Error::BadKey => json!(66),
+        Error::BadValue => json!(67),
+        Error::DuplicateKey => json!(70),
+        Error::BadSave { .. } => json!(74),
+        Error::OtherVersion { .. } => json!(75),
+        other => json!(other.to_string()),
+    }
+}
+
+fn hex(bytes: &[u8]) -> String {
+    bytes.iter().map(|byte| format!("{byte:02x}")).collect()
+}
+
 /// A line of the cases.
 struct Line(Value);
 
@@ -88,6 +108,12 @@ impl Line {
 
     fn keys(&self) -> Vec<&str> {
         self.0["ks"].as_array().into_iter().flatten().filter_map(Value::as_str).collect()
+    }
+
+    fn bytes(&self) -> Option<Vec<u8>> {
+        let digits = self.0["bytes"].as_str()?.as_bytes();
+        let byte = |pair: &[u8]| u8::from_str_radix(std::str::from_utf8(pair).ok()?, 16).ok();
+        digits.chunks(2).map(byte).collect()
     }
 
     fn configuration(&self, asked: &Asked) -> Configuration {
@@ -116,12 +142,25 @@ impl Line {
     }
 }
 
+/// Capacity, policy by its number in the header, and duration.
+fn settings(of: &Configuration) -> Value {
+    let (policy, after) = match of.expiry {
+        Expiry::Eternal => (0, Duration::ZERO),
+        Expiry::Created(after) => (1, after),
+        Expiry::Accessed(after) => (2, after),
+        Expiry::Modified(after) => (3, after),
+        Expiry::Touched(after) => (4, after),
+    };
+    json!([of.capacity, policy, u64::try_from(after.as_millis()).unwrap_or(u64::MAX)])
+}
+
 /// A manager with the cache of one case.
 struct Player {
     clock: FixedClock,
     manager: Manager,
     cache: Cache,
     asked: Asked,
+    saved: Vec<u8>,
 }
 
 impl Player {
@@ -129,13 +168,17 @@ impl Player {
         let (clock, asked) = (FixedClock::new(0), Asked::default());
         let manager = Manager::with_seed(7, clock.reader())?;
         let cache = manager.create_cache("case", line.configuration(&asked))?;
-        Ok(Player { clock, manager, cache, asked })
+        Ok(Player { clock, manager, cache, asked, saved: Vec::new() })
     }
 
     /// What a call comes to, as a case says it.
-    fn call(&self, line: &Line) -> Value {
+    fn call(&mut self, line: &Line) -> Value {
         let cache = line.0["at"].as_u64().map_or(self.cache.clone(), |now| self.cache.at(now));
-        let outcome = self.of_one(line, &cache).and_then(|outcome| match outcome {
+        let outcome = self.of_manager(line).and_then(|outcome| match outcome {
+            None => self.of_one(line, &cache),
+            some => Ok(some),
+        });
+        let outcome = outcome.and_then(|outcome| match outcome {
             None => self.of_many(line, &cache),
             some => Ok(some),
         });
@@ -148,28 +191,41 @@ impl Player {
             Err(Error::LoaderFailed { done, .. }) => failed("loader", done),
             Err(Error::WriterFailed { done, .. }) => failed("writer", done),
             Err(Error::ProcessorFailed { .. }) => failed("function", None),
-            Err(Error::BadCapacity) => json!({ "refused": 49 }),
-            Err(Error::DuplicateName) => json!({ "refused": 52 }),
-            Err(Error::BadKey) => json!({ "refused": 66 }),
-            Err(Error::BadValue) => json!({ "refused": 67 }),
-            Err(Error::DuplicateKey) => json!({ "refused": 70 }),
-            Err(other) => json!(other.to_string()),
+            Err(error) => match error {
+                Error::BadSave { place } | Error::OtherVersion { place } => {
+                    json!({ "refused": refused(&error), "place": place })
+                }
+                _ => json!({ "refused": refused(&error) }),
+            },
         }
+    }
+
+    /// What is the manager's, and what makes the cache that is called from then on.
+    fn of_manager(&mut self, line: &Line) -> Result<Option<Value>, Error> {
+        let name = line.text("name");
+        match line.text("op") {
+            "clock" => self.clock.set(line.0["at"].as_u64().unwrap_or_default()),
+            "create" => drop(self.manager.create_cache(name, line.configuration(&self.asked))?),
+            "destroy" => self.manager.destroy_cache(name)?,
+            "names" => return Ok(Some(json!({ "names": self.manager.cache_names()? }))),
+            "save" => {
+                self.saved = self.cache.save()?;
+                return Ok(Some(json!({ "saved": hex(&self.saved) })));
+            }
+            "restore" => {
+                let own = line.bytes();
+                let saved = own.as_ref().unwrap_or(&self.saved);
+                self.cache = self.manager.restore(name, saved, line.configuration(&self.asked))?;
+            }
+            _ => return Ok(None),
+        }
+        Ok(Some(json!("done")))
     }
 
     fn of_one(&self, line: &Line, cache: &Cache) -> Result<Option<Value>, Error> {
         let (k, v, expected) = (line.text("k"), line.text("v"), line.text("expect"));
         let done = |()| json!("done");
         Ok(Some(match line.text("op") {
-            "clock" => {
-                self.clock.set(line.0["at"].as_u64().unwrap_or_default());
-                json!("done")
-            }
-            "create" => {
-                self.manager.create_cache(line.text("name"), line.configuration(&self.asked))?;
-                json!("done")
-            }
-            "destroy" => done(self.manager.destroy_cache(line.text("name"))?),
             "get" => value(cache.get(k)?),
             "contains" => json!(cache.contains_key(k)?),
             "put" => done(cache.put(k, v)?),
@@ -182,7 +238,7 @@ impl Player {
             "remove" => json!(cache.remove(k)?),
             "remove_if" => json!(cache.remove_if(k, expected)?),
             "invoke" => {
-                let run = |entry: &mut Entry| self.asked.process(entry, line.text("f"), line.text("arg"));
+                let run = |entry: &mut Entry| self.asked.process(cache, entry, line);
                 value(if line.is("loads") { cache.invoke(k, run)? } else { cache.invoke_without_load(k, run)? })
             }
             _ => return Ok(None),
@@ -208,12 +264,13 @@ impl Player {
             "clear_stats" => done(cache.clear_statistics()?),
             "entries" => pairs(&cache.entries()?),
             "invoke_all" => {
-                let run = |entry: &mut Entry| self.asked.process(entry, line.text("f"), line.text("arg"));
+                let run = |entry: &mut Entry| self.asked.process(cache, entry, line);
                 let given = cache.invoke_all(&line.keys(), run)?;
                 let result =
                     |(key, answer): (String, Result<_, _>)| json!([key, text(answer.unwrap_or(None).as_deref())]);
                 json!({ "results": given.into_iter().map(result).collect::<Vec<_>>() })
             }
+            "settings" => json!({ "settings": settings(cache.configuration()) }),
             "rows" => json!({ "rows": cache.entry_count()? }),
             "bytes" => json!({ "bytes": cache.byte_count()? }),
             "walk" => {
@@ -242,7 +299,7 @@ fn main() -> Result<(), BoxError> {
             player = Some(Player::new(&line)?);
             continue;
         }
-        let player = player.as_ref().ok_or("a case begins with its name")?;
+        let player = player.as_mut().ok_or("a case begins with its name")?;
         let outcome = player.call(&line);
         let asked = Value::Array(std::mem::take(&mut player.asked.0.lock().unwrap()));
         if outcome != line.0["is"] || asked != *line.0.get("asks").unwrap_or(&json!([])) {
