@@ -300,7 +300,8 @@ jc_status jc_bytes(struct jc_manager *m, uint32_t id, uint64_t *bytes);
 jc_status jc_walk(struct jc_manager *m, uint32_t id, uint32_t from, uint8_t *out, size_t room, size_t *len,
                   uint32_t *next);
 /* What a cache was created or restored with: *settings is written, and for each processor a byte of `wants`, as jc_create
- * takes them, flags as 0 or 1 and a `max_value` of 65,535 as 0. *len is how many processors there are. JC_DONE, JC_SHORT_BUFFER (*settings and the first flags are written), JC_NO_SUCH_CACHE, JC_CLOSED. */
+ * takes them, flags as 0 or 1 and a `max_value` of 65,535 as 0. *len is how many processors there are. JC_DONE,
+ * JC_SHORT_BUFFER (*settings and the first flags are written), JC_NO_SUCH_CACHE, JC_CLOSED. */
 jc_status jc_settings_of(struct jc_manager *m, uint32_t id, struct jc_settings *settings, uint8_t *wants, size_t room,
                          size_t *len);
 /* The live caches in order of id: of each 4 bytes for its id, little endian, 1 for its name's length, then its name. *len

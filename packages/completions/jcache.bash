@@ -21,7 +21,7 @@ _jcache() {
     case ${COMP_WORDS[1]} in
         run) options="--workers --seed --serial --format --strict --explain --help --version" ;;
         check) options="--strict --all --explain --help --version" ;;
-        replay) options="--capacity --explain --help --version" ;;
+        replay) options="--capacity --format --explain --help --version" ;;
         help) mapfile -t COMPREPLY < <(compgen -W "run check replay help" -- "$word"); return ;;
         *) return ;;
     esac
