@@ -318,8 +318,8 @@ jc_status jc_save(struct jc_manager *m, uint32_t id, uint8_t *out, size_t room, 
 /* Adds a cache of this name that is what the bytes say: from here on it answers as the saved one would have. `max_value` as
  * in struct jc_settings: it is not among the bytes. JC_DONE, and *id is written; JC_BAD_KEY; JC_BAD_SAVE or
  * JC_OTHER_VERSION, and *place is how many bytes stand before the first flaw; JC_BAD_VALUE, where a row's value is longer
- * than `max_value`; or a refusal of a creation, in this order. JC_OUT_OF_MEMORY may come before any of them. A refusal
- * changes nothing. JC_CLOSED.
+ * than `max_value`; or a refusal of a creation, in this order. JC_OUT_OF_MEMORY may come before any of them but JC_BAD_KEY.
+ * A refusal changes nothing. JC_CLOSED.
  * Moments are absolute: who restores after a restart hands in wall-clock milliseconds that never fall. More than
  * 268,435,456 bytes are JC_BAD_SAVE, also where jc_save wrote them. */
 jc_status jc_restore(struct jc_manager *m, const uint8_t *name, size_t name_len, const uint8_t *bytes, size_t len,

@@ -1,5 +1,5 @@
 -- A cache's desk, and which values are taken there.
-use Rattle.std.specs.Prelude.{ℕ, ltb, not, true, Bool, List, [], ◌∷◌, map, option_map, length, if◌then◌else◌, Result, Ok, Err}
+use Rattle.std.specs.Prelude.{ℕ, ltb, not, true, false, Bool, List, [], ◌∷◌, map, option_map, length, if◌then◌else◌, Result, Ok, Err}
 use Rattle.std.specs.Prelude.{Option, Some, None}
 use Rattle.std.specs.List.{list_all}
 use Rattle.jc_model.specs.declared.call.Action.{Action}
@@ -8,7 +8,12 @@ use Rattle.jc_model.specs.declared.call.Answer.{Answer}
 use Rattle.jc_model.specs.declared.call.Answer.TheVariants as answer
 use Rattle.jc_model.specs.declared.call.Call.{Call}
 use Rattle.jc_model.specs.declared.call.Call.TheVariants as call
+use Rattle.jc_model.specs.declared.call.Reply.TheVariants.{Truth}
+use Rattle.jc_model.specs.declared.event.Cause.TheVariants.{Busy, NoSuchCache}
 use Rattle.jc_model.specs.declared.event.Outcome.{Outcome}
+use Rattle.jc_model.specs.declared.event.Outcome.TheVariants as outcome
+use Rattle.jc_model.specs.declared.event.Step.TheVariants as step
+use Rattle.jc_model.specs.Runs.{is_refused}
 use Rattle.jc_c.specs.declared.desks.Desk.{Desk}
 use Rattle.jc_c.specs.declared.status.Fault.{Fault}
 use Rattle.jc_c.specs.declared.status.Fault.TheVariants.{BadValue}
@@ -17,6 +22,27 @@ use Rattle.jc_c.specs.Reading.{read_then}
 -- a desk that shows this now
 abbrev pub showing : Outcome → Option Desk → Option Desk
 showing outcome desk = option_map (λ (d : Desk). record d { shown = outcome }) desk
+
+-- whether a call is open, by what is shown: its request
+abbrev pub asks : Outcome → Bool
+asks (outcome.Step (step.Need q)) = true
+asks _ = false
+
+-- of a desk that may be none
+abbrev pub asks_at : Option Desk → Option Bool
+asks_at desk = option_map (λ d. asks d.shown) desk
+
+-- what a call comes to that asks whether there is a row, by what is shown before it
+abbrev pub truth_beside : Bool → Outcome → Outcome
+truth_beside held shown = if asks shown then outcome.Refused Busy else outcome.Step (step.Done (Truth held))
+
+abbrev pub truth_at : Bool → Option Desk → Outcome
+truth_at held None = outcome.Refused NoSuchCache
+truth_at held (Some desk) = truth_beside held desk.shown
+
+-- a desk that shows what was not refused
+abbrev pub showing_accepted : Outcome → Option Desk → Option Desk
+showing_accepted outcome desk = if is_refused outcome then desk else showing outcome desk
 
 -- the values that a call may store
 abbrev pub values_of_call : Call → List (List ℕ)

@@ -91,10 +91,15 @@ abbrev pub AddsNamed : Seated → Result (List ℕ) Fault → List ℕ → ℕ �
 AddsNamed old (Err e) bytes most id new = ⊥
 AddsNamed old (Ok name) bytes most id new = AddsRestored old name bytes most id new
 
--- no refusal is due, and it is there; or it is refused as is due, or for want of memory, and all is as it was
+-- why it is refused: a name that bytes do not say is told first; else memory may be wanting before what is due is found
+abbrev pub IsRefusedAs : Result (List ℕ) Fault → Option Unrestored → Unrestored → Type 0
+IsRefusedAs (Err e) due why = due ≡ Some why
+IsRefusedAs (Ok name) due why = (why ≡ because OutOfMemory) ⊎ (due ≡ Some why)
+
+-- no refusal is due, and it is there; or it is refused, and all is as it was
 abbrev pub Restores : Seated → Result (List ℕ) Fault → List ℕ → ℕ → Result ℕ Unrestored → Seated → Type 0
 Restores old name bytes most (Ok id) new = (unrestored old.caches name bytes most ≡ None) × AddsNamed old name bytes most id new
-Restores old name bytes most (Err why) new = ((why ≡ because OutOfMemory) ⊎ (unrestored old.caches name bytes most ≡ Some why)) × (new ≡ old)
+Restores old name bytes most (Err why) new = IsRefusedAs name (unrestored old.caches name bytes most) why × (new ≡ old)
 
 -- What is told of it.
 

@@ -1,5 +1,5 @@
 -- A manager with the desks of its caches, and what it does at an event.
-use Rattle.std.specs.Prelude.{◌≡◌, ℕ, true, false, is_some, option_map, if◌then◌else◌, ◌⊎◌, Result, Ok, Err, List, [], ◌∷◌, ◌++◌, slice_set, length}
+use Rattle.std.specs.Prelude.{◌≡◌, ℕ, Bool, true, false, is_some, option_map, if◌then◌else◌, ◌⊎◌, Result, Ok, Err, List, [], ◌∷◌, ◌++◌, slice_set, length}
 use Rattle.std.specs.Prelude.{Option, Some, None}
 use Rattle.jc_model.specs.declared.call.Answer.{Answer as SomeAnswer}
 use Rattle.jc_model.specs.declared.call.Call.{Call}
@@ -18,7 +18,7 @@ use Rattle.jc_c.specs.declared.placer.FfiPlacer.{FfiPlacer}
 use Rattle.jc_c.specs.declared.status.Fault.{Fault}
 use Rattle.jc_c.specs.declared.status.Status.{Status}
 use Rattle.jc_c.specs.declared.status.Status.TheVariants.{OutOfMemory}
-use Rattle.jc_c.specs.Desks.{if_taken, showing, values_of_answer, values_of_call}
+use Rattle.jc_c.specs.Desks.{asks_at, if_taken, showing, values_of_answer, values_of_call}
 use Rattle.jc_c.specs.Status.{fault_status, outcome_status}
 
 -- by id, the live caches as the engine has them, and their desks; and where keys have their rows
@@ -43,9 +43,13 @@ desk_of id s = at_place s.desks id
 abbrev pub shown_of : ℕ → Seated → Option Outcome
 shown_of id s = option_map (λ d. d.shown) (desk_of id s)
 
--- a cache has a desk exactly where it is live
+-- whether a call is open on a cache that may be none
+abbrev pub open_at : Option Cache → Option Bool
+open_at cache = option_map (λ k. is_some k.turn) cache
+
+-- a cache has a desk exactly where it is live, which shows a request exactly while a call is open
 abbrev pub HaveDesks : List (Option Cache) → (ℕ → Option Desk) → Type 0
-HaveDesks caches f = (id : ℕ) → is_some (f id) ≡ is_some (at_place caches id)
+HaveDesks caches f = (id : ℕ) → asks_at (f id) ≡ open_at (at_place caches id)
 
 abbrev pub showing_at : ℕ → Outcome → List (Option Desk) → List (Option Desk)
 showing_at id outcome desks = slice_set desks id (showing outcome (at_place desks id))

@@ -37,8 +37,8 @@ impl FfiManager {
         total
     }
 
-    /// Tells how many bytes the keys and the values of a cache's rows have, those of expired rows among them. It goes over
-    /// all numbers below the cache's capacity.
+    /// Tells how many bytes the keys and the values of a cache's rows have, those of expired rows
+    /// among them. It goes over all numbers below the cache's capacity.
     pub fn count_bytes(&self, id: u32, bytes: &mut u64) -> Status
         ensures status { result ≡ rows_status (at_place self.now.caches id) }
         ensures bytes { bytes.new ≡ or_before bytes.old (bytes_in (at_place self.now.caches id)) }

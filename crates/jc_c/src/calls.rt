@@ -1,7 +1,9 @@
 //! Calls and answers, out of bytes.
 ghost use Rattle.std.specs.Prelude.{◌≡◌};
 ghost use Rattle.jc_c.specs.Reading.{IsRead};
-ghost use Rattle.jc_c.specs.Calls.{call_with_key, call_with_value, call_with_keys, replace_if, remove_if, invoke, invoke_all, put_all, load_all, loaded_answer, action_of, verdict_answer_said, processed_answer};
+ghost use Rattle.jc_c.specs.Calls.{call_with_key, call_with_value, call_with_keys, replace_if};
+ghost use Rattle.jc_c.specs.Calls.{remove_if, invoke, invoke_all, put_all, load_all, loaded_answer};
+ghost use Rattle.jc_c.specs.Calls.{action_of, verdict_answer_said, processed_answer};
 
 use crate::reading::{PairLengths, read_key, read_keys, read_pairs, read_value};
 use crate::status::Fault;
@@ -13,12 +15,6 @@ pub fn get(key: &[u8]) -> Result<Call, Fault>
     ensures { result ≡ call_with_key Call.Get key.now }
 {
     Ok(Call::Get(read_key(key)?))
-}
-
-pub fn contains(key: &[u8]) -> Result<Call, Fault>
-    ensures { result ≡ call_with_key Call.Contains key.now }
-{
-    Ok(Call::Contains(read_key(key)?))
 }
 
 pub fn put(alloc: Global, key: &[u8], value: &[u8]) -> Result<Call, Fault>

@@ -4,21 +4,25 @@ ghost use Rattle.jc_model.specs.declared.call.Answer.{Answer as SomeAnswer};
 ghost use Rattle.jc_model.specs.declared.call.Call.{Call as SomeCall};
 ghost use Rattle.jc_c.specs.declared.ffi_settings.NewCache.{NewCache as SomeCache};
 ghost use Rattle.jc_c.specs.declared.status.Fault.{Fault as SomeFault};
+ghost use Rattle.jc_c.specs.Calls.{call_with_key};
 ghost use Rattle.jc_c.specs.Items.{buffer_after, length_told};
-ghost use Rattle.jc_c.specs.Parts.{part_shown, part_status, count_shown, count_status, or_before, number_shown, number_status, cache_found, find_status};
+ghost use Rattle.jc_c.specs.Parts.{part_shown, part_status, count_shown, count_status, or_before};
+ghost use Rattle.jc_c.specs.Parts.{number_shown, number_status, cache_found, find_status};
 ghost use Rattle.jc_c.specs.Reading.{IsRead, key_said};
-ghost use Rattle.jc_c.specs.Seated.{BeginsCall, BeginsCallOr, Creates, CreatesOr, ResumesCall, ResumesCallOr, shown_of};
+ghost use Rattle.jc_c.specs.Seated.{BeginsCall, BeginsCallOr, Creates, CreatesOr, ResumesCall};
+ghost use Rattle.jc_c.specs.Seated.{ResumesCallOr, shown_of};
 
 use crate::ffi_manager::FfiManager;
 use crate::ffi_settings::NewCache;
-use crate::items::{self, Part};
+use crate::items::{self, ItemPart};
 use crate::reading::read_key;
 use crate::status::{Fault, Status};
 use jc_model::call::{Answer, Call};
 use jc_model::event::CacheId;
 
 impl FfiManager {
-    /// Begins the call that bytes say, if they say one and its values are taken at the cache's desk.
+    /// Begins the call that bytes say, if they say one and its values are taken at the cache's
+    /// desk.
     pub fn call(&mut self, id: u32, now: u64, said: &Result<Call, Fault>) -> Status
         ensures called { BeginsCall self.old id now said.now result self.new }
         ensures or_memory { (what : Result SomeCall SomeFault) → IsRead what said.now
@@ -32,7 +36,18 @@ impl FfiManager {
         }
     }
 
-    /// Answers the open call's request as bytes say, if they say an answer and its value is taken at the cache's desk.
+    /// Begins the call that asks whether there is a row of the key that bytes say.
+    pub fn contains_key(&mut self, id: u32, now: u64, key: &[u8]) -> Status
+        ensures { BeginsCall self.old id now (call_with_key Call.Contains key.now) result self.new }
+    {
+        match read_key(key) {
+            Ok(key) => self.contains(CacheId::new(id), now, &key),
+            Err(fault) => Status::of_fault(fault),
+        }
+    }
+
+    /// Answers the open call's request as bytes say, if they say an answer and its value is taken
+    /// at the cache's desk.
     pub fn answer(&mut self, id: u32, said: Result<Answer, Fault>) -> Status
         ensures called { ResumesCall self.old id said result self.new }
         ensures or_memory { (what : Result SomeAnswer SomeFault) → IsRead what said
@@ -100,21 +115,19 @@ impl FfiManager {
         }
     }
 
-    /// Owners the first bytes of a part of an item into a buffer, as many as it takes, and tells how many there are.
-    pub fn copy_part(
-        &self,
-        id: u32,
-        place: usize,
-        part: Part,
-        out: &mut [u8],
-        len: &mut usize,
-    ) -> Status
-        ensures status { result ≡ part_status part place (length out.old) (shown_of id self.now) }
-        ensures out { out.new ≡ buffer_after (part_shown part place (shown_of id self.now)) out.old }
-        ensures len { len.new ≡ length_told (part_shown part place (shown_of id self.now)) len.old }
+    /// Copies the first bytes of a part of an item into a buffer, as many as it takes, and tells
+    /// how many there are.
+    #[inline(always)]
+    pub fn copy_part(&self, of: ItemPart, out: &mut [u8], len: &mut usize) -> Status
+        ensures status { result
+            ≡ part_status of.part of.place (length out.old) (shown_of of.id self.now) }
+        ensures out { out.new
+            ≡ buffer_after (part_shown of.part of.place (shown_of of.id self.now)) out.old }
+        ensures len { len.new
+            ≡ length_told (part_shown of.part of.place (shown_of of.id self.now)) len.old }
     {
-        match self.desk(CacheId::new(id)) {
-            Some(desk) => items::copy(items::part_at(&desk.shown, place, part), out, len),
+        match self.desk(CacheId::new(of.id)) {
+            Some(desk) => items::copy(items::part_at(&desk.shown, of.place, of.part), out, len),
             None => Status::NoSuchCache,
         }
     }

@@ -1,6 +1,8 @@
 //! A manager and the desks of its caches.
 ghost use Rattle.std.specs.Prelude.{◌≡◌, ℕ, None, Ok, IfSome, MatchResult, option_map};
-ghost use Rattle.jc_model.specs.declared.event.Event.TheVariants.{Begin, Answer as Answers, GiveUp, Create, Destroy};
+ghost use Rattle.jc_model.specs.declared.call.Call.TheVariants.{Contains};
+ghost use Rattle.jc_model.specs.declared.event.Event.TheVariants.{Begin, Answer as Answers, GiveUp};
+ghost use Rattle.jc_model.specs.declared.event.Event.TheVariants.{Create, Destroy};
 ghost use Rattle.jc_model.specs.declared.event.Outcome.TheVariants.{Created};
 ghost use Rattle.std.specs.FinMap as map;
 ghost use Rattle.jc_cuckoo.specs.Cells.{rows_in};
@@ -10,7 +12,7 @@ ghost use Rattle.jc_save.specs.Restoring.{restored};
 ghost use Rattle.jc_c.specs.Saved.{LacksLonger, Restores};
 ghost use Rattle.jc_c.specs.Seated.{Creates, DoesWith, DoesWithStatus, desk_of, fresh_seat};
 
-use crate::desks::{Desk, add, show, take_away};
+use crate::desks::{Desk, add, show, show_truth, take_away};
 use crate::ffi_settings::NewCache;
 use crate::placer::FfiPlacer;
 use crate::saved::{RestoreAs, Unrestored};
@@ -98,6 +100,7 @@ impl FfiManager {
     }
 
     /// The desk of a live cache.
+    #[inline(always)]
     pub fn desk(&self, id: CacheId) -> Option<&Desk>
         ensures { option_map (λ desk. desk.now) result ≡ desk_of id self.now }
     {
@@ -161,25 +164,17 @@ impl FfiManager {
         }
     }
 
-    /// Whether a cache has a live row of this key, as the call that asks for it tells: where that begins at all. It changes
-    /// nothing but what is shown. Nothing for any other call.
-    fn contains_at_once(&mut self, id: CacheId, now: u64, call: &Call) -> Option<Status>
-        ensures status { IfSome result (λ status.
-            DoesWithStatus self.old (Begin id now call.now) status self.new) }
-        ensures same { result ≡ None → self.new ≡ self.old }
+    /// Whether a cache has a live row of this key, as the call that asks for it tells. It changes
+    /// nothing but what is shown, and takes no memory.
+    pub fn contains(&mut self, id: CacheId, now: u64, key: &Key) -> Status
+        ensures { DoesWithStatus self.old (Begin id now (Contains key.now)) result self.new }
     {
-        let Call::Contains(key) = call else {
-            return None;
-        };
-        let None = self.engine.begin_refusal(id, call) else {
-            return None;
-        };
-        let truth = Reply::Truth(self.engine.has(id, key, now));
-        Some(show(&mut self.desks, id, Outcome::Step(Step::Done(truth))))
+        let held = self.engine.has(id, key, now);
+        show_truth(&mut self.desks, id, held)
     }
 
-    /// What a get finds at once: the value of a live row, or that there is none and no loader. Else nothing, and nothing
-    /// has changed.
+    /// What a get finds at once: the value of a live row, or that there is none and no loader. Else
+    /// nothing, and nothing has changed.
     fn get_at_once(&mut self, id: CacheId, now: u64, call: &Call) -> Option<Status>
         ensures status { IfSome result (λ status.
             DoesWithStatus self.old (Begin id now call.now) status self.new) }
@@ -204,23 +199,13 @@ impl FfiManager {
         }
     }
 
-    /// Begins a call that no get answers.
-    fn look_or_start(&mut self, id: CacheId, now: u64, call: &Call) -> Status
-        ensures { DoesWithStatus self.old (Begin id now call.now) result self.new }
-    {
-        match self.contains_at_once(id, now, call) {
-            Some(status) => status,
-            None => self.start(id, now, call),
-        }
-    }
-
     /// Begins a call.
     pub fn begin(&mut self, id: CacheId, now: u64, call: &Call) -> Status
         ensures { DoesWithStatus self.old (Begin id now call.now) result self.new }
     {
         match self.get_at_once(id, now, call) {
             Some(status) => status,
-            None => self.look_or_start(id, now, call),
+            None => self.start(id, now, call),
         }
     }
 

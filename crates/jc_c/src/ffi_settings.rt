@@ -79,7 +79,8 @@ pub fn bound_of(max_value: u32) -> u32
     }
 }
 
-/// The cache of this name and these numbers; `wants` has a flag for each processor, whether it wants the value.
+/// The cache of this name and these numbers; `wants` has a flag for each processor, whether it
+/// wants the value.
 pub fn read_cache(
     alloc: Global,
     name: &[u8],

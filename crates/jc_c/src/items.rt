@@ -1,6 +1,9 @@
-//! What an outcome shows: items with a key, a value, the value before and a processor's argument, and numbers.
+//! What an outcome shows: items with a key, a value, the value before and a processor's argument,
+//! and numbers.
 ghost use Rattle.std.specs.Prelude.{◌≡◌, Some, length, option_map, slice_get};
-ghost use Rattle.jc_c.specs.Items.{items_shown, in_reply, in_request, item_of_key, item_of_pair, item_of_result, item_of_notice, numbers_of, kind_number, count_numbers, buffer_after, length_told, copy_status};
+ghost use Rattle.jc_c.specs.Items.{items_shown, in_reply, in_request, item_of_key, item_of_pair};
+ghost use Rattle.jc_c.specs.Items.{item_of_result, item_of_notice, numbers_of, kind_number};
+ghost use Rattle.jc_c.specs.Items.{count_numbers, buffer_after, length_told, copy_status};
 ghost use Rattle.jc_c.specs.Lent.{item_lent};
 ghost use Rattle.jc_c.specs.Parts.{part_at};
 
@@ -29,6 +32,14 @@ pub enum Part {
     Before,
     /// What a processor is given beside the value.
     Argument,
+}
+
+/// A part of an item that a cache shows, by the cache's id and the item's place.
+#[derive(Clone, Copy)]
+pub struct ItemPart {
+    pub id: u32,
+    pub place: usize,
+    pub part: Part,
 }
 
 fn of_key(key: &Key) -> Item<'_>
@@ -89,7 +100,8 @@ fn of_notice(notice: &Notice) -> Item<'_>
 }
 
 fn in_notices(notices: &[Notice], place: usize) -> Option<Item<'_>>
-    ensures { option_map item_lent result ≡ option_map item_of_notice (slice_get notices.now place) }
+    ensures { option_map item_lent result
+        ≡ option_map item_of_notice (slice_get notices.now place) }
 {
     match notices.get(place) {
         Some(notice) => Some(of_notice(notice)),
@@ -97,6 +109,7 @@ fn in_notices(notices: &[Notice], place: usize) -> Option<Item<'_>>
     }
 }
 
+#[inline(always)]
 fn in_reply(reply: &Reply, place: usize) -> Option<Item<'_>>
     ensures { option_map item_lent result ≡ slice_get (in_reply reply.now) place }
 {
@@ -147,6 +160,7 @@ fn in_request(request: &Request, place: usize) -> Option<Item<'_>>
 }
 
 /// The item at a place, from 0.
+#[inline(always)]
 pub fn item_at(outcome: &Outcome, place: usize) -> Option<Item<'_>>
     ensures { option_map item_lent result ≡ slice_get (items_shown outcome.now) place }
 {
@@ -159,6 +173,7 @@ pub fn item_at(outcome: &Outcome, place: usize) -> Option<Item<'_>>
 }
 
 /// A part of the item at a place, if both are there.
+#[inline(always)]
 pub fn part_at(outcome: &Outcome, place: usize, part: Part) -> Option<&[u8]>
     ensures { option_map (λ bytes. bytes.now) result ≡ part_at part place outcome.now }
 {
@@ -228,9 +243,9 @@ fn kind_at(notices: &[Notice], place: usize) -> Option<u64>
     }
 }
 
-/// The number at a place, from 0: of statistics hits, misses, puts, removals, evictions; of a fault in a call on many
-/// keys how many were done before it; of a request to a processor which; of notices their kinds (0 created, 1 updated,
-/// 2 removed, 3 expired).
+/// The number at a place, from 0: of statistics hits, misses, puts, removals, evictions; of a fault
+/// in a call on many keys how many were done before it; of a request to a processor which; of
+/// notices their kinds (0 created, 1 updated, 2 removed, 3 expired).
 pub fn number(outcome: &Outcome, place: usize) -> Option<u64>
     ensures { result ≡ slice_get (numbers_of outcome.now) place }
 {
@@ -253,7 +268,8 @@ pub fn number(outcome: &Outcome, place: usize) -> Option<u64>
     }
 }
 
-/// Owners the first bytes into a buffer, as many as it takes, and tells how many there are.
+/// Copies the first bytes into a buffer, as many as it takes, and tells how many there are.
+#[inline(always)]
 pub fn copy_first(bytes: &[u8], out: &mut [u8], len: &mut usize)
     ensures out { out.new ≡ buffer_after (Some bytes.now) out.old }
     ensures len { len.new ≡ length bytes.now }
@@ -268,6 +284,7 @@ pub fn copy_first(bytes: &[u8], out: &mut [u8], len: &mut usize)
 }
 
 /// The same of bytes that may be missing, and whether all of them were copied.
+#[inline(always)]
 pub fn copy(bytes: Option<&[u8]>, out: &mut [u8], len: &mut usize) -> Status
     ensures status { result ≡ copy_status (option_map (λ b. b.now) bytes.entry) (length out.old) }
     ensures out { out.new ≡ buffer_after (option_map (λ b. b.now) bytes.entry) out.old }

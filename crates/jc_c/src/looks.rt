@@ -1,11 +1,13 @@
-//! Looks at caches, which change nothing, in the caller's places; and a get that hands its value over at once.
+//! Looks at caches, which change nothing, in the caller's places; and a get that hands its value
+//! over at once.
 ghost use Rattle.std.specs.Prelude.{◌≡◌, length};
 ghost use Rattle.jc_model.specs.Places.{at_place};
 ghost use Rattle.jc_engine.specs.Caches.{count_in};
 ghost use Rattle.jc_c.specs.Asked.{asked_at, asked_status, settings_told, wants_told};
 ghost use Rattle.jc_c.specs.Calls.{call_with_key};
 ghost use Rattle.jc_c.specs.Items.{buffer_after, length_told};
-ghost use Rattle.jc_c.specs.Looks.{moment_of, moment_peeked, peek_status, row_peeked, rows_status, value_found, value_peeked};
+ghost use Rattle.jc_c.specs.Looks.{moment_of, moment_peeked, peek_status, row_peeked, rows_status};
+ghost use Rattle.jc_c.specs.Looks.{value_found, value_peeked};
 ghost use Rattle.jc_c.specs.Parts.{or_before};
 ghost use Rattle.jc_c.specs.Reading.{key_said};
 ghost use Rattle.jc_c.specs.Seated.{BeginsCall};
@@ -14,7 +16,7 @@ ghost use Rattle.jc_c.specs.Status.{status_number};
 use crate::calls;
 use crate::ffi_manager::FfiManager;
 use crate::ffi_settings::FfiSettings;
-use crate::items::{Part, copy_first};
+use crate::items::{ItemPart, Part, copy_first};
 use crate::put::{put_flags, tell_length};
 use crate::reading::read_key;
 use crate::status::Status;
@@ -33,8 +35,8 @@ pub(crate) fn moment_of(expiry: Expiry) -> u64
 }
 
 impl FfiManager {
-    /// Begins a get. Where it finds a value at once, it copies the first bytes of it into a buffer, as many as that takes,
-    /// and tells how many there are.
+    /// Begins a get. Where it finds a value at once, it copies the first bytes of it into a buffer,
+    /// as many as that takes, and tells how many there are.
     pub fn get_into(
         &mut self,
         id: u32,
@@ -43,7 +45,8 @@ impl FfiManager {
         out: &mut [u8],
         len: &mut usize,
     ) -> Status
-        ensures called { BeginsCall self.old id now (call_with_key Call.Get key.now) result self.new }
+        ensures called { BeginsCall self.old id now (call_with_key Call.Get key.now)
+            result self.new }
         ensures out { out.new
             ≡ buffer_after (value_found id (status_number result) self.new) out.old }
         ensures len { len.new
@@ -56,7 +59,7 @@ impl FfiManager {
         status
     }
 
-    /// Owners the value that is shown, if this is the number of the status of a call that found it.
+    /// Copies the value that is shown, if this is the number of the status of a call that found it.
     fn copy_found(&self, id: u32, number: u32, out: &mut [u8], len: &mut usize)
         ensures out { out.new ≡ buffer_after (value_found id number self.now) out.old }
         ensures len { len.new ≡ length_told (value_found id number self.now) len.old }
@@ -64,11 +67,16 @@ impl FfiManager {
         if number != Status::Found.number() {
             return;
         }
-        let _copied = self.copy_part(id, 0, Part::Value, out, len);
+        let value = ItemPart {
+            id,
+            place: 0,
+            part: Part::Value,
+        };
+        let _copied = self.copy_part(value, out, len);
     }
 
-    /// Owners the first bytes of the value of a key's live row, as many as a buffer takes, and tells how many there are
-    /// and when the row expires.
+    /// Copies the first bytes of the value of a key's live row, as many as a buffer takes, and
+    /// tells how many there are and when the row expires.
     pub fn peek(
         &self,
         id: u32,
@@ -83,9 +91,11 @@ impl FfiManager {
         ensures expires { expires.new ≡ or_before expires.old
             (moment_peeked (row_peeked now (key_said key.now) (at_place self.now.caches id))) }
         ensures out { out.new ≡ buffer_after
-            (value_peeked (row_peeked now (key_said key.now) (at_place self.now.caches id))) out.old }
+            (value_peeked (row_peeked now (key_said key.now) (at_place self.now.caches id)))
+            out.old }
         ensures len { len.new ≡ length_told
-            (value_peeked (row_peeked now (key_said key.now) (at_place self.now.caches id))) len.old }
+            (value_peeked (row_peeked now (key_said key.now) (at_place self.now.caches id)))
+            len.old }
     {
         let key = match read_key(key) {
             Ok(key) => key,
@@ -117,8 +127,8 @@ impl FfiManager {
         }
     }
 
-    /// Tells what a live cache was created with, and how many processors it has. Of each of them it writes whether it
-    /// wants the value, as many as there is room for.
+    /// Tells what a live cache was created with, and how many processors it has. Of each of them it
+    /// writes whether it wants the value, as many as there is room for.
     #[tactic(auto, using(crate::proofs::Putting::put_first))]
     pub fn settings_of(
         &self,

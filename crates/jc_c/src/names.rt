@@ -25,7 +25,8 @@ fn head_of(id: CacheId, name: &Key) -> [u8; HEAD]
 }
 
 impl FfiManager {
-    /// Writes a live cache's id and name from a place on, as much as there is room for. Tells the place behind them.
+    /// Writes a live cache's id and name from a place on, as much as there is room for. Tells the
+    /// place behind them.
     fn put_name(&self, out: &mut [u8], at: usize, name: &Key) -> usize
         requires { at < 2 ^ 48 }
         ensures place { result
@@ -52,8 +53,8 @@ impl FfiManager {
         &names[..names.len().min(given)]
     }
 
-    /// Writes of each live cache its id, how many bytes its name has, and its name, in order of id, and tells how many
-    /// bytes that is.
+    /// Writes of each live cache its id, how many bytes its name has, and its name, in order of id,
+    /// and tells how many bytes that is.
     pub fn list_names(&self, out: &mut [u8], len: &mut usize) -> Status
         ensures status { result
             ≡ copy_status (Some (names_told self.now.caches)) (length out.old) }

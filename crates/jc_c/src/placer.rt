@@ -9,8 +9,8 @@ use jc_place::place::{Place, Placer};
 use jc_place::secret::SecretPlacer;
 use jc_place::seeded::SeededPlacer;
 
-/// Places by a seed, for runs that are to be repeated; or by a hash under a secret of 128 bits, for keys that strangers may
-/// choose.
+/// Places by a seed, for runs that are to be repeated; or by a hash under a secret of 128 bits, for
+/// keys that strangers may choose.
 #[derive(Clone, Copy)]
 pub enum FfiPlacer {
     Seeded(SeededPlacer),

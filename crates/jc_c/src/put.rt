@@ -1,4 +1,5 @@
-//! Bytes that are written one behind the other into the caller's buffer, the first of them, as many as it takes.
+//! Bytes that are written one behind the other into the caller's buffer, the first of them, as many
+//! as it takes.
 ghost use Rattle.std.specs.Prelude.{◌≡◌, ◌+◌, ◌<◌, ◌^◌, length, map, if◌then◌else◌, ltb};
 ghost use Rattle.jc_save.specs.Placing.{put_at};
 ghost use Rattle.jc_save.specs.Spelling.{flag};
@@ -23,7 +24,8 @@ pub fn put(out: &mut [u8], at: usize, bytes: &[u8]) -> usize
     end
 }
 
-/// Writes 1 for each flag that is set, else 0, from the first place on. Tells how many flags there are.
+/// Writes 1 for each flag that is set, else 0, from the first place on. Tells how many flags there
+/// are.
 pub fn put_flags(out: &mut [u8], flags: &[bool]) -> usize
     ensures count { result ≡ length flags.now }
     ensures out { out.new ≡ put_at 0 (map flag flags.now) out.old }

@@ -1,6 +1,7 @@
 //! Keys, values and lists of them, out of bytes.
 ghost use Rattle.std.specs.Prelude.{◌≡◌};
-ghost use Rattle.jc_c.specs.Reading.{IsRead, IsListRead, key_said, value_said, key_list_said, keys_said, pair_list_said, pairs_said, list_fault};
+ghost use Rattle.jc_c.specs.Reading.{IsRead, IsListRead, key_said, value_said, key_list_said};
+ghost use Rattle.jc_c.specs.Reading.{keys_said, pair_list_said, pairs_said, list_fault};
 
 use crate::status::Fault;
 use jc_model::key::Key;

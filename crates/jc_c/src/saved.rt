@@ -6,7 +6,8 @@ ghost use Rattle.jc_save.specs.Restoring.{restored};
 ghost use Rattle.jc_c.specs.declared.status.Fault.{Fault as SomeFault};
 ghost use Rattle.jc_c.specs.Items.{buffer_after, length_told};
 ghost use Rattle.jc_c.specs.Reading.{bound_said, key_said};
-ghost use Rattle.jc_c.specs.Saved.{because, flaw_status, for_fault, for_refusal, save_status, saved_told};
+ghost use Rattle.jc_c.specs.Saved.{because, flaw_status, for_fault, for_refusal, save_status};
+ghost use Rattle.jc_c.specs.Saved.{saved_told};
 ghost use Rattle.jc_c.specs.Saved.{IsReadRefusal, IsSavedRead, LacksLonger, RestoresTold};
 
 use crate::ffi_manager::FfiManager;
@@ -89,7 +90,8 @@ fn has_longer(rows: &[SavedRow], most: u32) -> bool
         .any(|row| row.value.bytes().len() > most as usize)
 }
 
-/// Why bytes are not restored where values have at most so many bytes, if that, too, is not left to the manager.
+/// Why bytes are not restored where values have at most so many bytes, if that, too, is not left to
+/// the manager.
 fn refusal_by_values(alloc: Global, name: Key, bytes: &[u8], most: u32) -> Option<Unrestored>
     ensures refused { IfSome result (IsReadRefusal most (restored name bytes.now)) }
     ensures within { result ≡ None → LacksLonger most (restored name bytes.now) }
@@ -111,8 +113,8 @@ fn refusal_by_values(alloc: Global, name: Key, bytes: &[u8], most: u32) -> Optio
     }
 }
 
-/// The name that bytes say, of a cache that other bytes are and whose values have at most so many; 0 stands for no bound
-/// of the cache's own.
+/// The name that bytes say, of a cache that other bytes are and whose values have at most so many;
+/// 0 stands for no bound of the cache's own.
 pub fn read_saved(
     alloc: Global,
     name: &[u8],
@@ -133,7 +135,8 @@ pub fn read_saved(
 }
 
 impl FfiManager {
-    /// Writes the first bytes of an idle cache into a buffer, as many as that takes, and tells how many there are.
+    /// Writes the first bytes of an idle cache into a buffer, as many as that takes, and tells how
+    /// many there are.
     pub fn save_cache(&self, id: u32, out: &mut [u8], len: &mut usize) -> Status
         ensures status { result ≡ save_status (at_place self.now.caches id) (length out.old) }
         ensures out { out.new ≡ buffer_after (saved_told (at_place self.now.caches id)) out.old }
@@ -146,8 +149,8 @@ impl FfiManager {
         }
     }
 
-    /// Restores the cache that bytes are, if a name was read for it and its values are taken, and tells its id; or how many
-    /// bytes stand before their first flaw.
+    /// Restores the cache that bytes are, if a name was read for it and its values are taken, and
+    /// tells its id; or how many bytes stand before their first flaw.
     pub fn restore_cache(
         &mut self,
         said: Result<RestoreAs, Unrestored>,

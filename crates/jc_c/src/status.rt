@@ -1,6 +1,7 @@
 //! What a call comes to, as one number. No two have the same, and none is ever given another.
 ghost use Rattle.std.specs.Prelude.{◌≡◌};
-ghost use Rattle.jc_c.specs.Status.{status_number, cause_status, refusal_status, reply_status, request_status, fault_status, outcome_status};
+ghost use Rattle.jc_c.specs.Status.{status_number, cause_status, refusal_status, reply_status};
+ghost use Rattle.jc_c.specs.Status.{request_status, fault_status, outcome_status};
 
 use jc_model::call::{By, Reply, Request};
 use jc_model::event::{Cause, CreateRefusal, Outcome, Step};
@@ -28,62 +29,62 @@ pub enum Fault {
 #[derive(Clone, Copy, Debug, PartialEq, Eq)]
 pub enum Status {
     /// It is done, and there is nothing to show.
-    Done,
-    False,
-    True,
+    Done = 0,
+    False = 1,
+    True = 2,
     /// One value.
-    Found,
+    Found = 3,
     /// No value.
-    Nothing,
+    Nothing = 4,
     /// Keys with their values.
-    Listed,
+    Listed = 5,
     /// By key, what a processor answered.
-    Results,
+    Results = 6,
     /// The counters.
-    Counted,
-    LoaderFailed,
-    WriterFailed,
-    ProcessorFailed,
+    Counted = 7,
+    LoaderFailed = 8,
+    WriterFailed = 9,
+    ProcessorFailed = 10,
     /// The call is open, and waits for an answer.
-    NeedLoad,
-    NeedWrite,
-    NeedDelete,
-    NeedProcess,
-    NeedTell,
-    NoSuchCache,
+    NeedLoad = 16,
+    NeedWrite = 17,
+    NeedDelete = 18,
+    NeedProcess = 19,
+    NeedTell = 20,
+    NoSuchCache = 32,
     /// A call on the cache is open.
-    Busy,
-    NoSuchProcessor,
+    Busy = 33,
+    NoSuchProcessor = 34,
     /// No call on the cache is open.
-    NoTurn,
+    NoTurn = 35,
     /// The open call awaits another kind of answer.
-    WrongAnswer,
-    OutOfMemory,
-    TooManyCaches,
-    BadCapacity,
-    TooManyListeners,
-    TooManyProcessors,
-    DuplicateName,
-    TotalCapacity,
-    IdsSpent,
+    WrongAnswer = 36,
+    OutOfMemory = 37,
+    TooManyCaches = 48,
+    BadCapacity = 49,
+    TooManyListeners = 50,
+    TooManyProcessors = 51,
+    DuplicateName = 52,
+    TotalCapacity = 53,
+    IdsSpent = 54,
     /// The handle holds no manager.
-    Closed,
+    Closed = 64,
     /// The handle holds a manager already.
-    InUse,
-    BadKey,
-    BadValue,
-    BadLengths,
-    TooManyKeys,
-    DuplicateKey,
-    BadChoice,
+    InUse = 65,
+    BadKey = 66,
+    BadValue = 67,
+    BadLengths = 68,
+    TooManyKeys = 69,
+    DuplicateKey = 70,
+    BadChoice = 71,
     /// There is no such item, or it has no such part.
-    NoItem,
+    NoItem = 72,
     /// The buffer took the first bytes alone.
-    ShortBuffer,
+    ShortBuffer = 73,
     /// Bytes that no cache is saved as.
-    BadSave,
+    BadSave = 74,
     /// Saved bytes of another version of their format.
-    OtherVersion,
+    OtherVersion = 75,
 }
 
 impl Status {
@@ -91,49 +92,7 @@ impl Status {
     pub fn number(self) -> u32
         ensures { result ≡ status_number self }
     {
-        match self {
-            Status::Done => 0,
-            Status::False => 1,
-            Status::True => 2,
-            Status::Found => 3,
-            Status::Nothing => 4,
-            Status::Listed => 5,
-            Status::Results => 6,
-            Status::Counted => 7,
-            Status::LoaderFailed => 8,
-            Status::WriterFailed => 9,
-            Status::ProcessorFailed => 10,
-            Status::NeedLoad => 16,
-            Status::NeedWrite => 17,
-            Status::NeedDelete => 18,
-            Status::NeedProcess => 19,
-            Status::NeedTell => 20,
-            Status::NoSuchCache => 32,
-            Status::Busy => 33,
-            Status::NoSuchProcessor => 34,
-            Status::NoTurn => 35,
-            Status::WrongAnswer => 36,
-            Status::OutOfMemory => 37,
-            Status::TooManyCaches => 48,
-            Status::BadCapacity => 49,
-            Status::TooManyListeners => 50,
-            Status::TooManyProcessors => 51,
-            Status::DuplicateName => 52,
-            Status::TotalCapacity => 53,
-            Status::IdsSpent => 54,
-            Status::Closed => 64,
-            Status::InUse => 65,
-            Status::BadKey => 66,
-            Status::BadValue => 67,
-            Status::BadLengths => 68,
-            Status::TooManyKeys => 69,
-            Status::DuplicateKey => 70,
-            Status::BadChoice => 71,
-            Status::NoItem => 72,
-            Status::ShortBuffer => 73,
-            Status::BadSave => 74,
-            Status::OtherVersion => 75,
-        }
+        self as u32
     }
 
     /// Why an event is refused.

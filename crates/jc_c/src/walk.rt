@@ -5,7 +5,8 @@ ghost use Rattle.jc_engine.specs.Caches.{row_in};
 ghost use Rattle.jc_c.specs.Walk.{Gives, head_bytes, row_bytes, row_length, written_at};
 ghost use Rattle.jc_c.specs.Walk.{length_at_end, number_at_end, status_at_end};
 ghost use Rattle.jc_c.specs.Walk.{WalkTells, rows_from, walked_by};
-ghost use Rattle.jc_c.specs.Walk.{bytes_walked, laid_over, length_walked, number_walked, walk_status, walked};
+ghost use Rattle.jc_c.specs.Walk.{bytes_walked, laid_over, length_walked, number_walked};
+ghost use Rattle.jc_c.specs.Walk.{walk_status, walked};
 
 use crate::ffi_manager::FfiManager;
 use crate::looks::moment_of;
@@ -24,7 +25,8 @@ pub struct Way {
 }
 
 impl Way {
-    /// What the step tells where it stops: the next row takes so many bytes and does not fit, or there is none.
+    /// What the step tells where it stops: the next row takes so many bytes and does not fit, or
+    /// there is none.
     fn stop(self, wanted: Option<usize>, len: &mut usize, next: &mut u32) -> Status
         ensures status { result ≡ status_at_end self wanted }
         ensures len { len.new ≡ length_at_end self wanted len.old }
@@ -95,8 +97,8 @@ fn write_row(out: &mut [u8], place: usize, row: &Record)
 }
 
 impl FfiManager {
-    /// Gives the row of a number, if there is one, behind what was given before. Where it does not fit there, how many
-    /// bytes it takes.
+    /// Gives the row of a number, if there is one, behind what was given before. Where it does not
+    /// fit there, how many bytes it takes.
     fn give(&self, id: CacheId, number: u32, out: &mut [u8], way: Way) -> Result<Way, usize>
         requires below { number < 2 ^ 32 - 1 }
         requires within { way.place ≤ length out.old }
@@ -144,9 +146,9 @@ impl FfiManager {
         way.stop(None, len, next)
     }
 
-    /// Gives the rows of a cache from a number on, expired ones among them: as many whole ones as fit, in order of their
-    /// numbers, how many bytes they are, and the number to go on from. Where the first does not fit, it tells how many
-    /// bytes that takes.
+    /// Gives the rows of a cache from a number on, expired ones among them: as many whole ones as
+    /// fit, in order of their numbers, how many bytes they are, and the number to go on from. Where
+    /// the first does not fit, it tells how many bytes that takes.
     pub fn walk(
         &self,
         id: u32,

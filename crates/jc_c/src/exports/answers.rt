@@ -74,7 +74,8 @@ pub extern "C" fn jc_processed(
     answers: u32,
     answer: &[u8],
 ) -> u32
-    ensures { SeatResumesOr id (processed_answer action value.now answers answer.now) h.old result h.new }
+    ensures { SeatResumesOr id (processed_answer action value.now answers answer.now)
+        h.old result h.new }
 {
     answer_call(
         alloc,

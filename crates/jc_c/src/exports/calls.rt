@@ -45,7 +45,12 @@ pub extern "C" fn jc_get(alloc: Global, h: &mut Handle, id: u32, now: u64, key: 
 pub extern "C" fn jc_contains(alloc: Global, h: &mut Handle, id: u32, now: u64, key: &[u8]) -> u32
     ensures { SeatBegins id now (call_with_key Call.Contains key.now) h.old result h.new }
 {
-    begin(alloc, h, id, now, calls::contains(key))
+    let Some(mut seat) = h.take(alloc) else {
+        return Status::Closed.number();
+    };
+    let status = seat.contains_key(id, now, key);
+    h.put_in(seat);
+    status.number()
 }
 
 #[unsafe(no_mangle)]
@@ -71,7 +76,8 @@ pub extern "C" fn jc_get_and_put(
     key: &[u8],
     value: &[u8],
 ) -> u32
-    ensures { SeatBeginsOr id now (call_with_value Call.GetAndPut key.now value.now) h.old result h.new }
+    ensures { SeatBeginsOr id now (call_with_value Call.GetAndPut key.now value.now)
+        h.old result h.new }
 {
     begin(alloc, h, id, now, calls::get_and_put(alloc, key, value))
 }
@@ -100,7 +106,8 @@ pub extern "C" fn jc_replace(
     key: &[u8],
     value: &[u8],
 ) -> u32
-    ensures { SeatBeginsOr id now (call_with_value Call.Replace key.now value.now) h.old result h.new }
+    ensures { SeatBeginsOr id now (call_with_value Call.Replace key.now value.now)
+        h.old result h.new }
 {
     begin(alloc, h, id, now, calls::replace(alloc, key, value))
 }

@@ -1,4 +1,5 @@
-//! A place of C's that holds a manager, or nothing. In C: `struct jc_manager { void *at; };`, empty at null.
+//! A place of C's that holds a manager, or nothing. In C: `struct jc_manager { void *at; };`, empty
+//! at null.
 ghost use Rattle.std.specs.Prelude.{◌≡◌};
 ghost use Rattle.std.specs.declared.option.Option.{Option};
 ghost use Rattle.std.specs.declared.option.Option.TheVariants.{None, Some};
@@ -15,8 +16,8 @@ use std::marker::Model;
 use std::mem::replace;
 use std::ptr::null_mut;
 
-/// A manager or nothing, of which contracts see what it holds. To be let go or replaced only while it is empty: what it
-/// holds is freed by `take` alone.
+/// A manager or nothing, of which contracts see what it holds. To be let go or replaced only while
+/// it is empty: what it holds is freed by `take` alone.
 #[repr(C)]
 #[derive(Drop)]
 pub struct Handle {

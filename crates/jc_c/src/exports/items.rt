@@ -2,10 +2,11 @@
 ghost use Rattle.std.specs.Prelude.{◌≡◌, length};
 ghost use Rattle.jc_c.specs.Items.{buffer_after, length_told};
 ghost use Rattle.jc_c.specs.Parts.{count_shown, count_status, or_before, number_status};
-ghost use Rattle.jc_c.specs.Held.{SeatTellsOf, SeatTellsPart, number_shown_in, part_shown_in, shown_in};
+ghost use Rattle.jc_c.specs.Held.{SeatTellsOf, SeatTellsPart, number_shown_in, part_shown_in};
+ghost use Rattle.jc_c.specs.Held.{shown_in};
 
 use crate::exports::handle::Handle;
-use crate::items::Part;
+use crate::items::{ItemPart, Part};
 use crate::status::Status;
 use std::alloc::Global;
 
@@ -43,25 +44,18 @@ pub extern "C" fn jc_number(
     status.number()
 }
 
-/// Owners a part of an item.
-fn copy(
-    alloc: Global,
-    h: &mut Handle,
-    id: u32,
-    item: usize,
-    part: Part,
-    out: &mut [u8],
-    len: &mut usize,
-) -> u32
+/// Copies a part of an item.
+#[inline(always)]
+fn copy(alloc: Global, h: &mut Handle, of: ItemPart, out: &mut [u8], len: &mut usize) -> u32
     ensures same { h.new.held ≡ h.old.held }
-    ensures status { SeatTellsPart part item id (length out.old) h.old result h.new }
-    ensures out { out.new ≡ buffer_after (part_shown_in part item id h.old.held) out.old }
-    ensures len { len.new ≡ length_told (part_shown_in part item id h.old.held) len.old }
+    ensures status { SeatTellsPart of.part of.place of.id (length out.old) h.old result h.new }
+    ensures out { out.new ≡ buffer_after (part_shown_in of.part of.place of.id h.old.held) out.old }
+    ensures len { len.new ≡ length_told (part_shown_in of.part of.place of.id h.old.held) len.old }
 {
     let Some(seat) = h.take(alloc) else {
         return Status::Closed.number();
     };
-    let status = seat.copy_part(id, item, part, out, len);
+    let status = seat.copy_part(of, out, len);
     h.put_in(seat);
     status.number()
 }
@@ -80,7 +74,12 @@ pub extern "C" fn jc_key(
     ensures out { out.new ≡ buffer_after (part_shown_in Part.Key item id h.old.held) out.old }
     ensures len { len.new ≡ length_told (part_shown_in Part.Key item id h.old.held) len.old }
 {
-    copy(alloc, h, id, item, Part::Key, out, len)
+    let of = ItemPart {
+        id,
+        place: item,
+        part: Part::Key,
+    };
+    copy(alloc, h, of, out, len)
 }
 
 #[unsafe(no_mangle)]
@@ -97,7 +96,12 @@ pub extern "C" fn jc_value(
     ensures out { out.new ≡ buffer_after (part_shown_in Part.Value item id h.old.held) out.old }
     ensures len { len.new ≡ length_told (part_shown_in Part.Value item id h.old.held) len.old }
 {
-    copy(alloc, h, id, item, Part::Value, out, len)
+    let of = ItemPart {
+        id,
+        place: item,
+        part: Part::Value,
+    };
+    copy(alloc, h, of, out, len)
 }
 
 #[unsafe(no_mangle)]
@@ -114,7 +118,12 @@ pub extern "C" fn jc_before(
     ensures out { out.new ≡ buffer_after (part_shown_in Part.Before item id h.old.held) out.old }
     ensures len { len.new ≡ length_told (part_shown_in Part.Before item id h.old.held) len.old }
 {
-    copy(alloc, h, id, item, Part::Before, out, len)
+    let of = ItemPart {
+        id,
+        place: item,
+        part: Part::Before,
+    };
+    copy(alloc, h, of, out, len)
 }
 
 #[unsafe(no_mangle)]
@@ -131,5 +140,10 @@ pub extern "C" fn jc_argument(
     ensures out { out.new ≡ buffer_after (part_shown_in Part.Argument item id h.old.held) out.old }
     ensures len { len.new ≡ length_told (part_shown_in Part.Argument item id h.old.held) len.old }
 {
-    copy(alloc, h, id, item, Part::Argument, out, len)
+    let of = ItemPart {
+        id,
+        place: item,
+        part: Part::Argument,
+    };
+    copy(alloc, h, of, out, len)
 }

@@ -6,12 +6,15 @@ ghost use Rattle.jc_c.specs.Asked.{asked_at, asked_status, settings_told, wants_
 ghost use Rattle.jc_c.specs.Bytes.{bytes_in};
 ghost use Rattle.jc_c.specs.Calls.{call_with_key};
 ghost use Rattle.jc_c.specs.Items.{buffer_after, copy_status, length_told};
-ghost use Rattle.jc_c.specs.Looks.{moment_peeked, peek_status, row_peeked, rows_status, value_peeked};
+ghost use Rattle.jc_c.specs.Looks.{moment_peeked, peek_status, row_peeked, rows_status};
+ghost use Rattle.jc_c.specs.Looks.{value_peeked};
 ghost use Rattle.jc_c.specs.Names.{names_told};
 ghost use Rattle.jc_c.specs.Parts.{or_before};
 ghost use Rattle.jc_c.specs.Reading.{key_said};
-ghost use Rattle.jc_c.specs.Walk.{bytes_walked, laid_over, length_walked, number_walked, walk_status, walked};
-ghost use Rattle.jc_c.specs.Held.{SeatBegins, SeatTells, SeatTellsAt, asked_held, cache_held, names_held, value_found_in};
+ghost use Rattle.jc_c.specs.Walk.{bytes_walked, laid_over, length_walked, number_walked};
+ghost use Rattle.jc_c.specs.Walk.{walk_status, walked};
+ghost use Rattle.jc_c.specs.Held.{SeatBegins, SeatTells, SeatTellsAt, asked_held, cache_held};
+ghost use Rattle.jc_c.specs.Held.{names_held, value_found_in};
 
 use crate::exports::handle::Handle;
 use crate::ffi_settings::FfiSettings;
@@ -19,7 +22,8 @@ use crate::status::Status;
 use jc_model::call::Call;
 use std::alloc::Global;
 
-/// The version that the header names: 10,000 times the first number, 100 times the second, and the third.
+/// The version that the header names: 10,000 times the first number, 100 times the second, and the
+/// third.
 const VERSION: u32 = 100;
 
 #[unsafe(no_mangle)]

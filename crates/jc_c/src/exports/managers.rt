@@ -5,7 +5,8 @@ ghost use Rattle.jc_c.specs.Parts.{or_before, find_status, cache_found};
 ghost use Rattle.jc_c.specs.Placing.{secret_placer};
 ghost use Rattle.jc_c.specs.Reading.{cache_said, key_said};
 ghost use Rattle.jc_c.specs.Status.{status_number};
-ghost use Rattle.jc_c.specs.Held.{OpensManager, SeatAnswers, SeatCreatesOr, SeatTells, caches_held, closing};
+ghost use Rattle.jc_c.specs.Held.{OpensManager, SeatAnswers, SeatCreatesOr, SeatTells, caches_held};
+ghost use Rattle.jc_c.specs.Held.{closing};
 
 use crate::exports::handle::Handle;
 use crate::ffi_manager::FfiManager;
@@ -101,7 +102,8 @@ pub extern "C" fn jc_find(alloc: Global, h: &mut Handle, name: &[u8], id: &mut u
     ensures same { h.new.held ≡ h.old.held }
     ensures status { SeatTells (λ old. find_status (key_said name.now) old.caches)
         h.old result h.new }
-    ensures id { id.new ≡ or_before id.old (cache_found (key_said name.now) (caches_held h.old.held)) }
+    ensures id { id.new
+        ≡ or_before id.old (cache_found (key_said name.now) (caches_held h.old.held)) }
 {
     let Some(seat) = h.take(alloc) else {
         return Status::Closed.number();

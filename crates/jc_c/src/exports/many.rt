@@ -19,7 +19,8 @@ pub extern "C" fn jc_get_all(
     lengths: &[u32],
     keys: &[u8],
 ) -> u32
-    ensures { SeatBeginsOr id now (call_with_keys Call.GetAll lengths.now keys.now) h.old result h.new }
+    ensures { SeatBeginsOr id now (call_with_keys Call.GetAll lengths.now keys.now)
+        h.old result h.new }
 {
     begin(alloc, h, id, now, calls::get_all(alloc, lengths, keys))
 }

@@ -21,7 +21,7 @@ module _ (c : goal.After-add) where
 
 pub invariant_of-self-in-Ok : goal.invariant_of-self-in-Ok
 invariant_of-self-in-Ok c =
-    slots_more c.self.inside.engine c.create.new.self (get nat_eq c.self.inside.desks) (get nat_eq c.add.new.desks) c.in-Ok.id (fresh_cache c.args.asked.config) c.self.invariant (created_id c.self.inside.engine c.in-Ok.id c.args.asked.config c.in-Ok.ensures.outcome) c.in-Ok.ensures.added (first c) (puts c)
+    slots_more c.self.inside.engine c.create.new.self (get nat_eq c.self.inside.desks) (get nat_eq c.add.new.desks) c.in-Ok.id (fresh_cache c.args.asked.config) c.self.invariant (created_id c.self.inside.engine c.in-Ok.id c.args.asked.config c.in-Ok.ensures.outcome) c.in-Ok.ensures.added (first c) (puts c) refl
 
 pub returns-in-Ok : goal.returns-in-Ok
 returns-in-Ok c = rw (← c.self.view_is)

@@ -8,7 +8,7 @@ use Rattle.jc_model.specs.declared.event.Step.TheVariants.{Done}
 use Rattle.jc_model.specs.Runs.{answer_to, begins}
 use Rattle.jc_engine.specs.Caches.{lives_of}
 use Rattle.jc_engine.specs.Results.{of_found}
-use Rattle.jc_c.proofs.Seating.{shown_after, accepted_does}
+use Rattle.jc_c.proofs.Seating.{slots_after, shown_after, accepted_does}
 use Rattle.jc_c.proofs.ffi_manager.FfiManager.get_at_once.Goals as goal
 
 found_is : (found : Option (List ℕ)) → of_found (Rattle.std.specs.Prelude.option_map (λ (v : List ℕ). v) found) ≡ of_found found
@@ -27,3 +27,9 @@ returns-in-Some-clause-status c =
           false answer refl c.in-Some.ensures.lives c.show.ensures.desks);
       status_is = c.show.ensures.status;
     })
+
+pub invariant_of-self : goal.invariant_of-self
+invariant_of-self c =
+    let answer = subst (λ (o : Outcome). o ≡ answer_to (lives_of c.self.inside.engine) (Begin c.args.id c.args.now c.args.call.now) false) (found_is c.in-Some.found) c.in-Some.ensures.outcome in
+    slots_after c.self.inside.engine c.get_at_once.new.self (get nat_eq c.self.inside.desks) (get nat_eq c.show.new.desks) c.args.id (begins c.args.now c.args.call.now) (of_found c.in-Some.found) c.self.invariant
+    false answer refl c.in-Some.ensures.lives c.show.ensures.desks

@@ -22,7 +22,7 @@ module _ (c : goal.After-add) where
 
 pub invariant_of-self-in-Ok : goal.invariant_of-self-in-Ok
 invariant_of-self-in-Ok c =
-    slots_more c.self.inside.engine c.restore.new.self (get nat_eq c.self.inside.desks) (get nat_eq c.add.new.desks) c.in-Ok.id (cache c) c.self.invariant c.in-Ok.ensures.exact.1 c.in-Ok.ensures.added.added (desk c) (puts c)
+    slots_more c.self.inside.engine c.restore.new.self (get nat_eq c.self.inside.desks) (get nat_eq c.add.new.desks) c.in-Ok.id (cache c) c.self.invariant c.in-Ok.ensures.exact.1 c.in-Ok.ensures.added.added (desk c) (puts c) refl
 
 pub returns-in-Ok : goal.returns-in-Ok
 returns-in-Ok c = λ lacks. rw (← c.self.view_is) (

@@ -4,7 +4,7 @@ use Rattle.jc_model.specs.declared.event.Event.TheVariants.{Begin}
 use Rattle.jc_model.specs.declared.event.Outcome.TheVariants.{Step as Stepped}
 use Rattle.jc_model.specs.Runs.{answer_to, begins}
 use Rattle.jc_engine.specs.Caches.{lives_of}
-use Rattle.jc_c.proofs.Seating.{shown_after, accepted_does}
+use Rattle.jc_c.proofs.Seating.{slots_after, shown_after, accepted_does}
 use Rattle.jc_c.proofs.ffi_manager.FfiManager.start.Goals as goal
 
 module _ (c : goal.After-show) where
@@ -20,3 +20,8 @@ returns-in-Ok c = rw (← c.self.view_is) (record {
       false (answer c) refl c.in-Ok.ensures.lives c.show.ensures.desks);
   status_is = c.show.ensures.status;
 })
+
+pub invariant_of-self : goal.invariant_of-self
+invariant_of-self c =
+    slots_after c.self.inside.engine c.start.new.self (get nat_eq c.self.inside.desks) (get nat_eq c.show.new.desks) c.args.id (begins c.args.now c.args.call.now) (Stepped c.step_of.result) c.self.invariant
+    false (ap Stepped c.step_of.ensures ∙ c.in-Ok.ensures.outcome) refl c.in-Ok.ensures.lives c.show.ensures.desks
