@@ -4,21 +4,44 @@ import os
 import re
 import shutil
 import textwrap
+from dataclasses import dataclass
+from typing import Tuple
 
 from making import library
 from making.commands import output
 
 ARCHITECTURE = "amd64"
 LIBRARIES = "usr/lib/x86_64-linux-gnu"
+MODULES = "usr/lib/redis/modules"
 LEAVE = "Nobody has leave to pass this package on: it is for the machines of who built it."
-DESCRIPTIONS = {
-    "jcache": (
+
+
+@dataclass(frozen=True)
+class Package:
+    """What a package says of itself: its section, what it is in a line and at length, and further fields."""
+
+    section: str
+    short: str
+    long: str
+    fields: Tuple[str, ...] = ()
+
+
+PACKAGES = {
+    "jcache": Package(
+        "utils",
         "Runs scripts of calls on isolated caches",
         "The program jcache plays scripts of cache calls as JSR 107 has them, and reports what each cache answered.",
     ),
-    "libjcache-dev": (
+    "libjcache-dev": Package(
+        "libdevel",
         "Named caches with the behaviour of JSR 107, for C and C++",
         "Archive, shared object, headers and pkg-config file of the library.",
+    ),
+    "redis-jcache": Package(
+        "database",
+        "Named caches with the behaviour of JSR 107, as keys of Redis",
+        f"The server loads the module by `loadmodule /{MODULES}/jcache.so` in its configuration.",
+        ("Recommends: redis-server (>= 5:7.0)",),
     ),
 }
 
@@ -70,6 +93,10 @@ def lay_out_library(folder, archive, shared, checkout):
     return [f"{folder}/{LIBRARIES}/{real}"]
 
 
+def lay_out_module(folder, module):
+    return [put(module, folder, f"{MODULES}/jcache.so", 0o755)]
+
+
 def depends(work, binaries):
     """The packages that binaries want, by their symbols."""
     write("Source: jcache\n\nPackage: jcache\nArchitecture: any\n", work, "debian/control")
@@ -78,7 +105,7 @@ def depends(work, binaries):
 
 
 def control(name, folder, wanted, version):
-    short, long = DESCRIPTIONS[name]
+    package = PACKAGES[name]
     sizes = [os.path.getsize(f"{at}/{file}") for at, _, files in os.walk(folder) for file in files if not os.path.islink(f"{at}/{file}")]
     return "\n".join([
         f"Package: {name}",
@@ -87,10 +114,11 @@ def control(name, folder, wanted, version):
         "Maintainer: who built it <root@localhost>",
         f"Installed-Size: {sum(-(-size // 1024) for size in sizes)}",
         f"Depends: {wanted}",
-        f"Section: {'libdevel' if name.endswith('-dev') else 'utils'}",
+        *package.fields,
+        f"Section: {package.section}",
         "Priority: optional",
-        f"Description: {short}",
-        *textwrap.wrap(f"{long} {LEAVE}", 79, initial_indent=" ", subsequent_indent=" "),
+        f"Description: {package.short}",
+        *textwrap.wrap(f"{package.long} {LEAVE}", 79, initial_indent=" ", subsequent_indent=" "),
         "",
     ])
 

@@ -14,7 +14,7 @@ sys.path.insert(0, f"{TOP}/tests/docs")
 from pages import block_at, blocks, page_of  # noqa: E402
 from samples import samples  # noqa: E402
 
-PACKAGE = re.compile(r"(?<![\w-])(?:lib)?jcache[\w.-]*\.(?:deb|whl|crate|jar)")
+PACKAGE = re.compile(r"(?<![\w-])(?:lib|redis-)?jcache[\w.-]*\.(?:deb|whl|crate|jar)")
 MARK = re.compile(r"^<!-- installed: (.*) -->$")
 
 
@@ -40,10 +40,10 @@ def lacking(installing, packages):
     return sorted(named - {*os.listdir(packages)})
 
 
-def first_output(page):
-    """What the page's samples print first."""
+def first_output(page, command=""):
+    """What the page's samples print first, of those that end with the command's last word."""
     runs = (sample for block in blocks(page) if block.kind == "run" for sample in samples(block.text))
-    return next(sample.prints for sample in runs if sample.prints)
+    return next(sample.prints for sample in runs if sample.prints and sample.command.endswith(command.split(" ")[-1]))
 
 
 def write_files(page, folder):
@@ -89,6 +89,7 @@ def faults(installing, packages, hidden):
         shutil.copytree(packages, folder, dirs_exist_ok=True)
         write_files(page, folder)
         ran = in_clean_place(folder, installing.commands, hidden)
-    if ran.returncode or ran.stdout.rstrip("\n") != first_output(page):
-        return f"status {ran.returncode}, wanted {first_output(page)!r}, printed {ran.stdout!r} {ran.stderr[-2000:]!r}"
+    wanted = first_output(page, installing.commands[-1])
+    if ran.returncode or ran.stdout.rstrip("\n") != wanted:
+        return f"status {ran.returncode}, wanted {wanted!r}, printed {ran.stdout!r} {ran.stderr[-2000:]!r}"
     return None

@@ -18,7 +18,7 @@ def make(tally):
         "JCACHE_SHARED": f"{top}/crates/{LIBRARY}/out/libjcache.so",
     }
     if not is_fresh(found["JCACHE_SHARED"]):
-        tally.check("the library for C is built", archive(found["JCACHE_ARCHIVE"]) or shared(found))
+        tally.check("the library for C is built", lacking() or archive(found["JCACHE_ARCHIVE"]) or shared(found))
     return {name: path for name, path in found.items() if os.path.exists(path)}
 
 
@@ -27,6 +27,12 @@ def is_fresh(path):
     sources = [rlib(library) for library in kit.below(LIBRARY)]
     sources += [f"{folder}/{name}" for folder, _, names in os.walk(f"crates/{LIBRARY}/src") for name in names]
     return os.path.exists(path) and all(os.path.exists(it) and os.path.getmtime(it) <= os.path.getmtime(path) for it in sources)
+
+
+def lacking():
+    """Which libraries the gate has not left, if any."""
+    names = " ".join(library for library in kit.crates() if library in kit.below(LIBRARY) and not os.path.exists(rlib(library)))
+    return f"the gate has not built {names}: run ./test" if names else None
 
 
 def archive(path):
