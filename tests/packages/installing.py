@@ -57,7 +57,7 @@ def write_files(page, folder):
 
 def in_clean_place(folder, commands, hidden):
     """How the commands end, of which the last one's output alone is kept."""
-    quiet = [f"{command} > log.txt 2>&1 || {{ cat log.txt >&2; exit 1; }}" for command in commands[:-1]]
+    quiet = [f"{{ {command}; }} > log.txt 2>&1 || {{ cat log.txt >&2; exit 1; }}" for command in commands[:-1]]
     words = [f"{HERE}/clean", folder, "; ".join([*quiet, commands[-1]]), *hidden]
     return subprocess.run(words, capture_output=True, text=True, errors="replace", check=False)
 
