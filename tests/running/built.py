@@ -37,6 +37,7 @@ def lacking():
 
 def archive(path):
     """Compiles the archive, and returns why it can't, if it can't."""
+    os.makedirs(os.path.dirname(path), exist_ok=True)
     words = [f"{kit.folder()}/bin/rattle", "build", "--crate-name", LIBRARY, "src/lib.rt", "--crate-type", "staticlib"]
     for library in ["std", *kit.crates()[LIBRARY]]:
         words += ["--extern", f"{library}={rlib(library)}"]

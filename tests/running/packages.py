@@ -5,8 +5,8 @@ import shutil
 import subprocess
 import time
 
-# So many seconds may pass until all that is missing is there.
-LIMIT = 120
+# So many seconds may pass until all that is missing is there, and with --all.
+LIMIT, LIMIT_OF_ALL = 120, 600
 
 
 def wanted(test, everything):
@@ -36,7 +36,7 @@ def install(tests, everything):
     print(f"packages of Debian that are wanted: {' '.join(lacking)}", flush=True)
     if os.geteuid() or not shutil.which("apt-get"):
         return
-    end = time.time() + LIMIT
+    end = time.time() + (LIMIT_OF_ALL if everything else LIMIT)
     for words in (["update"], ["install", "--yes", "--no-install-recommends", *lacking]):
         try:
             quiet = {"stdin": subprocess.DEVNULL, "stdout": subprocess.DEVNULL, "stderr": subprocess.DEVNULL}
