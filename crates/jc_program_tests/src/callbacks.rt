@@ -9,7 +9,7 @@ use jc_hooks::{
     Writer,
 };
 use jc_model::call::{Kind, Notice};
-use jc_runner::{WatchedReader, WatchedWriter, serial};
+use jc_runner::{CacheSetup, WatchedReader, WatchedWriter, serial};
 use jc_trials::{EVERY_KIND, EXPIRED_ALONE, Log, NotedListener, Trouble, done, key};
 use std::alloc::Global;
 
@@ -44,7 +44,8 @@ fn boxed_callbacks_answer_as_those_in_the_boxes(rt: HostRuntime) -> Result<(), T
     let Configuration { settings, .. } = read_config(alloc, ALL_CALLBACKS.caches.as_bytes())?;
     let mut reader = WatchedReader::new(ALL_CALLBACKS.calls.as_bytes());
     let mut writer = WatchedWriter::new(Vec::new(alloc));
-    let ran = serial(alloc, settings, &mut hooks, 0, &mut reader, &mut writer);
+    let setup = CacheSetup { settings, seed: 0 };
+    let ran = serial(alloc, setup, &mut hooks, &mut reader, &mut writer);
     done(ran)?;
     assert_eq!(rt;
         writer.into_inner().as_slice(),

@@ -155,12 +155,11 @@ pub(crate) fn gathered<
     G: Gate,
     R: Threads + Wait + Sync,
 >(
-    rt: &R,
     alloc: Global,
     caches: &str,
     calls: &[u8],
     hooks: Vec<CacheHooks<L, W, P, K>>,
-    crew: &Crew<'_, G>,
+    crew: &Crew<'_, R, G>,
 ) -> Result<Ran, Trouble>
     requires { 0 < crew.now.workers }
 {
@@ -172,7 +171,7 @@ pub(crate) fn gathered<
         seed: 7,
     };
     let mut writer = WatchedWriter::new(Vec::new(alloc));
-    let ran = threaded(rt, alloc, setup, crew, lines, &mut writer);
+    let ran = threaded(alloc, setup, crew, lines, &mut writer);
     Ok(ran_into(ran, writer))
 }
 
@@ -206,17 +205,12 @@ fn reported<R: Threads + Wait + Sync>(
         raises: Arc::try_clone(&flags.raised[2])?,
     };
     let crew = Crew {
+        threads: rt,
         workers: 2,
         gate: &gate,
     };
-    let ran = gathered(
-        rt,
-        alloc,
-        scene.caches,
-        scene.calls.as_bytes(),
-        hooks,
-        &crew,
-    )?;
+    let calls = scene.calls.as_bytes();
+    let ran = gathered(alloc, scene.caches, calls, hooks, &crew)?;
     Ok((report_of(ran)?, flags.missed.load(Ordering::SeqCst) != 0))
 }
 
@@ -250,13 +244,14 @@ fn other_callbacks_open_no_crew(rt: HostRuntime) -> Result<(), Trouble> {
     let alloc = rt.alloc();
     let mut hooks: Vec<ProgramHooks> = Vec::new(alloc);
     let crew = Crew {
+        threads: &rt,
         workers: 2,
         gate: &OpenGate,
     };
     for _ in 0..2 {
         hooks.push(no_hooks(alloc))?;
     }
-    let ran = gathered(&rt, alloc, SCENES[0].caches, b"", hooks, &crew)?;
+    let ran = gathered(alloc, SCENES[0].caches, b"", hooks, &crew)?;
     assert_eq!(rt; ran, Err(RunFault::Open));
     Ok(())
 }

@@ -3,7 +3,8 @@
 use jc_config::ConfigFault;
 use jc_hooks::program::ProgramHooks;
 use jc_runner::{
-    ProgramFault, RunFault, WatchedReader, WatchedWriter, demonstration, serial, write_fault,
+    CacheSetup, ProgramFault, RunFault, WatchedReader, WatchedWriter, demonstration, serial,
+    write_fault,
 };
 use jc_trials::{Trouble, no_hooks};
 use std::alloc::Global;
@@ -20,14 +21,9 @@ fn opened_with(alloc: Global, caches: usize) -> Result<(Option<RunFault>, usize)
     let mut reader = WatchedReader::new(script);
     let mut writer = WatchedWriter::new(Vec::new(alloc));
     let settings = demonstration(alloc)?;
-    let ran = serial(
-        alloc,
-        settings,
-        hooks.as_mut_slice(),
-        0,
-        &mut reader,
-        &mut writer,
-    );
+    let setup = CacheSetup { settings, seed: 0 };
+    let hooks = hooks.as_mut_slice();
+    let ran = serial(alloc, setup, hooks, &mut reader, &mut writer);
     Ok((ran.err(), writer.into_inner().len()))
 }
 

@@ -11,7 +11,7 @@ use jc_config::{Configuration, HookKinds, ProcessorKind, read_config};
 use jc_hooks::program::{CheckWriter, ProgramProcessor};
 use jc_hooks::{CacheHooks, ClosureLoader, ClosureProcessor};
 use jc_model::OutOfMemory;
-use jc_runner::{Crew, RunFault, WatchedReader, WatchedWriter, serial};
+use jc_runner::{CacheSetup, Crew, RunFault, WatchedReader, WatchedWriter, serial};
 use jc_script::read_script;
 use jc_shared::Shared;
 use jc_trials::{
@@ -99,7 +99,8 @@ fn by_serial(alloc: Global, scene: &Scene, log: &Log) -> Result<Ran, Trouble> {
     let mut reader = WatchedReader::new(scene.calls.as_bytes());
     let mut writer = WatchedWriter::new(Vec::new(alloc));
     let hooks = hooks.as_mut_slice();
-    let ran = serial(alloc, settings, hooks, 0, &mut reader, &mut writer);
+    let setup = CacheSetup { settings, seed: 0 };
+    let ran = serial(alloc, setup, hooks, &mut reader, &mut writer);
     Ok(ran_into(ran, writer))
 }
 
@@ -112,12 +113,13 @@ fn by_workers<R: Threads + Wait + Sync>(
 ) -> Result<Ran, Trouble> {
     let gate = PointGate { log: log.share()? };
     let crew = Crew {
+        threads: rt,
         workers: if scene.sessions == 1 { 2 } else { 1 },
         gate: &gate,
     };
     let hooks = all_hooks(alloc, scene, log)?;
     let calls = scene.calls.as_bytes();
-    gathered(rt, alloc, scene.caches, calls, hooks, &crew)
+    gathered(alloc, scene.caches, calls, hooks, &crew)
 }
 
 /// The report of a scene by sessions, on caches that one of them creates or on those of the opening; and how many

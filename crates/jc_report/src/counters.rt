@@ -76,7 +76,8 @@ fn begin<R: Rows, G: Ring>(
     at: u64,
     call: Call,
 ) -> Result<(), OutOfMemory>
-    ensures { OnOk result (lives_of engine.new ≡ after_event (lives_of engine.old) (Begin 0 at call)) }
+    ensures { OnOk result (lives_of engine.new
+        ≡ after_event (lives_of engine.old) (Begin 0 at call)) }
 {
     match engine.begin(CacheId::new(0), at, call) {
         Ok(step) => {

@@ -15,6 +15,7 @@ mod replies;
 mod reply;
 mod report_json;
 mod report_text;
+mod run_record;
 mod totals;
 mod values;
 
@@ -25,3 +26,4 @@ pub use quote::quote_text;
 pub use reply::{name_of_hook, push_number, reply_text};
 pub use report_json::json_report;
 pub use report_text::{name_of_kind, report};
+pub use run_record::RunRecord;

@@ -39,7 +39,8 @@ fn asked_by(line: &Line) -> Asked
 
 /// The numbers of the pieces that are not blank, from 1.
 fn numbers(alloc: Global, pieces: &[&[u8]]) -> Result<Vec<usize>, AllocError>
-    ensures { IfOk result (λ v. v.items ≡ piece_numbers_from 1 (map (λ piece. piece.now) pieces.now)) }
+    ensures { IfOk result (λ v. v.items
+        ≡ piece_numbers_from 1 (map (λ piece. piece.now) pieces.now)) }
 {
     let mut numbers = Vec::new(alloc);
     for (i, piece) in pieces.iter().enumerate() {

@@ -10,6 +10,7 @@ use crate::callers::{Callers, callers, take_first};
 use crate::line_numbers::{Asked, NumberedLine};
 use crate::managing::{push_head, push_managed};
 use crate::replies::push_end;
+use crate::run_record::RunRecord;
 use crate::values::{push_list, push_next, push_number_member, push_word};
 use jc_model::event::{CacheId, Entry, Life};
 use jc_script::{Managed, name_of};
@@ -180,17 +181,16 @@ pub fn push_lines(
     text: &mut String,
     outline: &[NumberedLine],
     first: u32,
-    lives: &[Life],
-    entries: &[Entry],
-    managed: &[Managed],
+    run: &RunRecord<'_>,
 ) -> Result<(), AllocError>
     requires { first + length outline.now < 2 ^ 64 }
-    ensures { OnOk result (Appends (lines_json lives.now first outline.now entries.now managed.now)
-        text.old text.new) }
+    ensures { OnOk result (Appends (lines_json run.now.transcript.now.lives first
+        outline.now run.now.transcript.now.entries run.now.managed.now) text.old text.new) }
 {
+    let (lives, entries) = (run.transcript.lives(), run.transcript.entries());
     let mut left = Left {
         callers: callers(alloc, entries)?,
-        managed,
+        managed: run.managed,
         next: u64::from(first),
     };
     for line in outline {

@@ -46,7 +46,8 @@ fn push_pair(alloc: Global, text: &mut String, pair: &(Key, Value)) -> Result<()
 }
 
 fn push_pairs(alloc: Global, text: &mut String, pairs: &[(Key, Value)]) -> Result<(), AllocError>
-    ensures { OnOk result (Appends (codes "pairs" ++ flat_map pair_text pairs.now) text.old text.new) }
+    ensures { OnOk result (Appends (codes "pairs" ++ flat_map pair_text pairs.now)
+        text.old text.new) }
 {
     text.push_str("pairs")?;
     for pair in pairs {

@@ -6,9 +6,8 @@ ghost use Rattle.jc_report.specs.Totals.{CanOpenEach};
 
 use crate::line_numbers::NumberedLine;
 use crate::lines::push_lines;
+use crate::run_record::RunRecord;
 use crate::totals::push_lives;
-use jc_model::Transcript;
-use jc_script::Managed;
 use std::alloc::{AllocError, Global};
 
 /// The report of a legal transcript as JSON, an object a line: for each line of the outline, in its order, what it came
@@ -18,18 +17,17 @@ pub fn json_report(
     alloc: Global,
     outline: &[NumberedLine],
     first: u32,
-    transcript: &Transcript,
-    managed: &[Managed],
+    run: &RunRecord<'_>,
     seed: u64,
 ) -> Result<String, AllocError>
-    requires legal { IsLegal transcript.now }
-    requires opens { CanOpenEach transcript.now.lives }
+    requires legal { IsLegal run.now.transcript.now }
+    requires opens { CanOpenEach run.now.transcript.now.lives }
     ensures { IfOk result (λ s. string_bytes s
-        ≡ json first outline.now transcript.now managed.now) }
+        ≡ json first outline.now run.now.transcript.now run.now.managed.now) }
 {
     let mut report = String::new(alloc);
-    let (lives, entries) = (transcript.lives(), transcript.entries());
-    push_lines(alloc, &mut report, outline, first, lives, entries, managed)?;
+    let (lives, entries) = (run.transcript.lives(), run.transcript.entries());
+    push_lines(alloc, &mut report, outline, first, run)?;
     push_lives(alloc, seed, &mut report, lives, entries)?;
     Ok(report)
 }

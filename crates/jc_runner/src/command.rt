@@ -8,7 +8,7 @@ pub mod streams;
 pub mod words;
 
 use crate::command::demonstration::demonstrate;
-use crate::command::streams::{Opened, Standard};
+use crate::command::streams::{RunFiles, Standard};
 use crate::files::check::check_files;
 use crate::files::disk::Disk;
 use crate::files::replay::replay_file;
@@ -16,9 +16,8 @@ use crate::files::run_files;
 use clap::Error;
 use clap::error::ErrorKind;
 use jc_cli::{
-    Asked, Ended, Ending, ProgramFault, RunFault, WatchedReader, WatchedWriter, WordsFault,
-    asks_to_explain, ending_in, ending_of, ending_of_check, explains, mistake_text, read_words,
-    say,
+    Asked, Ended, Ending, ProgramFault, RunFault, WordsFault, asks_to_explain, ending_in,
+    ending_of, ending_of_check, explains, mistake_text, read_words, say,
 };
 use jc_model::OutOfMemory;
 use std::alloc::Global;
@@ -57,41 +56,43 @@ fn refusal(alloc: Global, words: &[&str], error: Error, at_terminal: bool) -> En
 }
 
 /// Does what the words after the program's name ask for.
-fn obey_words<D: Disk, I: Read, O: Write, R: Threads + Wait + Sync>(
+fn obey_words<D: Disk, I: Read, O: Write, E, R: Threads + Wait + Sync>(
     rt: &R,
     alloc: Global,
     words: &[String],
-    disk: &mut D,
-    opened: &mut Opened<D::File>,
-    input: &mut WatchedReader<I>,
-    output: &mut WatchedWriter<O>,
-    at_terminal: bool,
+    files: &mut RunFiles<D, D::File>,
+    standard: &mut Standard<I, O, E>,
 ) -> Ending
     ensures ends { WordsEnd D.File.remaining I.remaining O.contents
-        (D.holds disk.old) (D.asked disk.old) (D.asked disk.new) opened.old opened.new
-        input.old input.new output.old output.new at_terminal (map string_bytes words.now) result }
-    ensures same { (other : List ℕ) → D.holds disk.new other ≡ D.holds disk.old other }
+        (D.holds files.old.disk) (D.asked files.old.disk) (D.asked files.new.disk)
+        files.old.opened files.new.opened
+        standard.old.input standard.new.input standard.old.output standard.new.output
+        standard.old.at_terminal (map string_bytes words.now) result }
+    ensures errors { standard.new.errors ≡ standard.old.errors }
+    ensures same { (other : List ℕ) → D.holds files.new.disk other ≡ D.holds files.old.disk other }
 {
+    let at_terminal = standard.at_terminal;
     let Ok(texts) = texts_of(alloc, words) else {
         return Ending::Faulty(ProgramFault::Run(RunFault::Memory));
     };
     match read_words(alloc, texts.as_slice()) {
         Ok(Some(Asked::Run(run))) => {
-            let ran = run_files(rt, alloc, disk, opened, &run, input, output);
+            let ran = run_files(rt, alloc, files, &run, standard);
             let explain = explains(run.explain, at_terminal);
             ending_of(explain, run.config, run.script, ran)
         }
         Ok(Some(Asked::Check(check))) => {
-            let ran = check_files(alloc, disk, opened, &check, input);
+            let ran = check_files(alloc, files, &check, &mut standard.input);
             let explain = explains(check.explain, at_terminal);
             ending_of_check(explain, check, ran)
         }
         Ok(Some(Asked::Replay(replay))) => {
-            let ran = replay_file(alloc, disk, opened, &replay, input, output);
+            let (input, output) = (&mut standard.input, &mut standard.output);
+            let ran = replay_file(alloc, files, &replay, input, output);
             let explain = explains(replay.explain, at_terminal);
             ending_in(explain, replay.trace, ran)
         }
-        Ok(None) => match demonstrate(alloc, input, output) {
+        Ok(None) => match demonstrate(alloc, &mut standard.input, &mut standard.output) {
             Ok(()) => Ending::Done,
             Err(fault) => Ending::Faulty(ProgramFault::Run(fault)),
         },
@@ -104,37 +105,29 @@ fn obey_words<D: Disk, I: Read, O: Write, R: Threads + Wait + Sync>(
     }
 }
 
-/// Does what the words ask for, where they are there; standard error is a terminal or not.
-pub fn dispatch<D: Disk, I: Read, O: Write, R: Threads + Wait + Sync>(
+/// Does what the words ask for, where they are there. Nothing is said on standard error, which is a terminal or not.
+pub fn dispatch<D: Disk, I: Read, O: Write, E, R: Threads + Wait + Sync>(
     rt: &R,
     alloc: Global,
     words: Result<Vec<String>, WordsFault>,
-    disk: &mut D,
-    opened: &mut Opened<D::File>,
-    input: &mut WatchedReader<I>,
-    output: &mut WatchedWriter<O>,
-    at_terminal: bool,
+    files: &mut RunFiles<D, D::File>,
+    standard: &mut Standard<I, O, E>,
 ) -> Ending
     ensures obeys { IfOk words (λ v. Obeys D.File.remaining I.remaining O.contents
-        (D.holds disk.old) (D.asked disk.old) (D.asked disk.new) opened.old opened.new
-        input.old input.new output.old output.new at_terminal
-        (Ok (map string_bytes v.items)) result) }
+        (D.holds files.old.disk) (D.asked files.old.disk) (D.asked files.new.disk)
+        files.old.opened files.new.opened
+        standard.old.input standard.new.input standard.old.output standard.new.output
+        standard.old.at_terminal (Ok (map string_bytes v.items)) result) }
     ensures wordless { IfErr words (λ fault. Obeys D.File.remaining I.remaining O.contents
-        (D.holds disk.old) (D.asked disk.old) (D.asked disk.new) opened.old opened.new
-        input.old input.new output.old output.new at_terminal (Err fault) result) }
-    ensures same { (other : List ℕ) → D.holds disk.new other ≡ D.holds disk.old other }
+        (D.holds files.old.disk) (D.asked files.old.disk) (D.asked files.new.disk)
+        files.old.opened files.new.opened
+        standard.old.input standard.new.input standard.old.output standard.new.output
+        standard.old.at_terminal (Err fault) result) }
+    ensures errors { standard.new.errors ≡ standard.old.errors }
+    ensures same { (other : List ℕ) → D.holds files.new.disk other ≡ D.holds files.old.disk other }
 {
     match words {
-        Ok(words) => obey_words(
-            rt,
-            alloc,
-            words.as_slice(),
-            disk,
-            opened,
-            input,
-            output,
-            at_terminal,
-        ),
+        Ok(words) => obey_words(rt, alloc, words.as_slice(), files, standard),
         Err(WordsFault::NotText) => Ending::NotText,
         Err(WordsFault::Explained(text)) => Ending::Mistaken(text),
         Err(WordsFault::OutOfMemory) => Ending::Faulty(ProgramFault::Run(RunFault::Memory)),
@@ -156,21 +149,18 @@ pub fn program<D: Disk, I: Read, O: Write, E: Write, R: Threads + Wait + Sync>(
     rt: &R,
     alloc: Global,
     words: Result<Vec<String>, WordsFault>,
-    disk: &mut D,
-    opened: &mut Opened<D::File>,
+    files: &mut RunFiles<D, D::File>,
     standard: &mut Standard<I, O, E>,
 ) -> Ended
     ensures ends { IfOk words (λ v. ProgramEnds D.File.remaining I.remaining O.contents E.contents
-        (D.holds disk.old) (D.asked disk.old) (D.asked disk.new) opened.old opened.new
+        (D.holds files.old.disk) (D.asked files.old.disk) (D.asked files.new.disk)
+        files.old.opened files.new.opened
         standard.old standard.new [] (Ok (map string_bytes v.items)) result) }
     ensures wordless { IfErr words (λ fault. ProgramEnds D.File.remaining I.remaining O.contents
-        E.contents (D.holds disk.old) (D.asked disk.old) (D.asked disk.new) opened.old opened.new
-        standard.old standard.new [] (Err fault) result) }
-    ensures same { (other : List ℕ) → D.holds disk.new other ≡ D.holds disk.old other }
+        E.contents (D.holds files.old.disk) (D.asked files.old.disk) (D.asked files.new.disk)
+        files.old.opened files.new.opened standard.old standard.new [] (Err fault) result) }
+    ensures same { (other : List ℕ) → D.holds files.new.disk other ≡ D.holds files.old.disk other }
 {
-    let at_terminal = standard.at_terminal;
-    let input = &mut standard.input;
-    let output = &mut standard.output;
-    let ending = dispatch(rt, alloc, words, disk, opened, input, output, at_terminal);
+    let ending = dispatch(rt, alloc, words, files, standard);
     say(&ending, "", &mut standard.output, &mut standard.errors)
 }

@@ -12,15 +12,15 @@ pub mod disk;
 pub mod replay;
 
 use crate::callbacks::named::all_hooks;
-use crate::command::streams::Opened;
+use crate::command::streams::{RunFiles, Standard};
 use crate::files::configuration::read_configuration;
 use crate::files::disk::{Disk, OpenFault};
-use crate::form::form_of;
-use crate::serial_run::{lines_of, reject_unknown_members, serial_as};
-use crate::threaded_run::{Crew, Setup, threaded_as};
-use jc_cli::{
-    Format, ProgramFault, Run, RunFault, WatchedReader, WatchedWriter, is_input, read_bytes,
+use crate::form::{Script, form_of};
+use crate::serial_run::{
+    CacheSetup, SerialOptions, SerialRun, lines_of, reject_unknown_members, serial_as,
 };
+use crate::threaded_run::{Crew, Setup, threaded_as};
+use jc_cli::{ProgramFault, Run, RunFault, WatchedReader, WatchedWriter, is_input, read_bytes};
 use jc_config::Configuration;
 use jc_threads::OpenGate;
 use std::alloc::Global;
@@ -86,52 +86,58 @@ pub(crate) fn require_caches(
     Ok(configuration)
 }
 
+/// A run that words ask for, and the configuration that was read for it.
+#[derive(Drop)]
+struct ConfiguredRun<'a> {
+    run: &'a Run,
+    configuration: Configuration,
+}
+
 /// Runs a script in its lines' order with the callbacks that the configuration names.
-pub fn play<I: Read, O: Write>(
+pub(crate) fn play<I: Read, O: Write>(
     alloc: Global,
     configuration: Configuration,
-    seed: u64,
-    strict: bool,
-    format: Format,
+    options: SerialOptions,
     reader: &mut WatchedReader<I>,
     writer: &mut WatchedWriter<O>,
 ) -> Result<(), RunFault>
     requires { CanOpenConfiguration configuration }
-    ensures ends { RunEnds I.remaining O.contents true strict format configuration
+    ensures ends { RunEnds I.remaining O.contents
+        true options.strict options.format configuration
         reader.old reader.new writer.old writer.new result }
     ensures unfailed { result ≢ Err Read → reader.new.failures ≡ reader.old.failures }
     ensures reads { AddsAtMost most_reads reader.old.reads reader.new.reads }
 {
     let Configuration { settings, hooks } = configuration;
     let mut hooks = all_hooks(alloc, settings.caches(), hooks.items())?;
-    serial_as(
-        alloc,
-        settings,
-        hooks.as_mut_slice(),
-        seed,
-        strict,
-        format,
-        reader,
-        writer,
-    )
+    let run = SerialRun {
+        setup: CacheSetup {
+            settings,
+            seed: options.seed,
+        },
+        strict: options.strict,
+        format: options.format,
+    };
+    serial_as(alloc, run, hooks.as_mut_slice(), reader, writer)
 }
 
 /// Runs a script on so many workers, with the callbacks that the configuration names.
 fn play_together<I: Read, O: Write, R: Threads + Wait + Sync>(
     rt: &R,
     alloc: Global,
-    configuration: Configuration,
-    run: &Run,
+    configured: ConfiguredRun<'_>,
     reader: &mut WatchedReader<I>,
     writer: &mut WatchedWriter<O>,
 ) -> Result<(), RunFault>
-    requires opens { CanOpenConfiguration configuration }
-    requires workers { 0 < run.now.workers }
-    ensures ends { RunEnds I.remaining O.contents false run.now.strict run.now.format configuration
-        reader.old reader.new writer.old writer.new result }
+    requires opens { CanOpenConfiguration configured.configuration }
+    requires workers { 0 < configured.run.now.workers }
+    ensures ends { RunEnds I.remaining O.contents
+        false configured.entry.run.now.strict configured.entry.run.now.format
+        configured.entry.configuration reader.old reader.new writer.old writer.new result }
     ensures unfailed { result ≢ Err Read → reader.new.failures ≡ reader.old.failures }
     ensures reads { AddsAtMost most_reads reader.old.reads reader.new.reads }
 {
+    let ConfiguredRun { run, configuration } = configured;
     let Configuration { settings, hooks } = configuration;
     let bytes = read_bytes(alloc, reader)?;
     let lines = lines_of(alloc, bytes.as_slice(), &settings)?;
@@ -144,42 +150,39 @@ fn play_together<I: Read, O: Write, R: Threads + Wait + Sync>(
         seed: run.seed,
     };
     let crew = Crew {
+        threads: rt,
         workers: run.workers as usize,
         gate: &OpenGate,
     };
-    threaded_as(rt, alloc, setup, &crew, lines, &form, writer)
+    threaded_as(alloc, setup, &crew, Script { lines, form }, writer)
 }
 
 /// Runs a script as the words ask for it: in its lines' order, or on workers.
 fn play_so<I: Read, O: Write, R: Threads + Wait + Sync>(
     rt: &R,
     alloc: Global,
-    configuration: Configuration,
-    run: &Run,
+    configured: ConfiguredRun<'_>,
     reader: &mut WatchedReader<I>,
     writer: &mut WatchedWriter<O>,
 ) -> Result<(), RunFault>
-    requires opens { CanOpenConfiguration configuration }
-    requires workers { 0 < run.now.workers }
-    ensures ends { RunEnds I.remaining O.contents
-        run.now.serial run.now.strict run.now.format configuration
-        reader.old reader.new writer.old writer.new result }
+    requires opens { CanOpenConfiguration configured.configuration }
+    requires workers { 0 < configured.run.now.workers }
+    ensures ends { RunEnds I.remaining O.contents configured.entry.run.now.serial
+        configured.entry.run.now.strict configured.entry.run.now.format
+        configured.entry.configuration reader.old reader.new writer.old writer.new result }
     ensures unfailed { result ≢ Err Read → reader.new.failures ≡ reader.old.failures }
     ensures reads { AddsAtMost most_reads reader.old.reads reader.new.reads }
 {
-    if run.serial {
-        let (seed, strict) = (run.seed, run.strict);
-        return play(
-            alloc,
-            configuration,
-            seed,
-            strict,
-            run.format,
-            reader,
-            writer,
-        );
+    if configured.run.serial {
+        let ConfiguredRun { run, configuration } = configured;
+        let options = SerialOptions {
+            seed: run.seed,
+            strict: run.strict,
+            format: run.format,
+        };
+        return play(alloc, configuration, options, reader, writer);
     }
-    play_together(rt, alloc, configuration, run, reader, writer)
+    play_together(rt, alloc, configured, reader, writer)
 }
 
 /// Opens a script.
@@ -203,84 +206,86 @@ pub(crate) fn open_script<D: Disk>(
 fn run_script_file<D: Disk, O: Write, R: Threads + Wait + Sync>(
     rt: &R,
     alloc: Global,
-    disk: &mut D,
-    run: &Run,
-    configuration: Configuration,
-    script: &mut Option<WatchedReader<D::File>>,
+    files: &mut RunFiles<D, D::File>,
+    configured: ConfiguredRun<'_>,
     writer: &mut WatchedWriter<O>,
 ) -> Result<(), RunFault>
-    requires opens { CanOpenConfiguration configuration }
-    requires workers { 0 < run.now.workers }
-    ensures ends { ScriptEnds D.File.remaining (D.holds disk.old (string_bytes run.now.script))
-        O.contents run.now.serial run.now.strict run.now.format configuration
-        writer.old writer.new script.new result }
-    ensures asked { AsksForPath (D.asked disk.old) (D.asked disk.new) (string_bytes run.now.script) }
-    ensures same { (other : List ℕ) → D.holds disk.new other ≡ D.holds disk.old other }
+    requires opens { CanOpenConfiguration configured.configuration }
+    requires workers { 0 < configured.run.now.workers }
+    ensures ends { ScriptEnds D.File.remaining
+        (D.holds files.old.disk (string_bytes configured.entry.run.now.script)) O.contents
+        configured.entry.run.now.serial configured.entry.run.now.strict
+        configured.entry.run.now.format configured.entry.configuration
+        writer.old writer.new files.new.opened.script result }
+    ensures asked { AsksForPath (D.asked files.old.disk) (D.asked files.new.disk)
+        (string_bytes configured.entry.run.now.script) }
+    ensures config { files.new.opened.config ≡ files.old.opened.config }
+    ensures same { (other : List ℕ) → D.holds files.new.disk other ≡ D.holds files.old.disk other }
 {
-    *script = None;
-    let mut reader = open_script(disk, run.script.as_str())?;
-    let ran = play_so(rt, alloc, configuration, run, &mut reader, writer);
-    *script = Some(reader);
+    files.opened.script = None;
+    let mut reader = open_script(&mut files.disk, configured.run.script.as_str())?;
+    let ran = play_so(rt, alloc, configured, &mut reader, writer);
+    files.opened.script = Some(reader);
     ran
 }
 
 /// Runs a script: standard input, or a file that is opened.
-fn scripted_from<D: Disk, I: Read, O: Write, R: Threads + Wait + Sync>(
+fn scripted_from<D: Disk, I: Read, O: Write, E, R: Threads + Wait + Sync>(
     rt: &R,
     alloc: Global,
-    disk: &mut D,
-    run: &Run,
-    configuration: Configuration,
-    script: &mut Option<WatchedReader<D::File>>,
-    input: &mut WatchedReader<I>,
-    writer: &mut WatchedWriter<O>,
+    files: &mut RunFiles<D, D::File>,
+    configured: ConfiguredRun<'_>,
+    standard: &mut Standard<I, O, E>,
 ) -> Result<(), RunFault>
-    requires opens { CanOpenConfiguration configuration }
-    requires workers { 0 < run.now.workers }
-    ensures ends { AskedScriptEnds D.File.remaining I.remaining O.contents (D.holds disk.old)
-        run.now configuration (D.asked disk.old) (D.asked disk.new)
-        input.old input.new writer.old writer.new script.new result }
-    ensures same { (other : List ℕ) → D.holds disk.new other ≡ D.holds disk.old other }
+    requires opens { CanOpenConfiguration configured.configuration }
+    requires workers { 0 < configured.run.now.workers }
+    ensures ends { AskedScriptEnds D.File.remaining I.remaining O.contents
+        (D.holds files.old.disk) configured.entry.run.now configured.entry.configuration
+        (D.asked files.old.disk) (D.asked files.new.disk)
+        standard.old.input standard.new.input standard.old.output standard.new.output
+        files.new.opened.script result }
+    ensures config { files.new.opened.config ≡ files.old.opened.config }
+    ensures errors { standard.new.errors ≡ standard.old.errors }
+    ensures same { (other : List ℕ) → D.holds files.new.disk other ≡ D.holds files.old.disk other }
 {
-    if is_input(run.script.as_str()) {
-        *script = None;
-        return play_so(rt, alloc, configuration, run, input, writer);
+    if is_input(configured.run.script.as_str()) {
+        files.opened.script = None;
+        return play_so(
+            rt,
+            alloc,
+            configured,
+            &mut standard.input,
+            &mut standard.output,
+        );
     }
-    run_script_file(rt, alloc, disk, run, configuration, script, writer)
+    run_script_file(rt, alloc, files, configured, &mut standard.output)
 }
 
 /// Runs the two files that the words name: first the configuration is read, then the script. Either may be standard
-/// input.
-pub fn run_files<D: Disk, I: Read, O: Write, R: Threads + Wait + Sync>(
+/// input. Nothing is said on standard error.
+pub fn run_files<D: Disk, I: Read, O: Write, E, R: Threads + Wait + Sync>(
     rt: &R,
     alloc: Global,
-    disk: &mut D,
-    opened: &mut Opened<D::File>,
+    files: &mut RunFiles<D, D::File>,
     run: &Run,
-    input: &mut WatchedReader<I>,
-    writer: &mut WatchedWriter<O>,
+    standard: &mut Standard<I, O, E>,
 ) -> Result<(), ProgramFault>
     requires { 0 < run.now.workers }
     ensures ends { FilesEnd D.File.remaining I.remaining O.contents
-        (D.holds disk.old) (D.asked disk.old) (D.asked disk.new)
-        run.now opened.new.config opened.new.script
-        input.old input.new writer.old writer.new result }
-    ensures same { (other : List ℕ) → D.holds disk.new other ≡ D.holds disk.old other }
+        (D.holds files.old.disk) (D.asked files.old.disk) (D.asked files.new.disk)
+        run.now files.new.opened.config files.new.opened.script
+        standard.old.input standard.new.input standard.old.output standard.new.output result }
+    ensures errors { standard.new.errors ≡ standard.old.errors }
+    ensures same { (other : List ℕ) → D.holds files.new.disk other ≡ D.holds files.old.disk other }
 {
-    opened.script = None;
+    files.opened.script = None;
     let path = run.config.as_str();
-    let read = configured_from(alloc, disk, path, &mut opened.config, input)?;
+    let config = &mut files.opened.config;
+    let input = &mut standard.input;
+    let read = configured_from(alloc, &mut files.disk, path, config, input)?;
     let configuration = require_caches(run.strict, read)?;
-    match scripted_from(
-        rt,
-        alloc,
-        disk,
-        run,
-        configuration,
-        &mut opened.script,
-        input,
-        writer,
-    ) {
+    let configured = ConfiguredRun { run, configuration };
+    match scripted_from(rt, alloc, files, configured, standard) {
         Ok(()) => Ok(()),
         Err(fault) => Err(ProgramFault::Run(fault)),
     }

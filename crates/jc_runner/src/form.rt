@@ -5,10 +5,9 @@ ghost use Rattle.jc_model.specs.Legal.{IsLegal};
 ghost use Rattle.jc_runner.specs.Forms.{form_of, report_in};
 
 use jc_cli::Format;
-use jc_model::Transcript;
 use jc_model::list::Sequence;
-use jc_report::{NumberedLine, json_report, outline, report};
-use jc_script::{Line, Managed};
+use jc_report::{NumberedLine, RunRecord, json_report, outline, report};
+use jc_script::Line;
 use std::alloc::{AllocError, Global};
 
 /// As text, or as JSON, which tells the lines by their numbers in the script.
@@ -16,6 +15,13 @@ use std::alloc::{AllocError, Global};
 pub enum Form {
     Text,
     Json(Sequence<NumberedLine>),
+}
+
+/// A script that was read: its lines, and the form of the report on them.
+#[derive(Drop)]
+pub struct Script {
+    pub lines: Vec<Line>,
+    pub form: Form,
 }
 
 /// The form of a report of these lines of a script.
@@ -36,24 +42,22 @@ pub(crate) fn form_of(
     }
 }
 
-/// The report in that form. `first` is how many caches the manager was opened with.
+/// The report of a run in that form. `first` is how many caches the manager was opened with. The seed picks places in
+/// tables, and changes nothing of it.
 pub(crate) fn report_in(
     alloc: Global,
     form: &Form,
     first: u32,
-    transcript: &Transcript,
-    managed: &[Managed],
+    run: &RunRecord<'_>,
     seed: u64,
 ) -> Result<String, AllocError>
-    requires legal { IsLegal transcript.now }
-    requires opens { CanOpenEach transcript.now.lives }
-    ensures { IfOk result (λ s.
-        string_bytes s ≡ report_in form.now first transcript.now managed.now) }
+    requires legal { IsLegal run.now.transcript.now }
+    requires opens { CanOpenEach run.now.transcript.now.lives }
+    ensures { IfOk result (λ s. string_bytes s
+        ≡ report_in form.now first run.now.transcript.now run.now.managed.now) }
 {
     match form {
-        Form::Text => report(alloc, transcript, managed),
-        Form::Json(outline) => {
-            json_report(alloc, outline.items(), first, transcript, managed, seed)
-        }
+        Form::Text => report(alloc, run.transcript, run.managed),
+        Form::Json(outline) => json_report(alloc, outline.items(), first, run, seed),
     }
 }

@@ -16,7 +16,7 @@ mod threaded_run;
 
 pub use callbacks::all_suit;
 pub use command::demonstration::demonstration;
-pub use command::streams::{Opened, Standard};
+pub use command::streams::{Opened, RunFiles, Standard};
 pub use command::words::words_of;
 pub use command::{dispatch, program};
 pub use disk::{KeepingDisk, may_explain};
@@ -25,12 +25,12 @@ pub use files::configuration::read_configuration;
 pub use files::disk::{Disk, HostDisk, OpenFault, open_fault};
 pub use files::replay::replay_file;
 pub use files::run_files;
-pub use form::Form;
+pub use form::{Form, Script};
 pub use jc_cli::{
     Asked, Check, Ended, Ending, Explain, Format, ProgramFault, Replay, Run, RunFault,
     WatchedReader, WatchedWriter, WordsFault, greet, read_bytes, read_words, say, write_fault,
 };
 pub use laws::{alone_is_one_report, apart_is_alone, serial_is_alone};
-pub use serial_run::{report_on, serial};
+pub use serial_run::{CacheSetup, report_on, serial};
 pub use telling::run_program;
 pub use threaded_run::{Crew, Setup, threaded};

@@ -25,19 +25,45 @@ mod calls;
 mod lines;
 
 use crate::callbacks::all_suit;
-use crate::form::{Form, form_of, report_in};
+use crate::form::{Form, Script, form_of, report_in};
 use crate::serial_run::lines::run_all;
 use jc_cli::{Format, RunFault, WatchedReader, WatchedWriter, read_bytes, write_text};
 use jc_config::Settings;
 use jc_engine::open::OpenRefusal;
 use jc_engine::recorded::Recorded;
 use jc_hooks::{CacheHooks, FilteredListener, Loader, Processor, Writer};
+use jc_report::RunRecord;
 use jc_ring::link_ring::LinkRing;
 use jc_rows::rows::Rows;
 use jc_script::{Line, ScriptFault, read_script, stray_line};
 use jc_shared::table;
 use std::alloc::Global;
 use std::io::{Read, Write};
+
+/// What the caches of a run open with: their settings, and the seed that picks places in their table.
+#[derive(Drop)]
+pub struct CacheSetup {
+    pub settings: Settings,
+    pub seed: u64,
+}
+
+/// The options of a run in the lines' order: the seed, whether a member that no op needs is refused, and the form of
+/// its report.
+#[derive(Clone, Copy)]
+pub(crate) struct SerialOptions {
+    pub seed: u64,
+    pub strict: bool,
+    pub format: Format,
+}
+
+/// A run in the lines' order: what its caches open with, whether a member that no op needs is refused, and the form of
+/// its report.
+#[derive(Drop)]
+pub(crate) struct SerialRun {
+    pub setup: CacheSetup,
+    pub strict: bool,
+    pub format: Format,
+}
 
 /// The lines of a script.
 pub(crate) fn lines_of(
@@ -78,38 +104,35 @@ fn open_engine<T: Rows>(
     }
 }
 
-/// The same as `report_on`, with the report in this form. The seed picks places in tables, and changes nothing of it.
+/// The same as `report_on`, with the report in the script's form. The seed changes nothing of it.
 fn report_as<T: Rows, L: Loader, W: Writer, P: Processor, K: FilteredListener>(
     alloc: Global,
     rows: T,
-    settings: Settings,
+    setup: CacheSetup,
     hooks: &mut [CacheHooks<L, W, P, K>],
-    lines: Vec<Line>,
-    form: &Form,
-    seed: u64,
+    script: Script,
 ) -> Result<String, RunFault>
     requires empty { T.contents rows ≡ finite.empty }
-    requires named { AllName (opened_from 0 settings) lines.items }
-    requires suit { AreSuited P.wants settings hooks.old }
+    requires named { AllName (opened_from 0 setup.settings) script.lines.items }
+    requires suit { AreSuited P.wants setup.settings hooks.old }
     ensures kept { AreKept hooks.old hooks.new }
     ensures untouched { result ≡ Err faults.Open → hooks.new ≡ hooks.old }
     ensures text { IfOk result (λ s. Reports L.load_of W.may P.verdict_of K.state_after
-        form.now settings lines.items hooks.old hooks.new (string_bytes s)) }
+        script.form setup.settings script.lines.items hooks.old hooks.new (string_bytes s)) }
     ensures faults { IfErr result IsOfRunning }
-    ensures refused { result ≡ Err faults.Open → IsSome (open_refusal settings) }
+    ensures refused { result ≡ Err faults.Open → IsSome (open_refusal setup.settings) }
 {
+    let CacheSetup { settings, seed } = setup;
+    let Script { lines, form } = script;
     let caches = settings.caches().len();
     let mut recorded = open_engine(alloc, rows, settings)?;
     let managed = run_all(alloc, &mut recorded, hooks, lines)?;
     let transcript = recorded.transcript();
-    let text = report_in(
-        alloc,
-        form,
-        caches as u32,
+    let run = RunRecord {
         transcript,
-        managed.as_slice(),
-        seed,
-    )?;
+        managed: managed.as_slice(),
+    };
+    let text = report_in(alloc, &form, caches as u32, &run, seed)?;
     Ok(text)
 }
 
@@ -134,7 +157,9 @@ pub fn report_on<T: Rows, L: Loader, W: Writer, P: Processor, K: FilteredListene
     ensures faults { IfErr result IsOfRunning }
     ensures refused { result ≡ Err faults.Open → IsSome (open_refusal settings) }
 {
-    report_as(alloc, rows, settings, hooks, lines, &Form::Text, 0)
+    let setup = CacheSetup { settings, seed: 0 };
+    let form = Form::Text;
+    report_as(alloc, rows, setup, hooks, Script { lines, form })
 }
 
 /// Refuses a script with a member that its op does not need, where that is asked for.
@@ -156,36 +181,36 @@ pub(crate) fn reject_unknown_members(
     }
 }
 
-/// The same as `serial`, with the report in this form. Where `strict` says so, `Entry` with the first line that has a
-/// member its op does not need; that is told of a script without other faults.
+/// The same as `serial`, with the report in the run's form. Where `strict` says so, `Entry` with the first line that
+/// has a member its op does not need; that is told of a script without other faults.
 pub(crate) fn serial_as<L: Loader, W: Writer, P: Processor, K: FilteredListener, R: Read, O: Write>(
     alloc: Global,
-    settings: Settings,
+    run: SerialRun,
     hooks: &mut [CacheHooks<L, W, P, K>],
-    seed: u64,
-    strict: bool,
-    format: Format,
     reader: &mut WatchedReader<R>,
     writer: &mut WatchedWriter<O>,
 ) -> Result<(), RunFault>
     ensures ok { OnOk result (ReportsInput L.load_of W.may P.verdict_of K.state_after
-        R.remaining reader.old format settings hooks.old hooks.new
+        R.remaining reader.old run.format run.setup.settings hooks.old hooks.new
         (AddsText O.contents writer.old writer.new)) }
     ensures end { OnOk result (IsAtEnd (R.remaining reader.new.inner)) }
-    ensures script { IfScriptFault result (ScriptHasFault R.remaining settings reader.old) }
-    ensures entry { IfStrayLine result (HasStray strict settings (R.remaining reader.old.inner)) }
-    ensures known { HasRun result → HasNoStray strict (R.remaining reader.old.inner) }
+    ensures script { IfScriptFault result
+        (ScriptHasFault R.remaining run.setup.settings reader.old) }
+    ensures entry { IfStrayLine result
+        (HasStray run.strict run.setup.settings (R.remaining reader.old.inner)) }
+    ensures known { HasRun result → HasNoStray run.strict (R.remaining reader.old.inner) }
     ensures long { result ≡ Err faults.TooLong → InputIsTooLong R.remaining reader.old }
-    ensures open { result ≡ Err faults.Open → CannotOpen P.wants settings hooks.old }
-    ensures good { result ≡ Err faults.Open → ScriptIsGood R.remaining settings reader.old }
+    ensures open { result ≡ Err faults.Open → CannotOpen P.wants run.setup.settings hooks.old }
+    ensures good { result ≡ Err faults.Open
+        → ScriptIsGood R.remaining run.setup.settings reader.old }
     ensures kept { AreKept hooks.old hooks.new }
     ensures untouched { IfErr result (λ e. IsBeforeCalls e → hooks.new ≡ hooks.old) }
-    ensures suit { HasRun result → AreSuited P.wants settings hooks.old }
+    ensures suit { HasRun result → AreSuited P.wants run.setup.settings hooks.old }
     ensures flushed { OnOk result (FlushesAll writer.old writer.new) }
     ensures closed { result ≢ Err faults.Close }
     ensures front { result ≡ Err faults.Write
         → ReportsInput L.load_of W.may P.verdict_of K.state_after
-        R.remaining reader.old format settings hooks.old hooks.new
+        R.remaining reader.old run.format run.setup.settings hooks.old hooks.new
         (AddsFront O.contents writer.old writer.new) }
     ensures nothing { IfErr result (λ e.
         e ≢ faults.Write → AddsNothing O.contents writer.old writer.new) }
@@ -194,15 +219,20 @@ pub(crate) fn serial_as<L: Loader, W: Writer, P: Processor, K: FilteredListener,
     ensures write_failed { result ≡ Err faults.Write → WriteFails writer.old writer.new }
     ensures reads { AddsAtMost most_reads reader.old.reads reader.new.reads }
 {
+    let SerialRun {
+        setup,
+        strict,
+        format,
+    } = run;
     let bytes = read_bytes(alloc, reader)?;
-    let lines = lines_of(alloc, bytes.as_slice(), &settings)?;
+    let lines = lines_of(alloc, bytes.as_slice(), &setup.settings)?;
     reject_unknown_members(alloc, bytes.as_slice(), strict)?;
-    if !all_suit(&settings, hooks) {
+    if !all_suit(&setup.settings, hooks) {
         return Err(RunFault::Open);
     }
     let form = form_of(alloc, format, bytes.as_slice(), lines.as_slice())?;
-    let rows = table(alloc, seed)?;
-    let text = report_as(alloc, rows, settings, hooks, lines, &form, seed)?;
+    let rows = table(alloc, setup.seed)?;
+    let text = report_as(alloc, rows, setup, hooks, Script { lines, form })?;
     write_text(writer, text.as_bytes())
 }
 
@@ -214,29 +244,28 @@ pub(crate) fn serial_as<L: Loader, W: Writer, P: Processor, K: FilteredListener,
 /// part of the report have been written. The seed picks the places in the table and changes nothing of the report.
 pub fn serial<L: Loader, W: Writer, P: Processor, K: FilteredListener, R: Read, O: Write>(
     alloc: Global,
-    settings: Settings,
+    setup: CacheSetup,
     hooks: &mut [CacheHooks<L, W, P, K>],
-    seed: u64,
     reader: &mut WatchedReader<R>,
     writer: &mut WatchedWriter<O>,
 ) -> Result<(), RunFault>
     ensures ok { OnOk result (ReportsInput L.load_of W.may P.verdict_of K.state_after
-        R.remaining reader.old formats.Text settings hooks.old hooks.new
+        R.remaining reader.old formats.Text setup.settings hooks.old hooks.new
         (AddsText O.contents writer.old writer.new)) }
     ensures end { OnOk result (IsAtEnd (R.remaining reader.new.inner)) }
-    ensures script { IfScriptFault result (ScriptHasFault R.remaining settings reader.old) }
+    ensures script { IfScriptFault result (ScriptHasFault R.remaining setup.settings reader.old) }
     ensures lax { (n : ℕ) → result ≢ Err (faults.Entry n) }
     ensures long { result ≡ Err faults.TooLong → InputIsTooLong R.remaining reader.old }
-    ensures open { result ≡ Err faults.Open → CannotOpen P.wants settings hooks.old }
-    ensures good { result ≡ Err faults.Open → ScriptIsGood R.remaining settings reader.old }
+    ensures open { result ≡ Err faults.Open → CannotOpen P.wants setup.settings hooks.old }
+    ensures good { result ≡ Err faults.Open → ScriptIsGood R.remaining setup.settings reader.old }
     ensures kept { AreKept hooks.old hooks.new }
     ensures untouched { IfErr result (λ e. IsBeforeCalls e → hooks.new ≡ hooks.old) }
-    ensures suit { HasRun result → AreSuited P.wants settings hooks.old }
+    ensures suit { HasRun result → AreSuited P.wants setup.settings hooks.old }
     ensures flushed { OnOk result (FlushesAll writer.old writer.new) }
     ensures closed { result ≢ Err faults.Close }
     ensures front { result ≡ Err faults.Write
         → ReportsInput L.load_of W.may P.verdict_of K.state_after
-        R.remaining reader.old formats.Text settings hooks.old hooks.new
+        R.remaining reader.old formats.Text setup.settings hooks.old hooks.new
         (AddsFront O.contents writer.old writer.new) }
     ensures nothing { IfErr result (λ e.
         e ≢ faults.Write → AddsNothing O.contents writer.old writer.new) }
@@ -245,6 +274,10 @@ pub fn serial<L: Loader, W: Writer, P: Processor, K: FilteredListener, R: Read, 
     ensures write_failed { result ≡ Err faults.Write → WriteFails writer.old writer.new }
     ensures reads { AddsAtMost most_reads reader.old.reads reader.new.reads }
 {
-    let format = Format::Text;
-    serial_as(alloc, settings, hooks, seed, false, format, reader, writer)
+    let run = SerialRun {
+        setup,
+        strict: false,
+        format: Format::Text,
+    };
+    serial_as(alloc, run, hooks, reader, writer)
 }

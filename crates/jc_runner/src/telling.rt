@@ -6,7 +6,8 @@ use crate::disk::KeepingDisk;
 use crate::every::listed_lines;
 use crate::explaining::{Origin, fault_lines};
 use crate::{
-    Ended, Ending, Opened, ProgramFault, Standard, WatchedReader, WordsFault, dispatch, say,
+    Ended, Ending, Opened, ProgramFault, RunFiles, Standard, WatchedReader, WordsFault, dispatch,
+    say,
 };
 use jc_cli::{is_input, is_of_config};
 use jc_explain::Kept;
@@ -136,22 +137,19 @@ pub fn run_program<D: Files, I: Read, O: Write, E: Write, R: Threads + Wait + Sy
     rt: &R,
     alloc: Global,
     words: Result<Vec<String>, WordsFault>,
-    disk: &mut KeepingDisk<'_, D>,
-    opened: &mut Opened<Kept<D::File>>,
+    files: &mut RunFiles<KeepingDisk<'_, D>, Kept<D::File>>,
     standard: &mut Standard<Kept<I>, O, E>,
 ) -> Ended
     ensures ends { IfOk words (λ v. EndsTold D.File.remaining I.remaining O.contents E.contents
-        opened.old opened.new disk.new.fault standard.old standard.new
+        files.old.opened files.new.opened files.new.disk.fault standard.old standard.new
         (Ok (map string_bytes v.items)) result) }
     ensures wordless { IfErr words (λ fault. EndsTold D.File.remaining I.remaining O.contents
-        E.contents opened.old opened.new disk.new.fault standard.old standard.new
-        (Err fault) result) }
+        E.contents files.old.opened files.new.opened files.new.disk.fault
+        standard.old standard.new (Err fault) result) }
 {
-    let at_terminal = standard.at_terminal;
-    let input = &mut standard.input;
-    let output = &mut standard.output;
-    let ending = dispatch(rt, alloc, words, disk, opened, input, output, at_terminal);
-    let explanation = lines_of(alloc, &ending, disk.fault, opened, &standard.input);
+    let ending = dispatch(rt, alloc, words, files, standard);
+    let fault = files.disk.fault;
+    let explanation = lines_of(alloc, &ending, fault, &files.opened, &standard.input);
     let lines = text_of(&explanation);
     say(&ending, lines, &mut standard.output, &mut standard.errors)
 }

@@ -13,12 +13,13 @@ ghost use Rattle.jc_cli.specs.Watching.{AddsText, AddsFront, AddsNothing, Flushe
 ghost use Rattle.jc_cli.specs.declared.fault.RunFault.TheVariants as faults;
 ghost use Rattle.jc_runner.specs.declared.form.Form.TheVariants as forms;
 
-use crate::form::{Form, report_in};
+use crate::form::{Form, Script, report_in};
 use jc_cli::{RunFault, WatchedWriter, write_text};
 use jc_config::Settings;
 use jc_hooks::{CacheHooks, FilteredListener, Loader, Processor, Writer};
 use jc_model::Transcript;
 use jc_model::event::CreateRefusal;
+use jc_report::RunRecord;
 use jc_script::{Followed, Line, Managed, follow, same_lives};
 use jc_shared::{Name, Shared, SharedRefusal};
 use jc_threads::{Gate, Transcription, transcribed};
@@ -36,9 +37,10 @@ pub struct Setup<L, W, P, K> {
     pub seed: u64,
 }
 
-/// Who makes the calls: so many workers, and the gate that they pass.
+/// Who makes the calls: so many workers, each a thread of these, and the gate that they pass.
 #[derive(Drop)]
-pub struct Crew<'a, G> {
+pub struct Crew<'a, R, G> {
+    pub threads: &'a R,
     pub workers: usize,
     pub gate: &'a G,
 }
@@ -80,10 +82,9 @@ fn make_lines_under<
     G: Gate,
     R: Threads + Wait + Sync,
 >(
-    rt: &R,
     alloc: Global,
     shared: Shared<L, W, P, K>,
-    crew: &Crew<'_, G>,
+    crew: &Crew<'_, R, G>,
     lines: Vec<Line>,
 ) -> Result<Transcription, RunFault>
     requires workers { 0 < crew.now.workers }
@@ -98,7 +99,7 @@ fn make_lines_under<
     ensures opened { result ≢ Err faults.Open }
 {
     let manager = shared.named::<N>();
-    match transcribed(rt, alloc, manager, crew.gate, crew.workers, lines) {
+    match transcribed(crew.threads, alloc, manager, crew.gate, crew.workers, lines) {
         Ok(made) => Ok(made),
         Err(fault) => Err(RunFault::from(fault)),
     }
@@ -113,10 +114,9 @@ fn make_lines<
     G: Gate,
     R: Threads + Wait + Sync,
 >(
-    rt: &R,
     alloc: Global,
     shared: Shared<L, W, P, K>,
-    crew: &Crew<'_, G>,
+    crew: &Crew<'_, R, G>,
     lines: Vec<Line>,
 ) -> Result<Transcription, RunFault>
     requires workers { 0 < crew.now.workers }
@@ -128,7 +128,7 @@ fn make_lines<
     ensures faults { IfErr result IsOfThreads }
     ensures opened { result ≢ Err faults.Open }
 {
-    make_lines_under::<Brand, L, W, P, K, G, R>(rt, alloc, shared, crew, lines)
+    make_lines_under::<Brand, L, W, P, K, G, R>(alloc, shared, crew, lines)
 }
 
 /// Whether these lines were refused as here.
@@ -168,7 +168,7 @@ fn compare_lives(followed: &Followed, made: Transcription) -> Result<Transcript,
     Ok(transcript)
 }
 
-/// The report of a run on threads, in this form.
+/// The report of a run on threads, in the script's form.
 fn gather_report<
     L: Loader,
     W: Writer,
@@ -177,34 +177,38 @@ fn gather_report<
     G: Gate,
     R: Threads + Wait + Sync,
 >(
-    rt: &R,
     alloc: Global,
     setup: Setup<L, W, P, K>,
-    crew: &Crew<'_, G>,
-    lines: Vec<Line>,
-    form: &Form,
+    crew: &Crew<'_, R, G>,
+    script: Script,
 ) -> Result<String, RunFault>
     requires workers { 0 < crew.now.workers }
-    requires named { AllName (opened_from 0 setup.settings) lines.items }
-    ensures text { IfOk result (λ s. SetupGathers L.load_of P.verdict_of form.now setup lines.items
+    requires named { AllName (opened_from 0 setup.settings) script.lines.items }
+    ensures text { IfOk result (λ s.
+        SetupGathers L.load_of P.verdict_of script.form setup script.lines.items
         (string_bytes s)) }
     ensures suit { OnOk result (SetupSuits P.wants setup) }
     ensures refused { result ≡ Err faults.Open → SetupCannotOpen P.wants setup }
     ensures closed { result ≡ Err faults.Close → SetupCannotOpen P.wants setup → ⊥ }
     ensures faults { IfErr result IsOfThreads }
 {
+    let Script { lines, form } = script;
     let followed = follow(alloc, &setup.settings, lines.as_slice())?;
     let caches = setup.settings.caches().len();
     let seed = setup.seed;
     let shared = open_unnamed(alloc, setup)?;
-    let made = make_lines(rt, alloc, shared, crew, lines)?;
+    let made = make_lines(alloc, shared, crew, lines)?;
     let transcript = compare_lives(&followed, made)?;
     let managed = followed.managed.as_slice();
-    let text = report_in(alloc, form, caches as u32, &transcript, managed, seed)?;
+    let run = RunRecord {
+        transcript: &transcript,
+        managed,
+    };
+    let text = report_in(alloc, &form, caches as u32, &run, seed)?;
     Ok(text)
 }
 
-/// The same as `threaded`, with the report in this form.
+/// The same as `threaded`, with the report in the script's form.
 pub(crate) fn threaded_as<
     L: Loader,
     W: Writer,
@@ -214,31 +218,30 @@ pub(crate) fn threaded_as<
     R: Threads + Wait + Sync,
     O: Write,
 >(
-    rt: &R,
     alloc: Global,
     setup: Setup<L, W, P, K>,
-    crew: &Crew<'_, G>,
-    lines: Vec<Line>,
-    form: &Form,
+    crew: &Crew<'_, R, G>,
+    script: Script,
     writer: &mut WatchedWriter<O>,
 ) -> Result<(), RunFault>
     requires workers { 0 < crew.now.workers }
-    requires named { AllName (opened_from 0 setup.settings) lines.items }
-    ensures ok { OnOk result (SetupGathersSo L.load_of P.verdict_of form.now setup lines.items
+    requires named { AllName (opened_from 0 setup.settings) script.lines.items }
+    ensures ok { OnOk result
+        (SetupGathersSo L.load_of P.verdict_of script.form setup script.lines.items
         (AddsText O.contents writer.old writer.new)) }
     ensures flushed { OnOk result (FlushesAll writer.old writer.new) }
     ensures suit { HasRun result → SetupSuits P.wants setup }
     ensures refused { result ≡ Err faults.Open → SetupCannotOpen P.wants setup }
     ensures closed { result ≡ Err faults.Close → SetupCannotOpen P.wants setup → ⊥ }
     ensures front { result ≡ Err faults.Write
-        → SetupGathersSo L.load_of P.verdict_of form.now setup lines.items
+        → SetupGathersSo L.load_of P.verdict_of script.form setup script.lines.items
         (AddsFront O.contents writer.old writer.new) }
     ensures write_failed { result ≡ Err faults.Write → WriteFails writer.old writer.new }
     ensures nothing { IfErr result (λ e.
         e ≢ faults.Write → AddsNothing O.contents writer.old writer.new) }
     ensures others { IfErr result (λ e. e ≢ faults.Write → IsOfThreads e) }
 {
-    let text = gather_report(rt, alloc, setup, crew, lines, form)?;
+    let text = gather_report(alloc, setup, crew, script)?;
     write_text(writer, text.as_bytes())
 }
 
@@ -258,10 +261,9 @@ pub fn threaded<
     R: Threads + Wait + Sync,
     O: Write,
 >(
-    rt: &R,
     alloc: Global,
     setup: Setup<L, W, P, K>,
-    crew: &Crew<'_, G>,
+    crew: &Crew<'_, R, G>,
     lines: Vec<Line>,
     writer: &mut WatchedWriter<O>,
 ) -> Result<(), RunFault>
@@ -281,5 +283,6 @@ pub fn threaded<
         e ≢ faults.Write → AddsNothing O.contents writer.old writer.new) }
     ensures others { IfErr result (λ e. e ≢ faults.Write → IsOfThreads e) }
 {
-    threaded_as(rt, alloc, setup, crew, lines, &Form::Text, writer)
+    let form = Form::Text;
+    threaded_as(alloc, setup, crew, Script { lines, form }, writer)
 }

@@ -4,7 +4,9 @@
 #![tactic(auto)]
 
 use jc_explain::Kept;
-use jc_runner::{KeepingDisk, Opened, Standard, greet, may_explain, run_program, words_of};
+use jc_runner::{
+    KeepingDisk, Opened, RunFiles, Standard, greet, may_explain, run_program, words_of,
+};
 use std::io::IsTerminal;
 use std::process::ExitCode;
 
@@ -13,12 +15,14 @@ fn main(rt: HostRuntime) -> ExitCode {
     let at_terminal = rt.stderr().is_terminal();
     let words = words_of(&rt, at_terminal);
     let keeps = may_explain(&words, at_terminal);
-    let mut disk = KeepingDisk::new(alloc, &rt, keeps);
-    let mut opened = Opened::none();
+    let mut files = RunFiles {
+        disk: KeepingDisk::new(alloc, &rt, keeps),
+        opened: Opened::none(),
+    };
     let input = Kept::new(alloc, rt.stdin(), keeps);
     let mut standard = Standard::new(input, rt.stdout(), rt.stderr());
     standard.at_terminal = at_terminal;
     greet(&words, rt.stdin().is_terminal(), &mut standard.errors);
-    let ended = run_program(&rt, alloc, words, &mut disk, &mut opened, &mut standard);
+    let ended = run_program(&rt, alloc, words, &mut files, &mut standard);
     ExitCode::from(ended.status)
 }

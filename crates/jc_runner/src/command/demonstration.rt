@@ -8,6 +8,7 @@ ghost use Rattle.jc_cli.specs.declared.fault.RunFault.TheVariants.{Read};
 ghost use Rattle.jc_cli.specs.declared.run.Format.TheVariants as formats;
 
 use crate::files::play;
+use crate::serial_run::SerialOptions;
 use jc_cli::{Format, RunFault, WatchedReader, WatchedWriter};
 use jc_config::{Configuration, HookKinds, Settings, plain_cache};
 use jc_model::OutOfMemory;
@@ -78,5 +79,10 @@ pub(crate) fn demonstrate<I: Read, O: Write>(
     ensures reads { AddsAtMost most_reads input.old.reads input.new.reads }
 {
     let configuration = demonstration_configuration(alloc)?;
-    play(alloc, configuration, 0, false, Format::Text, input, output)
+    let options = SerialOptions {
+        seed: 0,
+        strict: false,
+        format: Format::Text,
+    };
+    play(alloc, configuration, options, input, output)
 }

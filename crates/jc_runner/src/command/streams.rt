@@ -13,6 +13,13 @@ pub struct Opened<F> {
     pub script: Option<WatchedReader<F>>,
 }
 
+/// The disk on which the files of a run lie, and the files as far as they were opened.
+#[derive(Drop)]
+pub struct RunFiles<D, F> {
+    pub disk: D,
+    pub opened: Opened<F>,
+}
+
 /// The standard streams; standard error is a terminal or not.
 #[derive(Drop)]
 pub struct Standard<I, O, E> {

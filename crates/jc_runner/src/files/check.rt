@@ -5,7 +5,7 @@ ghost use Rattle.jc_cli.specs.Meters.{most_reads, AddsAtMost};
 ghost use Rattle.jc_runner.specs.Program.{LinesEnd, ScriptRead, CheckEnds, LinesAt};
 ghost use Rattle.jc_cli.specs.declared.fault.RunFault.TheVariants.{Read};
 
-use crate::command::streams::Opened;
+use crate::command::streams::RunFiles;
 use crate::files::disk::Disk;
 use crate::files::{configured_from, open_script, require_caches};
 use crate::serial_run::{lines_of, reject_unknown_members};
@@ -14,20 +14,27 @@ use jc_config::Settings;
 use std::alloc::Global;
 use std::io::Read;
 
+/// What lines are checked by: the settings of the caches, and whether a member that no op needs is refused.
+#[derive(Clone, Copy)]
+struct LineRules<'a> {
+    settings: &'a Settings,
+    strict: bool,
+}
+
 /// Reads a script to its end, and its lines.
 fn check_lines<I: Read>(
     alloc: Global,
-    settings: &Settings,
-    strict: bool,
+    rules: LineRules<'_>,
     reader: &mut WatchedReader<I>,
 ) -> Result<(), RunFault>
-    ensures ends { LinesEnd I.remaining strict settings.now reader.old reader.new result }
+    ensures ends { LinesEnd I.remaining rules.entry.strict rules.entry.settings.now
+        reader.old reader.new result }
     ensures unfailed { result ≢ Err Read → reader.new.failures ≡ reader.old.failures }
     ensures reads { AddsAtMost most_reads reader.old.reads reader.new.reads }
 {
     let bytes = read_bytes(alloc, reader)?;
-    match lines_of(alloc, bytes.as_slice(), settings) {
-        Ok(_) => reject_unknown_members(alloc, bytes.as_slice(), strict),
+    match lines_of(alloc, bytes.as_slice(), rules.settings) {
+        Ok(_) => reject_unknown_members(alloc, bytes.as_slice(), rules.strict),
         Err(fault) => Err(fault),
     }
 }
@@ -35,44 +42,42 @@ fn check_lines<I: Read>(
 /// Opens a script and reads it to its end.
 fn check_script<D: Disk>(
     alloc: Global,
-    disk: &mut D,
+    files: &mut RunFiles<D, D::File>,
     path: &str,
-    settings: &Settings,
-    strict: bool,
-    script: &mut Option<WatchedReader<D::File>>,
+    rules: LineRules<'_>,
 ) -> Result<(), RunFault>
-    ensures ends { ScriptRead D.File.remaining (D.holds disk.old path.now) strict settings.now
-        script.new result }
-    ensures asked { AsksForPath (D.asked disk.old) (D.asked disk.new) path.now }
-    ensures same { (other : List ℕ) → D.holds disk.new other ≡ D.holds disk.old other }
+    ensures ends { ScriptRead D.File.remaining (D.holds files.old.disk path.now)
+        rules.entry.strict rules.entry.settings.now files.new.opened.script result }
+    ensures asked { AsksForPath (D.asked files.old.disk) (D.asked files.new.disk) path.now }
+    ensures config { files.new.opened.config ≡ files.old.opened.config }
+    ensures same { (other : List ℕ) → D.holds files.new.disk other ≡ D.holds files.old.disk other }
 {
-    *script = None;
-    let mut reader = open_script(disk, path)?;
-    let checked = check_lines(alloc, settings, strict, &mut reader);
-    *script = Some(reader);
+    files.opened.script = None;
+    let mut reader = open_script(&mut files.disk, path)?;
+    let checked = check_lines(alloc, rules, &mut reader);
+    files.opened.script = Some(reader);
     checked
 }
 
 /// Reads a script to its end: standard input, or a file that is opened.
 fn check_from<D: Disk, I: Read>(
     alloc: Global,
-    disk: &mut D,
+    files: &mut RunFiles<D, D::File>,
     path: &str,
-    settings: &Settings,
-    strict: bool,
-    script: &mut Option<WatchedReader<D::File>>,
+    rules: LineRules<'_>,
     input: &mut WatchedReader<I>,
 ) -> Result<(), RunFault>
-    ensures ends { LinesAt D.File.remaining I.remaining (D.holds disk.old) path.now
-        (D.asked disk.old) (D.asked disk.new) input.old input.new strict settings.now
-        script.new result }
-    ensures same { (other : List ℕ) → D.holds disk.new other ≡ D.holds disk.old other }
+    ensures ends { LinesAt D.File.remaining I.remaining (D.holds files.old.disk) path.now
+        (D.asked files.old.disk) (D.asked files.new.disk) input.old input.new
+        rules.entry.strict rules.entry.settings.now files.new.opened.script result }
+    ensures config { files.new.opened.config ≡ files.old.opened.config }
+    ensures same { (other : List ℕ) → D.holds files.new.disk other ≡ D.holds files.old.disk other }
 {
     if is_input(path) {
-        *script = None;
-        return check_lines(alloc, settings, strict, input);
+        files.opened.script = None;
+        return check_lines(alloc, rules, input);
     }
-    check_script(alloc, disk, path, settings, strict, script)
+    check_script(alloc, files, path, rules)
 }
 
 /// Reads the files that the words name, first the configuration, and runs nothing. Either may be standard input.
@@ -80,27 +85,29 @@ fn check_from<D: Disk, I: Read>(
 /// `Ok` where none has a fault; else the fault that a run of the same files ends with before its first call.
 pub fn check_files<D: Disk, I: Read>(
     alloc: Global,
-    disk: &mut D,
-    opened: &mut Opened<D::File>,
+    files: &mut RunFiles<D, D::File>,
     check: &Check,
     input: &mut WatchedReader<I>,
 ) -> Result<(), ProgramFault>
     ensures ends { CheckEnds D.File.remaining I.remaining
-        (D.holds disk.old) (D.asked disk.old) (D.asked disk.new)
-        check.now opened.new.config opened.new.script input.old input.new result }
-    ensures same { (other : List ℕ) → D.holds disk.new other ≡ D.holds disk.old other }
+        (D.holds files.old.disk) (D.asked files.old.disk) (D.asked files.new.disk)
+        check.now files.new.opened.config files.new.opened.script input.old input.new result }
+    ensures same { (other : List ℕ) → D.holds files.new.disk other ≡ D.holds files.old.disk other }
 {
-    opened.script = None;
+    files.opened.script = None;
     let path = check.config.as_str();
-    let read = configured_from(alloc, disk, path, &mut opened.config, input)?;
+    let config = &mut files.opened.config;
+    let read = configured_from(alloc, &mut files.disk, path, config, input)?;
     let configuration = require_caches(check.strict, read)?;
     let Some(path) = &check.script else {
         return Ok(());
     };
-    let settings = &configuration.settings;
+    let rules = LineRules {
+        settings: &configuration.settings,
+        strict: check.strict,
+    };
     let path = path.as_str();
-    let script = &mut opened.script;
-    match check_from(alloc, disk, path, settings, check.strict, script, input) {
+    match check_from(alloc, files, path, rules, input) {
         Ok(()) => Ok(()),
         Err(fault) => Err(ProgramFault::Run(fault)),
     }

@@ -9,7 +9,7 @@ ghost use Rattle.jc_cli.specs.Meters.{most_reads, AddsAtMost};
 ghost use Rattle.jc_runner.specs.Program.{TraceEnds, TraceFileEnds, ReplayEnds, IsUnreadFile, table_of};
 ghost use Rattle.jc_cli.specs.declared.fault.ProgramFault.TheVariants.{TraceRead};
 
-use crate::command::streams::Opened;
+use crate::command::streams::RunFiles;
 use crate::files::disk::Disk;
 use crate::files::open_script;
 use jc_cli::{
@@ -120,23 +120,23 @@ fn replay_opened<D: Disk, O: Write>(
 /// Replays the trace that the words name, which may be standard input, and writes the table.
 pub fn replay_file<D: Disk, I: Read, O: Write>(
     alloc: Global,
-    disk: &mut D,
-    opened: &mut Opened<D::File>,
+    files: &mut RunFiles<D, D::File>,
     replay: &Replay,
     input: &mut WatchedReader<I>,
     writer: &mut WatchedWriter<O>,
 ) -> Result<(), ProgramFault>
     requires { All IsCapacity replay.now.capacities.items }
     ensures ends { ReplayEnds D.File.remaining I.remaining O.contents
-        (D.holds disk.old) (D.asked disk.old) (D.asked disk.new)
-        replay.now opened.new.config opened.new.script
+        (D.holds files.old.disk) (D.asked files.old.disk) (D.asked files.new.disk)
+        replay.now files.new.opened.config files.new.opened.script
         input.old input.new writer.old writer.new result }
-    ensures same { (other : List ℕ) → D.holds disk.new other ≡ D.holds disk.old other }
+    ensures same { (other : List ℕ) → D.holds files.new.disk other ≡ D.holds files.old.disk other }
 {
-    opened.config = None;
+    files.opened.config = None;
     if is_input(replay.trace.as_str()) {
-        opened.script = None;
+        files.opened.script = None;
         return replay_all(alloc, replay, input, writer);
     }
-    replay_opened(alloc, disk, replay, &mut opened.script, writer)
+    let trace = &mut files.opened.script;
+    replay_opened(alloc, &mut files.disk, replay, trace, writer)
 }

@@ -45,4 +45,4 @@ returns-in-Ok-None-clause-ends g c =
 pub returns-clause-ends : goal.returns-clause-ends
 returns-clause-ends g c =
     let same = ap shown c.as_slice.ensures.value ∙ c.in-Ok.ensures in
-    refuses c.in-Err.error (λ none. not_both _ _ (c.in-Err.ensures.wordless (none_of _ _ (same ∙ none)))) (subst (λ (ws : List (List ℕ)). MayRefuse ws c.in-Err.error) same c.in-Err.ensures.refused) (λ e. absurd (false≢true (sym c.if-lacks_memory.false ∙ c.lacks_memory.ensures.1 e))) (subst (λ (ws : List (List ℕ)). RefusesSo c.args.at_terminal ws c.in-Err.error c.refusal.result) (ap shown c.as_slice-in-Err.ensures.value ∙ c.in-Ok.ensures) c.refusal.ensures) ((refl, refl), refl, refl)
+    refuses c.in-Err.error (λ none. not_both _ _ (c.in-Err.ensures.wordless (none_of _ _ (same ∙ none)))) (subst (λ (ws : List (List ℕ)). MayRefuse ws c.in-Err.error) same c.in-Err.ensures.refused) (λ e. absurd (false≢true (sym c.if-lacks_memory.false ∙ c.lacks_memory.ensures.1 e))) (subst (λ (ws : List (List ℕ)). RefusesSo c.args.standard.now.at_terminal ws c.in-Err.error c.refusal.result) (ap shown c.as_slice-in-Err.ensures.value ∙ c.in-Ok.ensures) c.refusal.ensures) ((refl, refl), refl, refl)

@@ -10,7 +10,7 @@ returns-in_err-read-clause-ends g c =
       before = g.D.Disk.asked c.configured_from.new.disk;
       between = c.configured_from.new.input;
       read = Err c.in_err-read.field-0.0;
-      reads = config_at g.D.File.Read.remaining g.I.Read.remaining (g.D.Disk.asked c.args.disk.now) (g.D.Disk.asked c.configured_from.new.disk) c.args.input.now c.configured_from.new.input c.configured_from.new.config (g.D.Disk.holds c.args.disk.now) _ _ (Err c.in_err-read.field-0.0) c.as_str-path.ensures.value c.in_err-read.ensures.ends;
+      reads = config_at g.D.File.Read.remaining g.I.Read.remaining (g.D.Disk.asked c.args.files.now.disk) (g.D.Disk.asked c.configured_from.new.disk) c.args.standard.now.input c.configured_from.new.input c.configured_from.new.config (g.D.Disk.holds c.args.files.now.disk) _ _ (Err c.in_err-read.field-0.0) c.as_str-path.ensures.value c.in_err-read.ensures.ends;
       goes_on = (p.1 ∙ ap (λ e. Err e) p.2, refl, refl, refl, keeps_same _);
     }
 
@@ -21,7 +21,7 @@ returns-in_err-configuration-clause-ends g c =
       before = g.D.Disk.asked c.configured_from.new.disk;
       between = c.configured_from.new.input;
       read = Ok c.in_ok-read.read;
-      reads = config_at g.D.File.Read.remaining g.I.Read.remaining (g.D.Disk.asked c.args.disk.now) (g.D.Disk.asked c.configured_from.new.disk) c.args.input.now c.configured_from.new.input c.configured_from.new.config (g.D.Disk.holds c.args.disk.now) _ _ (Ok c.in_ok-read.read) c.as_str-path.ensures.value c.in_ok-read.ensures.ends;
+      reads = config_at g.D.File.Read.remaining g.I.Read.remaining (g.D.Disk.asked c.args.files.now.disk) (g.D.Disk.asked c.configured_from.new.disk) c.args.standard.now.input c.configured_from.new.input c.configured_from.new.config (g.D.Disk.holds c.args.files.now.disk) _ _ (Ok c.in_ok-read.read) c.as_str-path.ensures.value c.in_ok-read.ensures.ends;
       goes_on = rw (← c.in_err-configuration.ensures.same) (p.1 ∙ ap (λ e. Err e) p.2, refl, refl, refl, keeps_same _);
     }
 
@@ -30,11 +30,11 @@ returns-in-Ok-clause-ends g c = record {
   before = g.D.Disk.asked c.configured_from.new.disk;
   between = c.configured_from.new.input;
   read = Ok c.in_ok-read.read;
-  reads = config_at g.D.File.Read.remaining g.I.Read.remaining (g.D.Disk.asked c.args.disk.now) (g.D.Disk.asked c.configured_from.new.disk) c.args.input.now c.configured_from.new.input c.configured_from.new.config (g.D.Disk.holds c.args.disk.now) _ _ (Ok c.in_ok-read.read) c.as_str-path.ensures.value c.in_ok-read.ensures.ends;
+  reads = rw c.scripted_from.ensures.config (config_at g.D.File.Read.remaining g.I.Read.remaining (g.D.Disk.asked c.args.files.now.disk) (g.D.Disk.asked c.configured_from.new.disk) c.args.standard.now.input c.configured_from.new.input c.configured_from.new.config (g.D.Disk.holds c.args.files.now.disk) _ _ (Ok c.in_ok-read.read) c.as_str-path.ensures.value c.in_ok-read.ensures.ends);
   goes_on = rw (← c.in_ok-configuration.ensures.same) (
     Ok tt,
     refl,
-    script_held g.D.File.Read.remaining g.I.Read.remaining (g.D.Disk.asked c.configured_from.new.disk) (g.D.Disk.asked c.scripted_from.new.disk) c.configured_from.new.input c.scripted_from.new.input c.scripted_from.new.script g.O.Write.contents c.args.run.now.serial c.args.run.now.strict c.args.run.now.format c.in_ok-configuration.configuration c.args.writer.now c.scripted_from.new.writer _ _ (string_bytes c.args.run.now.script) (Ok tt)
+    script_held g.D.File.Read.remaining g.I.Read.remaining (g.D.Disk.asked c.configured_from.new.disk) (g.D.Disk.asked c.scripted_from.new.files.disk) c.configured_from.new.input c.scripted_from.new.standard.input c.scripted_from.new.files.opened.script g.O.Write.contents c.args.run.now.serial c.args.run.now.strict c.args.run.now.format c.in_ok-configuration.configuration c.args.standard.now.output c.scripted_from.new.standard.output _ _ (string_bytes c.args.run.now.script) (Ok tt)
         (c.configured_from.ensures.same (string_bytes c.args.run.now.script)) c.in-Ok.ensures.ends,
   );
 }
@@ -44,11 +44,11 @@ returns-in-Err-clause-ends g c = record {
   before = g.D.Disk.asked c.configured_from.new.disk;
   between = c.configured_from.new.input;
   read = Ok c.in_ok-read.read;
-  reads = config_at g.D.File.Read.remaining g.I.Read.remaining (g.D.Disk.asked c.args.disk.now) (g.D.Disk.asked c.configured_from.new.disk) c.args.input.now c.configured_from.new.input c.configured_from.new.config (g.D.Disk.holds c.args.disk.now) _ _ (Ok c.in_ok-read.read) c.as_str-path.ensures.value c.in_ok-read.ensures.ends;
+  reads = rw c.scripted_from.ensures.config (config_at g.D.File.Read.remaining g.I.Read.remaining (g.D.Disk.asked c.args.files.now.disk) (g.D.Disk.asked c.configured_from.new.disk) c.args.standard.now.input c.configured_from.new.input c.configured_from.new.config (g.D.Disk.holds c.args.files.now.disk) _ _ (Ok c.in_ok-read.read) c.as_str-path.ensures.value c.in_ok-read.ensures.ends);
   goes_on = rw (← c.in_ok-configuration.ensures.same) (
     Err c.in-Err.fault,
     refl,
-    script_held g.D.File.Read.remaining g.I.Read.remaining (g.D.Disk.asked c.configured_from.new.disk) (g.D.Disk.asked c.scripted_from.new.disk) c.configured_from.new.input c.scripted_from.new.input c.scripted_from.new.script g.O.Write.contents c.args.run.now.serial c.args.run.now.strict c.args.run.now.format c.in_ok-configuration.configuration c.args.writer.now c.scripted_from.new.writer _ _ (string_bytes c.args.run.now.script) (Err c.in-Err.fault)
+    script_held g.D.File.Read.remaining g.I.Read.remaining (g.D.Disk.asked c.configured_from.new.disk) (g.D.Disk.asked c.scripted_from.new.files.disk) c.configured_from.new.input c.scripted_from.new.standard.input c.scripted_from.new.files.opened.script g.O.Write.contents c.args.run.now.serial c.args.run.now.strict c.args.run.now.format c.in_ok-configuration.configuration c.args.standard.now.output c.scripted_from.new.standard.output _ _ (string_bytes c.args.run.now.script) (Err c.in-Err.fault)
         (c.configured_from.ensures.same (string_bytes c.args.run.now.script)) c.in-Err.ensures.ends,
   );
 }

@@ -11,17 +11,17 @@ use Rattle.jc_runner.proofs.serial_run.serial_as.Goals as goal
 pub returns-clause-ok : goal.returns-clause-ok
 returns-clause-ok g c =
     on_ok_weaker c.write_text.result
-    (λ written. reports_of_all g.L.Loader.load_of g.W.Writer.may g.P.Processor.verdict_of g.K.FilteredListener.state_after c.args.format c.in_ok-form.form c.args.settings c.in_ok-lines.lines.items c.args.hooks.now c.report_as.new.hooks _ _ c.in_ok-bytes.bytes.items c.as_slice.result.now _ _
+    (λ written. reports_of_all g.L.Loader.load_of g.W.Writer.may g.P.Processor.verdict_of g.K.FilteredListener.state_after c.args.run.format c.in_ok-form.form c.args.run.setup.settings c.in_ok-lines.lines.items c.args.hooks.now c.report_as.new.hooks _ _ c.in_ok-bytes.bytes.items c.as_slice.result.now _ _
     c.in_ok-bytes.ensures.all c.as_slice.ensures.value c.in_ok-lines.ensures.ok
-    (c.in_ok-form.ensures ∙ ap₂ (form_of c.args.format) (c.as_slice-3.ensures.value ∙ sym c.as_slice.ensures.value) c.as_slice-4.ensures.value) c.in_ok-text.ensures.text
+    (c.in_ok-form.ensures ∙ ap₂ (form_of c.args.run.format) (c.as_slice-3.ensures.value ∙ sym c.as_slice.ensures.value) c.as_slice-4.ensures.value) c.in_ok-text.ensures.text
     (subst (λ (bytes : List ℕ). Appends (g.O.Write.contents c.args.writer.now.inner) (g.O.Write.contents c.write_text.new.writer.inner) bytes) c.as_bytes.ensures.value written))
     c.write_text.ensures.all
 
 pub returns-clause-front : goal.returns-clause-front
 returns-clause-front g c = λ failed.
-    reports_of_all g.L.Loader.load_of g.W.Writer.may g.P.Processor.verdict_of g.K.FilteredListener.state_after c.args.format c.in_ok-form.form c.args.settings c.in_ok-lines.lines.items c.args.hooks.now c.report_as.new.hooks _ _ c.in_ok-bytes.bytes.items c.as_slice.result.now _ _
+    reports_of_all g.L.Loader.load_of g.W.Writer.may g.P.Processor.verdict_of g.K.FilteredListener.state_after c.args.run.format c.in_ok-form.form c.args.run.setup.settings c.in_ok-lines.lines.items c.args.hooks.now c.report_as.new.hooks _ _ c.in_ok-bytes.bytes.items c.as_slice.result.now _ _
     c.in_ok-bytes.ensures.all c.as_slice.ensures.value c.in_ok-lines.ensures.ok
-    (c.in_ok-form.ensures ∙ ap₂ (form_of c.args.format) (c.as_slice-3.ensures.value ∙ sym c.as_slice.ensures.value) c.as_slice-4.ensures.value) c.in_ok-text.ensures.text
+    (c.in_ok-form.ensures ∙ ap₂ (form_of c.args.run.format) (c.as_slice-3.ensures.value ∙ sym c.as_slice.ensures.value) c.as_slice-4.ensures.value) c.in_ok-text.ensures.text
     (subst (λ (bytes : List ℕ). WritesFront (g.O.Write.contents c.args.writer.now.inner) (g.O.Write.contents c.write_text.new.writer.inner) bytes) c.as_bytes.ensures.value (c.write_text.ensures.front failed))
 
 pub returns-clause-end : goal.returns-clause-end
@@ -29,7 +29,7 @@ returns-clause-end g c = on_ok_weaker c.write_text.result (λ written. c.in_ok-b
 
 pub returns-in_err-text-clause-good : goal.returns-in_err-text-clause-good
 returns-in_err-text-clause-good g c = λ refused.
-    good_of_all c.args.settings c.in_ok-lines.lines.items _ _ c.in_ok-bytes.bytes.items c.as_slice.result.now c.in_ok-bytes.ensures.all c.as_slice.ensures.value c.in_ok-lines.ensures.ok
+    good_of_all c.args.run.setup.settings c.in_ok-lines.lines.items _ _ c.in_ok-bytes.bytes.items c.as_slice.result.now c.in_ok-bytes.ensures.all c.as_slice.ensures.value c.in_ok-lines.ensures.ok
 
 pub returns-clause-known : goal.returns-clause-known
 returns-clause-known g c = λ ran strict.

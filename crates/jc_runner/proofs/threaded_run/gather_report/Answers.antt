@@ -23,20 +23,20 @@ returns-in_err-shared-clause-closed g c = λ is.
 
 pub report_in-requires-clause-opens : goal.report_in-requires-clause-opens
 report_in-requires-clause-opens g c =
-    lives_open c.args.setup.settings c.args.lines.items _ (never_refused g.P.Processor.wants c.args.setup.settings c.args.setup.hooks.items c.in_ok-shared.ensures.opens)
+    lives_open c.args.setup.settings c.args.script.lines.items _ (never_refused g.P.Processor.wants c.args.setup.settings c.args.setup.hooks.items c.in_ok-shared.ensures.opens)
     (c.in_ok-transcript.ensures.lives ∙ c.in_ok-followed.ensures.lives ∙ ap (lives_of_script c.args.setup.settings) c.as_slice.ensures.value)
 
 pub returns-clause-text : goal.returns-clause-text
 returns-clause-text g c =
     let caches = c.args.setup.settings in
-    let all = c.args.lines.items in
+    let all = c.args.script.lines.items in
     let transcript = c.in_ok-transcript.transcript in
     let followed = c.in_ok-followed.followed in
-    gathers c.args.form.now (stated_of g.L.Loader.load_of g.P.Processor.verdict_of c.args.setup.hooks.items) caches all transcript followed.managed.items c.in_ok-made.made.refusals.items (string_bytes c.in_ok-text.text)
+    gathers c.args.script.form (stated_of g.L.Loader.load_of g.P.Processor.verdict_of c.args.setup.hooks.items) caches all transcript followed.managed.items c.in_ok-made.made.refusals.items (string_bytes c.in_ok-text.text)
     (subst IsLegal (sym c.in_ok-transcript.ensures.same) c.in_ok-made.ensures.legal)
     (c.in_ok-transcript.ensures.lives ∙ c.in_ok-followed.ensures.lives ∙ ap (lives_of_script caches) c.as_slice.ensures.value)
     (made_of g.L.Loader.load_of g.P.Processor.verdict_of c.in_ok-shared.shared.shared c.args.setup.hooks.items (calls_in_lines all) transcript c.in_ok-made.made.transcript c.in_ok-shared.ensures.shared c.in_ok-transcript.ensures.same c.in_ok-made.ensures.made)
     (c.in_ok-followed.ensures.managed ∙ ap (managed_of caches) c.as_slice.ensures.value)
     c.in_ok-transcript.ensures.refusals
     (subst (λ (cs : List CacheConfig). AreManaged cs all c.in_ok-made.made.refusals.items) c.in_ok-shared.ensures.configs c.in_ok-made.ensures.managed)
-    (c.in_ok-text.ensures ∙ ap (λ (n : ℕ). report_in c.args.form.now n transcript c.as_slice-managed.result.now) (ap length c.caches-caches.ensures.same) ∙ ap (report_in c.args.form.now (length caches) transcript) c.as_slice-managed.ensures.value)
+    (c.in_ok-text.ensures ∙ ap (λ (n : ℕ). report_in c.args.script.form n transcript c.as_slice-managed.result.now) (ap length c.caches-caches.ensures.same) ∙ ap (report_in c.args.script.form (length caches) transcript) c.as_slice-managed.ensures.value)

@@ -22,7 +22,7 @@ returns-in_err-text-clause-closed g c = λ is.
 pub returns-clause-ok : goal.returns-clause-ok
 returns-clause-ok g c =
     on_ok_weaker c.write_text.result
-    (λ written. gathers_so c.args.form.now (stated_of g.L.Loader.load_of g.P.Processor.verdict_of c.args.setup.hooks.items) c.args.setup.settings c.args.lines.items (string_bytes c.in_ok-text.text) c.in_ok-text.ensures.text
+    (λ written. gathers_so c.args.script.form (stated_of g.L.Loader.load_of g.P.Processor.verdict_of c.args.setup.hooks.items) c.args.setup.settings c.args.script.lines.items (string_bytes c.in_ok-text.text) c.in_ok-text.ensures.text
     (subst (λ (bytes : List ℕ). Appends (g.O.Write.contents c.args.writer.now.inner) (g.O.Write.contents c.write_text.new.writer.inner) bytes) c.as_bytes.ensures.value written))
     c.write_text.ensures.all
 
@@ -31,7 +31,7 @@ returns-clause-flushed g c = on_ok_both c.write_text.result c.write_text.ensures
 
 pub returns-clause-front : goal.returns-clause-front
 returns-clause-front g c = λ failed.
-    gathers_so c.args.form.now (stated_of g.L.Loader.load_of g.P.Processor.verdict_of c.args.setup.hooks.items) c.args.setup.settings c.args.lines.items (string_bytes c.in_ok-text.text) c.in_ok-text.ensures.text
+    gathers_so c.args.script.form (stated_of g.L.Loader.load_of g.P.Processor.verdict_of c.args.setup.hooks.items) c.args.setup.settings c.args.script.lines.items (string_bytes c.in_ok-text.text) c.in_ok-text.ensures.text
     (subst (λ (bytes : List ℕ). WritesFront (g.O.Write.contents c.args.writer.now.inner) (g.O.Write.contents c.write_text.new.writer.inner) bytes) c.as_bytes.ensures.value (c.write_text.ensures.front failed))
 
 pub returns-clause-nothing : goal.returns-clause-nothing
